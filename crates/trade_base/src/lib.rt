@@ -1,0 +1,10 @@
+//! The words that every layer shares: units, the numbers of things, refusals, and page rounding.
+#![tactic(auto)]
+
+mod id;
+mod page;
+mod refusal;
+
+pub use id::{AccountId, Caps, DsId, Ram, Selector, SessionId};
+pub use page::{PAGE, page_round};
+pub use refusal::{NoMemory, Refusal};
