@@ -1,0 +1,10 @@
+pub mod NatMap
+pub mod Account
+pub mod Text
+pub mod Call
+pub mod OwnState
+pub mod Reply
+pub mod OwnStep
+pub mod StartList
+pub mod Transcript
+pub mod World

@@ -1,0 +1,40 @@
+-- Replies, and their texts.
+use Rattle.std.specs.Prelude.{ℕ, List, ◌∷◌, [], ◌++◌, ◌&&◌, nat_le, map, codes, decimal, if◌then◌else◌}
+use Rattle.trade_base.specs.declared.refusal.Refusal.{Refusal}
+use Rattle.trade_base.specs.Refusal.{refusal_name}
+use Rattle.own_model.specs.Account.{Account}
+
+-- what a call is answered
+pub data Reply : Type 0 where
+  Selected : ℕ → Reply
+  Done : Reply
+  Quotas : Account → Reply
+  Refused : Refusal → Reply
+
+-- use and limit
+abbrev pub share_text : ℕ → ℕ → List ℕ
+share_text used limit = decimal used ++ codes "/" ++ decimal limit
+
+-- use and limit of RAM and of capabilities
+abbrev pub quota_text : Account → List ℕ
+quota_text a = codes "ram " ++ share_text a.ram_used a.ram_limit ++ codes " caps " ++ share_text a.caps_used a.caps_limit
+
+-- the text of a reply
+abbrev pub reply_text : Reply → List ℕ
+reply_text (Selected selector) = codes "cap " ++ decimal selector
+reply_text Done = codes "ok"
+reply_text (Quotas account) = quota_text account
+reply_text (Refused refusal) = refusal_name refusal
+
+-- a line that a log server finished: the label of the session, and the bytes
+pub record LogLine : Type 0 where
+  pub label : List ℕ
+  pub text : List ℕ
+
+-- a byte as the log prints it
+abbrev pub printed : ℕ → ℕ
+printed b = if nat_le 32 b && nat_le b 126 then b else 46
+
+-- a finished line as the log prints it
+abbrev pub log_text : LogLine → List ℕ
+log_text line = codes "[" ++ line.label ++ codes "] " ++ map printed line.text ++ 10 ∷ []

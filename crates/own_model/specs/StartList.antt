@@ -1,0 +1,68 @@
+-- The components of a machine, and how they start.
+use Rattle.std.specs.Prelude.{ℕ, ◌*◌, false, List, [], ◌∷◌, map, codes}
+use Rattle.std.specs.FinMap as map
+use Rattle.own_model.specs.Account.{Account, opened, parted_with, Fits}
+use Rattle.own_model.specs.OwnState.{OwnState}
+
+-- a script makes calls, a server answers those of others
+pub data Kind : Type 0 where
+  Script : Kind
+  Server : Kind
+
+-- what a start list says of a component, but for its budget
+pub record Entry : Type 0 where
+  pub name : List ℕ
+  pub kind : Kind
+
+-- an entry with its budget of RAM (bytes) and capabilities
+pub record StartEntry : Type 0 where
+  pub entry : Entry
+  pub ram : ℕ
+  pub caps : ℕ
+
+-- a machine of so many pages and capabilities, and what init starts
+pub record StartList : Type 0 where
+  pub pages : ℕ
+  pub caps : ℕ
+  pub starts : List StartEntry
+
+abbrev pub entries_of : StartList → List Entry
+entries_of list = map (λ start. start.entry) list.starts
+
+-- a component starts with its budget and nothing else
+abbrev pub start_state : StartEntry → OwnState
+start_state start = record { account = opened start.ram start.caps; selectors = map.empty; gone = false }
+
+abbrev pub start_states : StartList → List OwnState
+start_states list = map start_state list.starts
+
+-- the account of init before it starts anything: the whole machine
+abbrev pub machine_account : StartList → Account
+machine_account list = opened (list.pages * 4096) list.caps
+
+-- what is left of init's account once these entries have their budgets, each in turn
+abbrev pub init_keeps : Account → List StartEntry → Account
+init_keeps init [] = init
+init_keeps init (start ∷ starts) = init_keeps (parted_with init start.ram start.caps) starts
+
+-- each entry in turn is covered by what init still has
+abbrev pub AllCovered : Account → List StartEntry → Type 0
+AllCovered init [] = Unit {0}
+AllCovered init (start ∷ starts) =
+    Fits init start.ram start.caps × AllCovered (parted_with init start.ram start.caps) starts
+
+-- a start list boots where each entry in turn is covered
+abbrev pub Boots : StartList → Type 0
+Boots list = AllCovered (machine_account list) list.starts
+
+-- the built-in machine A: two servers and two scripts
+abbrev pub machine_a : StartList
+machine_a = record {
+  pages = 64;
+  caps = 64;
+  starts = record { entry = record { name = codes "log"; kind = Server }; ram = 16384; caps = 8 }
+      ∷ record { entry = record { name = codes "files"; kind = Server }; ram = 16384; caps = 8 }
+      ∷ record { entry = record { name = codes "alice"; kind = Script }; ram = 65536; caps = 16 }
+      ∷ record { entry = record { name = codes "bob"; kind = Script }; ram = 65536; caps = 16 }
+      ∷ [];
+}
