@@ -1,0 +1,3 @@
+pub mod NatMapLemmas
+pub mod Totals
+pub mod NewSelector
