@@ -1,0 +1,37 @@
+-- How many pages are free, after one page has changed.
+use Rattle.std.proofs.Common.{◌≡◌, ℕ, ◌+◌, ◌<◌, ◌≤◌, true, List, length, get_or, Option, Some, None, zero, suc, cond, refl, arith, ◌∙◌}
+use Rattle.std.specs.Prelude.{slice_set, replicate}
+use Rattle.std.specs.Option.{is_none}
+use Rattle.std.proofs.lemmas.List.Sums.{sum_by-set, sum_by-cons, count_by-le-length}
+use Rattle.page_pool.specs.Pages.{fresh_pages, free_count, is_taken}
+
+-- a free page is taken
+pub free_count-take : (pages : List (Option (List ℕ))) (page : ℕ) (bytes : List ℕ) → page < length pages → get_or pages page None ≡ None → free_count (slice_set pages page (Some bytes)) + 1 ≡ free_count pages
+unfolding free_count
+free_count-take pages page bytes here free =
+    let e = sum_by-set (λ (o : Option (List ℕ)). cond (is_none o) 1 0) pages page (Some bytes) None here in
+    let f : ◌≡◌ {A = ℕ} (cond (is_none (get_or pages page None)) 1 0) 1 = rw free in
+    omega (arith, e, f)
+
+pub free_count-give : (pages : List (Option (List ℕ))) (page : ℕ) → page < length pages → is_taken pages page ≡ true → free_count (slice_set pages page None) ≡ free_count pages + 1
+unfolding free_count is_taken
+free_count-give pages page here taken =
+    let e = sum_by-set (λ (o : Option (List ℕ)). cond (is_none o) 1 0) pages page None None here in
+    let f : ◌≡◌ {A = ℕ} (cond (is_none (get_or pages page None)) 1 0) 0 = rw taken in
+    omega (arith, e, f)
+
+pub free_count-write : (pages : List (Option (List ℕ))) (page : ℕ) (bytes : List ℕ) → page < length pages → is_taken pages page ≡ true → free_count (slice_set pages page (Some bytes)) ≡ free_count pages
+unfolding free_count is_taken
+free_count-write pages page bytes here taken =
+    let e = sum_by-set (λ (o : Option (List ℕ)). cond (is_none o) 1 0) pages page (Some bytes) None here in
+    let f : ◌≡◌ {A = ℕ} (cond (is_none (get_or pages page None)) 1 0) 0 = rw taken in
+    omega (arith, e, f)
+
+pub free_count-le-length : (pages : List (Option (List ℕ))) → free_count pages ≤ length pages
+unfolding free_count
+free_count-le-length pages = count_by-le-length is_none pages
+
+pub free_count-fresh_pages : (count : ℕ) → free_count (fresh_pages count) ≡ count
+unfolding free_count
+free_count-fresh_pages zero = refl
+free_count-fresh_pages (suc count) = let e = free_count-fresh_pages count in sum_by-cons (λ (o : Option (List ℕ)). cond (is_none o) 1 0) None (replicate count None) ∙ omega (arith, e)

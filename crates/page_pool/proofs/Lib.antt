@@ -1,0 +1,5 @@
+pub mod NumberLemmas
+pub mod ByteLemmas
+pub mod CountLemmas
+pub mod LayoutLemmas
+pub mod CallLemmas

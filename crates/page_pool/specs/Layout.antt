@@ -1,0 +1,49 @@
+-- How the pages lie in the pool: the bytes page after page, and the numbers of the free pages.
+use Rattle.std.specs.Prelude.{◌≡◌, ℕ, ◌+◌, ◌*◌, ◌/◌, ◌<◌, ◌≤◌, ◌==◌, nat_lt, Bool, true, false, ◌||◌, ◌&&◌, not, if◌then◌else◌, List, [], ◌∷◌, length, map, Option, Some, None, slice_range}
+use Rattle.std.specs.List.{range_with_len}
+use Rattle.page_pool.specs.Pages.{free_count}
+
+-- whether a number stands in the list
+abbrev pub is_listed : List ℕ → ℕ → Bool
+is_listed [] page = false
+is_listed (first ∷ rest) page = page == first || is_listed rest page
+
+-- whether no number stands twice in the list
+abbrev pub has_no_repeat : List ℕ → Bool
+has_no_repeat [] = true
+has_no_repeat (first ∷ rest) = not (is_listed rest first) && has_no_repeat rest
+
+-- the numbers below a count, each once
+pub record AreNumbersBelow (count : ℕ) (numbers : List ℕ) : Type 0 where
+  pub listed : (page : ℕ) → is_listed numbers page ≡ nat_lt page count
+  pub once : has_no_repeat numbers ≡ true
+  pub counted : length numbers ≡ count
+
+-- how many pages the bytes are
+abbrev pub page_count : List ℕ → ℕ
+page_count bytes = length bytes / 4096
+
+-- the bytes of a page in the bytes of all
+abbrev pub bytes_at : List ℕ → ℕ → List ℕ
+bytes_at bytes page = slice_range bytes (page * 4096) (page * 4096 + 4096)
+
+-- a page, where the free ones are listed
+abbrev pub page_at : List ℕ → List ℕ → ℕ → Option (List ℕ)
+page_at free bytes page = if is_listed free page then None else Some (bytes_at bytes page)
+
+-- every page
+unfoldable pub pages_of : List ℕ → List ℕ → List (Option (List ℕ))
+pages_of free bytes = map (page_at free bytes) (range_with_len 0 (page_count bytes))
+
+-- what is true of a pool between calls
+pub record IsLaidOut (free bytes : List ℕ) (capacity : ℕ) : Type 0 where
+  -- the bytes are those of whole pages, at most 4096 of them
+  pub whole : length bytes ≡ page_count bytes * 4096
+  pub few : page_count bytes ≤ 4096
+  -- each free page is there, and listed once
+  pub in_range : (page : ℕ) → is_listed free page ≡ true → page < page_count bytes
+  pub once : has_no_repeat free ≡ true
+  -- as many are listed as are free
+  pub counted : free_count (pages_of free bytes) ≡ length free
+  -- the list has room for every page
+  pub room : page_count bytes ≤ capacity

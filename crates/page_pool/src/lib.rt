@@ -1,0 +1,9 @@
+//! A pool of pages of 4096 bytes. A page is handed out all zero, and whoever took it reads and
+//! writes it until it is given back.
+#![tactic(auto)]
+
+mod pool;
+#[cfg(test)]
+mod tests;
+
+pub use pool::{PageNo, Pool};
