@@ -1,3 +1,5 @@
 pub mod NatMapLemmas
 pub mod Totals
 pub mod NewSelector
+pub mod RunLemmas
+pub mod RunningLemmas

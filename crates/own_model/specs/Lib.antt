@@ -8,3 +8,5 @@ pub mod OwnStep
 pub mod StartList
 pub mod Transcript
 pub mod World
+pub mod Running
+pub mod Laws

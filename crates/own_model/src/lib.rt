@@ -3,10 +3,11 @@
 //! The definitions stand in `specs/`. The functions here carry laws over them and do nothing at run time.
 #![tactic(auto)]
 
-ghost use Rattle.std.specs.Prelude.{◌≡◌, []};
-ghost use Rattle.own_model.specs.Transcript.{transcript};
+mod answers;
+mod runs;
 
-/// Nothing is told of nothing.
-pub fn nothing_is_told()
-    ensures { transcript [] [] [] ≡ [] }
-{}
+pub use answers::{
+    equal_parts_equal_answers, equal_parts_equal_states, states_are_own_runs, states_over_a_line,
+    told_over_a_line, transcript_is_running,
+};
+pub use runs::{own_part_over_append, own_run_over_append};
