@@ -3,3 +3,4 @@ pub mod Totals
 pub mod NewSelector
 pub mod RunLemmas
 pub mod RunningLemmas
+pub mod RowLemmas

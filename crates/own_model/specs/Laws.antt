@@ -1,12 +1,13 @@
 -- The laws of runs and of answers, as statements.
-use Rattle.std.specs.Prelude.{◌≡◌, ℕ, ◌++◌, List, [], ◌∷◌}
+use Rattle.std.specs.Prelude.{◌≡◌, ◌<◌, ℕ, ◌++◌, List, [], ◌∷◌, length}
 use Rattle.own_model.specs.Call.{Call}
 use Rattle.own_model.specs.OwnState.{OwnState}
 use Rattle.own_model.specs.OwnStep.{own_run}
 use Rattle.own_model.specs.Running.{told_running, states_running, told_now, states_after_heard}
 use Rattle.own_model.specs.StartList.{Entry}
 use Rattle.own_model.specs.Text.{lines_of}
-use Rattle.own_model.specs.Transcript.{Made, heard, own_part, state_at, state_after, answer, transcript, calls_of}
+use Rattle.own_model.specs.Transcript.{Made, heard, own_part, state_at, state_after, answer, transcript, calls_of, longest_line}
+use Rattle.own_model.specs.Transcript.Heard.{NoCall}
 
 -- a run over two lists of calls is the run over the first and then the second
 abbrev pub RunOverAppend : Type 0
@@ -72,3 +73,7 @@ EqualPartsEqualAnswers =
     (entries : List Entry) (starts : List OwnState) (xs ys : List Made) (made : Made) →
     own_part made.component xs ≡ own_part made.component ys →
     answer entries starts xs made ≡ answer entries starts ys made
+
+-- a line longer than the longest is no call
+abbrev pub LongLinesAreNoCalls : Type 0
+LongLinesAreNoCalls = (entries : List Entry) (line : List ℕ) → longest_line < length line → heard entries line ≡ NoCall

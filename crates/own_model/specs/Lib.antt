@@ -10,3 +10,4 @@ pub mod Transcript
 pub mod World
 pub mod Running
 pub mod Laws
+pub mod Rows
