@@ -4,3 +4,4 @@ pub mod NewSelector
 pub mod RunLemmas
 pub mod RunningLemmas
 pub mod RowLemmas
+pub mod LimitLemmas

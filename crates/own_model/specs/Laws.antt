@@ -1,13 +1,16 @@
 -- The laws of runs and of answers, as statements.
 use Rattle.std.specs.Prelude.{◌≡◌, ◌<◌, ℕ, ◌++◌, List, [], ◌∷◌, length}
+use Rattle.own_model.specs.Account.{WithinLimits}
 use Rattle.own_model.specs.Call.{Call}
 use Rattle.own_model.specs.OwnState.{OwnState}
-use Rattle.own_model.specs.OwnStep.{own_run}
+use Rattle.own_model.specs.OwnStep.{own_run, own_step}
 use Rattle.own_model.specs.Running.{told_running, states_running, told_now, states_after_heard}
 use Rattle.own_model.specs.StartList.{Entry}
+use Rattle.own_model.specs.StartList.Kind.{Server}
 use Rattle.own_model.specs.Text.{lines_of}
 use Rattle.own_model.specs.Transcript.{Made, heard, own_part, state_at, state_after, answer, transcript, calls_of, longest_line}
 use Rattle.own_model.specs.Transcript.Heard.{NoCall}
+use Rattle.own_model.specs.World.{World, IsBalanced, with_state, outcome_at}
 
 -- a run over two lists of calls is the run over the first and then the second
 abbrev pub RunOverAppend : Type 0
@@ -77,3 +80,31 @@ EqualPartsEqualAnswers =
 -- a line longer than the longest is no call
 abbrev pub LongLinesAreNoCalls : Type 0
 LongLinesAreNoCalls = (entries : List Entry) (line : List ℕ) → longest_line < length line → heard entries line ≡ NoCall
+
+-- every call leaves a server's own state
+abbrev pub ServersStay : Type 0
+ServersStay =
+    (name : List ℕ) (calls : List Call) (s : OwnState) → own_run (record { name = name; kind = Server }) calls s ≡ s
+
+-- no call changes the limits of its caller's account
+abbrev pub StepKeepsLimits : Type 0
+StepKeepsLimits =
+    (entry : Entry) (call : Call) (s : OwnState) →
+    ((own_step entry call s).next.account.ram_limit ≡ s.account.ram_limit)
+    × ((own_step entry call s).next.account.caps_limit ≡ s.account.caps_limit)
+
+-- no call overdraws its caller's account
+abbrev pub StepKeepsWithinLimits : Type 0
+StepKeepsWithinLimits =
+    (entry : Entry) (call : Call) (s : OwnState) → WithinLimits s.account → WithinLimits (own_step entry call s).next.account
+
+-- no calls overdraw an account
+abbrev pub RunKeepsWithinLimits : Type 0
+RunKeepsWithinLimits =
+    (entry : Entry) (calls : List Call) (s : OwnState) → WithinLimits s.account → WithinLimits (own_run entry calls s).account
+
+-- a component's call leaves a balanced world balanced
+abbrev pub StepKeepsBalance : Type 0
+StepKeepsBalance =
+    (pages caps : ℕ) (world : World) (component : ℕ) (call : Call) →
+    IsBalanced pages caps world → IsBalanced pages caps (with_state world component (outcome_at world component call).next)

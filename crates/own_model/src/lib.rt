@@ -4,15 +4,20 @@
 #![tactic(auto)]
 
 mod answers;
+mod limits;
 mod rows;
 mod runs;
+mod start;
 
 pub use answers::{
     equal_parts_equal_answers, equal_parts_equal_states, states_are_own_runs, states_over_a_line,
     told_over_a_line, transcript_is_running,
 };
+pub use limits::{calls_keep_balance, calls_keep_limits, servers_stay};
 pub use rows::{
     empty_budget_is_told, lines_and_names_are_refused, lines_end_and_overflow,
-    long_lines_are_no_calls, ram_is_exact_at_the_limit, sizes_round_up_to_pages,
+    long_lines_are_no_calls, longest_line_is_read, ram_is_exact_at_the_limit,
+    sizes_round_up_to_pages,
 };
 pub use runs::{own_part_over_append, own_run_over_append};
+pub use start::machine_a_boots;

@@ -27,6 +27,12 @@ pub fn lines_end_and_overflow()
         ≡ codes "alice: ram 0/65536 caps 0/16\n?: Bad_line\n?: Bad_line\nbob: ram 0/65536 caps 0/16\n" }
 {}
 
+/// A call of 8192 bytes is read, and one of a byte more is none.
+pub fn longest_line_is_read()
+    ensures longest { told_by_a (codes "alice alloc " ++ replicate 8180 48) ≡ codes "alice: Invalid_size\n" }
+    ensures longer { told_by_a (codes "alice alloc " ++ replicate 8181 48) ≡ codes "?: Bad_line\n" }
+{}
+
 /// A name that no entry has, a server, forms and numbers outside the grammar, and sizes that no budget covers are refused.
 pub fn lines_and_names_are_refused()
     ensures names { told_by_a (codes "carol quota\nlog quota\n") ≡ codes "carol: Unknown_component\nlog: Not_a_script\n" }

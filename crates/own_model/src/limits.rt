@@ -1,0 +1,19 @@
+//! Laws of limits: what a call leaves of them, and of the whole machine's balance.
+ghost use Rattle.own_model.specs.Laws.{ServersStay, StepKeepsLimits, StepKeepsWithinLimits, RunKeepsWithinLimits, StepKeepsBalance};
+
+/// Every call leaves a server's own state.
+pub fn servers_stay()
+    ensures { ServersStay }
+{}
+
+/// No call changes the limits of its caller's account, and none overdraws it.
+pub fn calls_keep_limits()
+    ensures same { StepKeepsLimits }
+    ensures within { StepKeepsWithinLimits }
+    ensures run { RunKeepsWithinLimits }
+{}
+
+/// A component's call leaves a balanced machine balanced.
+pub fn calls_keep_balance()
+    ensures { StepKeepsBalance }
+{}
