@@ -5,3 +5,4 @@ pub mod RunLemmas
 pub mod RunningLemmas
 pub mod RowLemmas
 pub mod LimitLemmas
+pub mod StartLemmas

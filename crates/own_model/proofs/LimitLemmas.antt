@@ -1,19 +1,18 @@
 -- What a call leaves of limits.
-use Rattle.std.proofs.Common.{◌≡◌, ℕ, ◌+◌, ◌-◌, ◌<◌, ◌≤◌, zero, suc, lit≤, inl, inr, length, sum_by, Bool, true, false, cond, List, [], ◌∷◌, Option, Some, None, refl, ap, sym, ◌∙◌, subst, arith, rules, set, get_or, nat_lt, leb}
-use Rattle.std.proofs.lemmas.Bool.Decides.{nat_tests}
-use Rattle.std.proofs.lemmas.Grind.{common_steps}
+use Rattle.std.proofs.Common.{◌≡◌, ℕ, zero, suc, lit≤, inl, inr, length, sum_by, List, [], ◌∷◌, refl, arith, rules, set, get_or}
 use Rattle.std.proofs.lemmas.Bool.{cases_lt}
 use Rattle.std.proofs.lemmas.List.{set_past}
 use Rattle.std.proofs.lemmas.List.Sums.{sum_by-set}
 use Rattle.std.specs.List.{AllByRecursion}
-use Rattle.trade_base.specs.declared.refusal.Refusal.{Refusal}
-use Rattle.own_model.specs.Account.{Account, WithinLimits, Fits, shortage}
+use Rattle.own_model.specs.Account.{WithinLimits}
 use Rattle.own_model.specs.Call.{Call}
 use Rattle.own_model.specs.OwnState.{OwnState}
 use Rattle.own_model.specs.OwnStep.{own_step, own_run}
 use Rattle.own_model.specs.StartList.{Entry}
 use Rattle.own_model.specs.StartList.Kind.{Server}
-use Rattle.own_model.specs.Transcript.{entry_at, state_at, nothing}
+use Rattle.own_model.specs.Transcript.{Heard, heard, entry_at, state_at, nothing}
+use Rattle.own_model.specs.Running.{states_after_heard, states_running}
+use Rattle.own_model.specs.Transcript.Heard.{NoCall, Stranger, Caller}
 use Rattle.own_model.specs.World.{World, IsBalanced, with_state, outcome_at}
 
 -- every call leaves a server
@@ -74,3 +73,18 @@ step_balanced pages caps world component call h =
       ram_adds_up = omega (arith, ram, h.ram_adds_up);
       caps_add_up = omega (arith, caps_sum, h.caps_add_up);
     }
+
+-- what was heard leaves it balanced
+heard_balanced : (pages caps : ℕ) (world : World) (what : Heard) →
+    IsBalanced pages caps world → IsBalanced pages caps (record world { states = states_after_heard world.entries world.states what })
+heard_balanced pages caps world NoCall h = h
+heard_balanced pages caps world (Stranger name) h = h
+heard_balanced pages caps world (Caller made) h = step_balanced pages caps world made.component made.call h
+
+-- lines leave it balanced
+pub lines_balanced : (pages caps : ℕ) (world : World) (lines : List (List ℕ)) →
+    IsBalanced pages caps world → IsBalanced pages caps (record world { states = states_running world.entries world.states lines })
+lines_balanced pages caps world [] h = h
+lines_balanced pages caps world (line ∷ lines) h =
+    lines_balanced pages caps (record world { states = states_after_heard world.entries world.states (heard world.entries line) }) lines
+    (heard_balanced pages caps world (heard world.entries line) h)

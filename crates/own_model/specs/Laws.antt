@@ -5,12 +5,12 @@ use Rattle.own_model.specs.Call.{Call}
 use Rattle.own_model.specs.OwnState.{OwnState}
 use Rattle.own_model.specs.OwnStep.{own_run, own_step}
 use Rattle.own_model.specs.Running.{told_running, states_running, told_now, states_after_heard}
-use Rattle.own_model.specs.StartList.{Entry}
+use Rattle.own_model.specs.StartList.{Entry, StartList, Boots}
 use Rattle.own_model.specs.StartList.Kind.{Server}
 use Rattle.own_model.specs.Text.{lines_of}
 use Rattle.own_model.specs.Transcript.{Made, heard, own_part, state_at, state_after, answer, transcript, calls_of, longest_line}
 use Rattle.own_model.specs.Transcript.Heard.{NoCall}
-use Rattle.own_model.specs.World.{World, IsBalanced, with_state, outcome_at}
+use Rattle.own_model.specs.World.{World, IsBalanced, with_state, outcome_at, start_world}
 
 -- a run over two lists of calls is the run over the first and then the second
 abbrev pub RunOverAppend : Type 0
@@ -108,3 +108,14 @@ abbrev pub StepKeepsBalance : Type 0
 StepKeepsBalance =
     (pages caps : ℕ) (world : World) (component : ℕ) (call : Call) →
     IsBalanced pages caps world → IsBalanced pages caps (with_state world component (outcome_at world component call).next)
+
+-- lines leave a balanced world balanced
+abbrev pub LinesKeepBalance : Type 0
+LinesKeepBalance =
+    (pages caps : ℕ) (world : World) (lines : List (List ℕ)) →
+    IsBalanced pages caps world →
+    IsBalanced pages caps (record world { states = states_running world.entries world.states lines })
+
+-- a start list that boots starts balanced
+abbrev pub BootsBalanced : Type 0
+BootsBalanced = (list : StartList) → Boots list → IsBalanced list.pages list.caps (start_world list)

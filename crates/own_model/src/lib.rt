@@ -20,4 +20,4 @@ pub use rows::{
     sizes_round_up_to_pages,
 };
 pub use runs::{own_part_over_append, own_run_over_append};
-pub use start::machine_a_boots;
+pub use start::{boots_balanced, machine_a_boots};

@@ -1,5 +1,5 @@
 //! Laws of limits: what a call leaves of them, and of the whole machine's balance.
-ghost use Rattle.own_model.specs.Laws.{ServersStay, StepKeepsLimits, StepKeepsWithinLimits, RunKeepsWithinLimits, StepKeepsBalance};
+ghost use Rattle.own_model.specs.Laws.{ServersStay, StepKeepsLimits, StepKeepsWithinLimits, RunKeepsWithinLimits, StepKeepsBalance, LinesKeepBalance};
 
 /// Every call leaves a server's own state.
 pub fn servers_stay()
@@ -13,7 +13,8 @@ pub fn calls_keep_limits()
     ensures run { RunKeepsWithinLimits }
 {}
 
-/// A component's call leaves a balanced machine balanced.
+/// A component's call leaves a balanced machine balanced, and so do lines.
 pub fn calls_keep_balance()
-    ensures { StepKeepsBalance }
+    ensures call { StepKeepsBalance }
+    ensures lines { LinesKeepBalance }
 {}
