@@ -17,7 +17,7 @@ pub use limits::{calls_keep_balance, calls_keep_limits, servers_stay};
 pub use rows::{
     empty_budget_is_told, lines_and_names_are_refused, lines_end_and_overflow,
     long_lines_are_no_calls, longest_line_is_read, ram_is_exact_at_the_limit,
-    sizes_round_up_to_pages,
+    selectors_are_ones_own, selectors_come_again, sizes_round_up_to_pages,
 };
 pub use runs::{own_part_over_append, own_run_over_append};
 pub use start::{boots_balanced, machine_a_boots};

@@ -21,6 +21,18 @@ pub fn ram_is_exact_at_the_limit()
         ≡ codes "alice: cap 1\nalice: Out_of_ram\nalice: ok\nalice: ram 0/65536 caps 0/16\n" }
 {}
 
+/// The least selector that is free comes next, also one that was in use before.
+pub fn selectors_come_again()
+    ensures { told_by_a (codes "alice alloc 1\nalice alloc 1\nalice alloc 1\nalice free 2\nalice alloc 1\nalice quota\n")
+        ≡ codes "alice: cap 1\nalice: cap 2\nalice: cap 3\nalice: ok\nalice: cap 2\nalice: ram 12288/65536 caps 3/16\n" }
+{}
+
+/// Only what a component's own selectors name can be freed, and only once.
+pub fn selectors_are_ones_own()
+    ensures { told_by_a (codes "alice alloc 1\nalice free 0\nalice free 4294967297\nbob free 1\nalice free 1\nalice free 1\n")
+        ≡ codes "alice: cap 1\nalice: Invalid_cap\nalice: Invalid_cap\nbob: Invalid_cap\nalice: ok\nalice: Invalid_cap\n" }
+{}
+
 /// An empty line is a line, one that is too long is no call, and the last line needs no end.
 pub fn lines_end_and_overflow()
     ensures { told_by_a (codes "alice quota\n\n" ++ replicate 8193 120 ++ codes "\nbob quota")
