@@ -1,12 +1,13 @@
 -- Worked inputs of machine A.
-use Rattle.std.proofs.Common.{◌≡◌, ℕ, List, [], ◌∷◌, ◌++◌, false, length, set, refl, sym, ap, ◌∙◌, codes, nat_cmp, Some, None, arith}
-use Rattle.std.proofs.lemmas.List.{nil_from_length, length-replicate}
+use Rattle.std.proofs.Common.{◌≡◌, ℕ, List, [], ◌∷◌, ◌++◌, false, set, refl, sym, ap, ◌∙◌, codes, nat_cmp, Some, None, arith}
+use Rattle.std.proofs.lemmas.List.{nil_from_length}
 use Rattle.std.proofs.lemmas.Bool.Decides.{nat_tests}
 use Rattle.std.specs.Fmt.{digits}
 use Rattle.std.specs.Cmp.{nat_cmp_total}
 use Rattle.std.specs.FinMap.{entries, empty, insert, remove, get, len-entries, len-empty, entries-insert, get-insert, get-empty, gets, same_map, nat_cmp-IsAntisymmetric}
 use Rattle.trade_base.specs.declared.refusal.Refusal.TheVariants.{InvalidCap}
 use Rattle.own_model.proofs.RunningLemmas.{transcript-running}
+use Rattle.own_model.proofs.UseLemmas.{length-zeros}
 use Rattle.own_model.specs.Account.{opened, charged}
 use Rattle.own_model.specs.Call.{Call}
 use Rattle.own_model.specs.Call.Call.{Alloc, Free}
@@ -34,11 +35,6 @@ first_selector = rw entries_none
 pub second_selector : (object : Object) → new_selector (insert (empty {X = Object} {R = nat_cmp}) 1 object) ≡ 2
 unfolding new_selector
 second_selector object = rw (entries-insert nat_cmp_total (empty {X = Object} {R = nat_cmp}) 1 object, entries_none)
-
--- so many zeros
-length-zeros : (n : ℕ) → length (zeros n) ≡ n
-unfolding zeros
-length-zeros n = length-replicate n 0
 
 -- it names what it was given for
 found_first : (object : Object) → get (insert (empty {X = Object} {R = nat_cmp}) 1 object) 1 ≡ Some object

@@ -5,11 +5,12 @@ use Rattle.own_model.specs.Call.{Call}
 use Rattle.own_model.specs.OwnState.{OwnState}
 use Rattle.own_model.specs.OwnStep.{own_run, own_step}
 use Rattle.own_model.specs.Running.{told_running, states_running, told_now, states_after_heard}
-use Rattle.own_model.specs.StartList.{Entry, StartList, Boots}
+use Rattle.own_model.specs.StartList.{Entry, StartEntry, StartList, Boots, start_state}
 use Rattle.own_model.specs.StartList.Kind.{Server}
 use Rattle.own_model.specs.Text.{lines_of}
 use Rattle.own_model.specs.Transcript.{Made, heard, own_part, state_at, state_after, answer, transcript, calls_of, longest_line}
 use Rattle.own_model.specs.Transcript.Heard.{NoCall}
+use Rattle.own_model.specs.Use.{UsesWhatItHolds}
 use Rattle.own_model.specs.World.{World, IsBalanced, with_state, outcome_at, start_world}
 
 -- a run over two lists of calls is the run over the first and then the second
@@ -102,6 +103,14 @@ StepKeepsWithinLimits =
 abbrev pub RunKeepsWithinLimits : Type 0
 RunKeepsWithinLimits =
     (entry : Entry) (calls : List Call) (s : OwnState) → WithinLimits s.account → WithinLimits (own_run entry calls s).account
+
+-- who starts uses what it holds: nothing
+abbrev pub StartsWithoutUse : Type 0
+StartsWithoutUse = (start : StartEntry) → UsesWhatItHolds (start_state start)
+
+-- calls keep what is used equal to what is held
+abbrev pub RunKeepsUse : Type 0
+RunKeepsUse = (entry : Entry) (calls : List Call) (s : OwnState) → UsesWhatItHolds s → UsesWhatItHolds (own_run entry calls s)
 
 -- a component's call leaves a balanced world balanced
 abbrev pub StepKeepsBalance : Type 0

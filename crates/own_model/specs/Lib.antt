@@ -9,5 +9,6 @@ pub mod StartList
 pub mod Transcript
 pub mod World
 pub mod Running
+pub mod Use
 pub mod Laws
 pub mod Rows

@@ -13,7 +13,7 @@ pub use answers::{
     equal_parts_equal_answers, equal_parts_equal_states, states_are_own_runs, states_over_a_line,
     told_over_a_line, transcript_is_running,
 };
-pub use limits::{calls_keep_balance, calls_keep_limits, servers_stay};
+pub use limits::{calls_keep_balance, calls_keep_limits, servers_stay, use_is_what_is_held};
 pub use rows::{
     empty_budget_is_told, lines_and_names_are_refused, lines_end_and_overflow,
     long_lines_are_no_calls, longest_line_is_read, ram_is_exact_at_the_limit,
