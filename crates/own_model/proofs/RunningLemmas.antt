@@ -1,6 +1,6 @@
 -- The running states are own runs, so what is told from them is what is told from the history.
 use Rattle.std.proofs.Common.{◌≡◌, ◌≢◌, ℕ, ◌+◌, ◌≤◌, ◌++◌, ◌==◌, Bool, true, false, List, [], ◌∷◌, Some, length, nat_lt, refl, ap, sym, ◌∙◌, cond, subst, inl, inr, arith, append_assoc, slice_set, nat_cmp}
-use Rattle.std.proofs.lemmas.List.{get_or-set_same, get_or-set_other, get_or_past, set_past, append-nil}
+use Rattle.std.proofs.lemmas.List.{get_or-set_same, get_or-set_other, get_or_past, length-set, set_past, append-nil}
 use Rattle.std.proofs.lemmas.Bool.{cases_lt}
 use Rattle.std.proofs.lemmas.Bool.Decides.{nat_tests}
 use Rattle.std.specs.FinMap.{get, get-empty}
@@ -168,3 +168,19 @@ pub states_running-at : (entries : List Entry) (starts : List OwnState) (lines :
     state_at (states_running entries starts lines) component ≡ state_after entries starts (calls_of entries lines) component
 states_running-at entries starts lines component =
     (Tracks-running entries starts starts [] lines (Tracks-none entries starts)).at component
+
+-- there are as many states after what was heard
+heard-length : (entries : List Entry) (states : List OwnState) (what : Heard) → length (states_after_heard entries states what) ≡ length states
+heard-length entries states NoCall = refl
+heard-length entries states (Stranger name) = refl
+heard-length entries states (Caller made) = length-set states made.component (running_step entries states made).next
+
+-- there are as many states after lines
+pub length-states_running : (entries : List Entry) (states : List OwnState) (lines : List (List ℕ)) → length (states_running entries states lines) ≡ length states
+length-states_running entries states [] = refl
+length-states_running entries states (line ∷ lines) =
+    length-states_running entries (states_after_heard entries states (heard entries line)) lines
+    ∙ heard-length entries states (heard entries line)
+
+-- the laws by which a loop over lines is proved
+pub ruleset running = (told_running-push, states_running-push, length-states_running, transcript-running, states_running-at)

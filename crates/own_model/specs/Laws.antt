@@ -49,6 +49,12 @@ StatesOverLast =
     states_running entries states (lines ++ line ∷ [])
     ≡ states_after_heard entries (states_running entries states lines) (heard entries line)
 
+-- lines leave as many running states
+abbrev pub StatesKeepLength : Type 0
+StatesKeepLength =
+    (entries : List Entry) (states : List OwnState) (lines : List (List ℕ)) →
+    length (states_running entries states lines) ≡ length states
+
 -- what is told of a first line and the lines that follow it
 abbrev pub ToldOverFirst : Type 0
 ToldOverFirst =

@@ -1,5 +1,5 @@
 //! Laws of answers: what is told by history and from running states is the same, and hangs on the caller's own part alone.
-ghost use Rattle.own_model.specs.Laws.{TranscriptIsRunning, StatesAreOwnRuns, StatesOverFirst, StatesOverLast, ToldOverFirst, ToldOverLast, EqualPartsEqualStates, EqualPartsEqualAnswers};
+ghost use Rattle.own_model.specs.Laws.{TranscriptIsRunning, StatesAreOwnRuns, StatesOverFirst, StatesOverLast, StatesKeepLength, ToldOverFirst, ToldOverLast, EqualPartsEqualStates, EqualPartsEqualAnswers};
 
 /// The transcript, whose answers come from the history of calls, is what the running states tell.
 pub fn transcript_is_running()
@@ -15,6 +15,7 @@ pub fn states_are_own_runs()
 pub fn states_over_a_line()
     ensures first { StatesOverFirst }
     ensures last { StatesOverLast }
+    ensures count { StatesKeepLength }
 {}
 
 /// What is told of lines is told line by line: the first from the states at hand, the last from those that the others left.
