@@ -31,12 +31,12 @@ pub first_selector : new_selector (empty {X = Object} {R = nat_cmp}) ≡ 1
 unfolding new_selector
 first_selector = rw entries_none
 
--- after it comes 2
+-- after one comes 2
 pub second_selector : (object : Object) → new_selector (insert (empty {X = Object} {R = nat_cmp}) 1 object) ≡ 2
 unfolding new_selector
 second_selector object = rw (entries-insert nat_cmp_total (empty {X = Object} {R = nat_cmp}) 1 object, entries_none)
 
--- it names what it was given for
+-- the first selector names what was inserted
 found_first : (object : Object) → get (insert (empty {X = Object} {R = nat_cmp}) 1 object) 1 ≡ Some object
 found_first object = rw (get-insert nat_cmp_total (empty {X = Object} {R = nat_cmp}) 1 object 1)
 
@@ -83,7 +83,7 @@ all_taken : own_step (entry_at (entries_of machine_a) 2) (Alloc 65536) (alice_wi
     ≡ record { reply = Selected 1; lines = []; next = alice_with 65536 1 (one_dataspace 65536) }
 all_taken = rw first_selector
 
--- and comes back
+-- and comes back when it is freed
 all_freed : own_step (entry_at (entries_of machine_a) 2) (Free 1) (alice_with 65536 1 (one_dataspace 65536))
     ≡ record { reply = Done; lines = []; next = alice_with 0 0 (remove (one_dataspace 65536) 1) }
 all_freed = rw (found_first, length-zeros 65536)
@@ -111,7 +111,7 @@ two_pages = insert (one_dataspace 4096) 2 page
 abbrev three_pages : NatMap Object
 three_pages = insert two_pages 3 page
 
--- after two come 3
+-- after two comes 3
 third_selector : new_selector two_pages ≡ 3
 unfolding new_selector
 third_selector = rw (entries-insert nat_cmp_total (one_dataspace 4096) 2 page, entries-insert nat_cmp_total (empty {X = Object} {R = nat_cmp}) 1 page, entries_none)
@@ -125,26 +125,31 @@ second_again : new_selector (insert (one_dataspace 4096) 3 page) ≡ 2
 unfolding new_selector
 second_again = rw (entries-insert nat_cmp_total (one_dataspace 4096) 3 page, entries-insert nat_cmp_total (empty {X = Object} {R = nat_cmp}) 1 page, entries_none)
 
--- one page is taken with no selector in use, with one, with two, and with the first and the third
+-- a page goes under the first selector
 first_taken : own_step (entry_at (entries_of machine_a) 2) (Alloc 1) (alice_with 0 0 empty)
     ≡ record { reply = Selected 1; lines = []; next = alice_with 4096 1 (one_dataspace 4096) }
 first_taken = rw first_selector
 
+-- a page more goes under the second selector
 second_taken : own_step (entry_at (entries_of machine_a) 2) (Alloc 1) (alice_with 4096 1 (one_dataspace 4096))
     ≡ record { reply = Selected 2; lines = []; next = alice_with 8192 2 two_pages }
 second_taken = rw second_selector
 
+-- and one more under the third
 third_taken : own_step (entry_at (entries_of machine_a) 2) (Alloc 1) (alice_with 8192 2 two_pages)
     ≡ record { reply = Selected 3; lines = []; next = alice_with 12288 3 three_pages }
 third_taken = rw third_selector
 
+-- the second selector names its page
 second_found : get three_pages 2 ≡ Some page
 second_found = grind (arith, nat_tests, gets)
 
+-- which is freed
 second_freed : own_step (entry_at (entries_of machine_a) 2) (Free 2) (alice_with 12288 3 three_pages)
     ≡ record { reply = Done; lines = []; next = alice_with 8192 2 (insert (one_dataspace 4096) 3 page) }
 second_freed = rw (second_found, length-zeros 4096, without_second)
 
+-- so the next page goes under the second selector
 gap_taken : own_step (entry_at (entries_of machine_a) 2) (Alloc 1) (alice_with 8192 2 (insert (one_dataspace 4096) 3 page))
     ≡ record { reply = Selected 2; lines = []; next = alice_with 12288 3 (insert (insert (one_dataspace 4096) 3 page) 2 page) }
 gap_taken = rw second_again
@@ -172,28 +177,33 @@ not_held : (selector : ℕ) → get (one_dataspace 4096) selector ≡ None →
     ≡ refused (alice_with 4096 1 (one_dataspace 4096)) InvalidCap
 not_held selector none = ap (λ o. freed selector o (alice_with 4096 1 (one_dataspace 4096))) none
 
+-- no selector is 0
 not_zero : get (one_dataspace 4096) 0 ≡ None
 not_zero = grind (arith, nat_tests, gets)
 
+-- and none past 32 bits is in use
 not_large : get (one_dataspace 4096) 4294967297 ≡ None
 not_large = grind (arith, nat_tests, gets)
 
--- bob has none
+-- bob has no selectors
 bob_freed : own_step (entry_at (entries_of machine_a) 3) (Free 1) (alice_with 0 0 empty) ≡ refused (alice_with 0 0 empty) InvalidCap
 bob_freed = ap (λ o. freed 1 o (alice_with 0 0 empty)) (get-empty nat_cmp 1)
 
--- alice's own
+-- alice can free her own
 own_freed : own_step (entry_at (entries_of machine_a) 2) (Free 1) (alice_with 4096 1 (one_dataspace 4096))
     ≡ record { reply = Done; lines = []; next = alice_with 0 0 (remove (one_dataspace 4096) 1) }
 own_freed = rw (found_first, length-zeros 4096)
 
+-- what was freed is no longer named
 nothing_left : get (remove (one_dataspace 4096) 1) 1 ≡ None
 nothing_left = grind (arith, nat_tests, gets)
 
+-- so it can't be freed again
 freed_twice : own_step (entry_at (entries_of machine_a) 2) (Free 1) (alice_with 0 0 (remove (one_dataspace 4096) 1))
     ≡ refused (alice_with 0 0 (remove (one_dataspace 4096) 1)) InvalidCap
 freed_twice = ap (λ o. freed 1 o (alice_with 0 0 (remove (one_dataspace 4096) 1))) nothing_left
 
+-- what is no selector of one's own is refused
 pub held_alone : told_by_a (codes "alice alloc 1\nalice free 0\nalice free 4294967297\nbob free 1\nalice free 1\nalice free 1\n")
     ≡ codes "alice: cap 1\nalice: Invalid_cap\nalice: Invalid_cap\nbob: Invalid_cap\nalice: ok\nalice: Invalid_cap\n"
 unfolding digits

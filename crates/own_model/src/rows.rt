@@ -1,5 +1,5 @@
 //! Worked inputs of machine A: what is told of each, to the byte.
-ghost use Rattle.std.specs.Prelude.{◌≡◌, ◌<◌, ◌++◌, List, [], ℕ, codes, length, replicate};
+ghost use Rattle.std.specs.Prelude.{◌≡◌, ◌++◌, [], codes, replicate};
 ghost use Rattle.own_model.specs.Rows.{told_by_a};
 ghost use Rattle.own_model.specs.Laws.{LongLinesAreNoCalls};
 
