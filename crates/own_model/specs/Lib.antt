@@ -8,3 +8,7 @@ pub mod OwnStep
 pub mod StartList
 pub mod Transcript
 pub mod World
+pub mod Running
+pub mod Use
+pub mod Laws
+pub mod Rows

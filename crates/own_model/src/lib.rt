@@ -3,10 +3,21 @@
 //! The definitions stand in `specs/`. The functions here carry laws over them and do nothing at run time.
 #![tactic(auto)]
 
-ghost use Rattle.std.specs.Prelude.{◌≡◌, []};
-ghost use Rattle.own_model.specs.Transcript.{transcript};
+mod answers;
+mod limits;
+mod rows;
+mod runs;
+mod start;
 
-/// Nothing is told of nothing.
-pub fn nothing_is_told()
-    ensures { transcript [] [] [] ≡ [] }
-{}
+pub use answers::{
+    equal_parts_equal_answers, equal_parts_equal_states, states_are_own_runs, states_over_a_line,
+    told_over_a_line, transcript_is_running,
+};
+pub use limits::{calls_keep_balance, calls_keep_limits, servers_stay, use_is_what_is_held};
+pub use rows::{
+    empty_budget_is_told, lines_and_names_are_refused, lines_end_and_overflow,
+    long_lines_are_no_calls, longest_line_is_read, ram_is_exact_at_the_limit,
+    selectors_are_ones_own, selectors_come_again, sizes_round_up_to_pages,
+};
+pub use runs::{own_part_over_append, own_run_over_append};
+pub use start::{boots_balanced, machine_a_boots};

@@ -1,0 +1,90 @@
+-- What a call leaves of limits.
+use Rattle.std.proofs.Common.{◌≡◌, ℕ, zero, suc, lit≤, inl, inr, length, sum_by, List, [], ◌∷◌, refl, arith, rules, set, get_or}
+use Rattle.std.proofs.lemmas.Bool.{cases_lt}
+use Rattle.std.proofs.lemmas.List.{set_past}
+use Rattle.std.proofs.lemmas.List.Sums.{sum_by-set}
+use Rattle.std.specs.List.{AllByRecursion}
+use Rattle.own_model.specs.Account.{WithinLimits}
+use Rattle.own_model.specs.Call.{Call}
+use Rattle.own_model.specs.OwnState.{OwnState}
+use Rattle.own_model.specs.OwnStep.{own_step, own_run}
+use Rattle.own_model.specs.StartList.{Entry}
+use Rattle.own_model.specs.StartList.Kind.{Server}
+use Rattle.own_model.specs.Transcript.{Heard, heard, entry_at, state_at, nothing}
+use Rattle.own_model.specs.Running.{states_after_heard, states_running}
+use Rattle.own_model.specs.Transcript.Heard.{NoCall, Stranger, Caller}
+use Rattle.own_model.specs.World.{World, IsBalanced, with_state, outcome_at}
+
+-- every call leaves a server
+pub server_stays : (name : List ℕ) (calls : List Call) (s : OwnState) → own_run (record { name = name; kind = Server }) calls s ≡ s
+server_stays name [] s = refl
+server_stays name (call ∷ calls) s = server_stays name calls s
+
+-- no call overdraws an account
+pub step_within : (entry : Entry) (call : Call) (s : OwnState) → WithinLimits s.account → WithinLimits (own_step entry call s).next.account
+step_within entry call s within = search rules
+
+-- no calls do
+pub run_within : (entry : Entry) (calls : List Call) (s : OwnState) → WithinLimits s.account → WithinLimits (own_run entry calls s).account
+run_within entry [] s within = within
+run_within entry (call ∷ calls) s within = run_within entry calls (own_step entry call s).next (step_within entry call s within)
+
+-- what holds of each element holds after a change to one of which it holds
+all_changed : {X : Type 0} (P : X → Type 0) (xs : List X) (i : ℕ) (y : X) → AllByRecursion P xs → P y → AllByRecursion P (set xs i y)
+all_changed P [] i y each here = each
+all_changed P (x ∷ xs) zero y each here = (here, each.1)
+all_changed P (x ∷ xs) (suc i) y each here = (each.0, all_changed P xs i y each.1 here)
+
+-- what holds of each element, and of the default, holds of what stands anywhere
+all_at : {X : Type 0} (P : X → Type 0) (xs : List X) (i : ℕ) (d : X) → AllByRecursion P xs → P d → P (get_or xs i d)
+all_at P [] i d each past = past
+all_at P (x ∷ xs) zero d each past = each.0
+all_at P (x ∷ xs) (suc i) d each past = all_at P xs i d each.1 past
+
+-- a sum stays when an element gives way to one that counts as much
+sum_changed : {X : Type 0} (f : X → ℕ) (xs : List X) (i : ℕ) (y d : X) → f y ≡ f (get_or xs i d) → sum_by f (set xs i y) ≡ sum_by f xs
+sum_changed f xs i y d same = elim (cases_lt i (length xs)) [
+  | inl within ↦ omega (arith, sum_by-set f xs i y d within)
+  | inr beyond ↦ rw (set_past xs i y beyond)
+]
+
+-- the limits after a call
+limits_stay : (entry : Entry) (call : Call) (s : OwnState) →
+    ((own_step entry call s).next.account.ram_limit ≡ s.account.ram_limit) × ((own_step entry call s).next.account.caps_limit ≡ s.account.caps_limit)
+limits_stay entry call s = search rules
+
+-- a component's call leaves a balanced world balanced
+pub step_balanced : (pages caps : ℕ) (world : World) (component : ℕ) (call : Call) →
+    IsBalanced pages caps world → IsBalanced pages caps (with_state world component (outcome_at world component call).next)
+step_balanced pages caps world component call h =
+    let entry : Entry = entry_at world.entries component in
+    let before : OwnState = state_at world.states component in
+    let after : OwnState = (own_step entry call before).next in
+    let limits = limits_stay entry call before in
+    let ram : sum_by (λ s. s.account.ram_limit) (set world.states component after) ≡ sum_by (λ s. s.account.ram_limit) world.states
+    = sum_changed (λ s. s.account.ram_limit) world.states component after nothing limits.0 in
+    let caps_sum : sum_by (λ s. s.account.caps_limit) (set world.states component after) ≡ sum_by (λ s. s.account.caps_limit) world.states
+    = sum_changed (λ s. s.account.caps_limit) world.states component after nothing limits.1 in
+    record {
+      within = all_changed (λ s. WithinLimits s.account) world.states component after h.within
+          (step_within entry call before (all_at (λ s. WithinLimits s.account) world.states component nothing h.within (record { ram = lit≤ tt; caps = lit≤ tt })));
+      init_ram = h.init_ram;
+      init_caps = h.init_caps;
+      ram_adds_up = omega (arith, ram, h.ram_adds_up);
+      caps_add_up = omega (arith, caps_sum, h.caps_add_up);
+    }
+
+-- what was heard leaves it balanced
+heard_balanced : (pages caps : ℕ) (world : World) (what : Heard) →
+    IsBalanced pages caps world → IsBalanced pages caps (record world { states = states_after_heard world.entries world.states what })
+heard_balanced pages caps world NoCall h = h
+heard_balanced pages caps world (Stranger name) h = h
+heard_balanced pages caps world (Caller made) h = step_balanced pages caps world made.component made.call h
+
+-- lines leave it balanced
+pub lines_balanced : (pages caps : ℕ) (world : World) (lines : List (List ℕ)) →
+    IsBalanced pages caps world → IsBalanced pages caps (record world { states = states_running world.entries world.states lines })
+lines_balanced pages caps world [] h = h
+lines_balanced pages caps world (line ∷ lines) h =
+    lines_balanced pages caps (record world { states = states_after_heard world.entries world.states (heard world.entries line) }) lines
+    (heard_balanced pages caps world (heard world.entries line) h)

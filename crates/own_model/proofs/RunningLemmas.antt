@@ -1,0 +1,186 @@
+-- The running states are own runs, so what is told from them is what is told from the history.
+use Rattle.std.proofs.Common.{◌≡◌, ◌≢◌, ℕ, ◌+◌, ◌≤◌, ◌++◌, ◌==◌, Bool, true, false, List, [], ◌∷◌, Some, length, nat_lt, refl, ap, sym, ◌∙◌, cond, subst, inl, inr, arith, append_assoc, slice_set, nat_cmp}
+use Rattle.std.proofs.lemmas.List.{get_or-set_same, get_or-set_other, get_or_past, length-set, set_past, append-nil}
+use Rattle.std.proofs.lemmas.Bool.{cases_lt}
+use Rattle.std.proofs.lemmas.Bool.Decides.{nat_tests}
+use Rattle.std.specs.FinMap.{get, get-empty}
+use Rattle.trade_base.specs.declared.refusal.Refusal.{Refusal}
+use Rattle.trade_base.specs.declared.refusal.Refusal.TheVariants.{OutOfRam, OutOfCaps, InvalidSize}
+use Rattle.trade_base.specs.Page.{page_of}
+use Rattle.own_model.specs.Account.{opened}
+use Rattle.own_model.proofs.RunLemmas.{own_run-append, own_part-append}
+use Rattle.own_model.specs.Call.{Call}
+use Rattle.own_model.specs.Call.Call.{Alloc, Free, Quota}
+use Rattle.own_model.specs.OwnState.{OwnState}
+use Rattle.own_model.specs.OwnStep.{Outcome, own_run, own_step, unless, alloc_refusal, allocated, freed, script_step, turned_away, is_valid_size}
+use Rattle.own_model.specs.Running.{running_step, states_after_call, states_after_heard, told_now, states_running, told_running}
+use Rattle.own_model.specs.StartList.{Entry, Kind}
+use Rattle.own_model.specs.StartList.Kind.{Script, Server}
+use Rattle.own_model.specs.Text.{lines_of}
+use Rattle.own_model.specs.Transcript.{Made, Heard, own_part, nothing, entry_at, state_at, state_after, heard, calls_in, calls_of, told, told_after, transcript}
+use Rattle.own_model.specs.Transcript.Heard.{NoCall, Stranger, Caller}
+
+-- what is refused leaves the state
+refusal_stays : (valid covered : Bool) (a b c : Refusal) (s : OwnState) (accepted : Outcome) →
+    (unless (cond valid (cond covered (Some a) (Some b)) (Some c)) s accepted).next ≡ s
+refusal_stays true true a b c s accepted = refl
+refusal_stays true false a b c s accepted = refl
+refusal_stays false covered a b c s accepted = refl
+
+-- no bytes at all cover no allocation
+alloc_refused : (n : ℕ) → (unless (alloc_refusal n (opened 0 0)) nothing (allocated n nothing)).next ≡ nothing
+alloc_refused n = refusal_stays (is_valid_size n) (nat_lt 0 (0 + page_of n)) OutOfRam OutOfCaps InvalidSize nothing (allocated n nothing)
+
+-- a selector names nothing there
+free_refused : (selector : ℕ) → (freed selector (get nothing.selectors selector) nothing).next ≡ nothing
+free_refused selector = rw (get-empty nat_cmp selector)
+
+script_stays : (call : Call) → (script_step call nothing).next ≡ nothing
+script_stays (Alloc n) = alloc_refused n
+script_stays (Free selector) = free_refused selector
+script_stays Quota = refl
+
+kind_stays : (kind : Kind) (call : Call) → (unless (turned_away kind nothing) nothing (script_step call nothing)).next ≡ nothing
+kind_stays Server call = refl
+kind_stays Script call = script_stays call
+
+-- no call changes the state of who has nothing
+nothing_stays : (entry : Entry) (call : Call) → (own_step entry call nothing).next ≡ nothing
+nothing_stays entry call = kind_stays entry.kind call
+
+-- a running state reads as own run of the component's own part
+pub record Tracks (entries : List Entry) (starts states : List OwnState) (earlier : List Made) : Type 0 where
+  pub at : (component : ℕ) → state_at states component ≡ state_after entries starts earlier component
+
+-- at the start nothing has run
+pub Tracks-none : (entries : List Entry) (starts : List OwnState) → Tracks entries starts starts []
+Tracks-none entries starts = record { at = λ component. refl }
+
+-- own state after one call more of all: its own call is a step, another's nothing
+state_after-push : (entries : List Entry) (starts : List OwnState) (earlier : List Made) (made : Made) (component : ℕ) →
+    state_after entries starts (earlier ++ made ∷ []) component
+    ≡ own_run (entry_at entries component) (own_part component (made ∷ [])) (state_after entries starts earlier component)
+state_after-push entries starts earlier made component =
+    rw (own_part-append component earlier (made ∷ []))
+    (own_run-append (entry_at entries component) (own_part component earlier) (own_part component (made ∷ [])) (state_at starts component))
+
+-- what stands at a changed place, also past the end if the change is none there
+at_changed : (states : List OwnState) (i : ℕ) (s : OwnState) → (length states ≤ i → s ≡ nothing) → state_at (slice_set states i s) i ≡ s
+at_changed states i s past = elim (cases_lt i (length states)) [
+  | inl within ↦ get_or-set_same states i s nothing within
+  | inr beyond ↦ rw (set_past states i s beyond) (get_or_past states i nothing beyond ∙ sym (past beyond))
+]
+
+-- who has no place in the list has nothing, and keeps it
+past_stays : (entries : List Entry) (states : List OwnState) (made : Made) → length states ≤ made.component → (running_step entries states made).next ≡ nothing
+past_stays entries states made past = rw (get_or_past states made.component nothing past) (nothing_stays (entry_at entries made.component) made.call)
+
+-- what a component reads of the states after a call, by whether it is the caller
+tracks_by : (entries : List Entry) (states : List OwnState) (made : Made) (component : ℕ) (own : Bool) →
+    (made.component == component) ≡ own →
+    state_at (states_after_call entries states made) component
+    ≡ own_run (entry_at entries component) (cond own (made.call ∷ []) []) (state_at states component)
+tracks_by entries states made component true e =
+    let same : made.component ≡ component = grind (arith, nat_tests) in
+    subst (λ k. state_at (states_after_call entries states made) k ≡ own_run (entry_at entries k) (made.call ∷ []) (state_at states k))
+    same (at_changed states made.component (running_step entries states made).next (past_stays entries states made))
+tracks_by entries states made component false e =
+    let other : component ≢ made.component = grind (arith, nat_tests) in
+    get_or-set_other states made.component component (running_step entries states made).next nothing other
+
+-- what a component reads of the states after a call is its run of that call, if it is its own
+tracks_call : (entries : List Entry) (states : List OwnState) (made : Made) (component : ℕ) →
+    state_at (states_after_call entries states made) component
+    ≡ own_run (entry_at entries component) (own_part component (made ∷ [])) (state_at states component)
+tracks_call entries states made component = tracks_by entries states made component (made.component == component) refl
+
+-- after a call the states are own runs still
+pub Tracks-call : (entries : List Entry) (starts states : List OwnState) (earlier : List Made) (made : Made) →
+    Tracks entries starts states earlier → Tracks entries starts (states_after_call entries states made) (earlier ++ made ∷ [])
+Tracks-call entries starts states earlier made h = record {
+  at = λ component.
+      tracks_call entries states made component
+      ∙ ap (own_run (entry_at entries component) (own_part component (made ∷ []))) (h.at component)
+      ∙ sym (state_after-push entries starts earlier made component);
+}
+
+-- after what was heard they are too
+pub Tracks-heard : (entries : List Entry) (starts states : List OwnState) (earlier : List Made) (what : Heard) →
+    Tracks entries starts states earlier → Tracks entries starts (states_after_heard entries states what) (earlier ++ calls_in what)
+Tracks-heard entries starts states earlier NoCall h = rw (append-nil earlier) h
+Tracks-heard entries starts states earlier (Stranger name) h = rw (append-nil earlier) h
+Tracks-heard entries starts states earlier (Caller made) h = Tracks-call entries starts states earlier made h
+
+-- what is told of a line is the same from both
+told_same : (entries : List Entry) (starts states : List OwnState) (earlier : List Made) (what : Heard) →
+    Tracks entries starts states earlier → told entries starts earlier what ≡ told_now entries states what
+told_same entries starts states earlier NoCall h = refl
+told_same entries starts states earlier (Stranger name) h = refl
+told_same entries starts states earlier (Caller made) h = rw (h.at made.component) refl
+
+-- what is told of the lines that follow is the same from both
+pub told_after-running : (entries : List Entry) (starts states : List OwnState) (earlier : List Made) (lines : List (List ℕ)) →
+    Tracks entries starts states earlier → told_after entries starts earlier lines ≡ told_running entries states lines
+told_after-running entries starts states earlier [] h = refl
+told_after-running entries starts states earlier (line ∷ lines) h =
+    let here : told entries starts earlier (heard entries line) ≡ told_now entries states (heard entries line)
+    = told_same entries starts states earlier (heard entries line) h in
+    let after : told_after entries starts (earlier ++ calls_in (heard entries line)) lines
+    ≡ told_running entries (states_after_heard entries states (heard entries line)) lines
+    = told_after-running entries starts (states_after_heard entries states (heard entries line))
+    (earlier ++ calls_in (heard entries line)) lines
+    (Tracks-heard entries starts states earlier (heard entries line) h) in
+    cc
+
+-- the running states after the lines that follow are own runs
+pub Tracks-running : (entries : List Entry) (starts states : List OwnState) (earlier : List Made) (lines : List (List ℕ)) →
+    Tracks entries starts states earlier → Tracks entries starts (states_running entries states lines) (earlier ++ calls_of entries lines)
+Tracks-running entries starts states earlier [] h = rw (append-nil earlier) h
+Tracks-running entries starts states earlier (line ∷ lines) h =
+    subst (Tracks entries starts (states_running entries (states_after_heard entries states (heard entries line)) lines))
+    (append_assoc earlier (calls_in (heard entries line)) (calls_of entries lines))
+    (Tracks-running entries starts (states_after_heard entries states (heard entries line)) (earlier ++ calls_in (heard entries line)) lines
+    (Tracks-heard entries starts states earlier (heard entries line) h))
+
+-- the states after lines and one line more
+pub states_running-push : (entries : List Entry) (states : List OwnState) (lines : List (List ℕ)) (line : List ℕ) →
+    states_running entries states (lines ++ line ∷ []) ≡ states_after_heard entries (states_running entries states lines) (heard entries line)
+states_running-push entries states [] line = refl
+states_running-push entries states (first ∷ lines) line =
+    states_running-push entries (states_after_heard entries states (heard entries first)) lines line
+
+-- what is told of lines and one line more
+pub told_running-push : (entries : List Entry) (states : List OwnState) (lines : List (List ℕ)) (line : List ℕ) →
+    told_running entries states (lines ++ line ∷ [])
+    ≡ told_running entries states lines ++ told_now entries (states_running entries states lines) (heard entries line)
+told_running-push entries states [] line = append-nil (told_now entries states (heard entries line))
+told_running-push entries states (first ∷ lines) line =
+    rw (told_running-push entries (states_after_heard entries states (heard entries first)) lines line, append_assoc)
+
+-- the law of both forms
+pub transcript-running : (entries : List Entry) (starts : List OwnState) (input : List ℕ) →
+    transcript entries starts input ≡ told_running entries starts (lines_of input)
+transcript-running entries starts input =
+    told_after-running entries starts starts [] (lines_of input) (Tracks-none entries starts)
+
+-- each running state is own run
+pub states_running-at : (entries : List Entry) (starts : List OwnState) (lines : List (List ℕ)) (component : ℕ) →
+    state_at (states_running entries starts lines) component ≡ state_after entries starts (calls_of entries lines) component
+states_running-at entries starts lines component =
+    (Tracks-running entries starts starts [] lines (Tracks-none entries starts)).at component
+
+-- there are as many states after what was heard
+heard-length : (entries : List Entry) (states : List OwnState) (what : Heard) → length (states_after_heard entries states what) ≡ length states
+heard-length entries states NoCall = refl
+heard-length entries states (Stranger name) = refl
+heard-length entries states (Caller made) = length-set states made.component (running_step entries states made).next
+
+-- there are as many states after lines
+pub length-states_running : (entries : List Entry) (states : List OwnState) (lines : List (List ℕ)) → length (states_running entries states lines) ≡ length states
+length-states_running entries states [] = refl
+length-states_running entries states (line ∷ lines) =
+    length-states_running entries (states_after_heard entries states (heard entries line)) lines
+    ∙ heard-length entries states (heard entries line)
+
+-- the laws by which a loop over lines is proved
+pub ruleset running = (told_running-push, states_running-push, length-states_running, transcript-running, states_running-at)

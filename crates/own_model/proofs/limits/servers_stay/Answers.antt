@@ -1,0 +1,5 @@
+use Rattle.own_model.proofs.LimitLemmas.{server_stays}
+use Rattle.own_model.proofs.limits.servers_stay.Goals as goal
+
+pub returns : goal.returns
+returns c = server_stays

@@ -1,0 +1,8 @@
+use Rattle.own_model.proofs.UseLemmas.{start_uses, run_uses}
+use Rattle.own_model.proofs.limits.use_is_what_is_held.Goals as goal
+
+pub returns-clause-start : goal.returns-clause-start
+returns-clause-start c = start_uses
+
+pub returns-clause-run : goal.returns-clause-run
+returns-clause-run c = run_uses

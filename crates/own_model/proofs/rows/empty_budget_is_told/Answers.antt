@@ -1,0 +1,7 @@
+use Rattle.std.proofs.Common.{refl}
+use Rattle.std.specs.Fmt.{digits}
+use Rattle.own_model.proofs.rows.empty_budget_is_told.Goals as goal
+
+pub returns-clause-limits : goal.returns-clause-limits
+unfolding digits
+returns-clause-limits c = refl

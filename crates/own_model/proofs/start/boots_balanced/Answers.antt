@@ -1,0 +1,5 @@
+use Rattle.own_model.proofs.StartLemmas.{start_balanced}
+use Rattle.own_model.proofs.start.boots_balanced.Goals as goal
+
+pub returns : goal.returns
+returns c = start_balanced

@@ -1,0 +1,136 @@
+-- The laws of runs and of answers, as statements.
+use Rattle.std.specs.Prelude.{◌≡◌, ◌<◌, ℕ, ◌++◌, List, [], ◌∷◌, length}
+use Rattle.own_model.specs.Account.{WithinLimits}
+use Rattle.own_model.specs.Call.{Call}
+use Rattle.own_model.specs.OwnState.{OwnState}
+use Rattle.own_model.specs.OwnStep.{own_run, own_step}
+use Rattle.own_model.specs.Running.{told_running, states_running, told_now, states_after_heard}
+use Rattle.own_model.specs.StartList.{Entry, StartEntry, StartList, Boots, start_state}
+use Rattle.own_model.specs.StartList.Kind.{Server}
+use Rattle.own_model.specs.Text.{lines_of}
+use Rattle.own_model.specs.Transcript.{Made, heard, own_part, state_at, state_after, answer, transcript, calls_of, longest_line}
+use Rattle.own_model.specs.Transcript.Heard.{NoCall}
+use Rattle.own_model.specs.Use.{UsesWhatItHolds}
+use Rattle.own_model.specs.World.{World, IsBalanced, with_state, outcome_at, start_world}
+
+-- a run over two lists of calls is the run over the first and then the second
+abbrev pub RunOverAppend : Type 0
+RunOverAppend =
+    (entry : Entry) (xs ys : List Call) (s : OwnState) → own_run entry (xs ++ ys) s ≡ own_run entry ys (own_run entry xs s)
+
+-- a component's part of two lists of calls is its part of the first and then of the second
+abbrev pub PartOverAppend : Type 0
+PartOverAppend =
+    (component : ℕ) (xs ys : List Made) → own_part component (xs ++ ys) ≡ own_part component xs ++ own_part component ys
+
+-- what is told from the history of calls is what is told from the running states
+abbrev pub TranscriptIsRunning : Type 0
+TranscriptIsRunning =
+    (entries : List Entry) (starts : List OwnState) (input : List ℕ) →
+    transcript entries starts input ≡ told_running entries starts (lines_of input)
+
+-- each running state is its component's own run on its own part of the calls
+abbrev pub StatesAreOwnRuns : Type 0
+StatesAreOwnRuns =
+    (entries : List Entry) (starts : List OwnState) (lines : List (List ℕ)) (component : ℕ) →
+    state_at (states_running entries starts lines) component ≡ state_after entries starts (calls_of entries lines) component
+
+-- the running states after a first line and the lines that follow it
+abbrev pub StatesOverFirst : Type 0
+StatesOverFirst =
+    (entries : List Entry) (states : List OwnState) (line : List ℕ) (lines : List (List ℕ)) →
+    states_running entries states (line ∷ lines)
+    ≡ states_running entries (states_after_heard entries states (heard entries line)) lines
+
+-- the running states after lines and a last line
+abbrev pub StatesOverLast : Type 0
+StatesOverLast =
+    (entries : List Entry) (states : List OwnState) (lines : List (List ℕ)) (line : List ℕ) →
+    states_running entries states (lines ++ line ∷ [])
+    ≡ states_after_heard entries (states_running entries states lines) (heard entries line)
+
+-- lines leave as many running states
+abbrev pub StatesKeepLength : Type 0
+StatesKeepLength =
+    (entries : List Entry) (states : List OwnState) (lines : List (List ℕ)) →
+    length (states_running entries states lines) ≡ length states
+
+-- what is told of a first line and the lines that follow it
+abbrev pub ToldOverFirst : Type 0
+ToldOverFirst =
+    (entries : List Entry) (states : List OwnState) (line : List ℕ) (lines : List (List ℕ)) →
+    told_running entries states (line ∷ lines)
+    ≡ told_now entries states (heard entries line)
+    ++ told_running entries (states_after_heard entries states (heard entries line)) lines
+
+-- what is told of lines and a last line
+abbrev pub ToldOverLast : Type 0
+ToldOverLast =
+    (entries : List Entry) (states : List OwnState) (lines : List (List ℕ)) (line : List ℕ) →
+    told_running entries states (lines ++ line ∷ [])
+    ≡ told_running entries states lines ++ told_now entries (states_running entries states lines) (heard entries line)
+
+-- calls of all with equal parts for a component leave it equal own states
+abbrev pub EqualPartsEqualStates : Type 0
+EqualPartsEqualStates =
+    (entries : List Entry) (starts : List OwnState) (xs ys : List Made) (component : ℕ) →
+    own_part component xs ≡ own_part component ys →
+    state_after entries starts xs component ≡ state_after entries starts ys component
+
+-- a component's call is answered alike after calls of all with equal parts for it
+abbrev pub EqualPartsEqualAnswers : Type 0
+EqualPartsEqualAnswers =
+    (entries : List Entry) (starts : List OwnState) (xs ys : List Made) (made : Made) →
+    own_part made.component xs ≡ own_part made.component ys →
+    answer entries starts xs made ≡ answer entries starts ys made
+
+-- a line longer than the longest is no call
+abbrev pub LongLinesAreNoCalls : Type 0
+LongLinesAreNoCalls = (entries : List Entry) (line : List ℕ) → longest_line < length line → heard entries line ≡ NoCall
+
+-- every call leaves a server's own state
+abbrev pub ServersStay : Type 0
+ServersStay =
+    (name : List ℕ) (calls : List Call) (s : OwnState) → own_run (record { name = name; kind = Server }) calls s ≡ s
+
+-- no call changes the limits of its caller's account
+abbrev pub StepKeepsLimits : Type 0
+StepKeepsLimits =
+    (entry : Entry) (call : Call) (s : OwnState) →
+    ((own_step entry call s).next.account.ram_limit ≡ s.account.ram_limit)
+    × ((own_step entry call s).next.account.caps_limit ≡ s.account.caps_limit)
+
+-- no call overdraws its caller's account
+abbrev pub StepKeepsWithinLimits : Type 0
+StepKeepsWithinLimits =
+    (entry : Entry) (call : Call) (s : OwnState) → WithinLimits s.account → WithinLimits (own_step entry call s).next.account
+
+-- no calls overdraw an account
+abbrev pub RunKeepsWithinLimits : Type 0
+RunKeepsWithinLimits =
+    (entry : Entry) (calls : List Call) (s : OwnState) → WithinLimits s.account → WithinLimits (own_run entry calls s).account
+
+-- who starts uses what it holds: nothing
+abbrev pub StartsWithoutUse : Type 0
+StartsWithoutUse = (start : StartEntry) → UsesWhatItHolds (start_state start)
+
+-- calls keep what is used equal to what is held
+abbrev pub RunKeepsUse : Type 0
+RunKeepsUse = (entry : Entry) (calls : List Call) (s : OwnState) → UsesWhatItHolds s → UsesWhatItHolds (own_run entry calls s)
+
+-- a component's call leaves a balanced world balanced
+abbrev pub StepKeepsBalance : Type 0
+StepKeepsBalance =
+    (pages caps : ℕ) (world : World) (component : ℕ) (call : Call) →
+    IsBalanced pages caps world → IsBalanced pages caps (with_state world component (outcome_at world component call).next)
+
+-- lines leave a balanced world balanced
+abbrev pub LinesKeepBalance : Type 0
+LinesKeepBalance =
+    (pages caps : ℕ) (world : World) (lines : List (List ℕ)) →
+    IsBalanced pages caps world →
+    IsBalanced pages caps (record world { states = states_running world.entries world.states lines })
+
+-- a start list that boots starts balanced
+abbrev pub BootsBalanced : Type 0
+BootsBalanced = (list : StartList) → Boots list → IsBalanced list.pages list.caps (start_world list)

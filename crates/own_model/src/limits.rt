@@ -1,0 +1,26 @@
+//! Laws of limits: what a call leaves of them, and of the whole machine's balance.
+ghost use Rattle.own_model.specs.Laws.{ServersStay, StepKeepsLimits, StepKeepsWithinLimits, RunKeepsWithinLimits, StartsWithoutUse, RunKeepsUse, StepKeepsBalance, LinesKeepBalance};
+
+/// Every call leaves a server's own state.
+pub fn servers_stay()
+    ensures { ServersStay }
+{}
+
+/// No call changes the limits of its caller's account, and none overdraws it.
+pub fn calls_keep_limits()
+    ensures same { StepKeepsLimits }
+    ensures within { StepKeepsWithinLimits }
+    ensures run { RunKeepsWithinLimits }
+{}
+
+/// At the start and after any calls an account uses exactly the bytes of its component's dataspaces, and a capability for each.
+pub fn use_is_what_is_held()
+    ensures start { StartsWithoutUse }
+    ensures run { RunKeepsUse }
+{}
+
+/// A component's call leaves a balanced machine balanced, and so do lines.
+pub fn calls_keep_balance()
+    ensures call { StepKeepsBalance }
+    ensures lines { LinesKeepBalance }
+{}

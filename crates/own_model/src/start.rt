@@ -1,0 +1,18 @@
+//! Laws of the start: what boots is balanced, and machine A boots.
+ghost use Rattle.std.specs.Prelude.{◌≡◌};
+ghost use Rattle.own_model.specs.Account.{opened};
+ghost use Rattle.own_model.specs.Laws.{BootsBalanced};
+ghost use Rattle.own_model.specs.StartList.{Boots, machine_a};
+ghost use Rattle.own_model.specs.World.{IsBalanced, start_world};
+
+/// A start list that boots starts with all of the machine's limits handed out, and nothing in use.
+pub fn boots_balanced()
+    ensures { BootsBalanced }
+{}
+
+/// Machine A boots: init covers each budget in turn, and keeps 96 KiB and 16 capabilities.
+pub fn machine_a_boots()
+    ensures covered { Boots machine_a }
+    ensures balanced { IsBalanced 64 64 (start_world machine_a) }
+    ensures kept { (start_world machine_a).init ≡ opened 98304 16 }
+{}
