@@ -1,0 +1,2 @@
+pub mod BooksLemmas
+pub mod SlabMap

@@ -1,0 +1,98 @@
+//! One account of RAM and capabilities.
+ghost use Rattle.std.specs.Prelude.{◌≡◌, ◌≤◌};
+ghost use Rattle.std.specs.Result.{result_err};
+ghost use Rattle.own_model.specs.Account.{shortage, charged, credited, opened, parted_with, Fits, WithinLimits};
+
+use std::marker::Model;
+use trade_base::{Caps, Ram, Refusal};
+
+// Limits and uses: RAM in bytes, and capabilities. No use is above its limit.
+#[derive(Drop)]
+pub(crate) struct Account {
+    ram_limit: u64,
+    ram_used: u64,
+    caps_limit: u32,
+    caps_used: u32,
+}
+
+impl Model for Account {
+    ghost use Rattle.std.specs.Prelude.{◌≤◌};
+    ghost use Rattle.own_model.specs.Account.{Account as Limited};
+
+    ghost Value = { Limited };
+
+    ghost view = { λ a. record { ram_limit = a.ram_limit; ram_used = a.ram_used; caps_limit = a.caps_limit; caps_used = a.caps_used } };
+
+    ghost invariant = { λ a. (a.ram_used ≤ a.ram_limit) × (a.caps_used ≤ a.caps_limit) };
+}
+
+impl Account {
+    // An account of which nothing is used.
+    pub(crate) fn opened(ram: Ram, caps: Caps) -> Account
+        ensures { result ≡ opened ram.0 caps.0 }
+    {
+        Account {
+            ram_limit: ram.0,
+            ram_used: 0,
+            caps_limit: caps.0,
+            caps_used: 0,
+        }
+    }
+
+    // Whether so much more is left, and what falls short first: RAM, then capabilities.
+    pub(crate) fn covers(&self, ram: Ram, caps: Caps) -> Result<(), Refusal>
+        ensures { result_err result ≡ shortage self.now ram.0 caps.0 }
+    {
+        if ram.0 > self.ram_limit - self.ram_used {
+            return Err(Refusal::OutOfRam);
+        }
+        if caps.0 > self.caps_limit - self.caps_used {
+            return Err(Refusal::OutOfCaps);
+        }
+        Ok(())
+    }
+
+    pub(crate) fn charge(&mut self, ram: Ram, caps: Caps)
+        requires { Fits self.old ram.0 caps.0 }
+        ensures { self.new ≡ charged self.old ram.0 caps.0 }
+    {
+        self.ram_used += ram.0;
+        self.caps_used += caps.0;
+    }
+
+    pub(crate) fn credit(&mut self, ram: Ram, caps: Caps)
+        requires ram_used { ram.0 ≤ self.old.ram_used }
+        requires caps_used { caps.0 ≤ self.old.caps_used }
+        ensures { self.new ≡ credited self.old ram.0 caps.0 }
+    {
+        self.ram_used -= ram.0;
+        self.caps_used -= caps.0;
+    }
+
+    // Moves so much of the limits to a new account.
+    pub(crate) fn part_with(&mut self, ram: Ram, caps: Caps) -> Account
+        requires { Fits self.old ram.0 caps.0 }
+        ensures rest { self.new ≡ parted_with self.old ram.0 caps.0 }
+        ensures part { result ≡ opened ram.0 caps.0 }
+    {
+        self.ram_limit -= ram.0;
+        self.caps_limit -= caps.0;
+        Account::opened(ram, caps)
+    }
+
+    pub(crate) fn limits(&self) -> (Ram, Caps)
+        ensures ram { result.0.0 ≡ self.now.ram_limit }
+        ensures caps { result.1.0 ≡ self.now.caps_limit }
+        ensures within { WithinLimits self.now }
+    {
+        (Ram(self.ram_limit), Caps(self.caps_limit))
+    }
+
+    pub(crate) fn used(&self) -> (Ram, Caps)
+        ensures ram { result.0.0 ≡ self.now.ram_used }
+        ensures caps { result.1.0 ≡ self.now.caps_used }
+        ensures within { WithinLimits self.now }
+    {
+        (Ram(self.ram_used), Caps(self.caps_used))
+    }
+}

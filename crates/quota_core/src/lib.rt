@@ -1,0 +1,10 @@
+//! The books: every account's limits and uses of RAM and capabilities. Limits are moved from account to account, and never made.
+#![tactic(auto)]
+
+mod account;
+mod books;
+#[cfg(test)]
+#[tactic(auto, using(own_model::proofs::NatMapLemmas::natmaps))]
+mod tests;
+
+pub use books::Books;

@@ -1,0 +1,52 @@
+use super::*;
+use trade_base::{Caps, Ram, Refusal};
+
+// The amounts of an account as plain numbers.
+fn plain(amounts: (Ram, Caps)) -> (u64, u32) {
+    (amounts.0.0, amounts.1.0)
+}
+
+#[test]
+fn root_has_the_machine(rt: HostRuntime) {
+    let books = Books::boot(rt.alloc(), Ram(8192), Caps(3), 1).expect(&rt, "memory");
+    let root = books.root();
+    assert_eq!(rt; plain(books.limits(root)), (8192, 3));
+    assert_eq!(rt; plain(books.used(root)), (0, 0));
+}
+
+#[test]
+fn child_gets_what_its_parent_parts_with(rt: HostRuntime) {
+    let mut books = Books::boot(rt.alloc(), Ram(8192), Caps(3), 2).expect(&rt, "memory");
+    let root = books.root();
+    let child = books
+        .open(root, Ram(8000), Caps(3))
+        .expect(&rt, "the root has it");
+    assert_eq!(rt; plain(books.limits(root)), (192, 0));
+    assert_eq!(rt; plain(books.limits(child)), (8000, 3));
+    assert_eq!(rt; plain(books.used(child)), (0, 0));
+}
+
+#[test]
+fn charge_is_exact_at_the_limit(rt: HostRuntime) {
+    let mut books = Books::boot(rt.alloc(), Ram(4096), Caps(2), 1).expect(&rt, "memory");
+    let root = books.root();
+    assert_eq!(rt; books.charge(root, Ram(4096), Caps(2)), Ok(()));
+    assert_eq!(rt; plain(books.used(root)), (4096, 2));
+    assert_eq!(rt; plain(books.limits(root)), (4096, 2));
+}
+
+#[test]
+fn ram_is_refused_before_capabilities(rt: HostRuntime) {
+    for (ram, caps, want) in [
+        (101, 3, Refusal::OutOfRam),
+        (101, 2, Refusal::OutOfRam),
+        (100, 3, Refusal::OutOfCaps),
+    ] {
+        let mut books = Books::boot(rt.alloc(), Ram(100), Caps(2), 2).expect(&rt, "memory");
+        let root = books.root();
+        assert_eq!(rt; books.open(root, Ram(ram), Caps(caps)), Err(want));
+        assert_eq!(rt; plain(books.limits(root)), (100, 2));
+        assert_eq!(rt; books.charge(root, Ram(ram), Caps(caps)), Err(want));
+        assert_eq!(rt; plain(books.used(root)), (0, 0));
+    }
+}
