@@ -1,0 +1,10 @@
+pub mod ChainLemmas
+pub mod PartLemmas
+pub mod LaidOutLemmas
+pub mod PaidLemmas
+pub mod MemoryLemmas
+pub mod ByteLemmas
+pub mod WriteLemmas
+pub mod WalkLemmas
+pub mod ReadLemmas
+pub mod TestLemmas

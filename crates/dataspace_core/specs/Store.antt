@@ -1,0 +1,90 @@
+-- What a contract sees of the memory.
+use Rattle.std.specs.Prelude.{ℕ, ◌+◌, ◌*◌, ◌==◌, List, [], ◌++◌, length, take, drop, Option, Some, None, IsSome, if◌then◌else◌}
+use Rattle.std.proofs.Common.{refl}
+use Rattle.std.specs.Option.{unwrap_or}
+use Rattle.std.specs.Coded.{Coded, code_by, coded×, coded_ℕ, coded_list}
+use Rattle.std.specs.FinMap as map
+use Rattle.std.specs.FinMap.{get, insert, remove, empty}
+use Rattle.trade_base.specs.Page.{page_of}
+use Rattle.own_model.specs.NatMap.{NatMap, picked}
+use Rattle.own_model.specs.Account.{Account, charged, credited}
+use Rattle.own_model.specs.OwnState.{zeros}
+use Rattle.quota_core.specs.Books.{Books, coded_books, fresh_books, account_at, with_account}
+
+-- a dataspace: the account that pays for it, and its bytes
+pub record Space : Type 0 where
+  pub payer : ℕ
+  pub bytes : List ℕ
+
+-- the books, and the dataspaces by their keys
+pub record Store : Type 0 where
+  pub books : Books
+  pub spaces : NatMap Space
+
+-- a dataspace is stored as the pair of its fields
+abbrev pub coded_space : Coded Space
+coded_space =
+    code_by (ℕ × List ℕ) (coded× coded_ℕ (coded_list coded_ℕ)) (λ s. (s.payer, s.bytes)) (λ p. record { payer = p.0; bytes = p.1 }) (λ _. refl)
+
+-- a memory is stored as the pair of its fields
+abbrev pub coded_store : Coded Store
+coded_store =
+    code_by (Books × NatMap Space) (coded× coded_books (map.code coded_ℕ coded_space)) (λ s. (s.books, s.spaces)) (λ p. record { books = p.0; spaces = p.1 }) (λ _. refl)
+
+-- a memory that has just booted: one account, the root, which has all pages and capabilities, and no dataspace
+abbrev pub fresh_store : ℕ → ℕ → ℕ → ℕ → Store
+fresh_store root pages caps places =
+    record { books = fresh_books root (pages * 4096) caps places; spaces = empty }
+
+-- there is a dataspace under this key
+abbrev pub Exists : Store → ℕ → Type 0
+Exists store ds = IsSome (get store.spaces ds)
+
+-- the dataspace under a key, or one of nothing
+abbrev pub space_at : Store → ℕ → Space
+space_at store ds = unwrap_or (get store.spaces ds) (record { payer = 0; bytes = [] })
+
+-- an account is charged for a new dataspace of n bytes in whole pages, all zero
+abbrev pub with_space : Store → ℕ → ℕ → ℕ → Store
+with_space store ds payer n = record {
+  books = with_account store.books payer (charged (account_at store.books payer) (page_of n) 1);
+  spaces = insert store.spaces ds (record { payer = payer; bytes = zeros (page_of n) });
+}
+
+-- a dataspace goes, and its payer is credited
+abbrev pub without_space : Store → ℕ → Store
+without_space store ds = record {
+  books = with_account store.books (space_at store ds).payer
+      (credited (account_at store.books (space_at store ds).payer) (length (space_at store ds).bytes) 1);
+  spaces = remove store.spaces ds;
+}
+
+-- bytes with a part put at an offset
+abbrev pub overwritten : List ℕ → ℕ → List ℕ → List ℕ
+overwritten bytes offset part = take offset bytes ++ part ++ drop (offset + length part) bytes
+
+-- a part put at an offset of a dataspace
+abbrev pub with_bytes_at : Store → ℕ → ℕ → List ℕ → Store
+with_bytes_at store ds offset part = record store {
+  spaces = insert store.spaces ds (record { payer = (space_at store ds).payer; bytes = overwritten (space_at store ds).bytes offset part });
+}
+
+-- a memory whose books have another account under the root or below it
+abbrev pub with_books : Store → Books → Store
+with_books store books = record store { books = books }
+
+-- what one account is and pays for: the account, and the bytes of its dataspaces by their keys
+pub record Part : Type 0 where
+  pub account : Option Account
+  pub spaces : NatMap (List ℕ)
+
+-- the bytes of a dataspace that this account pays for
+abbrev pub bytes_paid_by : ℕ → Space → Option (List ℕ)
+bytes_paid_by account space = if space.payer == account then Some space.bytes else None
+
+-- the part of an account
+unfoldable pub part : ℕ → Store → Part
+part account store = record {
+  account = get store.books.accounts account;
+  spaces = picked (bytes_paid_by account) store.spaces;
+}

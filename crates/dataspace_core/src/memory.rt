@@ -1,0 +1,214 @@
+//! Dataspaces over a pool of pages and the books of accounts.
+ghost use Rattle.std.specs.Prelude.{◌≡◌, ◌≢◌, ℕ, ◌+◌, ◌*◌, ◌<◌, ◌≤◌, length, if◌then◌else◌, Some, None, IfOk, OnErr, slice_range};
+ghost use Rattle.std.specs.Result.{result_err};
+ghost use Rattle.std.specs.FinMap.{get, insert, remove};
+ghost use Rattle.std.specs.FinMap as map;
+ghost use Rattle.trade_base.specs.Page.{page_of};
+ghost use Rattle.own_model.specs.Account.{shortage, charged, credited, opened, WithinLimits};
+ghost use Rattle.own_model.specs.OwnState.{zeros};
+ghost use Rattle.own_model.specs.OwnStep.{alloc_refusal, is_valid_size};
+ghost use Rattle.quota_core.specs.Books.{IsOpen, account_at, with_child, ram_limits, caps_limits};
+ghost use Rattle.dataspace_core.specs.Store.{fresh_store, Exists, space_at, with_space, without_space, with_bytes_at, with_books, part, overwritten};
+
+use crate::chains::{give_chain, no_links, read_chain, take_chain, write_chain};
+use crate::dataspace::{Dataspace, no_spaces, size_of, space_under};
+use page_pool::Pool;
+use quota_core::Books;
+use slab::Slab;
+use std::alloc::Global;
+use std::marker::Model;
+use trade_base::{AccountId, Caps, DsId, NoMemory, PAGE, Ram, Refusal, page_round};
+
+/// Pages in dataspaces, and the accounts that pay for them. Contracts see the books, and each dataspace by its key: its
+/// payer and its bytes.
+///
+/// The limits of all accounts add up to what the machine has. So an account that covers an allocation finds the pages
+/// and the place for it.
+#[derive(Drop)]
+pub struct Memory {
+    pool: Pool,
+    books: Books,
+    spaces: Slab<Dataspace>,
+    /// For each page the one that follows it in its dataspace.
+    next: Vec<usize>,
+}
+
+impl Model for Memory {
+    ghost use Rattle.dataspace_core.specs.Store.{Store, coded_store};
+    ghost use Rattle.dataspace_core.specs.Layout.{store_of};
+    ghost use Rattle.dataspace_core.specs.Paid.{IsSound};
+
+    ghost Value = { Store };
+
+    ghost coded = { coded_store };
+
+    ghost view = { λ m. store_of m.books m.pool m.next.items m.spaces };
+
+    ghost invariant = { λ m. IsSound m.books m.pool m.next.items m.spaces };
+}
+
+impl Memory {
+    /// A memory of so many pages with one account, the root, which has all RAM and all capabilities, and places for
+    /// `accounts` accounts in all. All tables are made here: no later call takes memory of the host.
+    ///
+    /// It fails where the host has no memory for them.
+    pub fn boot(
+        alloc: Global,
+        pages: usize,
+        caps: Caps,
+        accounts: usize,
+    ) -> Result<Memory, NoMemory>
+        requires pages { pages ≤ 4096 }
+        requires caps { caps.0 ≤ 4096 }
+        requires some { 1 ≤ accounts }
+        requires few { accounts ≤ 4096 }
+        ensures { IfOk result (λ memory. memory ≡ fresh_store memory.books.root pages caps.0 accounts) }
+    {
+        let pool = Pool::boot(alloc, pages)?;
+        let books = Books::boot(alloc, Ram(pages as u64 * PAGE), caps, accounts)?;
+        let spaces = no_spaces(alloc, caps.0 as usize)?;
+        let next = no_links(alloc, pages)?;
+        Ok(Memory {
+            pool,
+            books,
+            spaces,
+            next,
+        })
+    }
+
+    /// Makes a dataspace of `bytes` bytes in whole pages, all zero. The account pays for its bytes, and one capability.
+    /// It tells the new dataspace's key.
+    ///
+    /// It is refused with `InvalidSize` where `bytes` is 0 or past 64 bits in whole pages, else with `OutOfRam` where less
+    /// RAM of the account's limit is free, and else with `OutOfCaps` where no capability is. Nothing else refuses it.
+    pub fn alloc(&mut self, account: AccountId, bytes: u64) -> Result<DsId, Refusal>
+        requires { IsOpen self.old.books account.0 }
+        ensures refusal { result_err result ≡ alloc_refusal bytes (account_at self.old.books account.0) }
+        ensures ok { IfOk result (λ ds. self.new ≡ with_space self.old ds.0 account.0 bytes) }
+        ensures fresh { IfOk result (λ ds. get self.old.spaces ds.0 ≡ None) }
+        ensures own { IfOk result (λ ds. part account.0 self.new ≡ record {
+          account = Some (charged (account_at self.old.books account.0) (page_of bytes) 1);
+          spaces = insert (part account.0 self.old).spaces ds.0 (zeros (page_of bytes));
+        }) }
+        ensures own_fresh { IfOk result (λ ds. get (part account.0 self.old).spaces ds.0 ≡ None) }
+        ensures others { (other : ℕ) → other ≢ account.0 → part other self.new ≡ part other self.old }
+        ensures err { OnErr result (self.new ≡ self.old) }
+    {
+        let size = valid_size(bytes).ok_or(Refusal::InvalidSize)?;
+        self.books.charge(account, Ram(size), Caps(1))?;
+        let chain = take_chain(&mut self.pool, &mut self.next, (size / PAGE) as usize);
+        let key = self.spaces.insert_reserved(Dataspace {
+            payer: account,
+            chain,
+        });
+        Ok(DsId(key))
+    }
+
+    /// Takes a dataspace away, and credits its payer with its bytes and one capability.
+    pub fn free(&mut self, ds: DsId)
+        requires { Exists self.old ds.0 }
+        ensures freed { self.new ≡ without_space self.old ds.0 }
+        ensures own { let payer = (space_at self.old ds.0).payer in part payer self.new ≡ record {
+          account = Some (credited (account_at self.old.books payer) (length (space_at self.old ds.0).bytes) 1);
+          spaces = remove (part payer self.old).spaces ds.0;
+        } }
+        ensures others { (other : ℕ) → other ≢ (space_at self.old ds.0).payer → part other self.new ≡ part other self.old }
+    {
+        let space = self.spaces.remove(ds.0);
+        give_chain(&mut self.pool, &self.next, space.chain);
+        self.books.credit(space.payer, Ram(size_of(space)), Caps(1));
+    }
+
+    /// The size of a dataspace, in bytes.
+    pub fn size(&self, ds: DsId) -> u64
+        requires { Exists self.now ds.0 }
+        ensures { result ≡ length (space_at self.now ds.0).bytes }
+    {
+        size_of(space_under(&self.spaces, ds))
+    }
+
+    /// Fills `buffer` with the bytes of a dataspace from `offset` on.
+    pub fn read(&self, ds: DsId, offset: u64, buffer: &mut [u8])
+        requires exists { Exists self.now ds.0 }
+        requires range { offset + length buffer.old ≤ length (space_at self.now ds.0).bytes }
+        ensures { buffer.new ≡ slice_range (space_at self.now ds.0).bytes offset (offset + length buffer.old) }
+    {
+        read_chain(
+            &self.pool,
+            &self.next,
+            space_under(&self.spaces, ds).chain,
+            offset as usize,
+            buffer,
+        );
+    }
+
+    /// Puts `bytes` into a dataspace from `offset` on. Nothing else changes.
+    pub fn write(&mut self, ds: DsId, offset: u64, bytes: &[u8])
+        requires exists { Exists self.old ds.0 }
+        requires range { offset + length bytes.now ≤ length (space_at self.old ds.0).bytes }
+        ensures written { self.new ≡ with_bytes_at self.old ds.0 offset bytes.now }
+        ensures own { let payer = (space_at self.old ds.0).payer in part payer self.new ≡ record {
+          account = (part payer self.old).account;
+          spaces = insert (part payer self.old).spaces ds.0 (overwritten (space_at self.old ds.0).bytes offset bytes.now);
+        } }
+        ensures others { (other : ℕ) → other ≢ (space_at self.old ds.0).payer → part other self.new ≡ part other self.old }
+    {
+        let chain = space_under(&self.spaces, ds).chain;
+        write_chain(&mut self.pool, &self.next, chain, offset as usize, bytes);
+    }
+
+    /// The root's key.
+    pub fn root(&self) -> AccountId
+        ensures key { result.0 ≡ self.now.books.root }
+        ensures open { IsOpen self.now.books result.0 }
+    {
+        self.books.root()
+    }
+
+    /// Opens an account with limits that the parent parts with: RAM in bytes, and capabilities. It tells the new
+    /// account's key, which pays for nothing yet.
+    ///
+    /// It is refused with `OutOfRam` where less RAM of the parent's limit is free, and else with `OutOfCaps` where fewer
+    /// capabilities are.
+    pub fn open(&mut self, parent: AccountId, ram: Ram, caps: Caps) -> Result<AccountId, Refusal>
+        requires parent { IsOpen self.old.books parent.0 }
+        requires room { 0 < self.old.books.room }
+        ensures refusal { result_err result ≡ shortage (account_at self.old.books parent.0) ram.0 caps.0 }
+        ensures ok { IfOk result (λ child. self.new ≡ with_books self.old (with_child self.old.books parent.0 child.0 ram.0 caps.0)) }
+        ensures fresh { IfOk result (λ child. get self.old.books.accounts child.0 ≡ None) }
+        ensures own { IfOk result (λ child. part child.0 self.new ≡ record { account = Some (opened ram.0 caps.0); spaces = map.empty }) }
+        ensures others { IfOk result (λ child. (other : ℕ) → other ≢ parent.0 → other ≢ child.0 → part other self.new ≡ part other self.old) }
+        ensures err { OnErr result (self.new ≡ self.old) }
+        ensures ram_moved { ram_limits self.new.books ≡ ram_limits self.old.books }
+        ensures caps_moved { caps_limits self.new.books ≡ caps_limits self.old.books }
+    {
+        self.books.open(parent, ram, caps)
+    }
+
+    /// An account's limits, of RAM in bytes and of capabilities.
+    pub fn limits(&self, account: AccountId) -> (Ram, Caps)
+        requires { IsOpen self.now.books account.0 }
+        ensures ram { result.0.0 ≡ (account_at self.now.books account.0).ram_limit }
+        ensures caps { result.1.0 ≡ (account_at self.now.books account.0).caps_limit }
+        ensures within { WithinLimits (account_at self.now.books account.0) }
+    {
+        self.books.limits(account)
+    }
+
+    /// What an account uses, of RAM in bytes and of capabilities.
+    pub fn used(&self, account: AccountId) -> (Ram, Caps)
+        requires { IsOpen self.now.books account.0 }
+        ensures ram { result.0.0 ≡ (account_at self.now.books account.0).ram_used }
+        ensures caps { result.1.0 ≡ (account_at self.now.books account.0).caps_used }
+        ensures within { WithinLimits (account_at self.now.books account.0) }
+    {
+        self.books.used(account)
+    }
+}
+
+/// So many bytes in whole pages, or `None` where that is no size: 0 bytes, or too many for 64 bits.
+fn valid_size(bytes: u64) -> Option<u64>
+    ensures { result ≡ (if is_valid_size bytes then Some (page_of bytes) else None) }
+{
+    if bytes == 0 { None } else { page_round(bytes) }
+}
