@@ -1,0 +1,79 @@
+-- What is told of a line, by what it says.
+use Rattle.std.proofs.Common.{◌≡◌, ℕ, ◌≤◌, ◌<◌, true, false, List, [], ◌∷◌, ◌++◌, length, Option, Some, None, refl, sym, ap, ◌∙◌, cond, subst, arith, Result, OnOk, OnErr}
+use Rattle.std.proofs.lemmas.Bool.Decides.{nat_tests}
+use Rattle.std.specs.Prelude.{nat_le, codes}
+use Rattle.std.specs.Io.KnownBytes.{Appends}
+use Rattle.std.specs.List.{position}
+use Rattle.std.specs.Str.{bytes_eq}
+use Rattle.trade_base.specs.declared.refusal.Refusal.TheVariants.{BadLine, UnknownComponent}
+use Rattle.trade_base.specs.declared.refusal.Refusal.{Refusal}
+use Rattle.own_model.specs.Call.{Call, Spoken, spoken}
+use Rattle.own_model.specs.Call.Call.{Alloc, Free, Quota}
+use Rattle.own_model.specs.OwnState.{OwnState, Object}
+use Rattle.own_model.specs.OwnState.Object.{Dataspace}
+use Rattle.own_model.specs.OwnStep.{Outcome, own_step, unless, turned_away, script_step, freed, alloc_refusal, allocated}
+use Rattle.own_model.specs.Reply.{LogLine, reply_text}
+use Rattle.own_model.specs.Reply.Reply.{Refused}
+use Rattle.own_model.specs.StartList.{Entry}
+use Rattle.own_model.specs.Transcript.{Heard, heard, heard_spoken, heard_call, longest_line, entry_at, state_at, reply_line, outcome_text}
+use Rattle.own_model.specs.Transcript.Heard.{NoCall, Stranger, Caller}
+use Rattle.own_model.specs.World.{World, outcome_at}
+use Rattle.scenario_run.specs.Answered.{told_of}
+use Rattle.scenario_run.specs.Gathered.{AppendsPart, line_with}
+use Rattle.own_model.specs.Running.{told_now}
+use Rattle.std.specs.FinMap.{get}
+
+-- a line that isn't too long is heard as what it says
+heard_short : (entries : List Entry) (line : List ℕ) → length line ≤ 8192 → heard entries line ≡ heard_spoken entries (spoken line)
+heard_short entries line short =
+    let e : nat_le (length line) longest_line ≡ true = grind (arith, nat_tests) in
+    ap (λ b. cond b (heard_spoken entries (spoken line)) NoCall) e
+
+-- no line is finished by a call that is refused, nor by one that isn't where it finishes none
+unless_lines : (refusal : Option Refusal) (s : OwnState) (accepted : Outcome) → accepted.lines ≡ [] → (unless refusal s accepted).lines ≡ []
+unless_lines (Some refusal) s accepted none = refl
+unless_lines None s accepted none = none
+
+freed_lines : (selector : ℕ) (found : Option Object) (s : OwnState) → (freed selector found s).lines ≡ []
+freed_lines selector (Some (Dataspace bytes)) s = refl
+freed_lines selector None s = refl
+
+script_lines : (call : Call) (s : OwnState) → (script_step call s).lines ≡ []
+script_lines (Alloc n) s = unless_lines (alloc_refusal n s.account) s (allocated n s) refl
+script_lines (Free selector) s = freed_lines selector (get s.selectors selector) s
+script_lines Quota s = refl
+
+-- no call finishes a line
+no_lines : (entry : Entry) (call : Call) (s : OwnState) → (own_step entry call s).lines ≡ []
+no_lines entry call s = unless_lines (turned_away entry.kind s) s (script_step call s) (script_lines call s)
+
+-- so what is told of an outcome is its reply
+told_outcome : (name : List ℕ) (outcome : Outcome) → outcome.lines ≡ [] → outcome_text name outcome ≡ reply_line name outcome.reply
+told_outcome name outcome none = ap (λ lines. outcome_text name (record outcome { lines = lines })) none
+
+-- a call of a name that the entries have is told with its reply
+pub told_call : (world : World) (line : List ℕ) (name : List ℕ) (call : Call) (component : ℕ) (entries : List Entry) (listed text : List ℕ)
+    → length line ≤ 8192
+    → world.entries ≡ entries
+    → spoken line ≡ Some (record { name = name; call = call })
+    → position (λ entry. bytes_eq entry.name name) entries ≡ Some component
+    → listed ≡ (entry_at entries component).name
+    → text ≡ reply_text (outcome_at world component call).reply
+    → line_with listed text ≡ told_of world line
+told_call world line name call component entries listed text short same says found names tells =
+    let e : entry_at entries component ≡ entry_at world.entries component = ap (λ es. entry_at es component) (sym same) in
+    let hears : heard world.entries line ≡ Caller (record { component = component; call = call }) =
+    heard_short world.entries line short ∙ ap (heard_spoken world.entries) says
+    ∙ ap (heard_call (record { name = name; call = call })) (ap (λ es. position (λ entry. bytes_eq entry.name name) es) same ∙ found) in
+    ap (λ n. line_with n text) (names ∙ ap (λ entry. entry.name) e)
+    ∙ ap (line_with (entry_at world.entries component).name) tells
+    ∙ sym (told_outcome (entry_at world.entries component).name (outcome_at world component call)
+    (no_lines (entry_at world.entries component) call (state_at world.states component)))
+    ∙ ap (told_now world.entries world.states) (sym hears)
+
+-- a clause on a call's outcome, at equal texts
+pub ok_told : {E : Type 0} (r : Result (Unit {0}) E) (old new : Option (List ℕ)) (a b : List ℕ) → a ≡ b → OnOk r (Appends old new a) → OnOk r (Appends old new b)
+ok_told r old new a b e h = subst (λ bytes. OnOk r (Appends old new bytes)) e h
+
+pub err_told : {E : Type 0} (r : Result (Unit {0}) E) (old new : Option (List ℕ)) (a b : List ℕ) → a ≡ b → OnErr r (AppendsPart old new a) → OnErr r (AppendsPart old new b)
+err_told r old new a b e h = subst (λ bytes. OnErr r (AppendsPart old new bytes)) e h

@@ -1,0 +1,158 @@
+-- The world when a component starts.
+use Rattle.std.proofs.Common.{◌≡◌, ℕ, ◌<◌, ◌≤◌, ◌≢◌, false, List, [], ◌∷◌, ◌++◌, length, map, get_or, Some, None, is_some, IsSome, true≢false, subst, refl, sym, ap, ◌∙◌, inl, inr, arith, nat_cmp}
+use Rattle.std.specs.Option.{unwrap_or}
+use Rattle.std.specs.FinMap as finmap
+use Rattle.std.specs.FinMap.{get, insert, empty, len}
+use Rattle.std.proofs.lemmas.Bool.{cases_lt}
+use Rattle.std.proofs.lemmas.List.{map_push, get_or-map, ext_get_or, length-map, length_push, get_or_append_left, get_or_push}
+use Rattle.own_model.specs.Account.{opened, parted_with}
+use Rattle.own_model.specs.Transcript.{nothing}
+use Rattle.own_model.proofs.NatMapLemmas.{get-empty, get-insert_same, get-insert_other, apart_from_free, picked-empty}
+use Rattle.quota_core.specs.Books.{IsOpen, account_at, with_child}
+use Rattle.dataspace_core.specs.Store.{Store, Part, part, with_books}
+use Rattle.scenario_run.specs.Selectors.{Selectors}
+use Rattle.scenario_run.specs.Own.{own_of, object_at, IsSoundTable}
+use Rattle.scenario_run.specs.Component.{entry_of, kind_of, names_of, own, IsSound, IsSoundRole}
+use Rattle.scenario_run.specs.Core.{world_of, payer_at, IsCore}
+use Rattle.scenario_run.specs.Boot.{with_start, IsFreshRole}
+use Rattle.scenario_run.specs.declared.component.Role.{Role}
+use Rattle.scenario_run.specs.declared.component.Role.TheVariants.{Script, Server}
+use Rattle.scenario_run.specs.declared.component.Component.{Component}
+
+-- functions that agree on the elements make the same list of them
+map_alike : {X Y : Type 0} (f g : X → Y) (xs : List X) (d : X) (e : Y) → ((k : ℕ) → k < length xs → f (get_or xs k d) ≡ g (get_or xs k d)) → map f xs ≡ map g xs
+map_alike f g xs d e alike =
+    ext_get_or e (map f xs) (map g xs) (length-map xs f ∙ sym (length-map xs g))
+    (λ k h. let within : k < length xs = omega (arith, h, length-map xs f) in get_or-map f xs k d e within ∙ alike k within ∙ sym (get_or-map g xs k d e within))
+
+-- a sound role has an open account
+role_open : (p : Part) (role : Role) → IsSoundRole p role → IsSome p.account
+role_open p (Script table) sound = sound.is_open
+role_open p Server sound = sound
+
+-- a part that has just opened
+abbrev opened_part : ℕ → ℕ → Part
+opened_part ram caps = record { account = Some (opened ram caps); spaces = empty }
+
+-- a fresh table is sound there
+table_sound : (ram caps : ℕ) (table : Selectors) → table.spaces ≡ empty → caps ≤ table.places → IsSoundTable (opened_part ram caps) table
+table_sound ram caps table fresh places =
+    let none : (q : ℕ) → get table.spaces q ≡ None = λ q. ap (λ m. get m q) fresh ∙ get-empty q in
+    let length_is : len table.spaces ≡ 0 = ap (λ m. len m) fresh ∙ finmap.len-empty nat_cmp ℕ in
+    record {
+      is_open = refl;
+      there = λ q ds names. absurd (true≢false (sym (ap is_some names) ∙ ap is_some (none q)));
+      one = λ s t ds first second. absurd (true≢false (sym (ap is_some first) ∙ ap is_some (none s)));
+      paid = omega (arith, length_is);
+      within = omega arith;
+      placed = places;
+    }
+
+role_sound : (ram caps : ℕ) (role : Role) → IsFreshRole caps role → IsSoundRole (opened_part ram caps) role
+role_sound ram caps (Script table) fresh = table_sound ram caps table fresh.0 fresh.1
+role_sound ram caps Server fresh = refl
+
+-- a fresh role names nothing
+names_none : (caps : ℕ) (role : Role) → IsFreshRole caps role → names_of role ≡ empty
+names_none caps (Script table) fresh = fresh.0
+names_none caps Server fresh = refl
+
+own_opened : (ram caps : ℕ) → own_of (opened_part ram caps) empty ≡ record { account = opened ram caps; selectors = empty; gone = false }
+unfolding own_of
+own_opened ram caps = ap (λ m. record { account = opened ram caps; selectors = m; gone = false }) (picked-empty (object_at (opened_part ram caps)))
+
+module _ (store store' : Store) (root child ram caps : ℕ) (is_root : root ≡ store.books.root) (is_open : IsOpen store.books root)
+    (fresh : get store.books.accounts child ≡ None)
+    (parted : store' ≡ with_books store (with_child store.books root child ram caps)) where
+  root_apart : root ≢ child
+  root_apart = apart_from_free store.books.accounts child root fresh is_open
+
+  same_root : store'.books.root ≡ store.books.root
+  same_root = ap (λ s. s.books.root) parted
+
+  -- init keeps the rest
+  pub init_after : account_at store'.books store'.books.root ≡ parted_with (account_at store.books store.books.root) ram caps
+  init_after =
+      ap (λ s. account_at s.books s.books.root) parted
+      ∙ ap (λ r. unwrap_or (get (insert (insert store.books.accounts root (parted_with (account_at store.books root) ram caps)) child (opened ram caps)) r) (opened 0 0)) (sym is_root)
+      ∙ ap (λ o. unwrap_or o (opened 0 0)) (get-insert_other (insert store.books.accounts root (parted_with (account_at store.books root) ram caps)) child (opened ram caps) root root_apart
+      ∙ get-insert_same store.books.accounts root (parted_with (account_at store.books root) ram caps) root refl)
+      ∙ ap (λ r. parted_with (account_at store.books r) ram caps) is_root
+
+  module _ (components : List Component) (after : Component) (role : IsFreshRole caps after.role) (account : after.account.0 ≡ child) (core : IsCore store components)
+      (own_part : part child store' ≡ opened_part ram caps)
+      (others : (other : ℕ) → other ≢ root → other ≢ child → part other store' ≡ part other store) where
+    -- no component has the new account
+    child_apart : (k : ℕ) (d : Component) → k < length components → payer_at components k d ≢ child
+    unfolding part
+    child_apart k d within =
+        let c : Component = get_or components k d in
+        apart_from_free store.books.accounts child (payer_at components k d) fresh (role_open (part c.account.0 store) c.role (core.sound k d within))
+
+    part_stays : (k : ℕ) (d : Component) → k < length components → part (payer_at components k d) store' ≡ part (payer_at components k d) store
+    part_stays k d within = others (payer_at components k d) (λ e. core.not_init k d within (e ∙ is_root)) (child_apart k d within)
+
+    states_stay : map (own store') components ≡ map (own store) components
+    states_stay = map_alike (own store') (own store) components after nothing
+        (λ k within. let c : Component = get_or components k after in ap (λ p. own_of p (names_of c.role)) (part_stays k after within))
+
+    part_after : part after.account.0 store' ≡ opened_part ram caps
+    part_after = ap (λ a. part a store') account ∙ own_part
+
+    state_after_start : own store' after ≡ record { account = opened ram caps; selectors = empty; gone = false }
+    state_after_start = ap (λ p. own_of p (names_of after.role)) part_after ∙ ap (own_of (opened_part ram caps)) (names_none caps after.role role) ∙ own_opened ram caps
+
+    -- the world has one more entry and own state
+    pub world_started : world_of store' (components ++ after ∷ []) ≡ with_start (world_of store components) after.name.now (kind_of after.role) ram caps
+    world_started =
+        let entries = map_push entry_of components after in
+        let states = map_push (own store') components after ∙ ap (λ xs. xs ++ own store' after ∷ []) states_stay ∙ ap (λ s. map (own store) components ++ s ∷ []) state_after_start in
+        λ j. record { entries = entries j; init = init_after j; states = states j }
+
+    sound_after_start : IsSound store' after
+    sound_after_start = subst (λ p. IsSoundRole p after.role) (sym part_after) (role_sound ram caps after.role role)
+
+    -- a component that was there is where it was, and the last one is the new one
+    was_there : (k : ℕ) (d : Component) → k < length components → get_or (components ++ after ∷ []) k d ≡ get_or components k d
+    was_there k d within = get_or_append_left components (after ∷ []) d k within
+
+    is_new : (k : ℕ) (d : Component) → k ≡ length components → get_or (components ++ after ∷ []) k d ≡ after
+    is_new k d last = get_or_push components after d k (sym last)
+
+    last_or_before : (k : ℕ) → k < length (components ++ after ∷ []) → length components ≤ k → k ≡ length components
+    last_or_before k h past = omega (arith, h, past, length_push components after)
+
+    sound_started : (k : ℕ) (d : Component) → k < length (components ++ after ∷ []) → IsSound store' (get_or (components ++ after ∷ []) k d)
+    sound_started k d h = elim (cases_lt k (length components)) [
+      | inl within ↦ subst (IsSound store') (sym (was_there k d within))
+          (let c : Component = get_or components k d in subst (λ p. IsSoundRole p c.role) (sym (part_stays k d within)) (core.sound k d within))
+      | inr past ↦ subst (IsSound store') (sym (is_new k d (last_or_before k h past))) sound_after_start
+    ]
+
+    payer_of_new : (k : ℕ) (d : Component) → k < length (components ++ after ∷ []) → length components ≤ k → payer_at (components ++ after ∷ []) k d ≡ child
+    payer_of_new k d h past = ap (λ (c : Component). c.account.0) (is_new k d (last_or_before k h past)) ∙ account
+
+    payer_before : (k : ℕ) (d : Component) → k < length components → payer_at (components ++ after ∷ []) k d ≡ payer_at components k d
+    payer_before k d within = ap (λ (c : Component). c.account.0) (was_there k d within)
+
+    not_init_started : (k : ℕ) (d : Component) → k < length (components ++ after ∷ []) → payer_at (components ++ after ∷ []) k d ≢ store'.books.root
+    not_init_started k d h = elim (cases_lt k (length components)) [
+      | inl within ↦ λ e. core.not_init k d within (sym (payer_before k d within) ∙ e ∙ same_root)
+      | inr past ↦ λ e. root_apart (is_root ∙ sym same_root ∙ sym e ∙ payer_of_new k d h past)
+    ]
+
+    apart_started : (j k : ℕ) (d : Component) → j < length (components ++ after ∷ []) → k < length (components ++ after ∷ []) → j ≢ k →
+        payer_at (components ++ after ∷ []) j d ≢ payer_at (components ++ after ∷ []) k d
+    apart_started j k d g h differs = elim (cases_lt j (length components)) [
+      | inl first ↦ elim (cases_lt k (length components)) [
+        | inl second ↦ λ e. core.apart j k d first second differs (sym (payer_before j d first) ∙ e ∙ payer_before k d second)
+        | inr past ↦ λ e. child_apart j d first (sym (payer_before j d first) ∙ e ∙ payer_of_new k d h past)
+      ]
+      | inr past ↦ elim (cases_lt k (length components)) [
+        | inl second ↦ λ e. child_apart k d second (sym (payer_before k d second) ∙ sym e ∙ payer_of_new j d g past)
+        | inr too ↦ λ e. differs (last_or_before j g past ∙ sym (last_or_before k h too))
+      ]
+    ]
+
+    pub core_started : IsCore store' (components ++ after ∷ [])
+    core_started = record { sound = sound_started; not_init = not_init_started; apart = apart_started }

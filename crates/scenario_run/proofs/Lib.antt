@@ -1,0 +1,15 @@
+pub mod WordLemmas
+pub mod NumberLemmas
+pub mod SlotLemmas
+pub mod OwnLemmas
+pub mod ScriptLemmas
+pub mod ComponentLemmas
+pub mod CoreLemmas
+pub mod BootLemmas
+pub mod MachineLemmas
+pub mod BlockLemmas
+pub mod LineLemmas
+pub mod GatheredLemmas
+pub mod ToCome
+pub mod Serving
+pub mod AnsweringLemmas

@@ -1,0 +1,146 @@
+-- What was passed, and what is left to come.
+use Rattle.std.proofs.Common.{◌≡◌, ℕ, ◌+◌, ◌<◌, ◌≤◌, List, [], ◌∷◌, ◌++◌, length, take, drop, Option, Some, None, IfSome, arith, refl, sym, ◌∙◌, ap, length-append}
+use Rattle.std.proofs.lemmas.List.{drop-drop, drop_all, drop_at, drop-append-le, take-append-le}
+use Rattle.std.specs.Io.KnownBytes.{Keeps, IsAtEnd}
+use Rattle.scenario_run.specs.Lines.{line_length, after_line, to_come, PassesSome, Passes}
+use Rattle.scenario_run.specs.Next.{BeginsWithLine, PassesLongLine, StopsIn, StopsAtDevice, IsFlushedAt}
+use Rattle.scenario_run.specs.declared.lines.LineFault.{LineFault}
+use Rattle.scenario_run.specs.declared.lines.LineFault.TheVariants.{Read, Write, Endless}
+use Rattle.scenario_run.proofs.LineLemmas.{line_length-le, line_length-append_in, line_length-append-le, line_length-drop}
+
+pub Keeps-refl : (known : Option (List ℕ)) → Keeps known known
+Keeps-refl None = tt
+Keeps-refl (Some xs) = refl
+
+pub Keeps-trans : (a b c : Option (List ℕ)) → Keeps a b → Keeps b c → Keeps a c
+Keeps-trans None b c first second = tt
+Keeps-trans (Some xs) None c first second = absurd first
+Keeps-trans (Some xs) (Some ys) None first second = absurd second
+Keeps-trans (Some xs) (Some ys) (Some zs) first second = second ∙ first
+
+-- nothing was passed yet
+pub Passes-none : (old : Option (List ℕ)) → Passes old old 0
+Passes-none None = tt
+Passes-none (Some before) = record { of_line = omega arith; left = refl }
+
+-- what is to come stays
+pub Passes-kept : (old mid new : Option (List ℕ)) (n : ℕ) → Passes old mid n → Keeps mid new → Passes old new n
+Passes-kept None mid new n passes keeps = tt
+Passes-kept (Some before) None new n passes keeps = absurd (let e : None ≡ Some (drop n before) = passes.left in cc)
+Passes-kept (Some before) (Some xs) None n passes keeps = absurd keeps
+Passes-kept (Some before) (Some xs) (Some ys) n passes keeps = record { of_line = passes.of_line; left = ap Some keeps ∙ passes.left }
+
+-- the bytes left are those behind the n that were passed
+left_is : (before left : List ℕ) (n : ℕ) → PassesSome before (Some left) n → left ≡ drop n before
+left_is before left n passes = let e : Some left ≡ Some (drop n before) = passes.left in cc
+
+-- the n bytes passed and those of the line that are left are the line
+left_length : (before left : List ℕ) (n : ℕ) → PassesSome before (Some left) n → n + line_length left ≡ line_length before
+left_length before left n passes = ap (λ bytes. n + line_length bytes) (left_is before left n passes) ∙ line_length-drop n before passes.of_line
+
+-- all bytes ahead are of the line, and are passed too
+pub Passes-whole : (old rest : Option (List ℕ)) (ahead : List ℕ) (n : ℕ) → Passes old (to_come ahead rest) n → length ahead ≤ line_length ahead
+    → Passes old (to_come (drop (line_length ahead + 1) ahead) rest) (n + line_length ahead)
+Passes-whole None rest ahead n passes whole = tt
+Passes-whole (Some before) None ahead n passes whole = absurd (let e : None ≡ Some (drop n before) = passes.left in cc)
+Passes-whole (Some before) (Some ys) ahead n passes whole =
+    let is : line_length ahead ≡ length ahead = omega (arith, line_length-le ahead) in
+    let gone : drop (line_length ahead + 1) ahead ≡ [] = drop_all (line_length ahead + 1) ahead (omega arith) in
+    let behind : ys ≡ drop (n + line_length ahead) before =
+    sym (drop_at ahead ys (line_length ahead) (sym is)) ∙ ap (drop (line_length ahead)) (left_is before (ahead ++ ys) n passes) ∙ drop-drop (line_length ahead) n before in
+    record {
+      of_line = omega (arith, left_length before (ahead ++ ys) n passes, line_length-append-le ahead ys);
+      left = rw gone (ap Some behind);
+    }
+
+-- the line ends ahead
+pub passed_line : (old rest : Option (List ℕ)) (ahead : List ℕ) (n : ℕ) → Passes old (to_come ahead rest) n → line_length ahead < length ahead
+    → IfSome old (λ before. (n + line_length ahead ≡ line_length before) × (to_come (drop (line_length ahead + 1) ahead) rest ≡ Some (after_line before)))
+passed_line None rest ahead n passes within = tt
+passed_line (Some before) None ahead n passes within = absurd (let e : None ≡ Some (drop n before) = passes.left in cc)
+passed_line (Some before) (Some ys) ahead n passes within =
+    let whole : n + line_length ahead ≡ line_length before =
+    ap (λ len. n + len) (sym (line_length-append_in ahead ys within)) ∙ left_length before (ahead ++ ys) n passes in
+    let behind : drop (line_length ahead + 1) ahead ++ ys ≡ drop (n + (line_length ahead + 1)) before =
+    sym (drop-append-le (line_length ahead + 1) ahead ys (omega arith)) ∙ ap (drop (line_length ahead + 1)) (left_is before (ahead ++ ys) n passes)
+    ∙ drop-drop (line_length ahead + 1) n before in
+    let count : n + (line_length ahead + 1) ≡ line_length before + 1 = omega arith in
+    (whole, ap Some (behind ∙ ap (λ k. drop k before) count))
+
+-- the line ends with what is to come
+pub passed_end : (old rest : Option (List ℕ)) (n : ℕ) → Passes old (to_come [] rest) n → IsAtEnd rest
+    → IfSome old (λ before. (n ≡ line_length before) × (to_come [] rest ≡ Some (after_line before)))
+passed_end None rest n passes end = tt
+passed_end (Some before) None n passes end = absurd (let e : None ≡ Some (drop n before) = passes.left in cc)
+passed_end (Some before) (Some ys) n passes end =
+    let whole : n + 0 ≡ line_length before = ap (λ bytes. n + line_length bytes) (sym end) ∙ left_length before ys n passes in
+    let count : line_length before + 1 ≡ n + 1 = omega arith in
+    let gone : drop (line_length before + 1) before ≡ [] =
+    ap (λ k. drop k before) count ∙ sym (drop-drop 1 n before) ∙ ap (drop 1) (sym (left_is before ys n passes) ∙ end) in
+    (omega arith, ap Some (end ∙ sym gone))
+
+-- a line of which many bytes are ahead is long
+pub IsLong-ahead : (old_ahead : List ℕ) (old_rest : Option (List ℕ)) → 8192 < line_length old_ahead → IfSome (to_come old_ahead old_rest) (λ before. 8192 < line_length before)
+IsLong-ahead old_ahead None long = tt
+IsLong-ahead old_ahead (Some ys) long = omega (arith, line_length-append-le old_ahead ys)
+
+-- the bytes ahead, all of the line, are passed, and what is to come then stays
+pub passed_on : (old mid_rest new : Option (List ℕ)) (ahead left : List ℕ) (n m : ℕ) → Passes old (to_come ahead mid_rest) n → m ≡ line_length ahead → length ahead ≤ m
+    → left ≡ drop (m + 1) ahead → Keeps (to_come left mid_rest) new → Passes old new (n + m)
+passed_on old mid_rest new ahead left n m passes is whole left_of keeps =
+    let on : Passes old (to_come (drop (line_length ahead + 1) ahead) mid_rest) (n + line_length ahead) = Passes-whole old mid_rest ahead n passes (omega arith) in
+    let same : left ≡ drop (line_length ahead + 1) ahead = left_of ∙ ap (λ k. drop (k + 1) ahead) is in
+    Passes-kept old (to_come left mid_rest) new (n + m) (rw (same, is) on) keeps
+
+-- a long line that ends ahead is passed with its newline
+pub long_line-within : (old rest : Option (List ℕ)) (ahead left : List ℕ) (n m : ℕ) → IfSome old (λ before. 8192 < line_length before)
+    → Passes old (to_come ahead rest) n → m ≡ line_length ahead → m < length ahead → left ≡ drop (m + 1) ahead
+    → IfSome old (λ before. PassesLongLine before (to_come left rest))
+long_line-within None rest ahead left n m long passes is within left_of = tt
+long_line-within (Some before) rest ahead left n m long passes is within left_of =
+    let same : left ≡ drop (line_length ahead + 1) ahead = left_of ∙ ap (λ k. drop (k + 1) ahead) is in
+    record { long = long; after = rw same ((passed_line (Some before) rest ahead n passes (omega arith)).1) }
+
+-- and so is one that ends with what is to come
+pub long_line-end : (old rest : Option (List ℕ)) (ahead : List ℕ) (n : ℕ) → IfSome old (λ before. 8192 < line_length before)
+    → Passes old (to_come ahead rest) n → length ahead ≡ 0 → IsAtEnd rest → IfSome old (λ before. PassesLongLine before (to_come ahead rest))
+long_line-end None rest ahead n long passes none end = tt
+long_line-end (Some before) rest [] n long passes none end = record { long = long; after = (passed_end (Some before) rest n passes end).1 }
+long_line-end (Some before) rest (b ∷ bs) n long passes none end = absurd (omega arith)
+
+-- a line of which too many bytes are passed or ahead is endless
+pub stops_endless : (old rest : Option (List ℕ)) (ahead : List ℕ) (n m : ℕ) → Passes old (to_come ahead rest) n → m ≡ line_length ahead → 1048576 < n + m
+    → IfSome old (λ before. StopsIn before (to_come ahead rest) Endless)
+stops_endless None rest ahead n m passes is many = tt
+stops_endless (Some before) None ahead n m passes is many = absurd (let e : None ≡ Some (drop n before) = passes.left in cc)
+stops_endless (Some before) (Some ys) ahead n m passes is many =
+    (omega (arith, left_length before (ahead ++ ys) n passes, line_length-append-le ahead ys), (n, passes))
+
+-- a device that fails leaves what is to come
+pub stops_device : (old new : Option (List ℕ)) (n : ℕ) (fault : LineFault) (gathered : List ℕ) → Passes old new n → StopsAtDevice fault gathered
+    → IfSome old (λ before. StopsIn before new fault)
+stops_device None new n fault gathered passes stops = tt
+stops_device (Some before) new n Read gathered passes stops = (n, passes)
+stops_device (Some before) new n Write gathered passes stops = (n, passes)
+stops_device (Some before) new n Endless gathered passes stops = absurd stops
+
+-- nothing is left to be written, unless a write failed
+pub IsFlushedAt-device : (fault : LineFault) (gathered : List ℕ) → StopsAtDevice fault gathered → IsFlushedAt fault gathered
+IsFlushedAt-device Read gathered stops = stops
+IsFlushedAt-device Write gathered stops = tt
+IsFlushedAt-device Endless gathered stops = absurd stops
+
+-- a line that ends ahead is the next one
+pub begins_with_line : (old rest : Option (List ℕ)) (ahead : List ℕ) (m : ℕ) → Passes old (to_come ahead rest) 0 → m ≡ line_length ahead → m < length ahead
+    → IfSome old (λ before. BeginsWithLine before ahead rest m)
+begins_with_line None rest ahead m passes is within = tt
+begins_with_line (Some before) None ahead m passes is within = absurd (let e : None ≡ Some (drop 0 before) = passes.left in cc)
+begins_with_line (Some before) (Some ys) ahead m passes is within =
+    let whole : ahead ++ ys ≡ before = left_is before (ahead ++ ys) 0 passes in
+    let ends = passed_line (Some before) (Some ys) ahead 0 passes (omega arith) in
+    let len : m ≡ line_length before = omega (arith, ends.0) in
+    record {
+      some = omega (arith, ap length whole, length-append ahead ys);
+      line = sym (take-append-le m ahead ys (omega arith)) ∙ ap (take m) whole ∙ ap (λ k. take k before) len;
+      after = ap (λ k. to_come (drop (k + 1) ahead) (Some ys)) is ∙ ends.1;
+    }

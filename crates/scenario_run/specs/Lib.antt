@@ -1,0 +1,15 @@
+pub mod Call
+pub mod Words
+pub mod Answer
+pub mod Selectors
+pub mod Slots
+pub mod Own
+pub mod Component
+pub mod CodedWorld
+pub mod Core
+pub mod Boot
+pub mod Device
+pub mod Lines
+pub mod Next
+pub mod Gathered
+pub mod Answered

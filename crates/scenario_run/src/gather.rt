@@ -1,0 +1,137 @@
+//! Bytes that are gathered before they are written.
+ghost use Rattle.std.specs.Prelude.{◌≡◌, ℕ, ◌-◌, ◌<◌, ◌≤◌, ◌||◌, List, [], ◌++◌, length, nat_lt, take, OnOk, OnErr, is_err};
+ghost use Rattle.std.specs.Io.KnownBytes.{Keeps, Appends};
+ghost use Rattle.scenario_run.specs.Gathered.{told_so_far, AppendsPart, line_with};
+
+use crate::device::{DeviceFault, Sink};
+use std::marker::Model;
+
+/// How many bytes are gathered at most.
+const CAPACITY: usize = 8192;
+
+/// Bytes that are still to be written.
+#[derive(Drop)]
+pub struct Gather {
+    bytes: [u8; CAPACITY],
+    start: usize,
+    end: usize,
+}
+
+impl Model for Gather {
+    ghost use Rattle.std.specs.Prelude.{ℕ, ◌<◌, ◌≤◌, List, slice_range};
+
+    ghost Value = { List ℕ };
+
+    ghost view = { λ gather. slice_range gather.bytes gather.start gather.end };
+
+    ghost invariant = { λ gather. (gather.start ≤ gather.end) × (gather.end ≤ 8192) × (gather.start < 8192) };
+}
+
+impl Gather {
+    /// Nothing gathered yet.
+    pub fn new() -> Self
+        ensures { result ≡ [] }
+    {
+        Gather {
+            bytes: [0; CAPACITY],
+            start: 0,
+            end: 0,
+        }
+    }
+
+    /// Gathers `bytes`, and writes out what is gathered each time there is no more room.
+    /// A fault leaves gathered what was not written, and nothing is written twice.
+    #[inline]
+    pub fn put<K: Sink>(&mut self, sink: &mut K, bytes: &[u8]) -> Result<(), DeviceFault>
+        ensures ok { OnOk result (Appends (told_so_far (K.contents sink.old) self.old) (told_so_far (K.contents sink.new) self.new) bytes.now) }
+        ensures err { OnErr result (AppendsPart (told_so_far (K.contents sink.old) self.old) (told_so_far (K.contents sink.new) self.new) bytes.now) }
+        ensures failing { K.has_failed sink.new ≡ (K.has_failed sink.old || is_err result) }
+    {
+        if bytes.len() > CAPACITY - self.end {
+            return self.put_in_pieces(sink, bytes);
+        }
+        let end = self.end + bytes.len();
+        self.bytes[self.end..end].copy_from_slice(bytes);
+        self.end = end;
+        Ok(())
+    }
+
+    /// Gathers a name and its reply, as a line of their own. A fault leaves it as `put` does.
+    pub fn put_reply<K: Sink>(
+        &mut self,
+        sink: &mut K,
+        name: &[u8],
+        reply: &[u8],
+    ) -> Result<(), DeviceFault>
+        ensures ok { OnOk result (Appends (told_so_far (K.contents sink.old) self.old) (told_so_far (K.contents sink.new) self.new)
+            (line_with name.now reply.now)) }
+        ensures err { OnErr result (AppendsPart (told_so_far (K.contents sink.old) self.old) (told_so_far (K.contents sink.new) self.new)
+            (line_with name.now reply.now)) }
+        ensures failing { K.has_failed sink.new ≡ (K.has_failed sink.old || is_err result) }
+    {
+        self.put(sink, name)?;
+        self.put(sink, b": ")?;
+        self.put(sink, reply)?;
+        self.put(sink, b"\n")
+    }
+
+    // Gathers bytes for which there is no room yet.
+    #[inline(never)]
+    fn put_in_pieces<K: Sink>(&mut self, sink: &mut K, bytes: &[u8]) -> Result<(), DeviceFault>
+        ensures ok { OnOk result (Appends (told_so_far (K.contents sink.old) self.old) (told_so_far (K.contents sink.new) self.new) bytes.now) }
+        ensures err { OnErr result (AppendsPart (told_so_far (K.contents sink.old) self.old) (told_so_far (K.contents sink.new) self.new) bytes.now) }
+        ensures failing { K.has_failed sink.new ≡ (K.has_failed sink.old || is_err result) }
+    {
+        let mut done = self.take_in(bytes);
+        while done < bytes.len() {
+            self.flush(sink)?;
+            done += self.take_in(&bytes[done..]);
+        }
+        Ok(())
+    }
+
+    // Gathers as many of `bytes` as there is room for.
+    fn take_in(&mut self, bytes: &[u8]) -> usize
+        ensures count { result ≤ length bytes.now }
+        ensures grown { self.new ≡ self.old ++ take result bytes.now }
+        ensures some { self.old ≡ [] → 0 < length bytes.now → 0 < result }
+    {
+        let count = bytes.len().min(CAPACITY - self.end);
+        self.bytes[self.end..self.end + count].copy_from_slice(&bytes[..count]);
+        self.end += count;
+        count
+    }
+
+    /// Writes out all that is gathered, and resumes a write that took only a part.
+    /// A fault leaves gathered what was not written.
+    pub fn flush<K: Sink>(&mut self, sink: &mut K) -> Result<(), DeviceFault>
+        ensures ok { OnOk result (self.new ≡ []) }
+        ensures told { Keeps (told_so_far (K.contents sink.old) self.old) (told_so_far (K.contents sink.new) self.new) }
+        ensures failing { K.has_failed sink.new ≡ (K.has_failed sink.old || is_err result) }
+    {
+        let count = write_out(sink, &self.bytes[self.start..self.end]);
+        self.start += count;
+        if self.start < self.end {
+            return Err(DeviceFault);
+        }
+        self.start = 0;
+        self.end = 0;
+        Ok(())
+    }
+}
+
+// Writes bytes until all are written or a write fails, and answers how many were written.
+fn write_out<K: Sink>(sink: &mut K, bytes: &[u8]) -> usize
+    ensures count { result ≤ length bytes.now }
+    ensures written { Appends (K.contents sink.old) (K.contents sink.new) (take result bytes.now) }
+    ensures failing { K.has_failed sink.new ≡ (K.has_failed sink.old || nat_lt result (length bytes.now)) }
+{
+    let mut done = 0;
+    while done < bytes.len() {
+        match sink.write(&bytes[done..]) {
+            Ok(0) | Err(_) => return done,
+            Ok(count) => done += count,
+        }
+    }
+    done
+}

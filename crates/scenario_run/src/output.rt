@@ -1,0 +1,50 @@
+//! A sink over any writer.
+ghost use Rattle.std.specs.Prelude.{◌≡◌, false};
+
+use crate::device::{DeviceFault, Sink};
+use std::io::Write;
+
+/// A writer as a sink: each of its errors is a fault, an interrupted write too.
+#[derive(Drop)]
+pub struct Output<W> {
+    writer: W,
+    failed: bool,
+}
+
+impl<W: Write> Output<W> {
+    /// A sink that has not failed.
+    pub fn new(writer: W) -> Self
+        ensures bytes { ⟦<Output<W> as Sink>⟧.contents result ≡ W.contents writer }
+        ensures fresh { ⟦<Output<W> as Sink>⟧.has_failed result ≡ false }
+    {
+        Output {
+            writer,
+            failed: false,
+        }
+    }
+}
+
+impl<W: Write> Sink for Output<W> {
+    ghost contents = { λ output. W.contents output.writer };
+
+    ghost has_failed = { λ output. output.failed };
+
+    fn write(&mut self, buffer: &[u8]) -> Result<usize, DeviceFault> {
+        match self.writer.write(buffer) {
+            Ok(count) => {
+                if count == 0 && !buffer.is_empty() {
+                    self.failed = true;
+                }
+                Ok(count)
+            }
+            Err(_) => {
+                self.failed = true;
+                Err(DeviceFault)
+            }
+        }
+    }
+
+    fn failed(&self) -> bool {
+        self.failed
+    }
+}
