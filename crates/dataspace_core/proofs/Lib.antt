@@ -3,6 +3,7 @@ pub mod PartLemmas
 pub mod LaidOutLemmas
 pub mod PaidLemmas
 pub mod MemoryLemmas
+pub mod CapsLemmas
 pub mod ByteLemmas
 pub mod WriteLemmas
 pub mod WalkLemmas

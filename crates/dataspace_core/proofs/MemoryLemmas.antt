@@ -26,7 +26,7 @@ use Rattle.dataspace_core.proofs.LaidOutLemmas.{IsChain-laid_out, length-space_o
 use Rattle.dataspace_core.proofs.PaidLemmas.{account_at-some, Fits-shortage, free_covers, places_cover, size_fits, use_covers, payer_apart, IsPaid-more, IsPaid-less, IsPaid-same, IsPaid-opened, IsPaid-fresh}
 
 -- an account that is open has what a contract reads under its key
-open_at : (books : Books) (account : ℕ) → IsOpen books account → get books.accounts account ≡ Some (account_at books account)
+pub open_at : (books : Books) (account : ℕ) → IsOpen books account → get books.accounts account ≡ Some (account_at books account)
 open_at books account is =
     let found = value_at books.accounts account is in
     found.1 ∙ ap Some (sym (account_at-some books account found.0 found.1))
@@ -37,7 +37,7 @@ moved s t free pages more places room e p q paid =
     subst (λ r. IsPaid t free more r) q (subst (λ m. IsPaid t free m places) p (subst (λ u. IsPaid u free pages places) (sym e) paid))
 
 -- equal books make equal memories
-same_store : (books others : Books) (pool : List (Option (List ℕ))) (next : List ℕ) (spaces : Slab Dataspace) → books ≡ others → store_of books pool next spaces ≡ store_of others pool next spaces
+pub same_store : (books others : Books) (pool : List (Option (List ℕ))) (next : List ℕ) (spaces : Slab Dataspace) → books ≡ others → store_of books pool next spaces ≡ store_of others pool next spaces
 same_store books others pool next spaces e = ap (λ b. store_of b pool next spaces) e
 
 module _ {books : Books} {pool : List (Option (List ℕ))} {next : List ℕ} {spaces : Slab Dataspace} (sound : IsSound books pool next spaces) where

@@ -19,7 +19,7 @@ use Rattle.dataspace_core.specs.Paid.{IsPaid, size_of, payer_of, ram_owed, caps_
 
 module _ {X : Type 0} where
   -- what a map has after an insertion is the new value, or was there before
-  after_insert : (m : NatMap X) (k : ℕ) (v : X) (q : ℕ) (w : X) → get (insert m k v) q ≡ Some w → ((q ≡ k) × (w ≡ v)) ⊎ ((q ≢ k) × (get m q ≡ Some w))
+  pub after_insert : (m : NatMap X) (k : ℕ) (v : X) (q : ℕ) (w : X) → get (insert m k v) q ≡ Some w → ((q ≡ k) × (w ≡ v)) ⊎ ((q ≢ k) × (get m q ≡ Some w))
   after_insert m k v q w there =
       elim (cases_eq q k) [
         | inl here ↦ inl (here, same_Some w v (sym there ∙ get-insert_same m k v q here))

@@ -9,7 +9,7 @@ use Rattle.own_model.specs.NatMap.{NatMap, picked}
 use Rattle.own_model.specs.Account.{Account, charged, credited, opened}
 use Rattle.own_model.specs.OwnState.{zeros}
 use Rattle.own_model.proofs.NatMapLemmas.{same, get-empty, get-insert_same, get-insert_other, get-picked, get-picked_none, get-picked_at, picked-insert_some, picked-insert_hidden, picked-insert_alike, picked-remove, picked-remove_hidden}
-use Rattle.quota_core.specs.Books.{account_at, with_child}
+use Rattle.quota_core.specs.Books.{account_at, with_account, with_child}
 use Rattle.dataspace_core.specs.Store.{Store, Space, Part, part, bytes_paid_by, space_at, with_space, without_space, with_bytes_at, with_books, overwritten}
 
 -- its payer has the bytes of a dataspace in its part, and nobody else
@@ -98,3 +98,14 @@ module _ (store : Store) (parent child ram caps : ℕ) where
   part-with_child_other other apart_parent apart_child = same_part _ _ _ _
       (get-insert_other _ child (opened ram caps) other apart_child ∙ get-insert_other store.books.accounts parent _ other apart_parent)
       refl
+
+module _ (store : Store) (account : ℕ) (b : Account) where
+  -- the part of an account that is another has that one, and the same dataspaces
+  pub part-with_account : part account (with_books store (with_account store.books account b)) ≡ record { account = Some b; spaces = (part account store).spaces }
+  unfolding part
+  part-with_account = same_part _ _ _ _ (get-insert_same store.books.accounts account b account refl) refl
+
+  -- the parts of the others stay
+  pub part-with_account_other : (other : ℕ) → other ≢ account → part other (with_books store (with_account store.books account b)) ≡ part other store
+  unfolding part
+  part-with_account_other other apart = same_part _ _ _ _ (get-insert_other store.books.accounts account b other apart) refl

@@ -1,13 +1,13 @@
 //! Dataspaces over a pool of pages and the books of accounts.
-ghost use Rattle.std.specs.Prelude.{◌≡◌, ◌≢◌, ℕ, ◌+◌, ◌*◌, ◌<◌, ◌≤◌, length, if◌then◌else◌, Some, None, IfOk, OnErr, slice_range};
+ghost use Rattle.std.specs.Prelude.{◌≡◌, ◌≢◌, ℕ, ◌+◌, ◌*◌, ◌<◌, ◌≤◌, length, if◌then◌else◌, Some, None, IfOk, OnOk, OnErr, slice_range};
 ghost use Rattle.std.specs.Result.{result_err};
-ghost use Rattle.std.specs.FinMap.{get, insert, remove};
+ghost use Rattle.std.specs.FinMap.{get, insert, remove, len};
 ghost use Rattle.std.specs.FinMap as map;
 ghost use Rattle.trade_base.specs.Page.{page_of};
 ghost use Rattle.own_model.specs.Account.{shortage, charged, credited, opened, WithinLimits};
 ghost use Rattle.own_model.specs.OwnState.{zeros};
 ghost use Rattle.own_model.specs.OwnStep.{alloc_refusal, is_valid_size};
-ghost use Rattle.quota_core.specs.Books.{IsOpen, account_at, with_child, ram_limits, caps_limits};
+ghost use Rattle.quota_core.specs.Books.{IsOpen, account_at, with_account, with_child, ram_limits, caps_limits};
 ghost use Rattle.dataspace_core.specs.Store.{fresh_store, Exists, space_at, with_space, without_space, with_bytes_at, with_books, part, overwritten};
 
 use crate::chains::{give_chain, no_links, read_chain, take_chain, write_chain};
@@ -93,6 +93,7 @@ impl Memory {
         ensures own_fresh { IfOk result (λ ds. get (part account.0 self.old).spaces ds.0 ≡ None) }
         ensures others { (other : ℕ) → other ≢ account.0 → part other self.new ≡ part other self.old }
         ensures err { OnErr result (self.new ≡ self.old) }
+        ensures paid { IfOk result (λ _. len (part account.0 self.new).spaces ≤ (account_at self.new.books account.0).caps_used) }
     {
         let size = valid_size(bytes).ok_or(Refusal::InvalidSize)?;
         self.books.charge(account, Ram(size), Caps(1))?;
@@ -155,6 +156,39 @@ impl Memory {
     {
         let chain = space_under(&self.spaces, ds).chain;
         write_chain(&mut self.pool, &self.next, chain, offset as usize, bytes);
+    }
+
+    /// Charges an account for one capability that is no dataspace's.
+    ///
+    /// It is refused with `OutOfCaps` where no capability of the account's limit is free.
+    pub fn charge_cap(&mut self, account: AccountId) -> Result<(), Refusal>
+        requires { IsOpen self.old.books account.0 }
+        ensures refusal { result_err result ≡ shortage (account_at self.old.books account.0) 0 1 }
+        ensures ok { OnOk result (self.new ≡ with_books self.old (with_account self.old.books account.0 (charged (account_at self.old.books account.0) 0 1))) }
+        ensures own { OnOk result (part account.0 self.new ≡ record {
+          account = Some (charged (account_at self.old.books account.0) 0 1);
+          spaces = (part account.0 self.old).spaces;
+        }) }
+        ensures others { (other : ℕ) → other ≢ account.0 → part other self.new ≡ part other self.old }
+        ensures err { OnErr result (self.new ≡ self.old) }
+        ensures paid { len (part account.0 self.new).spaces ≤ (account_at self.new.books account.0).caps_used }
+    {
+        self.books.charge(account, Ram(0), Caps(1))
+    }
+
+    /// Credits an account with one capability. It must use more capabilities than it pays for dataspaces.
+    pub fn credit_cap(&mut self, account: AccountId)
+        requires open { IsOpen self.old.books account.0 }
+        requires spare { len (part account.0 self.old).spaces < (account_at self.old.books account.0).caps_used }
+        ensures credited { self.new ≡ with_books self.old (with_account self.old.books account.0 (credited (account_at self.old.books account.0) 0 1)) }
+        ensures own { part account.0 self.new ≡ record {
+          account = Some (credited (account_at self.old.books account.0) 0 1);
+          spaces = (part account.0 self.old).spaces;
+        } }
+        ensures others { (other : ℕ) → other ≢ account.0 → part other self.new ≡ part other self.old }
+        ensures paid { len (part account.0 self.new).spaces ≤ (account_at self.new.books account.0).caps_used }
+    {
+        self.books.credit(account, Ram(0), Caps(1));
     }
 
     /// The root's key.

@@ -7,3 +7,5 @@ pub mod UseLemmas
 pub mod RowLemmas
 pub mod LimitLemmas
 pub mod StartLemmas
+pub mod EntryLemmas
+pub mod RegionLemmas

@@ -12,3 +12,4 @@ pub mod Running
 pub mod Use
 pub mod Laws
 pub mod Rows
+pub mod Region

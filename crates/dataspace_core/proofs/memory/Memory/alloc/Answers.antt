@@ -8,6 +8,7 @@ use Rattle.quota_core.specs.Books.{IsOpen}
 use Rattle.dataspace_core.specs.Store.{Store, with_space, part}
 use Rattle.dataspace_core.proofs.PartLemmas.{part-with_space, part-with_space_other, own_fresh}
 use Rattle.dataspace_core.proofs.MemoryLemmas.{pages_free, place_free, vacant_there, IsSound-alloc, store-alloc}
+use Rattle.dataspace_core.proofs.CapsLemmas.{spaces_paid}
 use Rattle.dataspace_core.proofs.memory.Memory.alloc.Goals as goal
 
 -- a size that is valid is so many bytes in whole pages
@@ -64,3 +65,6 @@ pub returns-clause-others : goal.returns-clause-others
 returns-clause-others c = λ other apart.
     ap (part other) (returns-clause-ok c)
     ∙ part-with_space_other c.args.self.now c.insert_reserved-key.result c.args.account.0 c.args.bytes (returns-clause-fresh c) other apart
+
+pub returns-clause-paid : goal.returns-clause-paid
+returns-clause-paid c = spaces_paid (invariant_of-self-2 c) c.args.account.0

@@ -1,0 +1,121 @@
+//! The capability space: a table with a place for each selector.
+ghost use Rattle.std.specs.Prelude.{◌≡◌, ◌<◌, ◌≤◌, ◌↔◌, None, IsTrue, IfOk, IfSome, IfNone, count_by, is_some, length, slice_index_or};
+ghost use Rattle.std.specs.FinMap.{get, len};
+ghost use Rattle.own_model.specs.OwnState.{new_selector};
+ghost use Rattle.cap_space.specs.Space.{fresh_space, with_cap, without_cap};
+ghost use Rattle.cap_space.specs.Slots.{IsTakenBefore};
+
+use crate::cap::Cap;
+use std::alloc::Global;
+use std::marker::Model;
+use trade_base::{NoMemory, Selector};
+
+/// The capabilities of one component, each under its selector: a positive number.
+///
+/// All memory is taken at the boot, so that no later call fails for want of it.
+#[derive(Drop)]
+pub struct CapSpace {
+    // The place of a selector is one less.
+    slots: Vec<Option<Cap>>,
+    // No place before this one is free.
+    first_free: usize,
+    // How many places are taken.
+    used: usize,
+}
+
+impl Model for CapSpace {
+    ghost use Rattle.cap_space.specs.Space.{Space, coded_space};
+
+    ghost Value = { Space };
+
+    ghost coded = { coded_space };
+
+    ghost use Rattle.cap_space.specs.Slots.{space_of, IsKept};
+
+    ghost view = { λ s. space_of s.slots.items };
+
+    ghost invariant = { λ s. IsKept s.slots.items s.first_free s.used };
+}
+
+#[tactic(auto, using(crate::proofs::SlotsLemmas::slots))]
+impl CapSpace {
+    /// An empty space of so many places.
+    ///
+    /// It fails where the host has no memory for them.
+    pub fn boot(alloc: Global, places: usize) -> Result<CapSpace, NoMemory>
+        requires { places ≤ 4096 }
+        ensures { IfOk result (λ space. space ≡ fresh_space places) }
+    {
+        let slots = vec![in alloc; None; places].map_err(|_| NoMemory)?;
+        Ok(CapSpace {
+            slots,
+            first_free: 0,
+            used: 0,
+        })
+    }
+
+    /// Takes a capability in under a new selector: the least positive number that isn't in use.
+    pub fn insert(&mut self, cap: Cap) -> Selector
+        requires room { len self.old.caps < self.old.places }
+        ensures least { result.0 ≡ new_selector self.old.caps }
+        ensures fresh { get self.old.caps result.0 ≡ None }
+        ensures taken { self.new ≡ with_cap self.old result.0 cap }
+    {
+        let place = free_place(&self.slots, self.first_free);
+        self.slots[place] = Some(cap);
+        self.first_free = place + 1;
+        self.used += 1;
+        Selector((place + 1) as u32)
+    }
+
+    /// The capability under a selector, or `None` where that isn't in use.
+    ///
+    /// It takes any number, as a line of text may tell any: 0 and those past the last place are never in use.
+    pub fn get(&self, selector: u64) -> Option<Cap>
+        ensures found { result ≡ get self.now.caps selector }
+        ensures within { IfSome result (λ _. (1 ≤ selector) × (selector ≤ self.now.places)) }
+    {
+        let slots = &self.slots;
+        let place = selector.checked_sub(1)?;
+        *slots.get(place as usize)?
+    }
+
+    /// Takes the capability under a selector out again, which frees the selector. It takes any number, as `get` does,
+    /// and changes nothing where that isn't in use.
+    pub fn remove(&mut self, selector: u64) -> Option<Cap>
+        ensures found { result ≡ get self.old.caps selector }
+        ensures gone { self.new ≡ without_cap self.old selector }
+        ensures none { IfNone result (self.new ≡ self.old) }
+    {
+        let cap = self.get(selector)?;
+        let place = selector as usize - 1;
+        self.slots[place] = None;
+        self.first_free = self.first_free.min(place);
+        self.used -= 1;
+        Some(cap)
+    }
+
+    /// Whether each place has a capability.
+    pub fn is_full(&self) -> bool
+        ensures full { IsTrue result ↔ (len self.now.caps ≡ self.now.places) }
+        ensures within { len self.now.caps ≤ self.now.places }
+    {
+        self.used == self.slots.len()
+    }
+}
+
+// The first free place, where none before `from` is free.
+#[tactic(auto, using(crate::proofs::SlotsLemmas::taken_le))]
+fn free_place(slots: &[Option<Cap>], from: usize) -> usize
+    requires room { count_by is_some slots.now < length slots.now }
+    requires before { IsTakenBefore slots.now from }
+    ensures within { result < length slots.now }
+    ensures free { slice_index_or slots.now result None ≡ None }
+    ensures first { IsTakenBefore slots.now result }
+{
+    let mut place = from;
+    while slots[place].is_some() {
+        place += 1;
+    }
+    place
+}

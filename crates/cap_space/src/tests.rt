@@ -1,0 +1,32 @@
+//! What no contract says: that there is memory for a space, and that its calls are as a holder of selectors sees them.
+
+use crate::{Cap, CapSpace};
+use trade_base::{DsId, Selector};
+
+#[test]
+fn freed_selector_is_given_again(rt: HostRuntime) {
+    let mut space = CapSpace::boot(rt.alloc(), 3).expect(&rt, "memory for three places");
+    for selector in 1..4 {
+        assert!(rt; !space.is_full());
+        assert_eq!(rt; space.insert(Cap::RpcObject), Selector(selector));
+    }
+    assert!(rt; space.is_full());
+    assert_eq!(rt; space.remove(2), Some(Cap::RpcObject));
+    assert_eq!(rt; space.remove(2), None);
+    assert!(rt; !space.is_full());
+    let dataspace = Cap::Dataspace(DsId(7));
+    assert_eq!(rt; space.insert(dataspace), Selector(2));
+    assert_eq!(rt; space.get(2), Some(dataspace));
+}
+
+#[test]
+fn numbers_not_in_use_name_nothing(rt: HostRuntime) {
+    let mut space = CapSpace::boot(rt.alloc(), 2).expect(&rt, "memory for two places");
+    assert!(rt; !space.is_full());
+    space.insert(Cap::RpcObject);
+    for selector in [0, 2, 3, 1 << 32, (1 << 32) + 1, u64::MAX] {
+        assert_eq!(rt; space.get(selector), None, "at {selector}");
+        assert_eq!(rt; space.remove(selector), None, "at {selector}");
+    }
+    assert_eq!(rt; space.get(1), Some(Cap::RpcObject));
+}

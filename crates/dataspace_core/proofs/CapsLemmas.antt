@@ -1,0 +1,116 @@
+-- An account's use of capabilities may change while it covers the account's dataspaces.
+use Rattle.std.proofs.Common.{◌≡◌, ◌≢◌, ℕ, ◌<◌, ◌≤◌, List, length, Some, Ok, Err, unwrap_or, refl, sym, ap, subst, ◌∙◌, arith, Bool, cond, eqb, true, false, inl, inr}
+use Rattle.std.specs.Prelude.{⊤, Option, None, Result, OnOk, OnErr}
+use Rattle.std.specs.Option.{option_map}
+use Rattle.std.specs.Result.{result_err}
+use Rattle.std.specs.FinMap.{get, len}
+use Rattle.page_pool.specs.Pages.{free_count}
+use Rattle.slab.specs.Slab.{Slab}
+use Rattle.trade_base.specs.declared.refusal.Refusal.{Refusal}
+use Rattle.own_model.specs.Account.{Account, shortage, charged, credited, opened}
+use Rattle.own_model.proofs.NatMapLemmas.{IsSome-insert}
+use Rattle.own_model.proofs.Totals.{len-total, total_same, total-picked, total-insert_same, owed-total, owed_nothing}
+use Rattle.quota_core.specs.Books.{Books, IsOpen, account_at, with_account}
+use Rattle.dataspace_core.specs.Store.{Store, part, bytes_paid_by, with_books}
+use Rattle.dataspace_core.specs.Layout.{store_of}
+use Rattle.dataspace_core.specs.Paid.{IsPaid, IsSound, payer_of, caps_owed}
+use Rattle.dataspace_core.specs.declared.dataspace.Dataspace.{Dataspace}
+use Rattle.dataspace_core.proofs.PaidLemmas.{Fits-shortage, after_insert, payer_apart}
+use Rattle.dataspace_core.proofs.PartLemmas.{part-with_account, part-with_account_other}
+use Rattle.dataspace_core.proofs.MemoryLemmas.{open_at, same_store}
+
+-- a dataspace counts for one in its payer's part, and for none in another
+counts : (b : Bool) (bytes : List ℕ) → ◌≡◌ {A = ℕ} (unwrap_or (option_map (λ (_ : List ℕ). 1) (cond b (Some bytes) None)) 0) (cond b 1 0)
+counts true bytes = refl
+counts false bytes = refl
+
+-- an account owes a capability for each dataspace of its part
+pub caps_owed-len : (store : Store) (account : ℕ) → len (part account store).spaces ≡ caps_owed store account
+unfolding part
+caps_owed-len store account =
+    len-total (part account store).spaces
+    ∙ total-picked (λ _. 1) (bytes_paid_by account) store.spaces
+    ∙ total_same _ _ store.spaces (λ ds space there. counts (eqb space.payer account) space.bytes)
+    ∙ sym (owed-total (λ _. 1) payer_of store.spaces account)
+
+module _ (store : Store) (account : ℕ) (b : Account) where
+  -- the memory where the account is another
+  abbrev after : Store
+  after = with_books store (with_account store.books account b)
+
+  -- all stays paid for where only the use of capabilities is another, and covers the account's dataspaces
+  IsPaid-capped : (free pages places : ℕ) → IsPaid store free pages places → (a : Account) → get store.books.accounts account ≡ Some a → b.ram_used ≡ a.ram_used → b.ram_limit ≡ a.ram_limit → b.caps_limit ≡ a.caps_limit → caps_owed store account ≤ b.caps_used → b.caps_used ≤ b.caps_limit → IsPaid after free pages places
+  IsPaid-capped free pages places paid a opens used limit caps_limit covers within = record {
+    payers = λ q s there. IsSome-insert store.books.accounts account b s.payer (paid.payers q s there);
+    within = λ k v there. elim (after_insert store.books.accounts account b k v there) [
+      | inl new ↦
+          let old = paid.within account a opens in
+          record {
+            ram = omega (arith, ap (λ (v : Account). v.ram_used) new.1, ap (λ (v : Account). v.ram_limit) new.1, used, limit, old.ram);
+            caps = omega (arith, ap (λ (v : Account). v.caps_used) new.1, ap (λ (v : Account). v.caps_limit) new.1, within);
+          }
+      | inr old ↦ paid.within k v old.1
+    ];
+    ram = λ k v there. elim (after_insert store.books.accounts account b k v there) [
+      | inl new ↦ paid.ram k a (ap (get store.books.accounts) new.0 ∙ opens) ∙ sym (ap (λ (v : Account). v.ram_used) new.1 ∙ used)
+      | inr old ↦ paid.ram k v old.1
+    ];
+    caps = λ k v there. elim (after_insert store.books.accounts account b k v there) [
+      | inl new ↦ omega (arith, ap (caps_owed store) new.0, ap (λ (v : Account). v.caps_used) new.1, covers)
+      | inr old ↦ paid.caps k v old.1
+    ];
+    ram_limits = total-insert_same (λ (v : Account). v.ram_limit) store.books.accounts account b a opens limit ∙ paid.ram_limits;
+    caps_limits = omega (arith, total-insert_same (λ (v : Account). v.caps_limit) store.books.accounts account b a opens caps_limit, paid.caps_limits);
+    backed = paid.backed;
+    few = paid.few;
+  }
+
+module _ {books : Books} {pool : List (Option (List ℕ))} {next : List ℕ} {spaces : Slab Dataspace} (sound : IsSound books pool next spaces) where
+  -- what contracts see
+  abbrev store : Store
+  store = store_of books pool next spaces
+
+  -- an account uses a capability at least for each dataspace of its part, and one that is not open has none
+  paid_for : (account : ℕ) (o : Option Account) → get books.accounts account ≡ o → len (part account store).spaces ≤ (unwrap_or o (opened 0 0)).caps_used
+  paid_for account None closed =
+      let none = owed_nothing (λ _. 1) payer_of store.spaces account (payer_apart store (free_count pool) (length pool) spaces.capacity sound.paid account closed) in
+      omega (arith, caps_owed-len store account, none)
+  paid_for account (Some a) there = omega (arith, caps_owed-len store account, sound.paid.caps account a there)
+
+  pub spaces_paid : (account : ℕ) → len (part account store).spaces ≤ (account_at books account).caps_used
+  spaces_paid account = paid_for account (get books.accounts account) refl
+
+  module _ (account : ℕ) (opens : IsOpen books account) where
+    module _ (new_books : Books) where
+      -- the memory stays sound where the account has another use of capabilities
+      IsSound-capped : (b : Account) → new_books ≡ with_account books account b → b.ram_used ≡ (account_at books account).ram_used → b.ram_limit ≡ (account_at books account).ram_limit → b.caps_limit ≡ (account_at books account).caps_limit → caps_owed store account ≤ b.caps_used → b.caps_used ≤ b.caps_limit → IsSound new_books pool next spaces
+      IsSound-capped b is used limit caps_limit covers within = record {
+        laid_out = sound.laid_out;
+        paid = subst (λ (s : Store). IsPaid s (free_count pool) (length pool) spaces.capacity) (sym (same_store new_books _ pool next spaces is))
+            (IsPaid-capped store account b (free_count pool) (length pool) spaces.capacity sound.paid (account_at books account) (open_at books account opens) used limit caps_limit covers within);
+      }
+
+      -- a charge of one capability
+      pub IsSound-charge_cap : (r : Result ⊤ Refusal) → result_err r ≡ shortage (account_at books account) 0 1 → OnOk r (new_books ≡ with_account books account (charged (account_at books account) 0 1)) → OnErr r (new_books ≡ books) → IsSound new_books pool next spaces
+      IsSound-charge_cap (Ok done) refusal ok err =
+          let covered = Fits-shortage (account_at books account) 0 1 (sym refusal) in
+          let owes = sound.paid.caps account (account_at books account) (open_at books account opens) in
+          IsSound-capped (charged (account_at books account) 0 1) ok (omega arith) refl refl (omega (arith, owes)) covered.caps_fit
+      IsSound-charge_cap (Err e) refusal ok err = subst (λ b. IsSound b pool next spaces) (sym err) sound
+
+      -- a credit of one that pays for no dataspace
+      pub IsSound-credit_cap : len (part account store).spaces < (account_at books account).caps_used → new_books ≡ with_account books account (credited (account_at books account) 0 1) → IsSound new_books pool next spaces
+      IsSound-credit_cap spare is =
+          let within = sound.paid.within account (account_at books account) (open_at books account opens) in
+          IsSound-capped (credited (account_at books account) 0 1) is (omega arith) refl refl
+          (omega (arith, caps_owed-len store account, spare)) (omega (arith, within.caps))
+
+      -- the account's own part after the charge
+      pub own-charge_cap : (b : Account) (r : Result ⊤ Refusal) → OnOk r (new_books ≡ with_account books account b) → OnOk r (part account (store_of new_books pool next spaces) ≡ record { account = Some b; spaces = (part account store).spaces })
+      own-charge_cap b (Ok done) ok = ap (part account) (same_store new_books _ pool next spaces ok) ∙ part-with_account store account b
+      own-charge_cap b (Err e) ok = tt
+
+      -- the parts of the others stay
+      pub others-charge_cap : (b : Account) (r : Result ⊤ Refusal) → OnOk r (new_books ≡ with_account books account b) → OnErr r (new_books ≡ books) → (other : ℕ) → other ≢ account → part other (store_of new_books pool next spaces) ≡ part other store
+      others-charge_cap b (Ok done) ok err other apart = ap (part other) (same_store new_books _ pool next spaces ok) ∙ part-with_account_other store account b other apart
+      others-charge_cap b (Err e) ok err other apart = ap (part other) (same_store new_books _ pool next spaces err)

@@ -1,0 +1,127 @@
+-- A search by a test among entries whose keys differ, and in a finite map.
+use Rattle.std.proofs.Common.{◌≡◌, ℕ, Bool, true, false, cond, eqb, ◌||◌, T, List, [], ◌∷◌, is_some, Some, refl, sym, ap, subst, ◌∙◌, eqb-true, true≢false, nat_cmp, is_eq, arith}
+use Rattle.std.proofs.lemmas.Bool.Decides.{nat_tests}
+use Rattle.std.proofs.lemmas.Option.{none-some, same_Some}
+use Rattle.std.specs.Prelude.{Option, None}
+use Rattle.std.specs.Cmp.{unsigned_tied}
+use Rattle.std.specs.List.{find, list_any}
+use Rattle.std.specs.FinMap.{get, entries, entries_sorted, get-entries, is_sorted}
+use Rattle.std.specs.FinMap.Entries as keyed
+use Rattle.std.specs.FinMap.Entries.{below_all}
+use Rattle.own_model.specs.NatMap.{NatMap}
+use Rattle.own_model.proofs.NatMapLemmas.{both_parts, is_less}
+
+eqb_same : (k : ℕ) → eqb k k ≡ true
+eqb_same k = grind (arith, nat_tests)
+
+module _ {X : Type 0} where
+  -- the value of the first entry with a key
+  abbrev pub value_of : ℕ → List (ℕ × X) → Option X
+  value_of q es = keyed.find nat_cmp q es
+
+  pub value_of-cons : (q : ℕ) (e : ℕ × X) (es : List (ℕ × X)) → value_of q (e ∷ es) ≡ cond (eqb q e.0) (Some e.1) (value_of q es)
+  value_of-cons q e es = ap (λ b. cond b (Some e.1) (value_of q es)) (unsigned_tied q e.0)
+
+  pub value_of_first : (q : ℕ) (e : ℕ × X) (es : List (ℕ × X)) → eqb q e.0 ≡ true → value_of q (e ∷ es) ≡ Some e.1
+  value_of_first q e es t = value_of-cons q e es ∙ ap (λ b. cond b (Some e.1) (value_of q es)) t
+
+  pub value_of_later : (q : ℕ) (e : ℕ × X) (es : List (ℕ × X)) → eqb q e.0 ≡ false → value_of q (e ∷ es) ≡ value_of q es
+  value_of_later q e es t = value_of-cons q e es ∙ ap (λ b. cond b (Some e.1) (value_of q es)) t
+
+  -- no two entries have one key
+  abbrev pub KeysDiffer : List (ℕ × X) → Type 0
+  KeysDiffer [] = Unit {0}
+  KeysDiffer (e ∷ es) = (value_of e.0 es ≡ None) × KeysDiffer es
+
+  -- a key below all others is none of them
+  none_below : (k : ℕ) (es : List (ℕ × X)) → T (below_all nat_cmp k es) → value_of k es ≡ None
+  none_below k [] h = refl
+  none_below k (e ∷ es) h =
+      let parts = both_parts _ _ h in
+      ap (λ o. cond (is_eq o) (Some e.1) (value_of k es)) (is_less (nat_cmp k e.0) parts.0) ∙ none_below k es parts.1
+
+  -- keys that rise differ
+  pub KeysDiffer-sorted : (es : List (ℕ × X)) → T (is_sorted nat_cmp es) → KeysDiffer es
+  KeysDiffer-sorted [] h = tt
+  KeysDiffer-sorted (e ∷ es) h =
+      let parts = both_parts _ _ h in
+      (none_below e.0 es parts.0, KeysDiffer-sorted es parts.1)
+
+  -- a key that only later entries have is not the first one's
+  later_key : (k : ℕ) (v : X) (e : ℕ × X) (es : List (ℕ × X)) → value_of e.0 es ≡ None → value_of k es ≡ Some v → eqb k e.0 ≡ false
+  later_key k v e es free there = elim (eqb k e.0) as (λ b. eqb k e.0 ≡ b → b ≡ false) [
+    | true ↦ λ t. absurd (none-some v (sym (subst (λ q. value_of q es ≡ None) (sym (eqb-true k e.0 t)) free) ∙ there))
+    | false ↦ λ t. refl
+  ] refl
+
+  -- what later entries have under a key, all have
+  later_value : (k : ℕ) (v : X) (e : ℕ × X) (es : List (ℕ × X)) → value_of e.0 es ≡ None → value_of k es ≡ Some v → value_of k (e ∷ es) ≡ Some v
+  later_value k v e es free there = value_of_later k e es (later_key k v e es free there) ∙ there
+
+  module _ (test : ℕ × X → Bool) where
+    -- what is found passes, and stands under its key
+    pub found : (es : List (ℕ × X)) (e : ℕ × X) → KeysDiffer es → find test es ≡ Some e → (test e ≡ true) × (value_of e.0 es ≡ Some e.1)
+    found [] e differ is = absurd (none-some e is)
+    found (x ∷ es) e differ is =
+        elim (test x) as (λ b. test x ≡ b → cond b (Some x) (find test es) ≡ Some e → (test e ≡ true) × (value_of e.0 (x ∷ es) ≡ Some e.1)) [
+          | true ↦ λ t here. subst (λ (y : ℕ × X). (test y ≡ true) × (value_of y.0 (x ∷ es) ≡ Some y.1)) (same_Some x e here) (t, value_of_first x.0 x es (eqb_same x.0))
+          | false ↦ λ t later.
+              let rest = found es e differ.1 later in
+              (rest.0, later_value e.0 e.1 x es differ.0 rest.1)
+        ] refl is
+
+    -- where nothing is found, nothing passes
+    pub not_found : (es : List (ℕ × X)) (k : ℕ) (v : X) → find test es ≡ None → value_of k es ≡ Some v → test (k, v) ≡ false
+    not_found [] k v is there = absurd (none-some v there)
+    not_found (x ∷ es) k v is there =
+        elim (test x) as (λ b. test x ≡ b → cond b (Some x) (find test es) ≡ None → test (k, v) ≡ false) [
+          | true ↦ λ t some. absurd (none-some x (sym some))
+          | false ↦ λ t none.
+              elim (eqb k x.0) as (λ b. eqb k x.0 ≡ b → test (k, v) ≡ false) [
+                | true ↦ λ same.
+                    let key : k ≡ x.0 = eqb-true k x.0 same in
+                    let value : v ≡ x.1 = sym (same_Some x.1 v (sym (value_of_first k x es same) ∙ there)) in
+                    let entry : ◌≡◌ {A = ℕ × X} (k, v) x = λ i. (key i, value i) in
+                    ap test entry ∙ t
+                | false ↦ λ other. not_found es k v none (sym (value_of_later k x es other) ∙ there)
+              ] refl
+        ] refl is
+
+    -- where nothing passes, nothing is found
+    pub finds_none : (es : List (ℕ × X)) → KeysDiffer es → ((k : ℕ) (v : X) → value_of k es ≡ Some v → test (k, v) ≡ false) → find test es ≡ None
+    finds_none [] differ fails = refl
+    finds_none (x ∷ es) differ fails =
+        ap (λ b. cond b (Some x) (find test es)) (fails x.0 x.1 (value_of_first x.0 x es (eqb_same x.0)))
+        ∙ finds_none es differ.1 (λ k v there. fails k v (later_value k v x es differ.0 there))
+
+    -- some element passes where one is found
+    pub list_any-find : (es : List (ℕ × X)) → list_any test es ≡ is_some (find test es)
+    list_any-find [] = refl
+    list_any-find (x ∷ es) = elim (test x) as (λ b. (b || list_any test es) ≡ is_some (cond b (Some x) (find test es))) [ true ↦ refl | false ↦ list_any-find es ]
+
+    -- ---- the same of a map's entries
+
+    pub found_in_map : (m : NatMap X) (e : ℕ × X) → find test (entries m) ≡ Some e → (test e ≡ true) × (get m e.0 ≡ Some e.1)
+    found_in_map m e is =
+        let at = found (entries m) e (KeysDiffer-sorted (entries m) (entries_sorted m)) is in
+        (at.0, get-entries m e.0 ∙ at.1)
+
+    pub not_found_in_map : (m : NatMap X) (k : ℕ) (v : X) → find test (entries m) ≡ None → get m k ≡ Some v → test (k, v) ≡ false
+    not_found_in_map m k v is there = not_found (entries m) k v is (sym (get-entries m k) ∙ there)
+
+    pub finds_none_in_map : (m : NatMap X) → ((k : ℕ) (v : X) → get m k ≡ Some v → test (k, v) ≡ false) → find test (entries m) ≡ None
+    finds_none_in_map m fails =
+        finds_none (entries m) (KeysDiffer-sorted (entries m) (entries_sorted m)) (λ k v there. fails k v (get-entries m k ∙ there))
+
+    -- the only entry that passes is found
+    pub finds_in_map : (m : NatMap X) (k : ℕ) (v : X) → get m k ≡ Some v → test (k, v) ≡ true → ((j : ℕ) (w : X) → get m j ≡ Some w → test (j, w) ≡ true → j ≡ k) → find test (entries m) ≡ Some (k, v)
+    finds_in_map m k v there passes only =
+        elim (find test (entries m)) as (λ o. find test (entries m) ≡ o → o ≡ Some (k, v)) [
+          | None ↦ λ is. absurd (true≢false (sym passes ∙ not_found_in_map m k v is there))
+          | Some e ↦ λ is.
+              let at = found_in_map m e is in
+              let key : e.0 ≡ k = only e.0 e.1 at.1 at.0 in
+              let value : e.1 ≡ v = same_Some e.1 v (sym at.1 ∙ ap (get m) key ∙ there) in
+              let entry : ◌≡◌ {A = ℕ × X} e (k, v) = λ i. (key i, value i) in
+              ap (λ y. Some y) entry
+        ] refl

@@ -1,0 +1,388 @@
+-- Where regions can be attached, and what stays when they change.
+use Rattle.std.proofs.Common.{◌≡◌, ℕ, ◌+◌, ◌-◌, ◌*◌, ◌%◌, ◌<◌, ◌≤◌, ◌&&◌, ◌||◌, is_lt, Bool, true, false, cond, not, T, List, [], ◌∷◌, length, is_some, IsSome, Some, refl, sym, ap, subst, ◌∙◌, true≢false, eqb, eqb-true, ◌==◌, nat_le, nat_cmp, zero, suc, map, arith}
+use Rattle.std.proofs.lemmas.Bool.Decides.{nat_tests}
+use Rattle.std.proofs.lemmas.Option.{none-some, same_Some, some_pair_parts}
+use Rattle.std.proofs.lemmas.List.{length-map}
+use Rattle.std.specs.Prelude.{Option, None, if◌then◌else◌}
+use Rattle.std.specs.Option.{option_map, option_and_then}
+use Rattle.std.specs.Ordering.{eq_by_cmp}
+use Rattle.std.specs.Cmp.{nat_cmp_total}
+use Rattle.std.specs.List.{find, list_any, range_with_len}
+use Rattle.std.specs.FinMap.{get, insert, remove, entries, entries_sorted, get-entries, len, len-entries, is_sorted, nat_cmp-IsAntisymmetric}
+use Rattle.std.specs.FinMap.Entries.{below_all, same_entries}
+use Rattle.trade_base.specs.declared.refusal.Refusal.TheVariants.{PageFault}
+use Rattle.own_model.specs.NatMap.{NatMap, picked}
+use Rattle.own_model.specs.Region.{Region, user_low, user_high, overlap, meets, can_stand, first_gap, IsPlace, IsFirstGap, region_at, resolved, without, holds, attach_refusal, attach_at_refusal, detach_refusal}
+use Rattle.own_model.proofs.NatMapLemmas.{same, get-picked, picked-insert_some, picked-remove}
+use Rattle.own_model.proofs.EntryLemmas.{value_of, list_any-find, found_in_map, not_found_in_map, finds_none_in_map}
+
+none_found : {X : Type 0} (o : Option X) → is_some o ≡ false → o ≡ None
+none_found None h = refl
+none_found (Some x) h = absurd (true≢false h)
+
+same_test : (a b : ℕ) → a ≡ b → eqb a b ≡ true
+same_test a b e = grind (arith, nat_tests)
+
+-- ---- whether pages meet a region
+
+abbrev overlap_at : ℕ → ℕ → ℕ × Region → Bool
+overlap_at address pages e = overlap e.0 e.1.pages address pages
+
+-- pages that meet no region overlap none
+pub meets_none : (regions : NatMap Region) (address pages start : ℕ) (region : Region) → meets regions address pages ≡ false → get regions start ≡ Some region → overlap start region.pages address pages ≡ false
+meets_none regions address pages start region clear there =
+    not_found_in_map (overlap_at address pages) regions start region (none_found _ (sym (list_any-find (overlap_at address pages) (entries regions)) ∙ clear)) there
+
+-- pages that overlap no region meet none
+pub clear_of_all : (regions : NatMap Region) (address pages : ℕ) → ((start : ℕ) (region : Region) → get regions start ≡ Some region → overlap start region.pages address pages ≡ false) → meets regions address pages ≡ false
+clear_of_all regions address pages apart =
+    list_any-find (overlap_at address pages) (entries regions) ∙ ap is_some (finds_none_in_map (overlap_at address pages) regions apart)
+
+-- pages that overlap a region meet one
+pub meets_one : (regions : NatMap Region) (address pages start : ℕ) (region : Region) → get regions start ≡ Some region → overlap start region.pages address pages ≡ true → meets regions address pages ≡ true
+meets_one regions address pages start region there over = elim (meets regions address pages) as (λ b. meets regions address pages ≡ b → b ≡ true) [
+  | true ↦ λ _. refl
+  | false ↦ λ clear. absurd (true≢false (sym over ∙ meets_none regions address pages start region clear there))
+] refl
+
+-- ---- places
+
+parts_of_place : (low high pages address : ℕ) (m : Bool) → (eqb (address % 4096) 0 && (nat_le low address && nat_le (address + pages * 4096) high)) && not m ≡ true → (address % 4096 ≡ 0) × (low ≤ address) × (address + pages * 4096 ≤ high) × (m ≡ false)
+parts_of_place low high pages address m h = grind (arith, nat_tests)
+
+tests_of_place : (low high pages address : ℕ) (m : Bool) → address % 4096 ≡ 0 → low ≤ address → address + pages * 4096 ≤ high → m ≡ false → (eqb (address % 4096) 0 && (nat_le low address && nat_le (address + pages * 4096) high)) && not m ≡ true
+tests_of_place low high pages address m aligned from to clear = grind (arith, nat_tests)
+
+-- where pages can stand is a place
+pub place : (low high : ℕ) (regions : NatMap Region) (pages address : ℕ) → can_stand low high regions pages address ≡ true → IsPlace low high regions pages address
+place low high regions pages address can =
+    let parts = parts_of_place low high pages address (meets regions address pages) can in
+    record {
+      aligned = parts.0;
+      from_low = parts.1;
+      to_high = parts.2;
+      free = λ start region. meets_none regions address pages start region parts.3;
+    }
+
+-- pages can stand at a place
+pub stands : (low high : ℕ) (regions : NatMap Region) (pages address : ℕ) → IsPlace low high regions pages address → can_stand low high regions pages address ≡ true
+stands low high regions pages address at =
+    tests_of_place low high pages address (meets regions address pages) at.aligned at.from_low at.to_high (clear_of_all regions address pages at.free)
+
+-- ---- the first gap
+
+module _ (test : ℕ → Bool) where
+  earlier : (a b c : ℕ) → test a ≡ false → ((d : ℕ) → a + 1 ≤ d → d < b → test d ≡ false) → a ≤ c → c < b → test c ≡ false
+  earlier a b c first rest from below = grind (arith, nat_tests, rest c)
+
+  later_fails : (a n c : ℕ) → test a ≡ false → ((d : ℕ) → a + 1 ≤ d → d < a + 1 + n → test d ≡ false) → a ≤ c → c < a + suc n → test c ≡ false
+  later_fails a n c first rest from below = grind (arith, nat_tests, rest c)
+
+  -- a number that is found passes, and none before it does
+  pub found_in_range : (n a b : ℕ) → find test (range_with_len a n) ≡ Some b → (a ≤ b) × (test b ≡ true) × ((c : ℕ) → a ≤ c → c < b → test c ≡ false)
+  found_in_range zero a b is = absurd (none-some b is)
+  found_in_range (suc n) a b is =
+      elim (test a) as (λ t. test a ≡ t → cond t (Some a) (find test (range_with_len (a + 1) n)) ≡ Some b → (a ≤ b) × (test b ≡ true) × ((c : ℕ) → a ≤ c → c < b → test c ≡ false)) [
+        | true ↦ λ passes here.
+            let same = same_Some a b here in
+            (omega arith, subst (λ c. test c ≡ true) same passes, λ c from below. absurd (omega arith))
+        | false ↦ λ fails later.
+            let rest = found_in_range n (a + 1) b later in
+            (omega arith, rest.1, λ c from below. earlier a b c fails rest.2 from below)
+      ] refl is
+
+  -- where none is found, none passes
+  pub none_in_range : (n a : ℕ) → find test (range_with_len a n) ≡ None → (c : ℕ) → a ≤ c → c < a + n → test c ≡ false
+  none_in_range zero a is c from below = absurd (omega arith)
+  none_in_range (suc n) a is c from below =
+      elim (test a) as (λ t. test a ≡ t → cond t (Some a) (find test (range_with_len (a + 1) n)) ≡ None → test c ≡ false) [
+        | true ↦ λ passes some. absurd (none-some a (sym some))
+        | false ↦ λ fails none. later_fails a n c fails (none_in_range n (a + 1) none) from below
+      ] refl is
+
+module _ (low high : ℕ) (regions : NatMap Region) (pages : ℕ) where
+  in_range : (b : ℕ) → IsPlace low high regions pages b → b < low + (high + 1 - low)
+  in_range b at = let from = at.from_low in let to = at.to_high in omega arith
+
+  fails_at : (b : ℕ) → can_stand low high regions pages b ≡ false → ¬ IsPlace low high regions pages b
+  fails_at b fails at = true≢false (sym (stands low high regions pages b at) ∙ fails)
+
+  -- the first gap is the least place
+  pub first_gap_least : IsFirstGap low high regions pages (first_gap low high regions pages)
+  unfolding first_gap
+  first_gap_least =
+      let test = can_stand low high regions pages in
+      let count = high + 1 - low in
+      elim (find test (range_with_len low count)) as (λ o. find test (range_with_len low count) ≡ o → IsFirstGap low high regions pages o) [
+        | None ↦ λ is b at. fails_at b (none_in_range test count low is b at.from_low (in_range b at)) at
+        | Some a ↦ λ is.
+            let facts = found_in_range test count low a is in
+            (place low high regions pages a facts.1, λ b below at. fails_at b (facts.2 b at.from_low below) at)
+      ] refl
+
+  -- there is one least place at most
+  one_first_gap : (o p : Option ℕ) → IsFirstGap low high regions pages o → IsFirstGap low high regions pages p → o ≡ p
+  one_first_gap None None x y = refl
+  one_first_gap None (Some b) x y = absurd (x b y.0)
+  one_first_gap (Some a) None x y = absurd (y a x.0)
+  one_first_gap (Some a) (Some b) x y =
+      let not_below : ¬ (a < b) = λ h. y.1 a h x.0 in
+      let not_above : ¬ (b < a) = λ h. x.1 b h y.0 in
+      let same : a ≡ b = omega arith in
+      ap (λ c. Some c) same
+
+  -- the least place is the first gap
+  pub first_gap_is : (o : Option ℕ) → IsFirstGap low high regions pages o → first_gap low high regions pages ≡ o
+  first_gap_is o h = one_first_gap (first_gap low high regions pages) o first_gap_least h
+
+skipped : (start others address pages b : ℕ) → overlap start others address pages ≡ true → address ≤ b → b < start + others * 4096 → overlap start others b pages ≡ false → ⊥
+skipped start others address pages b over from below free = grind (arith, nat_tests)
+
+-- no place lies between an address and the end of a region that pages at the address overlap
+pub skip_region : (low high : ℕ) (regions : NatMap Region) (pages address start : ℕ) (region : Region) → get regions start ≡ Some region → overlap start region.pages address pages ≡ true → (b : ℕ) → address ≤ b → b < start + region.pages * 4096 → ¬ IsPlace low high regions pages b
+skip_region low high regions pages address start region there over b from below at =
+    let free = at.free start region there in
+    skipped start region.pages address pages b over from below free
+
+-- ---- regions of the same starts and pages, of whatever things
+
+pub record AreAlike (xs ys : NatMap Region) : Type 0 where
+  pub pages : (start : ℕ) → option_map (λ region. region.pages) (get xs start) ≡ option_map (λ region. region.pages) (get ys start)
+
+pub AreAlike-sym : (xs ys : NatMap Region) → AreAlike xs ys → AreAlike ys xs
+AreAlike-sym xs ys alike = record { pages = λ start. sym (alike.pages start) }
+
+pages_of_some : (o : Option Region) (n : ℕ) → option_map (λ region. region.pages) o ≡ Some n → (r : Region) × (o ≡ Some r) × (r.pages ≡ n)
+pages_of_some None n is = absurd (none-some n is)
+pages_of_some (Some r) n is = (r, refl, same_Some r.pages n is)
+
+-- a region of the one has a twin in the other
+pub twin : (xs ys : NatMap Region) → AreAlike xs ys → (start : ℕ) (region : Region) → get ys start ≡ Some region → (r : Region) × (get xs start ≡ Some r) × (r.pages ≡ region.pages)
+twin xs ys alike start region there =
+    pages_of_some (get xs start) region.pages (alike.pages start ∙ ap (option_map (λ r. r.pages)) there)
+
+-- a place among the one is a place among the other
+place_alike : (xs ys : NatMap Region) → AreAlike xs ys → (low high pages address : ℕ) → IsPlace low high xs pages address → IsPlace low high ys pages address
+place_alike xs ys alike low high pages address at = record {
+  aligned = at.aligned;
+  from_low = at.from_low;
+  to_high = at.to_high;
+  free = λ start region there.
+      let other = twin xs ys alike start region there in
+      subst (λ n. overlap start n address pages ≡ false) other.2 (at.free start other.0 other.1);
+}
+
+first_gap_among : (xs ys : NatMap Region) → AreAlike xs ys → (low high pages : ℕ) (o : Option ℕ) → IsFirstGap low high xs pages o → IsFirstGap low high ys pages o
+first_gap_among xs ys alike low high pages None h = λ b at. h b (place_alike ys xs (AreAlike-sym xs ys alike) low high pages b at)
+first_gap_among xs ys alike low high pages (Some a) h =
+    (place_alike xs ys alike low high pages a h.0, λ b below at. h.1 b below (place_alike ys xs (AreAlike-sym xs ys alike) low high pages b at))
+
+-- the first gap depends on starts and pages alone
+pub first_gap_alike : (xs ys : NatMap Region) → AreAlike xs ys → (low high pages : ℕ) → first_gap low high xs pages ≡ first_gap low high ys pages
+first_gap_alike xs ys alike low high pages =
+    sym (first_gap_is low high ys pages (first_gap low high xs pages) (first_gap_among xs ys alike low high pages (first_gap low high xs pages) (first_gap_least low high xs pages)))
+
+-- a start, and how many pages
+abbrev pub shape : ℕ × Region → ℕ × ℕ
+shape e = (e.0, e.1.pages)
+
+below_all-shape : (k : ℕ) (es : List (ℕ × Region)) → below_all nat_cmp k (map shape es) ≡ below_all nat_cmp k es
+below_all-shape k [] = refl
+below_all-shape k (e ∷ es) = ap (λ b. is_lt (nat_cmp k e.0) && b) (below_all-shape k es)
+
+is_sorted-shape : (es : List (ℕ × Region)) → is_sorted nat_cmp (map shape es) ≡ is_sorted nat_cmp es
+is_sorted-shape [] = refl
+is_sorted-shape (e ∷ es) = ap (λ b. b && is_sorted nat_cmp (map shape es)) (below_all-shape e.0 es) ∙ ap (λ b. below_all nat_cmp e.0 es && b) (is_sorted-shape es)
+
+value_of-shape : (q : ℕ) (es : List (ℕ × Region)) → value_of q (map shape es) ≡ option_map (λ region. region.pages) (value_of q es)
+value_of-shape q [] = refl
+value_of-shape q (e ∷ es) = elim (eq_by_cmp nat_cmp q e.0) as (λ b. cond b (Some e.1.pages) (value_of q (map shape es)) ≡ option_map (λ region. region.pages) (cond b (Some e.1) (value_of q es))) [ true ↦ refl | false ↦ value_of-shape q es ]
+
+-- the same shapes in the same order
+pub shapes_alike : (xs ys : NatMap Region) → AreAlike xs ys → map shape (entries xs) ≡ map shape (entries ys)
+shapes_alike xs ys alike =
+    same_entries nat_cmp nat_cmp_total nat_cmp-IsAntisymmetric (map shape (entries xs)) (map shape (entries ys))
+    (subst (λ b. T b) (sym (is_sorted-shape (entries xs))) (entries_sorted xs))
+    (subst (λ b. T b) (sym (is_sorted-shape (entries ys))) (entries_sorted ys))
+    (λ q. value_of-shape q (entries xs) ∙ ap (option_map (λ region. region.pages)) (sym (get-entries xs q)) ∙ alike.pages q
+    ∙ ap (option_map (λ region. region.pages)) (get-entries ys q) ∙ sym (value_of-shape q (entries ys)))
+
+-- there are as many of them
+pub len_alike : (xs ys : NatMap Region) → AreAlike xs ys → len xs ≡ len ys
+len_alike xs ys alike =
+    len-entries xs ∙ sym (length-map (entries xs) shape) ∙ ap length (shapes_alike xs ys alike) ∙ length-map (entries ys) shape ∙ sym (len-entries ys)
+
+list_any-shape : (test : ℕ × ℕ → Bool) (es : List (ℕ × Region)) → list_any (λ e. test (shape e)) es ≡ list_any test (map shape es)
+list_any-shape test [] = refl
+list_any-shape test (e ∷ es) = ap (λ b. test (shape e) || b) (list_any-shape test es)
+
+find-shape : (test : ℕ × ℕ → Bool) (es : List (ℕ × Region)) → option_map shape (find (λ e. test (shape e)) es) ≡ find test (map shape es)
+find-shape test [] = refl
+find-shape test (e ∷ es) = elim (test (shape e)) as (λ b. option_map shape (cond b (Some e) (find (λ x. test (shape x)) es)) ≡ cond b (Some (shape e)) (find test (map shape es))) [ true ↦ refl | false ↦ find-shape test es ]
+
+-- pages meet a region of the one where they meet a region of the other
+pub meets_alike : (xs ys : NatMap Region) → AreAlike xs ys → (address pages : ℕ) → meets xs address pages ≡ meets ys address pages
+meets_alike xs ys alike address pages =
+    let test : ℕ × ℕ → Bool = λ s. overlap s.0 s.1 address pages in
+    list_any-shape test (entries xs) ∙ ap (list_any test) (shapes_alike xs ys alike) ∙ sym (list_any-shape test (entries ys))
+
+pub can_stand_alike : (xs ys : NatMap Region) → AreAlike xs ys → (low high pages address : ℕ) → can_stand low high xs pages address ≡ can_stand low high ys pages address
+can_stand_alike xs ys alike low high pages address =
+    ap (λ m. (eqb (address % 4096) 0 && (nat_le low address && nat_le (address + pages * 4096) high)) && not m) (meets_alike xs ys alike address pages)
+
+-- regions of the same start and pages hold a range in either
+pub region_at_alike : (xs ys : NatMap Region) → AreAlike xs ys → (address length : ℕ) → option_map shape (region_at xs address length) ≡ option_map shape (region_at ys address length)
+region_at_alike xs ys alike address length =
+    let test : ℕ × ℕ → Bool = λ s. nat_le s.0 address && nat_le (address + length) (s.0 + s.1 * 4096) in
+    find-shape test (entries xs) ∙ ap (find test) (shapes_alike xs ys alike) ∙ sym (find-shape test (entries ys))
+
+-- ---- refusals depend on starts and pages alone
+
+pub attach_refusal_alike : (xs ys : NatMap Region) → AreAlike xs ys → (most pages : ℕ) → attach_refusal most xs pages ≡ attach_refusal most ys pages
+attach_refusal_alike xs ys alike most pages =
+    rw (len_alike xs ys alike, first_gap_alike xs ys alike user_low user_high pages)
+
+pub attach_at_refusal_alike : (xs ys : NatMap Region) → AreAlike xs ys → (most pages address : ℕ) → attach_at_refusal most xs pages address ≡ attach_at_refusal most ys pages address
+attach_at_refusal_alike xs ys alike most pages address =
+    rw (len_alike xs ys alike, meets_alike xs ys alike address pages)
+
+some_alike : (o p : Option Region) → option_map (λ region. region.pages) o ≡ option_map (λ region. region.pages) p → is_some o ≡ is_some p
+some_alike None None e = refl
+some_alike None (Some r) e = absurd (none-some r.pages e)
+some_alike (Some r) None e = absurd (none-some r.pages (sym e))
+some_alike (Some r) (Some s) e = refl
+
+pub detach_refusal_alike : (xs ys : NatMap Region) → AreAlike xs ys → (address : ℕ) → detach_refusal xs address ≡ detach_refusal ys address
+detach_refusal_alike xs ys alike address =
+    ap (λ there. if there then None else Some PageFault) (some_alike (get xs address) (get ys address) (alike.pages address))
+
+-- ---- what a range of addresses finds
+
+parts_of_held : (address bytes start pages : ℕ) → nat_le start address && nat_le (address + bytes) (start + pages * 4096) ≡ true → (start ≤ address) × (address + bytes ≤ start + pages * 4096)
+parts_of_held address bytes start pages h = grind (arith, nat_tests)
+
+within_pages : (start offset address bytes pages : ℕ) → start + offset ≡ address → address + bytes ≤ start + pages * 4096 → offset + bytes ≤ pages * 4096
+within_pages start offset address bytes pages e h = omega arith
+
+-- what holds a range is a region that has all of it
+pub region_at_facts : (regions : NatMap Region) (address bytes : ℕ) (e : ℕ × Region) → region_at regions address bytes ≡ Some e → (get regions e.0 ≡ Some e.1) × (e.0 ≤ address) × (address + bytes ≤ e.0 + e.1.pages * 4096)
+region_at_facts regions address bytes e is =
+    let at = found_in_map (holds address bytes) regions e is in
+    let within = parts_of_held address bytes e.0 e.1.pages at.0 in
+    (at.1, within.0, within.1)
+
+-- what a range resolves to is a region that has all of it from an offset on
+pub resolved_facts : (regions : NatMap Region) (address bytes of offset : ℕ) → resolved regions address bytes ≡ Some (of, offset) → (e : ℕ × Region) × (region_at regions address bytes ≡ Some e) × (get regions e.0 ≡ Some e.1) × (e.1.of ≡ of) × (e.0 + offset ≡ address) × (offset + bytes ≤ e.1.pages * 4096)
+resolved_facts regions address bytes of offset is =
+    elim (region_at regions address bytes) as (λ o. region_at regions address bytes ≡ o → ◌≡◌ {A = Option (ℕ × ℕ)} (option_map (λ e. (e.1.of, address - e.0)) o) (Some (of, offset)) → (e : ℕ × Region) × (region_at regions address bytes ≡ Some e) × (get regions e.0 ≡ Some e.1) × (e.1.of ≡ of) × (e.0 + offset ≡ address) × (offset + bytes ≤ e.1.pages * 4096)) [
+      | None ↦ λ _ h. absurd (none-some (of, offset) h)
+      | Some e ↦ λ at h.
+          let parts = some_pair_parts e.1.of of (address - e.0) offset h in
+          let facts = region_at_facts regions address bytes e at in
+          let from = facts.1 in
+          let to = facts.2 in
+          let start : e.0 + offset ≡ address = omega (arith, parts.1) in
+          (e, at, facts.0, parts.0, start, within_pages e.0 offset address bytes e.1.pages start to)
+    ] refl is
+
+-- ---- regions under other names
+
+-- the regions whose things have another name, under that name
+abbrev pub renamed : (ℕ → Option ℕ) → NatMap Region → NatMap Region
+renamed name regions = picked (λ region. option_map (λ other. record region { of = other }) (name region.of)) regions
+
+module _ (name : ℕ → Option ℕ) where
+  kept_pages : (o : Option Region) → ((region : Region) → o ≡ Some region → IsSome (name region.of)) → option_map (λ region. region.pages) o ≡ option_map (λ region. region.pages) (option_and_then (λ region. option_map (λ other. record region { of = other }) (name region.of)) o)
+  kept_pages None all = refl
+  kept_pages (Some r) all =
+      elim (name r.of) as (λ n. IsSome n → Some r.pages ≡ option_map (λ region. region.pages) (option_map (λ other. record r { of = other }) n)) [
+        | None ↦ λ h. absurd (true≢false (sym h))
+        | Some other ↦ λ h. refl
+      ] (all r refl)
+
+  -- where all things have another name, starts and pages stay
+  pub AreAlike-renamed : (regions : NatMap Region) → ((start : ℕ) (region : Region) → get regions start ≡ Some region → IsSome (name region.of)) → AreAlike regions (renamed name regions)
+  AreAlike-renamed regions all = record {
+    pages = λ start.
+        kept_pages (get regions start) (all start)
+        ∙ ap (option_map (λ region. region.pages)) (sym (get-picked (λ region. option_map (λ other. record region { of = other }) (name region.of)) regions start));
+  }
+
+  -- a region whose thing has another name comes under that name
+  pub renamed-insert : (regions : NatMap Region) (start of pages other : ℕ) → name of ≡ Some other → renamed name (insert regions start (record { of = of; pages = pages })) ≡ insert (renamed name regions) start (record { of = other; pages = pages })
+  renamed-insert regions start of pages other is =
+      picked-insert_some _ regions start (record { of = of; pages = pages }) (record { of = other; pages = pages }) (ap (option_map (λ n. record { of = n; pages = pages })) is)
+
+  pub renamed-remove : (regions : NatMap Region) (start : ℕ) → renamed name (remove regions start) ≡ remove (renamed name regions) start
+  renamed-remove regions start = picked-remove _ regions start
+
+  named : (n : Option ℕ) (r s : Region) → option_map (λ other. record r { of = other }) n ≡ Some s → n ≡ Some s.of
+  named None r s is = absurd (none-some s is)
+  named (Some other) r s is = ap (option_map (λ region. region.of)) is
+
+  found_shape : (o : Option (ℕ × Region)) (p : ℕ × ℕ) → Some p ≡ option_map shape o → (e : ℕ × Region) × (o ≡ Some e) × (p ≡ shape e)
+  found_shape None p is = absurd (none-some p (sym is))
+  found_shape (Some e) p is = (e, refl, same_Some p (shape e) is)
+
+  none_shape : (o : Option (ℕ × Region)) → ◌≡◌ {A = Option (ℕ × ℕ)} None (option_map shape o) → o ≡ None
+  none_shape None is = refl
+  none_shape (Some e) is = absurd (none-some (shape e) is)
+
+  -- what a range resolves to is renamed with the regions
+  pub resolved_renamed : (regions : NatMap Region) → ((start : ℕ) (region : Region) → get regions start ≡ Some region → IsSome (name region.of)) → (address bytes : ℕ) → resolved (renamed name regions) address bytes ≡ option_and_then (λ p. option_map (λ other. (other, p.1)) (name p.0)) (resolved regions address bytes)
+  resolved_renamed regions all address bytes =
+      let place : ℕ × Region → ℕ × ℕ = λ e. (e.1.of, address - e.0) in
+      let others = renamed name regions in
+      let alike : option_map shape (region_at regions address bytes) ≡ option_map shape (region_at others address bytes) = region_at_alike regions others (AreAlike-renamed regions all) address bytes in
+      elim (region_at regions address bytes) as (λ o. region_at regions address bytes ≡ o → option_map shape o ≡ option_map shape (region_at others address bytes) → ◌≡◌ {A = Option (ℕ × ℕ)} (option_map place (region_at others address bytes)) (option_and_then (λ p. option_map (λ other. (other, p.1)) (name p.0)) (option_map place o))) [
+        | None ↦ λ at h. ap (option_map place) (none_shape (region_at others address bytes) h)
+        | Some e ↦ λ at h.
+            let other = found_shape (region_at others address bytes) (shape e) h in
+            let f = other.0 in
+            let key : e.0 ≡ f.0 = ap (λ (p : ℕ × ℕ). p.0) other.2 in
+            let here = region_at_facts regions address bytes e at in
+            let there = region_at_facts others address bytes f other.1 in
+            let rename : Region → Option Region = λ region. option_map (λ n. record region { of = n }) (name region.of) in
+            let value : rename e.1 ≡ Some f.1 = sym (get-picked rename regions e.0 ∙ ap (option_and_then rename) here.0) ∙ ap (get others) key ∙ there.0 in
+            ap (option_map place) other.1
+            ∙ ap (λ (n : ℕ). Some (f.1.of, address - n)) (sym key)
+            ∙ sym (ap (option_map (λ n. (n, address - e.0))) (named (name e.1.of) e.1 f.1 value))
+      ] refl alike
+
+  -- the name of one thing alone, which goes with its regions
+  module _ (of other : ℕ) (is : name of ≡ Some other) (alone : (thing : ℕ) → name thing ≡ Some other → thing ≡ of) where
+    rename : Region → Option Region
+    rename region = option_map (λ n. record region { of = n }) (name region.of)
+
+    but : ℕ → Region → Option Region
+    but thing region = cond (region.of == thing) None (Some region)
+
+    renamed_apart : (region : Region) (n : ℕ) → name region.of ≡ Some n → eqb region.of of ≡ false → eqb n other ≡ false
+    renamed_apart region n there differs = elim (eqb n other) as (λ b. eqb n other ≡ b → b ≡ false) [
+      | true ↦ λ t. absurd (true≢false (sym (same_test region.of of (alone region.of (there ∙ ap (λ m. Some m) (eqb-true n other t)))) ∙ differs))
+      | false ↦ λ t. refl
+    ] refl
+
+    rename_but : (o : Option Region) → option_and_then rename (option_and_then (but of) o) ≡ option_and_then (but other) (option_and_then rename o)
+    unfolding rename but
+    rename_but None = refl
+    rename_but (Some region) =
+        elim (eqb region.of of) as (λ b. eqb region.of of ≡ b → option_and_then rename (cond b None (Some region)) ≡ option_and_then (but other) (rename region)) [
+          | true ↦ λ t.
+              let named : name region.of ≡ Some other = ap name (eqb-true region.of of t) ∙ is in
+              sym (ap (λ n. option_and_then (but other) (option_map (λ m. record region { of = m }) n)) named
+              ∙ ap (λ b. cond b None (Some (record region { of = other }))) (same_test other other refl))
+          | false ↦ λ t.
+              elim (name region.of) as (λ n. name region.of ≡ n → option_map (λ m. record region { of = m }) n ≡ option_and_then (but other) (option_map (λ m. record region { of = m }) n)) [
+                | None ↦ λ there. refl
+                | Some m ↦ λ there. sym (ap (λ b. cond b None (Some (record region { of = m }))) (renamed_apart region m there t))
+              ] refl
+        ] refl
+
+    pub renamed-without : (regions : NatMap Region) → renamed name (without of regions) ≡ without other (renamed name regions)
+    unfolding rename but
+    renamed-without regions =
+        same _ _ (λ q.
+        get-picked rename (without of regions) q ∙ ap (option_and_then rename) (get-picked (but of) regions q)
+        ∙ rename_but (get regions q)
+        ∙ ap (option_and_then (but other)) (sym (get-picked rename regions q)) ∙ sym (get-picked (but other) (renamed name regions) q))
