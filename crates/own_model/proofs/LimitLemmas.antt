@@ -1,9 +1,11 @@
 -- What a call leaves of limits.
-use Rattle.std.proofs.Common.{◌≡◌, ℕ, zero, suc, lit≤, inl, inr, length, sum_by, List, [], ◌∷◌, refl, arith, rules, set, get_or}
+use Rattle.std.proofs.Common.{◌≡◌, ℕ, zero, suc, lit≤, inl, inr, length, sum_by, List, [], ◌∷◌, refl, arith, set, get_or}
 use Rattle.std.proofs.lemmas.Bool.{cases_lt}
 use Rattle.std.proofs.lemmas.List.{set_past}
 use Rattle.std.proofs.lemmas.List.Sums.{sum_by-set}
 use Rattle.std.specs.List.{AllByRecursion}
+use Rattle.trade_base.specs.Page.{page_of}
+use Rattle.own_model.proofs.StepLemmas.{KeptByEffects, step_keeps, covers, accepted_size}
 use Rattle.own_model.specs.Account.{WithinLimits}
 use Rattle.own_model.specs.Call.{Call}
 use Rattle.own_model.specs.OwnState.{OwnState}
@@ -20,9 +22,21 @@ pub server_stays : (name : List ℕ) (calls : List Call) (s : OwnState) → own_
 server_stays name [] s = refl
 server_stays name (call ∷ calls) s = server_stays name calls s
 
+-- nothing that a call can do overdraws an account
+effects_within : (s : OwnState) → WithinLimits s.account → KeptByEffects (λ t. WithinLimits t.account) s
+effects_within s within = record {
+  allocates = λ n accepted. let fits = covers s.account (page_of n) 1 (accepted_size n s.account accepted) in record { ram = fits.ram_fits; caps = fits.caps_fit };
+  frees = λ selector bytes there. record { ram = omega (arith, within.ram); caps = omega (arith, within.caps) };
+  attaches = λ selector address bytes there stands room. within;
+  detaches = λ address. within;
+  pokes = λ selector offset bytes object there. within;
+  allocates_cap = λ accepted. let fits = covers s.account 0 1 accepted in record { ram = fits.ram_fits; caps = fits.caps_fit };
+  frees_cap = λ selector there. record { ram = omega (arith, within.ram); caps = omega (arith, within.caps) };
+}
+
 -- no call overdraws an account
 pub step_within : (entry : Entry) (call : Call) (s : OwnState) → WithinLimits s.account → WithinLimits (own_step entry call s).next.account
-step_within entry call s within = search rules
+step_within entry call s within = step_keeps (λ t. WithinLimits t.account) s within (effects_within s within) entry call
 
 -- no calls do
 pub run_within : (entry : Entry) (calls : List Call) (s : OwnState) → WithinLimits s.account → WithinLimits (own_run entry calls s).account
@@ -48,10 +62,25 @@ sum_changed f xs i y d same = elim (cases_lt i (length xs)) [
   | inr beyond ↦ rw (set_past xs i y beyond)
 ]
 
+-- a state with the limits of another
+abbrev SameLimits : OwnState → OwnState → Type 0
+SameLimits s t = (t.account.ram_limit ≡ s.account.ram_limit) × (t.account.caps_limit ≡ s.account.caps_limit)
+
+effects_stay : (s : OwnState) → KeptByEffects (SameLimits s) s
+effects_stay s = record {
+  allocates = λ n accepted. (refl, refl);
+  frees = λ selector bytes there. (refl, refl);
+  attaches = λ selector address bytes there stands room. (refl, refl);
+  detaches = λ address. (refl, refl);
+  pokes = λ selector offset bytes object there. (refl, refl);
+  allocates_cap = λ accepted. (refl, refl);
+  frees_cap = λ selector there. (refl, refl);
+}
+
 -- the limits after a call
-limits_stay : (entry : Entry) (call : Call) (s : OwnState) →
+pub limits_stay : (entry : Entry) (call : Call) (s : OwnState) →
     ((own_step entry call s).next.account.ram_limit ≡ s.account.ram_limit) × ((own_step entry call s).next.account.caps_limit ≡ s.account.caps_limit)
-limits_stay entry call s = search rules
+limits_stay entry call s = step_keeps (SameLimits s) s (refl, refl) (effects_stay s) entry call
 
 -- a component's call leaves a balanced world balanced
 pub step_balanced : (pages caps : ℕ) (world : World) (component : ℕ) (call : Call) →

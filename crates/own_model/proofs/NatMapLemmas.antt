@@ -1,6 +1,7 @@
 -- What a finite map from numbers answers: after a change, where it is picked from another, and by induction on its insertions.
 use Rattle.std.proofs.Common.{◌≡◌, ℕ, ◌≢◌, Bool, true, false, cond, eqb, ◌&&◌, T, List, [], ◌∷◌, is_some, IsSome, Some, unwrap_or, refl, sym, ap, subst, ◌∙◌, eqb-true, true≢false, nat_cmp, is_eq, is_lt, Ordering, Less, Equal, Greater, arith}
 use Rattle.std.proofs.lemmas.Bool.Decides.{nat_tests}
+use Rattle.std.proofs.lemmas.List.{nil_from_length}
 use Rattle.std.specs.Prelude.{Option, None}
 use Rattle.std.specs.Option.{option_map, option_and_then, option_or}
 use Rattle.std.specs.Ordering.{eq_by_cmp}
@@ -16,6 +17,10 @@ use Rattle.own_model.specs.NatMap.{NatMap, picked}
 -- nothing is in the empty map
 pub get-empty : {X : Type 0} (q : ℕ) → get {X = X} (empty {R = nat_cmp}) q ≡ None
 get-empty q = map.get-empty nat_cmp q
+
+-- nor has it entries
+pub entries-empty : {X : Type 0} → entries (empty {X = X} {R = nat_cmp}) ≡ []
+entries-empty {X} = nil_from_length _ (sym (map.len-entries empty) ∙ map.len-empty nat_cmp X)
 
 module _ {X : Type 0} where
   -- the new value at its key, and elsewhere what was there

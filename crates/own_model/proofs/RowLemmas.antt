@@ -6,6 +6,8 @@ use Rattle.std.specs.Fmt.{digits}
 use Rattle.std.specs.Cmp.{nat_cmp_total}
 use Rattle.std.specs.FinMap.{entries, empty, insert, remove, get, len-entries, len-empty, entries-insert, get-insert, get-empty, gets, same_map, nat_cmp-IsAntisymmetric}
 use Rattle.trade_base.specs.declared.refusal.Refusal.TheVariants.{InvalidCap}
+use Rattle.std.specs.Prelude.{◌==◌, if◌then◌else◌}
+use Rattle.own_model.proofs.NatMapLemmas.{picked-empty}
 use Rattle.own_model.proofs.RunningLemmas.{transcript-running}
 use Rattle.own_model.proofs.UseLemmas.{length-zeros}
 use Rattle.own_model.specs.Account.{opened, charged}
@@ -14,6 +16,7 @@ use Rattle.own_model.specs.Call.Call.{Alloc, Free}
 use Rattle.own_model.specs.NatMap.{NatMap}
 use Rattle.own_model.specs.OwnState.{OwnState, Object, zeros, new_selector}
 use Rattle.own_model.specs.OwnState.Object.{Dataspace}
+use Rattle.own_model.specs.Region.{without}
 use Rattle.own_model.specs.OwnStep.{Outcome, own_step, freed, refused}
 use Rattle.own_model.specs.Reply.Reply.{Selected, Done}
 use Rattle.own_model.specs.Running.{told_running, told_now, states_after_heard}
@@ -37,15 +40,19 @@ unfolding new_selector
 second_selector object = rw (entries-insert nat_cmp_total (empty {X = Object} {R = nat_cmp}) 1 object, entries_none)
 
 -- the first selector names what was inserted
-found_first : (object : Object) → get (insert (empty {X = Object} {R = nat_cmp}) 1 object) 1 ≡ Some object
+pub found_first : (object : Object) → get (insert (empty {X = Object} {R = nat_cmp}) 1 object) 1 ≡ Some object
 found_first object = rw (get-insert nat_cmp_total (empty {X = Object} {R = nat_cmp}) 1 object 1)
 
+-- who has no regions loses none
+without_none : (selector : ℕ) → without selector empty ≡ empty
+without_none selector = picked-empty (λ region. if region.of == selector then None else Some region)
+
 -- machine A's running states, with one for alice
-abbrev with_alice : OwnState → List OwnState
+abbrev pub with_alice : OwnState → List OwnState
 with_alice s = set (start_states machine_a) 2 s
 
 -- a component's line, and then others
-tells : (component : ℕ) (states : List OwnState) (line : List ℕ) (lines : List (List ℕ)) (call : Call) (outcome : Outcome) (rest : List ℕ) →
+pub tells : (component : ℕ) (states : List OwnState) (line : List ℕ) (lines : List (List ℕ)) (call : Call) (outcome : Outcome) (rest : List ℕ) →
     heard (entries_of machine_a) line ≡ Caller (record { component = component; call = call }) →
     own_step (entry_at (entries_of machine_a) component) call (state_at states component) ≡ outcome →
     told_running (entries_of machine_a) (set states component outcome.next) lines ≡ rest →
@@ -59,7 +66,7 @@ tells component states line lines call outcome rest hears steps follows =
     ∙ ap (λ r. outcome_text (entry_at (entries_of machine_a) component).name outcome ++ r) follows
 
 -- alice's line
-alice_tells : (s : OwnState) (line : List ℕ) (lines : List (List ℕ)) (call : Call) (outcome : Outcome) (rest : List ℕ) →
+pub alice_tells : (s : OwnState) (line : List ℕ) (lines : List (List ℕ)) (call : Call) (outcome : Outcome) (rest : List ℕ) →
     heard (entries_of machine_a) line ≡ Caller (record { component = 2; call = call }) →
     own_step (entry_at (entries_of machine_a) 2) call s ≡ outcome →
     told_running (entries_of machine_a) (with_alice outcome.next) lines ≡ rest →
@@ -67,15 +74,16 @@ alice_tells : (s : OwnState) (line : List ℕ) (lines : List (List ℕ)) (call :
 alice_tells s = tells 2 (with_alice s)
 
 -- alice with these uses, and these selectors
-abbrev alice_with : ℕ → ℕ → NatMap Object → OwnState
+abbrev pub alice_with : ℕ → ℕ → NatMap Object → OwnState
 alice_with ram caps selectors = record {
   account = charged (opened 65536 16) ram caps;
   selectors = selectors;
+  regions = empty;
   gone = false;
 }
 
 -- selectors that name one dataspace of so many bytes
-abbrev one_dataspace : ℕ → NatMap Object
+abbrev pub one_dataspace : ℕ → NatMap Object
 one_dataspace n = insert empty 1 (Dataspace (zeros n))
 
 -- the whole budget goes into one dataspace
@@ -86,7 +94,7 @@ all_taken = rw first_selector
 -- and comes back when it is freed
 all_freed : own_step (entry_at (entries_of machine_a) 2) (Free 1) (alice_with 65536 1 (one_dataspace 65536))
     ≡ record { reply = Done; lines = []; next = alice_with 0 0 (remove (one_dataspace 65536) 1) }
-all_freed = rw (found_first, length-zeros 65536)
+all_freed = rw (found_first, length-zeros 65536, without_none 1)
 
 -- all of the RAM is taken, refused past that, and given back
 pub exact_at_the_limit : told_by_a (codes "alice alloc 65536\nalice alloc 1\nalice free 1\nalice quota\n")
@@ -102,13 +110,13 @@ exact_at_the_limit =
     (Free 1) _ _ refl all_freed refl))
 
 -- alice's selectors after one, two and three allocations of a page
-abbrev page : Object
+abbrev pub page : Object
 page = Dataspace (zeros 4096)
 
-abbrev two_pages : NatMap Object
+abbrev pub two_pages : NatMap Object
 two_pages = insert (one_dataspace 4096) 2 page
 
-abbrev three_pages : NatMap Object
+abbrev pub three_pages : NatMap Object
 three_pages = insert two_pages 3 page
 
 -- after two comes 3
@@ -126,17 +134,17 @@ unfolding new_selector
 second_again = rw (entries-insert nat_cmp_total (one_dataspace 4096) 3 page, entries-insert nat_cmp_total (empty {X = Object} {R = nat_cmp}) 1 page, entries_none)
 
 -- a page goes under the first selector
-first_taken : own_step (entry_at (entries_of machine_a) 2) (Alloc 1) (alice_with 0 0 empty)
+pub first_taken : own_step (entry_at (entries_of machine_a) 2) (Alloc 1) (alice_with 0 0 empty)
     ≡ record { reply = Selected 1; lines = []; next = alice_with 4096 1 (one_dataspace 4096) }
 first_taken = rw first_selector
 
 -- a page more goes under the second selector
-second_taken : own_step (entry_at (entries_of machine_a) 2) (Alloc 1) (alice_with 4096 1 (one_dataspace 4096))
+pub second_taken : own_step (entry_at (entries_of machine_a) 2) (Alloc 1) (alice_with 4096 1 (one_dataspace 4096))
     ≡ record { reply = Selected 2; lines = []; next = alice_with 8192 2 two_pages }
 second_taken = rw second_selector
 
 -- and one more under the third
-third_taken : own_step (entry_at (entries_of machine_a) 2) (Alloc 1) (alice_with 8192 2 two_pages)
+pub third_taken : own_step (entry_at (entries_of machine_a) 2) (Alloc 1) (alice_with 8192 2 two_pages)
     ≡ record { reply = Selected 3; lines = []; next = alice_with 12288 3 three_pages }
 third_taken = rw third_selector
 
@@ -145,12 +153,12 @@ second_found : get three_pages 2 ≡ Some page
 second_found = grind (arith, nat_tests, gets)
 
 -- which is freed
-second_freed : own_step (entry_at (entries_of machine_a) 2) (Free 2) (alice_with 12288 3 three_pages)
+pub second_freed : own_step (entry_at (entries_of machine_a) 2) (Free 2) (alice_with 12288 3 three_pages)
     ≡ record { reply = Done; lines = []; next = alice_with 8192 2 (insert (one_dataspace 4096) 3 page) }
-second_freed = rw (second_found, length-zeros 4096, without_second)
+second_freed = rw (second_found, length-zeros 4096, without_second, without_none 2)
 
 -- so the next page goes under the second selector
-gap_taken : own_step (entry_at (entries_of machine_a) 2) (Alloc 1) (alice_with 8192 2 (insert (one_dataspace 4096) 3 page))
+pub gap_taken : own_step (entry_at (entries_of machine_a) 2) (Alloc 1) (alice_with 8192 2 (insert (one_dataspace 4096) 3 page))
     ≡ record { reply = Selected 2; lines = []; next = alice_with 12288 3 (insert (insert (one_dataspace 4096) 3 page) 2 page) }
 gap_taken = rw second_again
 
@@ -192,7 +200,7 @@ bob_freed = ap (λ o. freed 1 o (alice_with 0 0 empty)) (get-empty nat_cmp 1)
 -- alice can free her own
 own_freed : own_step (entry_at (entries_of machine_a) 2) (Free 1) (alice_with 4096 1 (one_dataspace 4096))
     ≡ record { reply = Done; lines = []; next = alice_with 0 0 (remove (one_dataspace 4096) 1) }
-own_freed = rw (found_first, length-zeros 4096)
+own_freed = rw (found_first, length-zeros 4096, without_none 1)
 
 -- what was freed is no longer named
 nothing_left : get (remove (one_dataspace 4096) 1) 1 ≡ None

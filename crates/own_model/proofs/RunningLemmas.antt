@@ -1,18 +1,20 @@
 -- The running states are own runs, so what is told from them is what is told from the history.
-use Rattle.std.proofs.Common.{◌≡◌, ◌≢◌, ℕ, ◌+◌, ◌≤◌, ◌++◌, ◌==◌, Bool, true, false, List, [], ◌∷◌, Some, length, nat_lt, refl, ap, sym, ◌∙◌, cond, subst, inl, inr, arith, append_assoc, slice_set, nat_cmp}
+use Rattle.std.proofs.Common.{◌≡◌, ◌≢◌, ℕ, ◌+◌, ◌≤◌, ◌++◌, ◌==◌, Bool, true, false, List, [], ◌∷◌, Option, Some, None, length, nat_lt, refl, ap, sym, ◌∙◌, cond, subst, inl, inr, arith, append_assoc, slice_set, nat_cmp}
 use Rattle.std.proofs.lemmas.List.{get_or-set_same, get_or-set_other, get_or_past, length-set, set_past, append-nil}
 use Rattle.std.proofs.lemmas.Bool.{cases_lt}
 use Rattle.std.proofs.lemmas.Bool.Decides.{nat_tests}
-use Rattle.std.specs.FinMap.{get, get-empty}
+use Rattle.std.specs.FinMap.{get, get-empty, entries}
 use Rattle.trade_base.specs.declared.refusal.Refusal.{Refusal}
 use Rattle.trade_base.specs.declared.refusal.Refusal.TheVariants.{OutOfRam, OutOfCaps, InvalidSize}
 use Rattle.trade_base.specs.Page.{page_of}
 use Rattle.own_model.specs.Account.{opened}
+use Rattle.own_model.proofs.NatMapLemmas.{entries-empty}
 use Rattle.own_model.proofs.RunLemmas.{own_run-append, own_part-append}
 use Rattle.own_model.specs.Call.{Call}
-use Rattle.own_model.specs.Call.Call.{Alloc, Free, Quota}
+use Rattle.own_model.specs.Call.Call.{Alloc, Free, Attach, AttachAt, Detach, Peek, Poke, Capalloc, Capfree, Quota}
 use Rattle.own_model.specs.OwnState.{OwnState}
-use Rattle.own_model.specs.OwnStep.{Outcome, own_run, own_step, unless, alloc_refusal, allocated, freed, script_step, turned_away, is_valid_size}
+use Rattle.own_model.specs.Region.{resolved}
+use Rattle.own_model.specs.OwnStep.{Outcome, own_run, own_step, unless, alloc_refusal, allocated, freed, count_refusal, peeked, poked, script_step, turned_away, is_valid_size}
 use Rattle.own_model.specs.Running.{running_step, states_after_call, states_after_heard, told_now, states_running, told_running}
 use Rattle.own_model.specs.StartList.{Entry, Kind}
 use Rattle.own_model.specs.StartList.Kind.{Script, Server}
@@ -27,6 +29,9 @@ refusal_stays true true a b c s accepted = refl
 refusal_stays true false a b c s accepted = refl
 refusal_stays false covered a b c s accepted = refl
 
+no_regions : entries nothing.regions ≡ []
+no_regions = entries-empty
+
 -- no bytes at all cover no allocation
 alloc_refused : (n : ℕ) → (unless (alloc_refusal n (opened 0 0)) nothing (allocated n nothing)).next ≡ nothing
 alloc_refused n = refusal_stays (is_valid_size n) (nat_lt 0 (0 + page_of n)) OutOfRam OutOfCaps InvalidSize nothing (allocated n nothing)
@@ -35,9 +40,32 @@ alloc_refused n = refusal_stays (is_valid_size n) (nat_lt 0 (0 + page_of n)) Out
 free_refused : (selector : ℕ) → (freed selector (get nothing.selectors selector) nothing).next ≡ nothing
 free_refused selector = rw (get-empty nat_cmp selector)
 
+-- a test before what leaves the state leaves it too
+tested_stays : (refusal : Option Refusal) (outcome : Outcome) → outcome.next ≡ nothing → (unless refusal nothing outcome).next ≡ nothing
+tested_stays (Some refusal) outcome same = refl
+tested_stays None outcome same = same
+
+-- no range lies in a region there
+nowhere : (address count : ℕ) → resolved nothing.regions address count ≡ None
+nowhere address count = rw no_regions
+
+peek_stays : (address count : ℕ) → (peeked count (resolved nothing.regions address count) nothing).next ≡ nothing
+peek_stays address count = rw (nowhere address count)
+
+poke_stays : (address : ℕ) (bytes : List ℕ) → (poked bytes (resolved nothing.regions address (length bytes)) nothing).next ≡ nothing
+poke_stays address bytes = rw (nowhere address (length bytes))
+
 script_stays : (call : Call) → (script_step call nothing).next ≡ nothing
 script_stays (Alloc n) = alloc_refused n
 script_stays (Free selector) = free_refused selector
+script_stays (Attach selector) = rw (get-empty nat_cmp selector)
+script_stays (AttachAt selector address) = rw (get-empty nat_cmp selector)
+script_stays (Detach address) = rw (get-empty nat_cmp address)
+script_stays (Peek address count) = tested_stays (count_refusal count) (peeked count (resolved nothing.regions address count) nothing) (peek_stays address count)
+script_stays (Poke address bytes) =
+    tested_stays (count_refusal (length bytes)) (poked bytes (resolved nothing.regions address (length bytes)) nothing) (poke_stays address bytes)
+script_stays Capalloc = refl
+script_stays (Capfree selector) = rw (get-empty nat_cmp selector)
 script_stays Quota = refl
 
 kind_stays : (kind : Kind) (call : Call) → (unless (turned_away kind nothing) nothing (script_step call nothing)).next ≡ nothing

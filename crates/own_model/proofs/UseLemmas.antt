@@ -1,16 +1,16 @@
 -- The use of an account is what its selectors name, before and after a call.
-use Rattle.std.proofs.Common.{◌≡◌, ℕ, List, [], ◌∷◌, Option, Some, None, length, refl, sym, nat_cmp, arith}
+use Rattle.std.proofs.Common.{◌≡◌, ℕ, ◌+◌, ◌≤◌, ◌++◌, Bool, true, false, cond, List, Some, length, take, drop, nat_le, refl, sym, nat_cmp, arith, length-append, length-take, length-drop}
 use Rattle.std.proofs.lemmas.List.{length-replicate}
+use Rattle.std.proofs.lemmas.Bool.Decides.{nat_tests}
 use Rattle.std.specs.FinMap.{get, len-empty}
-use Rattle.trade_base.specs.declared.refusal.Refusal.{Refusal}
 use Rattle.trade_base.specs.Page.{page_of}
 use Rattle.own_model.proofs.NewSelector.{new_selector_free}
-use Rattle.own_model.proofs.Totals.{total-empty, total-insert_new, total-remove, len-insert_new, len-remove_at}
+use Rattle.own_model.proofs.StepLemmas.{KeptByEffects, run_keeps}
+use Rattle.own_model.proofs.Totals.{total-empty, total-insert_new, total-insert_same, total-remove, len-insert_new, len-insert_at, len-remove_at}
 use Rattle.own_model.specs.Call.{Call}
-use Rattle.own_model.specs.Call.Call.{Alloc, Free, Quota}
-use Rattle.own_model.specs.OwnState.{OwnState, Object, zeros, new_selector}
-use Rattle.own_model.specs.OwnState.Object.{Dataspace}
-use Rattle.own_model.specs.OwnStep.{Outcome, own_step, own_run, unless, alloc_refusal, allocated, freed, script_step, turned_away}
+use Rattle.own_model.specs.OwnState.{OwnState, Object, zeros, new_selector, with_part, object_with}
+use Rattle.own_model.specs.OwnState.Object.{Dataspace, RpcObject}
+use Rattle.own_model.specs.OwnStep.{own_run, allocated, freed, poked_at, cap_allocated, cap_freed}
 use Rattle.own_model.specs.StartList.{Entry, StartEntry, start_state}
 use Rattle.own_model.specs.Use.{UsesWhatItHolds, object_size}
 
@@ -34,30 +34,66 @@ allocated_uses n s h =
     record { ram = omega (arith, h.ram, bytes, length-zeros (page_of n)); caps = omega (arith, h.caps, count) }
 
 -- one that is freed gives them back
-freed_uses : (selector : ℕ) (object : Option Object) (s : OwnState) →
-    get s.selectors selector ≡ object → UsesWhatItHolds s → UsesWhatItHolds (freed selector object s).next
-freed_uses selector None s none h = h
-freed_uses selector (Some (Dataspace bytes)) s there h =
+freed_uses : (selector : ℕ) (bytes : List ℕ) (s : OwnState) →
+    get s.selectors selector ≡ Some (Dataspace bytes) → UsesWhatItHolds s → UsesWhatItHolds (freed selector (Some (Dataspace bytes)) s).next
+freed_uses selector bytes s there h =
     let left = total-remove object_size s.selectors selector (Dataspace bytes) there in
     let count = len-remove_at s.selectors selector (Dataspace bytes) there in
     record { ram = omega (arith, h.ram, left); caps = omega (arith, h.caps, count) }
 
--- a refusal leaves them
-unless_uses : (refusal : Option Refusal) (s : OwnState) (accepted : Outcome) →
-    UsesWhatItHolds s → UsesWhatItHolds accepted.next → UsesWhatItHolds (unless refusal s accepted).next
-unless_uses (Some refusal) s accepted h after = h
-unless_uses None s accepted h after = after
+length_put : (fits : Bool) (bytes : List ℕ) (offset : ℕ) (part : List ℕ) → nat_le (offset + length part) (length bytes) ≡ fits →
+    length (cond fits (take offset bytes ++ part ++ drop (offset + length part) bytes) bytes) ≡ length bytes
+length_put false bytes offset part e = refl
+length_put true bytes offset part e =
+    let fits : offset + length part ≤ length bytes = grind (arith, nat_tests) in
+    simp (length-append, length-take, length-drop) (omega arith)
 
-script_uses : (call : Call) (s : OwnState) → UsesWhatItHolds s → UsesWhatItHolds (script_step call s).next
-script_uses (Alloc n) s h = unless_uses (alloc_refusal n s.account) s (allocated n s) h (allocated_uses n s h)
-script_uses (Free selector) s h = freed_uses selector (get s.selectors selector) s refl h
-script_uses Quota s h = h
+-- bytes put over others leave their number
+pub length-with_part : (bytes : List ℕ) (offset : ℕ) (part : List ℕ) → length (with_part bytes offset part) ≡ length bytes
+unfolding with_part
+length-with_part bytes offset part = length_put (nat_le (offset + length part) (length bytes)) bytes offset part refl
 
--- each call keeps what is used equal to what is held
-pub step_uses : (entry : Entry) (call : Call) (s : OwnState) → UsesWhatItHolds s → UsesWhatItHolds (own_step entry call s).next
-step_uses entry call s h = unless_uses (turned_away entry.kind s) s (script_step call s) h (script_uses call s h)
+object_size-with : (object : Object) (offset : ℕ) (part : List ℕ) → object_size (object_with object offset part) ≡ object_size object
+object_size-with (Dataspace bytes) offset part = length-with_part bytes offset part
+object_size-with RpcObject offset part = refl
 
--- and so do calls
+-- bytes that are poked change nothing of what is held
+poked_uses : (selector offset : ℕ) (bytes : List ℕ) (object : Object) (s : OwnState) →
+    get s.selectors selector ≡ Some object → UsesWhatItHolds s → UsesWhatItHolds (poked_at selector offset bytes (Some object) s).next
+poked_uses selector offset bytes object s there h =
+    let new = object_with object offset bytes in
+    let same = total-insert_same object_size s.selectors selector new object there (object_size-with object offset bytes) in
+    let count = len-insert_at s.selectors selector new object there in
+    record { ram = omega (arith, h.ram, same); caps = omega (arith, h.caps, count) }
+
+-- an RPC object uses a capability
+cap_allocated_uses : (s : OwnState) → UsesWhatItHolds s → UsesWhatItHolds (cap_allocated s).next
+cap_allocated_uses s h =
+    let key = new_selector s.selectors in
+    let free = new_selector_free s.selectors in
+    let bytes = total-insert_new object_size s.selectors key RpcObject free in
+    let count = len-insert_new s.selectors key RpcObject free in
+    record { ram = omega (arith, h.ram, bytes); caps = omega (arith, h.caps, count) }
+
+-- and gives it back
+cap_freed_uses : (selector : ℕ) (s : OwnState) →
+    get s.selectors selector ≡ Some RpcObject → UsesWhatItHolds s → UsesWhatItHolds (cap_freed selector (Some RpcObject) s).next
+cap_freed_uses selector s there h =
+    let left = total-remove object_size s.selectors selector RpcObject there in
+    let count = len-remove_at s.selectors selector RpcObject there in
+    record { ram = omega (arith, h.ram, left); caps = omega (arith, h.caps, count) }
+
+effects_use : (s : OwnState) → UsesWhatItHolds s → KeptByEffects UsesWhatItHolds s
+effects_use s h = record {
+  allocates = λ n accepted. allocated_uses n s h;
+  frees = λ selector bytes there. freed_uses selector bytes s there h;
+  attaches = λ selector address bytes there stands room. record { ram = h.ram; caps = h.caps };
+  detaches = λ address. record { ram = h.ram; caps = h.caps };
+  pokes = λ selector offset bytes object there. poked_uses selector offset bytes object s there h;
+  allocates_cap = λ accepted. cap_allocated_uses s h;
+  frees_cap = λ selector there. cap_freed_uses selector s there h;
+}
+
+-- calls keep what is used equal to what is held
 pub run_uses : (entry : Entry) (calls : List Call) (s : OwnState) → UsesWhatItHolds s → UsesWhatItHolds (own_run entry calls s)
-run_uses entry [] s h = h
-run_uses entry (call ∷ calls) s h = run_uses entry calls (own_step entry call s).next (step_uses entry call s h)
+run_uses = run_keeps UsesWhatItHolds effects_use

@@ -1,13 +1,20 @@
 -- The calls of a component, and the lines that make them.
-use Rattle.std.specs.Prelude.{ℕ, ◌&&◌, List, if◌then◌else◌, Option, Some, None, is_none, codes}
+use Rattle.std.specs.Prelude.{ℕ, ◌&&◌, List, length, nat_lt, if◌then◌else◌, Option, Some, None, is_none, codes}
 use Rattle.std.specs.Option.{option_map, option_and_then}
 use Rattle.std.specs.Str.{bytes_eq}
-use Rattle.own_model.specs.Text.{first_word, is_name, number_of}
+use Rattle.own_model.specs.Text.{first_word, is_name, number_of, address_of, bytes_of_hex}
 
 -- a call: one case a form
 pub data Call : Type 0 where
   Alloc : ℕ → Call
   Free : ℕ → Call
+  Attach : ℕ → Call
+  AttachAt : ℕ → ℕ → Call
+  Detach : ℕ → Call
+  Peek : ℕ → ℕ → Call
+  Poke : ℕ → List ℕ → Call
+  Capalloc : Call
+  Capfree : ℕ → Call
   Quota : Call
 
 -- a call, and the name of the component that makes it
@@ -15,13 +22,29 @@ pub record Spoken : Type 0 where
   pub name : List ℕ
   pub call : Call
 
+-- a call of two arguments, parted by a space
+abbrev pub call_of_two : {X Y : Type 0} → (X → Y → Call) → (List ℕ → Option X) → (List ℕ → Option Y) → List ℕ → Option Call
+call_of_two call first second arguments =
+    option_and_then (λ x. option_map (call x) (option_and_then second (first_word arguments).rest)) (first (first_word arguments).word)
+
+-- the bytes of hex that isn't empty
+abbrev pub some_bytes_of_hex : List ℕ → Option (List ℕ)
+some_bytes_of_hex text = if nat_lt 0 (length text) then bytes_of_hex text else None
+
 -- the call of a form and its arguments, which are what stands after the form and a space
 abbrev pub call_of : List ℕ → Option (List ℕ) → Option Call
 call_of form arguments =
     if bytes_eq form (codes "alloc") then option_map Alloc (option_and_then number_of arguments)
     else (if bytes_eq form (codes "free") then option_map Free (option_and_then number_of arguments)
+    else (if bytes_eq form (codes "attach") then option_map Attach (option_and_then number_of arguments)
+    else (if bytes_eq form (codes "attach_at") then option_and_then (call_of_two AttachAt number_of address_of) arguments
+    else (if bytes_eq form (codes "detach") then option_map Detach (option_and_then address_of arguments)
+    else (if bytes_eq form (codes "peek") then option_and_then (call_of_two Peek address_of number_of) arguments
+    else (if bytes_eq form (codes "poke") then option_and_then (call_of_two Poke address_of some_bytes_of_hex) arguments
+    else (if bytes_eq form (codes "capalloc") && is_none arguments then Some Capalloc
+    else (if bytes_eq form (codes "capfree") then option_map Capfree (option_and_then number_of arguments)
     else (if bytes_eq form (codes "quota") && is_none arguments then Some Quota
-    else None))
+    else None)))))))))
 
 -- what follows the name: a form, and its arguments
 abbrev pub form_of : List ℕ → Option Call

@@ -1,15 +1,22 @@
 -- The laws of runs and of answers, as statements.
-use Rattle.std.specs.Prelude.{◌≡◌, ◌<◌, ℕ, ◌++◌, List, [], ◌∷◌, length}
+use Rattle.std.specs.Prelude.{◌≡◌, ◌≢◌, ◌<◌, ◌≤◌, ℕ, ◌+◌, ◌++◌, List, [], ◌∷◌, length, Some, None}
+use Rattle.std.specs.FinMap.{get, len}
+use Rattle.trade_base.specs.declared.refusal.Refusal.TheVariants.{InvalidCap, TooManyRegions}
 use Rattle.own_model.specs.Account.{WithinLimits}
 use Rattle.own_model.specs.Call.{Call}
+use Rattle.own_model.specs.Call.Call.{Free, Attach, AttachAt, Peek, Poke}
 use Rattle.own_model.specs.OwnState.{OwnState}
-use Rattle.own_model.specs.OwnStep.{own_run, own_step}
+use Rattle.own_model.specs.OwnState.Object.{Dataspace}
+use Rattle.own_model.specs.OwnStep.{own_run, own_step, script_step, refused}
+use Rattle.own_model.specs.Region.{Region, most_regions, resolved}
+use Rattle.own_model.specs.Reply.Reply.{Bytes, Done}
 use Rattle.own_model.specs.Running.{told_running, states_running, told_now, states_after_heard}
 use Rattle.own_model.specs.StartList.{Entry, StartEntry, StartList, Boots, start_state}
 use Rattle.own_model.specs.StartList.Kind.{Server}
 use Rattle.own_model.specs.Text.{lines_of}
 use Rattle.own_model.specs.Transcript.{Made, heard, own_part, state_at, state_after, answer, transcript, calls_of, longest_line}
 use Rattle.own_model.specs.Transcript.Heard.{NoCall}
+use Rattle.own_model.specs.Sound.{IsSound}
 use Rattle.own_model.specs.Use.{UsesWhatItHolds}
 use Rattle.own_model.specs.World.{World, IsBalanced, with_state, outcome_at, start_world}
 
@@ -117,6 +124,48 @@ StartsWithoutUse = (start : StartEntry) → UsesWhatItHolds (start_state start)
 -- calls keep what is used equal to what is held
 abbrev pub RunKeepsUse : Type 0
 RunKeepsUse = (entry : Entry) (calls : List Call) (s : OwnState) → UsesWhatItHolds s → UsesWhatItHolds (own_run entry calls s)
+
+-- who starts is sound: it has no dataspaces and no regions
+abbrev pub StartsSound : Type 0
+StartsSound = (start : StartEntry) → IsSound (start_state start)
+
+-- a call keeps dataspaces whole, and regions named and apart
+abbrev pub StepKeepsSound : Type 0
+StepKeepsSound = (entry : Entry) (call : Call) (s : OwnState) → IsSound s → IsSound (own_step entry call s).next
+
+-- and so do calls
+abbrev pub RunKeepsSound : Type 0
+RunKeepsSound = (entry : Entry) (calls : List Call) (s : OwnState) → IsSound s → IsSound (own_run entry calls s)
+
+-- a dataspace that is freed leaves none of its regions
+abbrev pub FreedHasNoRegions : Type 0
+FreedHasNoRegions =
+    (s : OwnState) (selector : ℕ) (bytes : List ℕ) → get s.selectors selector ≡ Some (Dataspace bytes) →
+    (start : ℕ) (region : Region) → get (script_step (Free selector) s).next.regions start ≡ Some region → region.of ≢ selector
+
+-- where there are as many regions as there can be, nothing more is attached, at whatever address
+abbrev pub FullMapsRefuse : Type 0
+FullMapsRefuse =
+    (s : OwnState) (selector address : ℕ) (bytes : List ℕ) → get s.selectors selector ≡ Some (Dataspace bytes) → len s.regions ≡ most_regions →
+    (script_step (Attach selector) s ≡ refused s TooManyRegions) × (script_step (AttachAt selector address) s ≡ refused s TooManyRegions)
+
+-- a selector that names nothing is refused first
+abbrev pub UnnamedIsRefused : Type 0
+UnnamedIsRefused =
+    (s : OwnState) (selector address : ℕ) → get s.selectors selector ≡ None →
+    (script_step (Attach selector) s ≡ refused s InvalidCap) × (script_step (AttachAt selector address) s ≡ refused s InvalidCap)
+
+-- what was poked a peek at the same address tells
+abbrev pub PokesAreRead : Type 0
+PokesAreRead =
+    (s : OwnState) (address : ℕ) (bytes : List ℕ) → IsSound s → (script_step (Poke address bytes) s).reply ≡ Done →
+    (script_step (Peek address (length bytes)) (script_step (Poke address bytes) s).next).reply ≡ Bytes bytes
+
+-- the range of addresses that a region holds lies within the dataspace that its selector names
+abbrev pub FoundRangesFit : Type 0
+FoundRangesFit =
+    (s : OwnState) (address count selector offset : ℕ) → IsSound s → resolved s.regions address count ≡ Some (selector, offset) →
+    (bytes : List ℕ) × (get s.selectors selector ≡ Some (Dataspace bytes)) × (offset + count ≤ length bytes)
 
 -- a component's call leaves a balanced world balanced
 abbrev pub StepKeepsBalance : Type 0

@@ -2,6 +2,7 @@ pub mod NatMap
 pub mod Account
 pub mod Text
 pub mod Call
+pub mod Region
 pub mod OwnState
 pub mod Reply
 pub mod OwnStep
@@ -10,6 +11,6 @@ pub mod Transcript
 pub mod World
 pub mod Running
 pub mod Use
+pub mod Sound
 pub mod Laws
 pub mod Rows
-pub mod Region

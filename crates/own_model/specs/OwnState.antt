@@ -1,22 +1,47 @@
 -- What a component has: its own state.
-use Rattle.std.specs.Prelude.{ℕ, List, Bool, replicate}
+use Rattle.std.specs.Prelude.{ℕ, ◌+◌, ◌/◌, List, [], ◌++◌, length, take, drop, Bool, nat_le, if◌then◌else◌, Option, Some, None, replicate}
 use Rattle.std.specs.FinMap.{keys}
 use Rattle.own_model.specs.NatMap.{NatMap, least_gap}
 use Rattle.own_model.specs.Account.{Account}
+use Rattle.own_model.specs.Region.{Region}
 
--- what a selector names: a dataspace, by its bytes
+-- what a selector names: a dataspace, by its bytes, or an RPC object, which is a capability alone
 pub data Object : Type 0 where
   Dataspace : List ℕ → Object
+  RpcObject : Object
 
--- a component's account, what its selectors name, and whether it has exited. A server has its account alone
+-- a component's account, what its selectors name, its regions by their start addresses, each of a selector,
+-- and whether it has exited. A server has its account alone
 pub record OwnState : Type 0 where
   pub account : Account
   pub selectors : NatMap Object
+  pub regions : NatMap Region
   pub gone : Bool
 
 -- so many zero bytes
 unfoldable pub zeros : ℕ → List ℕ
 zeros n = replicate n 0
+
+-- how many pages these bytes fill
+abbrev pub pages_in : List ℕ → ℕ
+pages_in bytes = length bytes / 4096
+
+-- bytes with a part put over them at an offset, where it fits within them
+unfoldable pub with_part : List ℕ → ℕ → List ℕ → List ℕ
+with_part bytes offset part =
+    if nat_le (offset + length part) (length bytes) then take offset bytes ++ part ++ drop (offset + length part) bytes
+    else bytes
+
+-- the bytes of the dataspace that a selector names, or none
+abbrev pub bytes_named : Option Object → List ℕ
+bytes_named (Some (Dataspace bytes)) = bytes
+bytes_named (Some RpcObject) = []
+bytes_named None = []
+
+-- what a selector names, with a part put over its bytes at an offset
+abbrev pub object_with : Object → ℕ → List ℕ → Object
+object_with (Dataspace bytes) offset part = Dataspace (with_part bytes offset part)
+object_with RpcObject offset part = RpcObject
 
 -- the new selector: the least positive number that is not in use
 unfoldable pub new_selector : {X : Type 0} → NatMap X → ℕ

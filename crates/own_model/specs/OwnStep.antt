@@ -1,16 +1,17 @@
 -- What a call does to its caller's own state, and what it is answered; and runs of calls.
-use Rattle.std.specs.Prelude.{ℕ, ◌^◌, ◌&&◌, Bool, List, [], ◌∷◌, length, nat_lt, if◌then◌else◌, Option, Some, None}
+use Rattle.std.specs.Prelude.{ℕ, ◌+◌, ◌^◌, ◌&&◌, Bool, List, [], ◌∷◌, length, slice_range, nat_lt, nat_le, if◌then◌else◌, Option, Some, None}
 use Rattle.std.specs.FinMap.{get, insert, remove}
 use Rattle.trade_base.specs.declared.refusal.Refusal.{Refusal}
-use Rattle.trade_base.specs.declared.refusal.Refusal.TheVariants.{NotAScript, Gone, InvalidSize, InvalidCap}
+use Rattle.trade_base.specs.declared.refusal.Refusal.TheVariants.{NotAScript, Gone, InvalidSize, InvalidCap, PageFault}
 use Rattle.trade_base.specs.Page.{page_of}
 use Rattle.own_model.specs.Account.{Account, shortage, charged, credited}
 use Rattle.own_model.specs.Call.{Call}
-use Rattle.own_model.specs.Call.Call.{Alloc, Free, Quota}
-use Rattle.own_model.specs.OwnState.{OwnState, Object, zeros, new_selector}
-use Rattle.own_model.specs.OwnState.Object.{Dataspace}
+use Rattle.own_model.specs.Call.Call.{Alloc, Free, Attach, AttachAt, Detach, Peek, Poke, Capalloc, Capfree, Quota}
+use Rattle.own_model.specs.OwnState.{OwnState, Object, zeros, new_selector, pages_in, bytes_named, object_with}
+use Rattle.own_model.specs.OwnState.Object.{Dataspace, RpcObject}
+use Rattle.own_model.specs.Region.{most_regions, resolved, without, user_gap, attach_refusal, attach_at_refusal, detach_refusal}
 use Rattle.own_model.specs.Reply.{Reply, LogLine}
-use Rattle.own_model.specs.Reply.Reply.{Selected, Done, Quotas, Refused}
+use Rattle.own_model.specs.Reply.Reply.{Selected, Attached, Bytes, Done, Quotas, Refused}
 use Rattle.own_model.specs.StartList.{Entry, Kind}
 use Rattle.own_model.specs.StartList.Kind.{Script, Server}
 
@@ -54,7 +55,7 @@ allocated n s = record {
   };
 }
 
--- what the selector names goes, with a credit
+-- the dataspace that the selector names goes, with its regions and a credit
 abbrev pub freed : ℕ → Option Object → OwnState → Outcome
 freed selector (Some (Dataspace bytes)) s = record {
   reply = Done;
@@ -62,9 +63,91 @@ freed selector (Some (Dataspace bytes)) s = record {
   next = record s {
     account = credited s.account (length bytes) 1;
     selectors = remove s.selectors selector;
+    regions = without selector s.regions;
   };
 }
+freed selector (Some RpcObject) s = refused s InvalidCap
 freed selector None s = refused s InvalidCap
+
+-- so many pages of what the selector names stand from an address on
+abbrev pub with_region : ℕ → ℕ → ℕ → OwnState → Outcome
+with_region selector pages address s = record {
+  reply = Attached address;
+  lines = [];
+  next = record s { regions = insert s.regions address (record { of = selector; pages = pages }) };
+}
+
+-- the dataspace that the selector names is attached at the first gap
+abbrev pub attached_first : ℕ → Option Object → OwnState → Outcome
+attached_first selector (Some (Dataspace bytes)) s =
+    unless (attach_refusal most_regions s.regions (pages_in bytes)) s
+    (with_region selector (pages_in bytes) (user_gap s.regions (pages_in bytes)) s)
+attached_first selector (Some RpcObject) s = refused s InvalidCap
+attached_first selector None s = refused s InvalidCap
+
+-- the dataspace that the selector names is attached at an address
+abbrev pub attached_at : ℕ → ℕ → Option Object → OwnState → Outcome
+attached_at selector address (Some (Dataspace bytes)) s =
+    unless (attach_at_refusal most_regions s.regions (pages_in bytes) address) s
+    (with_region selector (pages_in bytes) address s)
+attached_at selector address (Some RpcObject) s = refused s InvalidCap
+attached_at selector address None s = refused s InvalidCap
+
+-- the region that starts at an address goes
+abbrev pub region_detached : ℕ → OwnState → Outcome
+region_detached address s = record { reply = Done; lines = []; next = record s { regions = remove s.regions address } }
+
+-- the most bytes of a peek or a poke
+abbrev pub most_bytes : ℕ
+most_bytes = 1024
+
+-- why a peek or a poke of so many bytes is refused, wherever they stand
+abbrev pub count_refusal : ℕ → Option Refusal
+count_refusal count = if nat_lt 0 count && nat_le count most_bytes then None else Some InvalidSize
+
+-- so many bytes are told from an offset of the selector that a range of addresses finds
+abbrev pub peeked : ℕ → Option (ℕ × ℕ) → OwnState → Outcome
+peeked count (Some (selector, offset)) s = record {
+  reply = Bytes (slice_range (bytes_named (get s.selectors selector)) offset (offset + count));
+  lines = [];
+  next = s;
+}
+peeked count None s = refused s PageFault
+
+-- what a selector names has other bytes from an offset on
+abbrev pub poked_at : ℕ → ℕ → List ℕ → Option Object → OwnState → Outcome
+poked_at selector offset bytes (Some object) s = record {
+  reply = Done;
+  lines = [];
+  next = record s { selectors = insert s.selectors selector (object_with object offset bytes) };
+}
+poked_at selector offset bytes None s = refused s PageFault
+
+-- bytes are put at an offset of the selector that a range of addresses finds
+abbrev pub poked : List ℕ → Option (ℕ × ℕ) → OwnState → Outcome
+poked bytes (Some (selector, offset)) s = poked_at selector offset bytes (get s.selectors selector) s
+poked bytes None s = refused s PageFault
+
+-- an RPC object under the new selector
+abbrev pub cap_allocated : OwnState → Outcome
+cap_allocated s = record {
+  reply = Selected (new_selector s.selectors);
+  lines = [];
+  next = record s {
+    account = charged s.account 0 1;
+    selectors = insert s.selectors (new_selector s.selectors) RpcObject;
+  };
+}
+
+-- the RPC object that the selector names goes, with a credit
+abbrev pub cap_freed : ℕ → Option Object → OwnState → Outcome
+cap_freed selector (Some RpcObject) s = record {
+  reply = Done;
+  lines = [];
+  next = record s { account = credited s.account 0 1; selectors = remove s.selectors selector };
+}
+cap_freed selector (Some (Dataspace bytes)) s = refused s InvalidCap
+cap_freed selector None s = refused s InvalidCap
 
 -- the use and the limits of the caller's account
 abbrev pub told_quota : OwnState → Outcome
@@ -74,6 +157,14 @@ told_quota s = record { reply = Quotas s.account; lines = []; next = s }
 abbrev pub script_step : Call → OwnState → Outcome
 script_step (Alloc n) s = unless (alloc_refusal n s.account) s (allocated n s)
 script_step (Free selector) s = freed selector (get s.selectors selector) s
+script_step (Attach selector) s = attached_first selector (get s.selectors selector) s
+script_step (AttachAt selector address) s = attached_at selector address (get s.selectors selector) s
+script_step (Detach address) s = unless (detach_refusal s.regions address) s (region_detached address s)
+script_step (Peek address count) s = unless (count_refusal count) s (peeked count (resolved s.regions address count) s)
+script_step (Poke address bytes) s =
+    unless (count_refusal (length bytes)) s (poked bytes (resolved s.regions address (length bytes)) s)
+script_step Capalloc s = unless (shortage s.account 0 1) s (cap_allocated s)
+script_step (Capfree selector) s = cap_freed selector (get s.selectors selector) s
 script_step Quota s = told_quota s
 
 -- what a call of a component does

@@ -1,7 +1,7 @@
 -- Regions: what is attached where, where it can be attached, and what a range of addresses finds.
 use Rattle.std.specs.Prelude.{◌≡◌, ℕ, ◌+◌, ◌-◌, ◌*◌, ◌%◌, ◌≤◌, ◌<◌, ◌==◌, ◌&&◌, Bool, false, not, nat_lt, nat_le, if◌then◌else◌, Option, Some, None, is_some, is_none}
 use Rattle.std.specs.List.{list_any, find, range_with_len}
-use Rattle.std.specs.Option.{option_map}
+use Rattle.std.specs.Option.{option_map, unwrap_or}
 use Rattle.std.specs.FinMap.{get, entries, len}
 use Rattle.trade_base.specs.declared.refusal.Refusal.{Refusal}
 use Rattle.trade_base.specs.declared.refusal.Refusal.TheVariants.{TooManyRegions, RegionConflict, PageFault}
@@ -19,6 +19,10 @@ user_low = 0x10000000
 
 abbrev pub user_high : ℕ
 user_high = 0x20000000
+
+-- the most user regions of a component
+abbrev pub most_regions : ℕ
+most_regions = 128
 
 -- ---- where pages can be attached
 
@@ -39,6 +43,10 @@ can_stand low high regions pages address =
 -- the first gap of a window for so many pages: the least address at which they can stand
 unfoldable pub first_gap : ℕ → ℕ → NatMap Region → ℕ → Option ℕ
 first_gap low high regions pages = find (can_stand low high regions pages) (range_with_len low (high + 1 - low))
+
+-- the address of the first gap of the user window, if there is one
+abbrev pub user_gap : NatMap Region → ℕ → ℕ
+user_gap regions pages = unwrap_or (first_gap user_low user_high regions pages) 0
 
 -- what `can_stand` tests
 pub record IsPlace (low high : ℕ) (regions : NatMap Region) (pages address : ℕ) : Type 0 where

@@ -1,5 +1,6 @@
 -- Replies, and their texts.
-use Rattle.std.specs.Prelude.{ℕ, List, ◌∷◌, [], ◌++◌, ◌&&◌, nat_le, map, codes, decimal, if◌then◌else◌}
+use Rattle.std.specs.Prelude.{ℕ, false, List, ◌∷◌, [], ◌++◌, ◌/◌, ◌%◌, ◌&&◌, nat_le, slice_index, map, codes, decimal, if◌then◌else◌}
+use Rattle.std.specs.Fmt.{digits}
 use Rattle.trade_base.specs.declared.refusal.Refusal.{Refusal}
 use Rattle.trade_base.specs.Refusal.{refusal_name}
 use Rattle.own_model.specs.Account.{Account}
@@ -7,9 +8,21 @@ use Rattle.own_model.specs.Account.{Account}
 -- what a call is answered
 pub data Reply : Type 0 where
   Selected : ℕ → Reply
+  Attached : ℕ → Reply
+  Bytes : List ℕ → Reply
   Done : Reply
   Quotas : Account → Reply
   Refused : Refusal → Reply
+
+-- an address in hex, with small letters and without leading zeros
+abbrev pub address_text : ℕ → List ℕ
+address_text address = codes "0x" ++ digits 16 false address
+
+-- bytes in hex, with small letters
+unfoldable pub hex_text : List ℕ → List ℕ
+hex_text [] = []
+hex_text (b ∷ bs) =
+    slice_index (codes "0123456789abcdef") (b / 16) ∷ slice_index (codes "0123456789abcdef") (b % 16) ∷ hex_text bs
 
 -- use and limit
 abbrev pub share_text : ℕ → ℕ → List ℕ
@@ -22,6 +35,8 @@ quota_text a = codes "ram " ++ share_text a.ram_used a.ram_limit ++ codes " caps
 -- the text of a reply
 abbrev pub reply_text : Reply → List ℕ
 reply_text (Selected selector) = codes "cap " ++ decimal selector
+reply_text (Attached address) = codes "at " ++ address_text address
+reply_text (Bytes bytes) = codes "data " ++ hex_text bytes
 reply_text Done = codes "ok"
 reply_text (Quotas account) = quota_text account
 reply_text (Refused refusal) = refusal_name refusal

@@ -1,8 +1,9 @@
--- Lines, words, names and numbers.
-use Rattle.std.specs.Prelude.{ℕ, ◌^◌, ◌==◌, ◌&&◌, ◌||◌, Bool, List, [], ◌∷◌, length, nat_lt, nat_le, if◌then◌else◌, Option, Some, None}
+-- Lines, words, names, numbers, addresses and hex.
+use Rattle.std.specs.Prelude.{ℕ, ◌^◌, ◌+◌, ◌-◌, ◌*◌, ◌==◌, ◌&&◌, ◌||◌, Bool, List, [], ◌∷◌, length, take, drop, codes, nat_lt, nat_le, if◌then◌else◌, Option, Some, None}
 use Rattle.std.specs.List.{list_all, slice_split}
+use Rattle.std.specs.Option.{option_map, option_and_then}
 use Rattle.std.specs.Char.{is_ascii_alphanumeric}
-use Rattle.std.specs.Str.{all_ascii_digits}
+use Rattle.std.specs.Str.{all_ascii_digits, bytes_eq}
 use Rattle.std.specs.Str.Parse.{digits_value}
 
 -- the pieces of a text between its newlines, but for a last piece that is empty
@@ -41,3 +42,34 @@ number_of ds =
     if (nat_lt 0 (length ds) && all_ascii_digits ds) && nat_lt (digits_value 10 ds) (2 ^ 64)
     then Some (digits_value 10 ds)
     else None
+
+-- the value of a hex digit of either case: `A` is 65, `a` is 97 and `0` is 48
+abbrev pub hex_digit_of : ℕ → Option ℕ
+hex_digit_of b =
+    if nat_le 65 b && nat_le b 70 then Some (b - 55)
+    else (if nat_le 97 b && nat_le b 102 then Some (b - 87)
+    else (if nat_le 48 b && nat_le b 57 then Some (b - 48)
+    else None))
+
+-- the number that hex digits stand for which follow those of n
+abbrev pub hex_number_after : ℕ → List ℕ → Option ℕ
+hex_number_after n [] = Some n
+hex_number_after n (b ∷ bs) = option_and_then (λ digit. hex_number_after (n * 16 + digit) bs) (hex_digit_of b)
+
+-- the address that `0x` and 1 to 16 hex digits stand for
+abbrev pub address_of : List ℕ → Option ℕ
+address_of text =
+    if bytes_eq (take 2 text) (codes "0x") && (nat_le 3 (length text) && nat_le (length text) 18)
+    then hex_number_after 0 (drop 2 text)
+    else None
+
+-- the byte of two hex digits
+abbrev pub byte_of_hex : ℕ → ℕ → Option ℕ
+byte_of_hex high low = option_and_then (λ h. option_map (λ l. h * 16 + l) (hex_digit_of low)) (hex_digit_of high)
+
+-- the bytes of an even number of hex digits
+abbrev pub bytes_of_hex : List ℕ → Option (List ℕ)
+bytes_of_hex [] = Some []
+bytes_of_hex (digit ∷ []) = None
+bytes_of_hex (high ∷ low ∷ rest) =
+    option_and_then (λ byte. option_map (λ bytes. byte ∷ bytes) (bytes_of_hex rest)) (byte_of_hex high low)

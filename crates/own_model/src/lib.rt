@@ -5,6 +5,7 @@
 
 mod answers;
 mod limits;
+mod regions;
 mod rows;
 mod runs;
 mod start;
@@ -14,9 +15,14 @@ pub use answers::{
     told_over_a_line, transcript_is_running,
 };
 pub use limits::{calls_keep_balance, calls_keep_limits, servers_stay, use_is_what_is_held};
+pub use regions::{
+    found_ranges_fit, freed_has_no_regions, full_maps_refuse, pokes_are_read, regions_stay_sound,
+};
 pub use rows::{
-    empty_budget_is_told, lines_and_names_are_refused, lines_end_and_overflow,
-    long_lines_are_no_calls, longest_line_is_read, ram_is_exact_at_the_limit,
+    arguments_are_read, empty_budget_is_told, free_detaches_every_region,
+    lines_and_names_are_refused, lines_end_and_overflow, long_lines_are_no_calls,
+    longest_line_is_read, new_bytes_are_zero, ram_is_exact_at_the_limit,
+    ram_is_refused_before_capabilities, regions_and_their_edges, regions_are_128_at_most,
     selectors_are_ones_own, selectors_come_again, sizes_round_up_to_pages,
 };
 pub use runs::{own_part_over_append, own_run_over_append};

@@ -13,7 +13,7 @@ pub fn calls_keep_limits()
     ensures run { RunKeepsWithinLimits }
 {}
 
-/// At the start and after any calls an account uses exactly the bytes of its component's dataspaces, and a capability for each.
+/// At the start and after any calls an account uses exactly the bytes of its component's dataspaces, and a capability for each selector.
 pub fn use_is_what_is_held()
     ensures start { StartsWithoutUse }
     ensures run { RunKeepsUse }

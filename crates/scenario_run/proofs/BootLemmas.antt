@@ -1,23 +1,29 @@
 -- The world when a component starts.
 use Rattle.std.proofs.Common.{◌≡◌, ℕ, ◌<◌, ◌≤◌, ◌≢◌, false, List, [], ◌∷◌, ◌++◌, length, map, get_or, Some, None, is_some, IsSome, true≢false, subst, refl, sym, ap, ◌∙◌, inl, inr, arith, nat_cmp}
-use Rattle.std.specs.Option.{unwrap_or}
+use Rattle.std.specs.Option.{unwrap_or, option_map}
 use Rattle.std.specs.FinMap as finmap
 use Rattle.std.specs.FinMap.{get, insert, empty, len}
 use Rattle.std.proofs.lemmas.Bool.{cases_lt}
 use Rattle.std.proofs.lemmas.List.{map_push, get_or-map, ext_get_or, length-map, length_push, get_or_append_left, get_or_push}
 use Rattle.own_model.specs.Account.{opened, parted_with}
-use Rattle.own_model.specs.Transcript.{nothing}
+use Rattle.own_model.specs.Transcript.{nothing, nobody}
+use Rattle.own_model.proofs.SoundLemmas.{start_sound}
+use Rattle.own_model.specs.Sound.{IsSound as IsSoundState}
+use Rattle.own_model.specs.NatMap.{NatMap, total}
+use Rattle.own_model.proofs.Totals.{total-empty}
+use Rattle.own_model.specs.Region.{Region}
+use Rattle.cap_space.specs.declared.cap.Cap.{Cap}
+use Rattle.pd_core.specs.declared.tables.Tables.{Tables}
 use Rattle.own_model.proofs.NatMapLemmas.{get-empty, get-insert_same, get-insert_other, apart_from_free, picked-empty}
 use Rattle.quota_core.specs.Books.{IsOpen, account_at, with_child}
 use Rattle.dataspace_core.specs.Store.{Store, Part, part, with_books}
-use Rattle.scenario_run.specs.Selectors.{Selectors}
-use Rattle.scenario_run.specs.Own.{own_of, object_at, IsSoundTable}
-use Rattle.scenario_run.specs.Component.{entry_of, kind_of, names_of, own, IsSound, IsSoundRole}
-use Rattle.scenario_run.specs.Core.{world_of, payer_at, IsCore}
-use Rattle.scenario_run.specs.Boot.{with_start, IsFreshRole}
-use Rattle.scenario_run.specs.declared.component.Role.{Role}
-use Rattle.scenario_run.specs.declared.component.Role.TheVariants.{Script, Server}
-use Rattle.scenario_run.specs.declared.component.Component.{Component}
+use Rattle.pd_core.specs.Own.{own_of, object_of, regions_of, selector_of, rpc_weight, IsScriptAt}
+use Rattle.pd_core.specs.Component.{entry_of, kind_of, caps_of, user_of, own, IsSound, IsSoundRole}
+use Rattle.pd_core.specs.Core.{world_of, payer_at, IsCore}
+use Rattle.scenario_run.specs.Boot.{with_start, AreFresh, IsFreshRole}
+use Rattle.pd_core.specs.declared.component.Role.{Role}
+use Rattle.pd_core.specs.declared.component.Role.TheVariants.{Script, Server}
+use Rattle.pd_core.specs.declared.component.Component.{Component}
 
 -- functions that agree on the elements make the same list of them
 map_alike : {X Y : Type 0} (f g : X → Y) (xs : List X) (d : X) (e : Y) → ((k : ℕ) → k < length xs → f (get_or xs k d) ≡ g (get_or xs k d)) → map f xs ≡ map g xs
@@ -27,39 +33,65 @@ map_alike f g xs d e alike =
 
 -- a sound role has an open account
 role_open : (p : Part) (role : Role) → IsSoundRole p role → IsSome p.account
-role_open p (Script table) sound = sound.is_open
+role_open p (Script tables) sound = sound.is_open
 role_open p Server sound = sound
 
 -- a part that has just opened
 abbrev opened_part : ℕ → ℕ → Part
 opened_part ram caps = record { account = Some (opened ram caps); spaces = empty }
 
--- a fresh table is sound there
-table_sound : (ram caps : ℕ) (table : Selectors) → table.spaces ≡ empty → caps ≤ table.places → IsSoundTable (opened_part ram caps) table
-table_sound ram caps table fresh places =
-    let none : (q : ℕ) → get table.spaces q ≡ None = λ q. ap (λ m. get m q) fresh ∙ get-empty q in
-    let length_is : len table.spaces ≡ 0 = ap (λ m. len m) fresh ∙ finmap.len-empty nat_cmp ℕ in
+-- nothing is in a map that is empty
+no_key : {X : Type 0} (m : NatMap X) → m ≡ empty → (q : ℕ) (x : X) → get m q ≡ Some x → ⊥
+no_key m none q x there = true≢false (sym (ap is_some there) ∙ ap is_some (ap (λ n. get n q) none ∙ get-empty q))
+
+-- who has nothing has the own state of a start
+own_opened : (ram caps : ℕ) → own_of (opened_part ram caps) empty empty ≡ record { account = opened ram caps; selectors = empty; regions = empty; gone = false }
+unfolding own_of regions_of
+own_opened ram caps =
+    let selectors = picked-empty (object_of (opened_part ram caps)) in
+    let regions = picked-empty (λ (region : Region). option_map (λ (other : ℕ). record region { of = other }) (selector_of empty region.of)) in
+    λ j. record { account = opened ram caps; selectors = selectors j; regions = regions j; gone = false }
+
+own_fresh : (ram caps : ℕ) (m : NatMap Cap) (n : NatMap Region) → m ≡ empty → n ≡ empty
+    → own_of (opened_part ram caps) m n ≡ record { account = opened ram caps; selectors = empty; regions = empty; gone = false }
+own_fresh ram caps m n no_caps no_regions =
+    ap (λ (c : NatMap Cap). own_of (opened_part ram caps) c n) no_caps ∙ ap (own_of (opened_part ram caps) empty) no_regions ∙ own_opened ram caps
+
+-- fresh tables are sound there
+tables_sound : (ram caps : ℕ) (tables : Tables) → AreFresh ram caps tables → IsScriptAt (opened_part ram caps) tables
+tables_sound ram caps tables fresh =
+    let length_is : len tables.caps.caps ≡ 0 = ap (λ m. len m) fresh.no_caps ∙ finmap.len-empty nat_cmp Cap in
     record {
       is_open = refl;
-      there = λ q ds names. absurd (true≢false (sym (ap is_some names) ∙ ap is_some (none q)));
-      one = λ s t ds first second. absurd (true≢false (sym (ap is_some first) ∙ ap is_some (none s)));
+      there = λ q cap names. absurd (no_key _ fresh.no_caps q cap names);
+      one = λ s t a b first second same. absurd (no_key _ fresh.no_caps s _ first);
       paid = omega (arith, length_is);
+      spare =
+          let spaces_is : len (empty {X = List ℕ} {R = nat_cmp}) ≡ 0 = finmap.len-empty nat_cmp (List ℕ) in
+          let weight_is : total rpc_weight tables.caps.caps ≡ 0 = ap (total rpc_weight) fresh.no_caps ∙ total-empty rpc_weight in
+          omega (arith, spaces_is, weight_is);
       within = omega arith;
-      placed = places;
+      placed = fresh.placed;
+      attached = λ start region there. absurd (no_key _ fresh.no_regions start region there);
+      most = fresh.most;
+      ram = fresh.ram_fits;
+      few = λ key bytes there. absurd (no_key (empty {X = List ℕ} {R = nat_cmp}) refl key bytes there);
+      sound = subst IsSoundState (sym (own_fresh ram caps tables.caps.caps tables.regions.user fresh.no_caps fresh.no_regions))
+          (start_sound (record { entry = nobody; ram = ram; caps = caps }));
     }
 
-role_sound : (ram caps : ℕ) (role : Role) → IsFreshRole caps role → IsSoundRole (opened_part ram caps) role
-role_sound ram caps (Script table) fresh = table_sound ram caps table fresh.0 fresh.1
+role_sound : (ram caps : ℕ) (role : Role) → IsFreshRole ram caps role → IsSoundRole (opened_part ram caps) role
+role_sound ram caps (Script tables) fresh = tables_sound ram caps tables fresh
 role_sound ram caps Server fresh = refl
 
--- a fresh role names nothing
-names_none : (caps : ℕ) (role : Role) → IsFreshRole caps role → names_of role ≡ empty
-names_none caps (Script table) fresh = fresh.0
-names_none caps Server fresh = refl
+-- a fresh role names nothing, and has no regions
+caps_none : (ram caps : ℕ) (role : Role) → IsFreshRole ram caps role → caps_of role ≡ empty
+caps_none ram caps (Script tables) fresh = fresh.no_caps
+caps_none ram caps Server fresh = refl
 
-own_opened : (ram caps : ℕ) → own_of (opened_part ram caps) empty ≡ record { account = opened ram caps; selectors = empty; gone = false }
-unfolding own_of
-own_opened ram caps = ap (λ m. record { account = opened ram caps; selectors = m; gone = false }) (picked-empty (object_at (opened_part ram caps)))
+user_none : (ram caps : ℕ) (role : Role) → IsFreshRole ram caps role → user_of role ≡ empty
+user_none ram caps (Script tables) fresh = fresh.no_regions
+user_none ram caps Server fresh = refl
 
 module _ (store store' : Store) (root child ram caps : ℕ) (is_root : root ≡ store.books.root) (is_open : IsOpen store.books root)
     (fresh : get store.books.accounts child ≡ None)
@@ -79,7 +111,7 @@ module _ (store store' : Store) (root child ram caps : ℕ) (is_root : root ≡ 
       ∙ get-insert_same store.books.accounts root (parted_with (account_at store.books root) ram caps) root refl)
       ∙ ap (λ r. parted_with (account_at store.books r) ram caps) is_root
 
-  module _ (components : List Component) (after : Component) (role : IsFreshRole caps after.role) (account : after.account.0 ≡ child) (core : IsCore store components)
+  module _ (components : List Component) (after : Component) (role : IsFreshRole ram caps after.role) (account : after.account.0 ≡ child) (core : IsCore store components)
       (own_part : part child store' ≡ opened_part ram caps)
       (others : (other : ℕ) → other ≢ root → other ≢ child → part other store' ≡ part other store) where
     -- no component has the new account
@@ -94,13 +126,14 @@ module _ (store store' : Store) (root child ram caps : ℕ) (is_root : root ≡ 
 
     states_stay : map (own store') components ≡ map (own store) components
     states_stay = map_alike (own store') (own store) components after nothing
-        (λ k within. let c : Component = get_or components k after in ap (λ p. own_of p (names_of c.role)) (part_stays k after within))
+        (λ k within. let c : Component = get_or components k after in ap (λ p. own_of p (caps_of c.role) (user_of c.role)) (part_stays k after within))
 
     part_after : part after.account.0 store' ≡ opened_part ram caps
     part_after = ap (λ a. part a store') account ∙ own_part
 
-    state_after_start : own store' after ≡ record { account = opened ram caps; selectors = empty; gone = false }
-    state_after_start = ap (λ p. own_of p (names_of after.role)) part_after ∙ ap (own_of (opened_part ram caps)) (names_none caps after.role role) ∙ own_opened ram caps
+    state_after_start : own store' after ≡ record { account = opened ram caps; selectors = empty; regions = empty; gone = false }
+    state_after_start = ap (λ p. own_of p (caps_of after.role) (user_of after.role)) part_after
+        ∙ own_fresh ram caps (caps_of after.role) (user_of after.role) (caps_none ram caps after.role role) (user_none ram caps after.role role)
 
     -- the world has one more entry and own state
     pub world_started : world_of store' (components ++ after ∷ []) ≡ with_start (world_of store components) after.name.now (kind_of after.role) ram caps

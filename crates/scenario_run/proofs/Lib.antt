@@ -1,10 +1,7 @@
 pub mod WordLemmas
 pub mod NumberLemmas
-pub mod SlotLemmas
-pub mod OwnLemmas
-pub mod ScriptLemmas
-pub mod ComponentLemmas
-pub mod CoreLemmas
+pub mod AddressLemmas
+pub mod HexLemmas
 pub mod BootLemmas
 pub mod MachineLemmas
 pub mod BlockLemmas

@@ -10,9 +10,9 @@ use Rattle.own_model.proofs.NatMapLemmas.{get-insert_same}
 use Rattle.own_model.proofs.StartLemmas.{start_balanced}
 use Rattle.quota_core.specs.Books.{account_at}
 use Rattle.dataspace_core.specs.Store.{Store, fresh_store}
-use Rattle.scenario_run.specs.Core.{world_of}
+use Rattle.pd_core.specs.Core.{world_of}
 use Rattle.scenario_run.specs.Boot.{with_start}
-use Rattle.scenario_run.specs.declared.component.Component.{Component}
+use Rattle.pd_core.specs.declared.component.Component.{Component}
 
 -- init has all of a memory that has just booted
 fresh_account : (store : Store) (pages caps places : ℕ) → store ≡ fresh_store store.books.root pages caps places → account_at store.books store.books.root ≡ opened (pages * 4096) caps

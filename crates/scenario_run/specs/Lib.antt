@@ -1,12 +1,4 @@
-pub mod Call
 pub mod Words
-pub mod Answer
-pub mod Selectors
-pub mod Slots
-pub mod Own
-pub mod Component
-pub mod CodedWorld
-pub mod Core
 pub mod Boot
 pub mod Device
 pub mod Lines

@@ -1,6 +1,11 @@
 -- Words of a line.
-use Rattle.std.specs.Prelude.{ℕ, ◌==◌, Bool}
+use Rattle.std.specs.Prelude.{ℕ, ◌==◌, Bool, is_some}
+use Rattle.own_model.specs.Text.{hex_digit_of}
 
 -- the byte that ends a word
 abbrev pub is_space : ℕ → Bool
 is_space b = b == 32
+
+-- a hexadecimal digit, of either case
+abbrev pub is_hex_digit : ℕ → Bool
+is_hex_digit b = is_some (hex_digit_of b)

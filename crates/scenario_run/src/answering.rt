@@ -10,9 +10,8 @@ ghost use Rattle.scenario_run.specs.Gathered.{told_so_far, AppendsPart};
 use crate::device::{DeviceFault, Sink};
 use crate::gather::Gather;
 use crate::line::read_line;
-use crate::machine::Core;
 use crate::names::FixedNames;
-use crate::reply::Reply;
+use pd_core::{Core, Reply};
 use trade_base::Refusal;
 
 /// The name before the reply to what is no call.

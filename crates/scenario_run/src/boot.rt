@@ -4,15 +4,15 @@ ghost use Rattle.own_model.specs.Account.{Fits, parted_with};
 ghost use Rattle.own_model.specs.StartList.{machine_a};
 ghost use Rattle.own_model.specs.World.{start_world, IsBalanced};
 ghost use Rattle.quota_core.specs.Books.{account_at};
-ghost use Rattle.scenario_run.specs.Component.{kind_of};
-ghost use Rattle.scenario_run.specs.Core.{world_of, IsCore};
-ghost use Rattle.scenario_run.specs.Boot.{with_start, IsFreshRole};
+ghost use Rattle.pd_core.specs.Component.{kind_of};
+ghost use Rattle.pd_core.specs.Core.{world_of, IsCore};
+ghost use Rattle.scenario_run.specs.Boot.{with_start, AreFresh, IsFreshRole};
 
-use crate::component::{Component, Role};
-use crate::machine::Core;
 use crate::names::{ALICE, BOB, FILES, LOG};
-use crate::selectors::SelectorTable;
+use cap_space::CapSpace;
 use dataspace_core::Memory;
+use pd_core::{Component, Core, Role, Tables};
+use region_map::RegionMap;
 use std::alloc::Global;
 use trade_base::{Caps, NoMemory, Ram};
 
@@ -27,6 +27,9 @@ const ACCOUNTS: usize = 5;
 
 /// The places of a script's table: as many as the machine has capabilities.
 const PLACES: usize = 64;
+
+/// The most user regions of a script.
+const REGIONS: usize = 128;
 
 /// What of init's limits a component gets.
 #[derive(Clone, Copy)]
@@ -56,11 +59,20 @@ pub fn boot_fixed(alloc: Global) -> Result<Core, NoMemory>
     let mut components = Vec::new(alloc);
     start(&mut memory, &mut components, LOG, Role::Server, SERVER)?;
     start(&mut memory, &mut components, FILES, Role::Server, SERVER)?;
-    let alice = Role::Script(SelectorTable::boot(alloc, PLACES)?);
+    let alice = Role::Script(fresh_tables(alloc)?);
     start(&mut memory, &mut components, ALICE, alice, SCRIPT)?;
-    let bob = Role::Script(SelectorTable::boot(alloc, PLACES)?);
+    let bob = Role::Script(fresh_tables(alloc)?);
     start(&mut memory, &mut components, BOB, bob, SCRIPT)?;
-    Ok(Core::new(memory, components))
+    Ok(Core::from_parts(memory, components))
+}
+
+/// What a script has before its first call.
+fn fresh_tables(alloc: Global) -> Result<Tables, NoMemory>
+    ensures { IfOk result (AreFresh 65536 16) }
+{
+    let caps = CapSpace::boot(alloc, PLACES)?;
+    let regions = RegionMap::boot(alloc, REGIONS, PAGES, PAGES)?;
+    Ok(Tables { caps, regions })
 }
 
 /// Starts a component with a budget that init still covers, or tells that the host has no room for it.
@@ -73,7 +85,7 @@ fn start(
 ) -> Result<(), NoMemory>
     requires covered { Fits (account_at memory.old.books memory.old.books.root) budget.ram.0 budget.caps.0 }
     requires room { 0 < memory.old.books.room }
-    requires fresh { IsFreshRole budget.caps.0 role }
+    requires fresh { IsFreshRole budget.ram.0 budget.caps.0 role }
     requires core { IsCore memory.old components.old.items }
     ensures started { OnOk result (world_of memory.new components.new.items ≡ with_start (world_of memory.old components.old.items) name.now (kind_of role) budget.ram.0 budget.caps.0) }
     ensures core { OnOk result (IsCore memory.new components.new.items) }

@@ -3,13 +3,16 @@ ghost use Rattle.std.specs.Prelude.{◌≡◌, ◌<◌, length, IfSome, None, So
 ghost use Rattle.std.specs.Option.{option_copied, option_map};
 ghost use Rattle.std.specs.List.{list_all, position};
 ghost use Rattle.trade_base.specs.declared.refusal.Refusal.TheVariants.{BadLine};
-ghost use Rattle.own_model.specs.Text.{first_word, is_name_byte, is_name};
-ghost use Rattle.own_model.specs.Call.{call_of, form_of, spoken, Spoken};
-ghost use Rattle.scenario_run.specs.Call.{model_call};
+ghost use Rattle.own_model.specs.Text.{address_of, first_word, is_name_byte, is_name, number_of};
+ghost use Rattle.own_model.specs.Call.{call_of, call_of_two, form_of, some_bytes_of_hex, spoken, Spoken};
+ghost use Rattle.own_model.specs.Call.Call.{AttachAt, Peek, Poke};
+ghost use Rattle.pd_core.specs.Call.{model_call, IsWellFormed};
 ghost use Rattle.scenario_run.specs.Words.{is_space};
 
-use crate::call::Call;
+use crate::address::read_address;
+use crate::hex_text::is_hex;
 use crate::number::read_number;
+use pd_core::Call;
 use trade_base::Refusal;
 
 /// The most bytes of a name.
@@ -17,8 +20,9 @@ const LONGEST_NAME: usize = 32;
 
 /// The component's name and the call of a line, or `Refusal::BadLine` where the line isn't a call. The line's length
 /// isn't looked at.
-pub fn read_line(line: &[u8]) -> Result<(&[u8], Call), Refusal>
+pub fn read_line(line: &[u8]) -> Result<(&[u8], Call<'_>), Refusal>
     ensures value { IfOk result (λ said. spoken line.now ≡ Some (record { name = said.0.now; call = model_call said.1 })) }
+    ensures well_formed { IfOk result (λ said. IsWellFormed said.1) }
     ensures refused { IfErr result (λ refusal. refusal ≡ BadLine) }
     ensures none { OnErr result (spoken line.now ≡ None) }
 {
@@ -36,22 +40,79 @@ pub fn read_line(line: &[u8]) -> Result<(&[u8], Call), Refusal>
 }
 
 /// The call that a form and its arguments make.
-fn read_call(text: &[u8]) -> Option<Call>
-    ensures { option_map model_call result ≡ form_of text.now }
+fn read_call(text: &[u8]) -> Option<Call<'_>>
+    ensures call { option_map model_call result ≡ form_of text.now }
+    ensures well_formed { IfSome result IsWellFormed }
 {
     let (form, arguments) = split_first_word(text);
     call_from(form, arguments)
 }
 
 /// The call of a form, with what stands after the form and a space as its arguments.
-fn call_from(form: &[u8], arguments: Option<&[u8]>) -> Option<Call>
-    ensures { option_map model_call result ≡ call_of form.now (option_copied arguments.entry) }
+fn call_from<'a>(form: &[u8], arguments: Option<&'a [u8]>) -> Option<Call<'a>>
+    ensures call { option_map model_call result ≡ call_of form.now (option_copied arguments.entry) }
+    ensures well_formed { IfSome result IsWellFormed }
 {
-    match form {
-        b"alloc" => Some(Call::Alloc(read_number(arguments?)?)),
-        b"free" => Some(Call::Free(read_number(arguments?)?)),
-        b"quota" if arguments.is_none() => Some(Call::Quota),
-        _ => None,
+    if form == b"alloc".as_slice() {
+        Some(Call::Alloc(read_number(arguments?)?))
+    } else if form == b"free".as_slice() {
+        Some(Call::Free(read_number(arguments?)?))
+    } else if form == b"attach".as_slice() {
+        Some(Call::Attach(read_number(arguments?)?))
+    } else if form == b"attach_at".as_slice() {
+        read_attach_at(arguments?)
+    } else if form == b"detach".as_slice() {
+        Some(Call::Detach(read_address(arguments?)?))
+    } else if form == b"peek".as_slice() {
+        read_peek(arguments?)
+    } else if form == b"poke".as_slice() {
+        read_poke(arguments?)
+    } else if form == b"capalloc".as_slice() && arguments.is_none() {
+        Some(Call::Capalloc)
+    } else if form == b"capfree".as_slice() {
+        Some(Call::Capfree(read_number(arguments?)?))
+    } else if form == b"quota".as_slice() && arguments.is_none() {
+        Some(Call::Quota)
+    } else {
+        None
+    }
+}
+
+/// A selector and an address, parted by a space.
+fn read_attach_at(arguments: &[u8]) -> Option<Call<'_>>
+    ensures call { option_map model_call result ≡ call_of_two AttachAt number_of address_of arguments.now }
+    ensures well_formed { IfSome result IsWellFormed }
+{
+    let (selector, address) = split_first_word(arguments);
+    let selector = read_number(selector)?;
+    let address = read_address(address?)?;
+    Some(Call::AttachAt { selector, address })
+}
+
+/// An address and a count of bytes, parted by a space.
+fn read_peek(arguments: &[u8]) -> Option<Call<'_>>
+    ensures call { option_map model_call result ≡ call_of_two Peek address_of number_of arguments.now }
+    ensures well_formed { IfSome result IsWellFormed }
+{
+    let (address, count) = split_first_word(arguments);
+    let address = read_address(address)?;
+    let count = read_number(count?)?;
+    Some(Call::Peek { address, count })
+}
+
+/// An address and the hexadecimal digits of one or more bytes, parted by a space.
+#[tactic(auto, using(crate::proofs::HexLemmas::poked_bytes, crate::proofs::HexLemmas::no_bytes))]
+fn read_poke(arguments: &[u8]) -> Option<Call<'_>>
+    ensures call { option_map model_call result ≡ call_of_two Poke address_of some_bytes_of_hex arguments.now }
+    ensures well_formed { IfSome result IsWellFormed }
+{
+    let (address, hex) = split_first_word(arguments);
+    let address = read_address(address)?;
+    let hex = hex?;
+    if is_hex(hex) {
+        Some(Call::Poke { address, hex })
+    } else {
+        None
     }
 }
 
@@ -99,10 +160,11 @@ fn is_name_byte(byte: u8) -> bool
 mod tests {
     use super::*;
 
-    fn says(line: &[u8], name: &[u8], call: Call) -> bool {
+    // The call that a line makes, where it is one of alice's.
+    fn call_of_alice(line: &[u8]) -> Option<Call<'_>> {
         match read_line(line) {
-            Ok((heard, made)) => heard == name && made == call,
-            Err(_) => false,
+            Ok((name, call)) if name == b"alice".as_slice() => Some(call),
+            _ => None,
         }
     }
 
@@ -111,22 +173,88 @@ mod tests {
     }
 
     #[test]
-    fn calls_are_read(rt: HostRuntime) {
-        assert!(rt; says(b"alice alloc 5000", b"alice", Call::Alloc(5000)));
-        assert!(rt; says(b"bob free 007", b"bob", Call::Free(7)));
-        assert!(rt; says(b"no-one_1.x quota", b"no-one_1.x", Call::Quota));
+    fn names_are_read(rt: HostRuntime) {
+        assert!(rt; matches!(read_line(b"bob free 007"), Ok((b"bob", Call::Free(7)))));
         assert!(rt;
-            says(
-                b"alice alloc 18446744073709551615",
-                b"alice",
-                Call::Alloc(u64::MAX)
+            matches!(
+                read_line(b"no-one_1.x quota"),
+                Ok((b"no-one_1.x", Call::Quota))
+            )
+        );
+    }
+
+    #[test]
+    fn sizes_are_read(rt: HostRuntime) {
+        assert!(rt; matches!(call_of_alice(b"alice alloc 5000"), Some(Call::Alloc(5000))));
+        assert!(rt;
+            matches!(
+                call_of_alice(b"alice alloc 18446744073709551615"),
+                Some(Call::Alloc(u64::MAX))
             )
         );
         assert!(rt;
-            says(
-                b"alice alloc 00000000000000000000000018446744073709551615",
-                b"alice",
-                Call::Alloc(u64::MAX)
+            matches!(
+                call_of_alice(b"alice alloc 00000000000000000000000018446744073709551615"),
+                Some(Call::Alloc(u64::MAX))
+            )
+        );
+    }
+
+    #[test]
+    fn selectors_are_read(rt: HostRuntime) {
+        assert!(rt; matches!(call_of_alice(b"alice attach 0"), Some(Call::Attach(0))));
+        assert!(rt; matches!(call_of_alice(b"alice capalloc"), Some(Call::Capalloc)));
+        assert!(rt;
+            matches!(
+                call_of_alice(b"alice capfree 4294967296"),
+                Some(Call::Capfree(4294967296))
+            )
+        );
+    }
+
+    #[test]
+    fn addresses_are_read(rt: HostRuntime) {
+        assert!(rt;
+            matches!(
+                call_of_alice(b"alice attach_at 1 0x10000000"),
+                Some(Call::AttachAt {
+                    selector: 1,
+                    address: 0x1000_0000
+                })
+            )
+        );
+        assert!(rt;
+            matches!(
+                call_of_alice(b"alice detach 0xaBcDeF"),
+                Some(Call::Detach(0xabcdef))
+            )
+        );
+        assert!(rt;
+            matches!(
+                call_of_alice(b"alice detach 0xffffFFFFffffFFFF"),
+                Some(Call::Detach(u64::MAX))
+            )
+        );
+        assert!(rt;
+            matches!(
+                call_of_alice(b"alice peek 0x0 1"),
+                Some(Call::Peek {
+                    address: 0,
+                    count: 1
+                })
+            )
+        );
+    }
+
+    #[test]
+    fn pokes_are_read(rt: HostRuntime) {
+        assert!(rt;
+            matches!(
+                call_of_alice(b"alice poke 0x0000000010000000 00fF"),
+                Some(Call::Poke {
+                    address: 0x1000_0000,
+                    hex: b"00fF"
+                })
             )
         );
     }
@@ -146,5 +274,33 @@ mod tests {
         assert!(rt; is_bad(b"alice alloc 99999999999999999999999999999999999999990"));
         assert!(rt; is_bad(b"abcdefghijklmnopqrstuvwxyz0123456 quota"));
         assert!(rt; is_bad(b"al/ice quota"));
+        assert!(rt; is_bad(b"alice capalloc 1"));
+    }
+
+    #[test]
+    fn other_addresses_are_bad(rt: HostRuntime) {
+        assert!(rt; is_bad(b"alice detach"));
+        assert!(rt; is_bad(b"alice detach 10000000"));
+        assert!(rt; is_bad(b"alice detach 0x"));
+        assert!(rt; is_bad(b"alice detach 0X10"));
+        assert!(rt; is_bad(b"alice detach 0x00000000000000010"));
+        assert!(rt; is_bad(b"alice detach 0x1g"));
+        assert!(rt; is_bad(b"alice attach_at 1"));
+        assert!(rt; is_bad(b"alice attach_at 0x10000000 1"));
+        assert!(rt; is_bad(b"alice attach_at 1 0x10000000 "));
+        assert!(rt; is_bad(b"alice peek 0x0"));
+        assert!(rt; is_bad(b"alice peek 0x0  1"));
+        assert!(rt; is_bad(b"alice peek 0x0 1 2"));
+    }
+
+    #[test]
+    fn other_hex_is_bad(rt: HostRuntime) {
+        assert!(rt; is_bad(b"alice poke 0x10000000"));
+        assert!(rt; is_bad(b"alice poke 0x10000000 "));
+        assert!(rt; is_bad(b"alice poke 0x10000000 0"));
+        assert!(rt; is_bad(b"alice poke 0x10000000 000"));
+        assert!(rt; is_bad(b"alice poke 0x10000000 0g"));
+        assert!(rt; is_bad(b"alice poke 0x10000000 00 "));
+        assert!(rt; is_bad(b"alice poke 0x10000000 00 00"));
     }
 }

@@ -1,37 +1,30 @@
 //! A scenario: lines of calls come in on standard input, and each is answered in turn on standard output.
 #![tactic(auto)]
 
-mod answer;
+mod address;
 mod answering;
 mod block;
 mod boot;
-mod call;
-mod component;
 mod device;
 mod gather;
+mod hex_text;
 mod input;
 mod line;
 mod lines;
-mod machine;
 mod names;
 mod number;
 mod output;
-mod reply;
 mod running;
-mod script;
-mod selectors;
 #[cfg(test)]
 mod tests;
 
 pub use boot::boot_fixed;
-pub use call::Call;
 pub use device::{DeviceFault, Sink, Source};
 pub use input::Input;
 pub use line::read_line;
-pub use machine::Core;
 pub use names::FixedNames;
 pub use output::Output;
-pub use reply::{LONGEST_REPLY, Reply};
+use pd_core::Reply;
 pub use running::{RunFault, Summary, run};
 use std::process::ExitCode;
 use trade_base::NoMemory;

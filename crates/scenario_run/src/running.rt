@@ -13,9 +13,8 @@ use crate::block::Block;
 use crate::device::{Sink, Source};
 use crate::gather::Gather;
 use crate::lines::{LineFault, Next, next_line, read_more};
-use crate::machine::Core;
 use crate::names::FixedNames;
-use crate::reply::Reply;
+use pd_core::{Core, Reply};
 use thiserror::Error;
 
 /// What a run did.

@@ -1,6 +1,7 @@
 //! Whole scenarios, each with its transcript.
 
 use super::*;
+use std::alloc::AllocError;
 use std::process::Abort;
 
 // Each input is answered by its transcript, however it comes.
@@ -133,4 +134,165 @@ fn reuse_example(rt: HostRuntime) -> Result<(), Fail> {
         b"alice: cap 1\nalice: cap 2\nalice: ok\nbob: cap 1\nalice: cap 1\nalice: ok\nalice: Invalid_cap\n\
           alice: ram 8192/65536 caps 1/16\nbob: ram 4096/65536 caps 1/16\n",
     )
+}
+
+#[test]
+fn ram_is_refused_before_capabilities(rt: HostRuntime) -> Result<(), Fail> {
+    let mut input = Vec::new(rt.alloc());
+    let mut transcript = Vec::new(rt.alloc());
+    for selector in 1u8..17 {
+        input.extend_from_slice(b"alice capalloc\n")?;
+        transcript.extend_from_slice(b"alice: cap ")?;
+        if selector >= 10 {
+            transcript.push(b'1')?;
+        }
+        transcript.push(b'0' + selector % 10)?;
+        transcript.push(b'\n')?;
+    }
+    input.extend_from_slice(
+        b"alice alloc 1\nalice alloc 65537\nalice capalloc\nalice capfree 16\nalice free 1\n",
+    )?;
+    transcript.extend_from_slice(
+        b"alice: Out_of_caps\nalice: Out_of_ram\nalice: Out_of_caps\nalice: ok\nalice: Invalid_cap\n",
+    )?;
+    check(&rt, &input, 21, &transcript)
+}
+
+#[test]
+fn freed_page_is_zero_for_the_next_owner(rt: HostRuntime) -> Result<(), Fail> {
+    check(
+        &rt,
+        b"alice alloc 4096\nalice attach 1\nalice poke 0x10000000 736563726574\nalice free 1\n\
+          bob alloc 4096\nbob attach 1\nbob peek 0x10000000 8\n",
+        7,
+        b"alice: cap 1\nalice: at 0x10000000\nalice: ok\nalice: ok\n\
+          bob: cap 1\nbob: at 0x10000000\nbob: data 0000000000000000\n",
+    )
+}
+
+#[test]
+fn free_detaches_every_region(rt: HostRuntime) -> Result<(), Fail> {
+    check(
+        &rt,
+        b"alice alloc 1\nalice alloc 1\nalice alloc 1\nalice free 2\nalice alloc 1\nalice attach 2\n\
+          alice attach 2\nalice free 2\nalice peek 0x10000000 1\nalice peek 0x10001000 1\n",
+        10,
+        b"alice: cap 1\nalice: cap 2\nalice: cap 3\nalice: ok\nalice: cap 2\nalice: at 0x10000000\n\
+          alice: at 0x10001000\nalice: ok\nalice: Page_fault\nalice: Page_fault\n",
+    )
+}
+
+#[test]
+fn regions_and_their_edges(rt: HostRuntime) -> Result<(), Fail> {
+    check(
+        &rt,
+        b"alice alloc 8192\nalice attach_at 1 0x1ffff000\nalice attach_at 1 0x1fffe000\n\
+          alice attach_at 1 0x1fffd000\nalice attach_at 1 0x10000800\nalice attach 1\n\
+          alice peek 0x10001fff 2\nalice poke 0x1fffe000 AB\nalice peek 0x10000000 1\n\
+          alice peek 0x10000000 0\nalice peek 0x10000000 1025\nalice detach 0x10001000\nalice detach 0x10000000\n",
+        13,
+        b"alice: cap 1\nalice: Region_conflict\nalice: at 0x1fffe000\n\
+          alice: Region_conflict\nalice: Region_conflict\nalice: at 0x10000000\n\
+          alice: Page_fault\nalice: ok\nalice: data ab\n\
+          alice: Invalid_size\nalice: Invalid_size\nalice: Page_fault\nalice: ok\n",
+    )
+}
+
+#[test]
+fn region_limit_comes_first(rt: HostRuntime) -> Result<(), Fail> {
+    let mut input = Vec::from_slice(rt.alloc(), b"alice alloc 1\n")?;
+    for _ in 0..128 {
+        input.extend_from_slice(b"alice attach 1\n")?;
+    }
+    input.extend_from_slice(b"alice attach 1\nalice attach_at 1 0x10000000\nalice attach 2\n")?;
+    let (ran, written) = run_in_pieces(rt.alloc(), &input, 1000, 1000)?;
+    assert_eq!(rt; ran, Ok(Summary { lines: 132 }));
+    assert!(rt; written.starts_with(b"alice: cap 1\nalice: at 0x10000000\nalice: at 0x10001000\n"));
+    assert!(rt;
+        written.ends_with(
+            b"alice: at 0x1007f000\nalice: Too_many_regions\nalice: Too_many_regions\nalice: Invalid_cap\n"
+        )
+    );
+    Ok(())
+}
+
+// Lines that scripts call in turn, by the number of the turn.
+const TURNS: [&[u8]; 12] = [
+    b"alloc 5000",
+    b"attach 1",
+    b"poke 0x10000ffe 01020304",
+    b"capalloc",
+    b"quota",
+    b"peek 0x10000ffd 8",
+    b"attach_at 1 0x10003000",
+    b"free 2",
+    b"capfree 2",
+    b"detach 0x10000000",
+    b"alloc 1",
+    b"free 1",
+];
+
+// Lines of nobody that makes calls.
+const BETWEEN: [&[u8]; 5] = [
+    b"log quota\n",
+    b"files alloc 1\n",
+    b"carol quota\n",
+    b"alice  quota\n",
+    b"\n",
+];
+
+// The answers in a transcript to a name.
+fn answers_to(alloc: Global, transcript: &[u8], name: &[u8]) -> Result<Vec<u8>, AllocError> {
+    let mut answers = Vec::new(alloc);
+    for line in transcript.split(|byte| *byte == b'\n') {
+        if line.starts_with(name) {
+            answers.extend_from_slice(line)?;
+            answers.push(b'\n')?;
+        }
+    }
+    Ok(answers)
+}
+
+// Adds a line to an input.
+fn say(input: &mut Vec<u8>, name: &[u8], call: &[u8]) -> Result<(), AllocError> {
+    input.extend_from_slice(name)?;
+    input.extend_from_slice(call)?;
+    input.push(b'\n')?;
+    Ok(())
+}
+
+// What a name is told among others is what its lines alone are answered.
+fn answers_are_those_alone<R: Abort + AllocGlobal>(
+    rt: &R,
+    together: &[u8],
+    name: &[u8],
+    lines: &[u8],
+) -> Result<(), Fail> {
+    let (ran, written) = run_in_pieces(rt.alloc(), lines, 1000, 1000)?;
+    assert_eq!(rt; ran, Ok(Summary { lines: 100 }));
+    assert_eq!(rt;
+        answers_to(rt.alloc(), together, name)?.as_slice(),
+        written.as_slice()
+    );
+    Ok(())
+}
+
+// Both scripts call in turn, 200 calls in all, with other lines between. Each is answered as if it called alone.
+#[test]
+fn scripts_in_turn_are_answered_as_alone(rt: HostRuntime) -> Result<(), Fail> {
+    let alloc = rt.alloc();
+    let mut whole = Vec::new(alloc);
+    let mut of_alice = Vec::new(alloc);
+    let mut of_bob = Vec::new(alloc);
+    for turn in 0usize..100 {
+        say(&mut whole, b"alice ", TURNS[turn % 12])?;
+        say(&mut of_alice, b"alice ", TURNS[turn % 12])?;
+        say(&mut whole, b"bob ", TURNS[turn * 7 % 12])?;
+        say(&mut of_bob, b"bob ", TURNS[turn * 7 % 12])?;
+        whole.extend_from_slice(BETWEEN[turn % 5])?;
+    }
+    let (_, together) = run_in_pieces(alloc, &whole, 1000, 1000)?;
+    answers_are_those_alone(&rt, &together, b"alice: ", &of_alice)?;
+    answers_are_those_alone(&rt, &together, b"bob: ", &of_bob)?;
+    Ok(())
 }

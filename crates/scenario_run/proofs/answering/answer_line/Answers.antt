@@ -1,7 +1,7 @@
 -- The reply is told under the caller's name.
 use Rattle.std.proofs.Common.{sym, ◌∙◌}
 use Rattle.own_model.specs.StartList.{entries_of, machine_a}
-use Rattle.scenario_run.specs.Call.{model_call}
+use Rattle.pd_core.specs.Call.{model_call}
 use Rattle.scenario_run.specs.Gathered.{told_so_far}
 use Rattle.scenario_run.proofs.AnsweringLemmas.{told_call, ok_told, err_told}
 use Rattle.scenario_run.proofs.answering.answer_line.Goals as goal

@@ -18,14 +18,14 @@ start-requires-4-clause-covered c = covers_bob _ c.in_ok-memory.ensures _ c.star
 
 pub returns-clause-started : goal.returns-clause-started
 returns-clause-started c =
-    c.new.ensures
+    c.from_parts.ensures
     ∙ all_started _ _ _ _ _ (nothing_started _ _ c.in_ok-memory.ensures c.new-components.ensures.items)
     c.in_ok-start.ensures.started c.in_ok-start-2.ensures.started c.in_ok-start-3.ensures.started c.in_ok-start-4.ensures.started
 
 pub returns-clause-balanced : goal.returns-clause-balanced
 returns-clause-balanced c =
     subst (IsBalanced 64 64)
-    (sym (c.new.ensures
+    (sym (c.from_parts.ensures
     ∙ all_started _ _ _ _ _ (nothing_started _ _ c.in_ok-memory.ensures c.new-components.ensures.items)
     c.in_ok-start.ensures.started c.in_ok-start-2.ensures.started c.in_ok-start-3.ensures.started c.in_ok-start-4.ensures.started))
     machine_a_balanced

@@ -1,6 +1,6 @@
 -- A component's account opens, and the component comes last.
 use Rattle.std.proofs.Common.{refl, subst, sym, ap, ◌∙◌}
-use Rattle.scenario_run.specs.Core.{world_of, IsCore}
+use Rattle.pd_core.specs.Core.{world_of, IsCore}
 use Rattle.scenario_run.proofs.BootLemmas.{init_after, world_started, core_started}
 use Rattle.scenario_run.proofs.boot.start.Goals as goal
 

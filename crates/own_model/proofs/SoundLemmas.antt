@@ -1,0 +1,328 @@
+-- Calls keep an own state sound: each region is of a dataspace that a selector names, and lies apart from the others.
+use Rattle.std.proofs.Common.{◌≡◌, ◌≢◌, ℕ, ◌+◌, ◌*◌, ◌/◌, ◌^◌, ◌<◌, ◌≤◌, ◌&&◌, Bool, true, false, cond, eqb, List, length, nat_lt, nat_le, Some, refl, sym, ap, subst, ◌∙◌, eqb-true, true≢false, nat_cmp, arith}
+use Rattle.std.proofs.lemmas.Bool.Decides.{nat_tests}
+use Rattle.std.proofs.lemmas.Option.{none-some, same_Some}
+use Rattle.std.specs.Prelude.{Option, None, is_none, if◌then◌else◌, ◌==◌}
+use Rattle.std.specs.Option.{option_and_then}
+use Rattle.std.specs.Cmp.{nat_cmp_total}
+use Rattle.std.specs.FinMap.{get, insert, remove, len, len-empty, len-remove}
+use Rattle.trade_base.specs.declared.refusal.Refusal.{Refusal}
+use Rattle.trade_base.specs.declared.refusal.Refusal.TheVariants.{InvalidSize, InvalidCap, TooManyRegions, RegionConflict}
+use Rattle.trade_base.specs.Page.{page_of}
+use Rattle.own_model.proofs.NatMapLemmas.{get-empty, get-insert, get-picked, get-remove_other, before_remove, apart_from_free, IsSome-at, get-insert_other, get-insert_same}
+use Rattle.own_model.proofs.NewSelector.{new_selector_free}
+use Rattle.own_model.proofs.RegionLemmas.{place}
+use Rattle.own_model.proofs.StepLemmas.{KeptByEffects, step_keeps, run_keeps}
+use Rattle.own_model.proofs.Totals.{len-insert_new, len-total, total-picked_le}
+use Rattle.own_model.proofs.UseLemmas.{length-zeros, length-with_part}
+use Rattle.own_model.specs.Account.{Account, shortage}
+use Rattle.own_model.specs.Call.{Call}
+use Rattle.own_model.specs.Call.Call.{Free, Attach, AttachAt}
+use Rattle.own_model.specs.NatMap.{NatMap}
+use Rattle.own_model.specs.OwnState.{OwnState, Object, zeros, new_selector, pages_in, with_part, object_with}
+use Rattle.own_model.specs.OwnState.Object.{Dataspace, RpcObject}
+use Rattle.own_model.specs.OwnStep.{own_step, own_run, script_step, refused, unless, alloc_refusal, allocated, freed, with_region, attached_first, attached_at, region_detached, poked_at, cap_allocated, cap_freed}
+use Rattle.own_model.specs.Region.{Region, user_low, user_high, most_regions, overlap, can_stand, first_gap, user_gap, IsPlace, without}
+use Rattle.own_model.specs.Sound.{IsPages, NamesDataspace, IsInWindow, IsSound}
+use Rattle.own_model.specs.StartList.{Entry, StartEntry, start_state}
+
+-- ---- what holds of each value of a map
+
+module _ {X : Type 0} (P : ℕ → X → Type 0) where
+  -- it holds after an insertion of a value of which it holds
+  pub after_insert : (m : NatMap X) (k : ℕ) (v : X) → ((q : ℕ) (w : X) → get m q ≡ Some w → P q w) → P k v → (q : ℕ) (w : X) → get (insert m k v) q ≡ Some w → P q w
+  after_insert m k v each here q w is =
+      elim (eqb q k) as (λ b. eqb q k ≡ b → cond b (Some v) (get m q) ≡ Some w → P q w) [
+        | true ↦ λ same found. subst (λ x. P q x) (same_Some v w found) (subst (λ j. P j v) (sym (eqb-true q k same)) here)
+        | false ↦ λ other found. each q w found
+      ] refl (sym (get-insert m k v q) ∙ is)
+
+apart_by : (a b : ℕ) → eqb a b ≡ false → a ≢ b
+apart_by a b e = grind (arith, nat_tests)
+
+-- what is left of the regions without those of a selector was there, and is of another
+kept_region : (selector : ℕ) (o : Option Region) (region : Region) → option_and_then (λ r. if r.of == selector then None else Some r) o ≡ Some region → (o ≡ Some region) × (region.of ≢ selector)
+kept_region selector None region is = absurd (none-some region is)
+kept_region selector (Some r) region is =
+    elim (eqb r.of selector) as (λ b. eqb r.of selector ≡ b → cond b None (Some r) ≡ Some region → (◌≡◌ {A = Option Region} (Some r) (Some region)) × (region.of ≢ selector)) [
+      | true ↦ λ same found. absurd (none-some region found)
+      | false ↦ λ other found.
+          let e = same_Some r region found in
+          (found, subst (λ x. x.of ≢ selector) e (apart_by r.of selector other))
+    ] refl is
+
+pub left_without : (selector : ℕ) (regions : NatMap Region) (start : ℕ) (region : Region) → get (without selector regions) start ≡ Some region → (get regions start ≡ Some region) × (region.of ≢ selector)
+left_without selector regions start region is =
+    kept_region selector (get regions start) region (sym (get-picked (λ r. if r.of == selector then None else Some r) regions start) ∙ is)
+
+-- they are no more
+pub len-without : (selector : ℕ) (regions : NatMap Region) → len (without selector regions) ≤ len regions
+len-without selector regions =
+    let fewer = total-picked_le (λ r. 1) (λ r. 1) (λ r. if r.of == selector then None else Some r) regions (λ v y e. omega arith) in
+    omega (arith, len-total (without selector regions), len-total regions, fewer)
+
+-- ---- places
+
+overlap_sym : (a p b q : ℕ) → overlap a p b q ≡ overlap b q a p
+overlap_sym a p b q = grind (arith, nat_tests)
+
+overlap_self : (a p q : ℕ) → 1 ≤ p → 1 ≤ q → overlap a p a q ≡ true
+overlap_self a p q some more = grind (arith, nat_tests)
+
+-- no region starts where pages can stand
+free_place : (regions : NatMap Region) (pages address : ℕ) → 1 ≤ pages → ((start : ℕ) (region : Region) → get regions start ≡ Some region → 1 ≤ region.pages) →
+    IsPlace user_low user_high regions pages address → get regions address ≡ None
+free_place regions pages address some each at =
+    elim (get regions address) as (λ o. get regions address ≡ o → o ≡ None) [
+      | None ↦ λ _. refl
+      | Some r ↦ λ there. absurd (true≢false (sym (overlap_self address r.pages pages (each address r there) some) ∙ at.free address r there))
+    ] refl
+
+-- ---- dataspaces
+
+page_count : (n : ℕ) → 0 < n → (1 ≤ page_of n / 4096) × (page_of n ≡ page_of n / 4096 * 4096)
+page_count n some = omega arith
+
+pages_of_length : (bytes : List ℕ) (n : ℕ) → length bytes ≡ page_of n → 0 < n → IsPages bytes
+pages_of_length bytes n e some =
+    let count = page_count n some in
+    record { some = subst (λ l. 1 ≤ l / 4096) (sym e) count.0; whole = subst (λ l. l ≡ l / 4096 * 4096) (sym e) count.1 }
+
+valid_parts : (a b : Bool) (o : Option Refusal) (x : Refusal) → cond (a && b) o (Some x) ≡ None → a ≡ true
+valid_parts true b o x accepted = refl
+valid_parts false b o x accepted = absurd (none-some x (sym accepted))
+
+positive : (n : ℕ) → nat_lt 0 n ≡ true → 0 < n
+positive n h = grind (arith, nat_tests)
+
+valid_some : (n : ℕ) (a : Account) → alloc_refusal n a ≡ None → 0 < n
+valid_some n a accepted = positive n (valid_parts (nat_lt 0 n) (nat_lt (page_of n) (2 ^ 64)) (shortage a (page_of n) 1) InvalidSize accepted)
+
+abbrev EachWhole : NatMap Object → Type 0
+EachWhole selectors = (selector : ℕ) (bytes : List ℕ) → get selectors selector ≡ Some (Dataspace bytes) → IsPages bytes
+
+abbrev ObjectWhole : Object → Type 0
+ObjectWhole (Dataspace bytes) = IsPages bytes
+ObjectWhole RpcObject = Unit {0}
+
+whole_objects : (selectors : NatMap Object) → EachWhole selectors → (q : ℕ) (w : Object) → get selectors q ≡ Some w → ObjectWhole w
+whole_objects selectors each q (Dataspace bytes) is = each q bytes is
+whole_objects selectors each q RpcObject is = tt
+
+whole_after : (selectors : NatMap Object) (k : ℕ) (object : Object) → EachWhole selectors → ObjectWhole object → EachWhole (insert selectors k object)
+whole_after selectors k object each here selector bytes is =
+    after_insert (λ q w. ObjectWhole w) selectors k object (whole_objects selectors each) here selector (Dataspace bytes) is
+
+-- ---- names
+
+-- a region whose selector's dataspace stays is named
+named_same : (xs ys : NatMap Object) (region : Region) (h : NamesDataspace xs region) → get ys region.of ≡ get xs region.of → NamesDataspace ys region
+named_same xs ys region h e = record { bytes = h.bytes; there = e ∙ h.there; pages = h.pages }
+
+-- so it is where a free selector is filled
+named_new : (selectors : NatMap Object) (k : ℕ) (object : Object) (region : Region) → get selectors k ≡ None → NamesDataspace selectors region → NamesDataspace (insert selectors k object) region
+named_new selectors k object region free h =
+    named_same selectors (insert selectors k object) region h
+    (get-insert_other selectors k object region.of (apart_from_free selectors k region.of free (IsSome-at selectors region.of (Dataspace h.bytes) h.there)))
+
+-- and where another goes
+named_left : (selectors : NatMap Object) (k : ℕ) (region : Region) → region.of ≢ k → NamesDataspace selectors region → NamesDataspace (remove selectors k) region
+named_left selectors k region other h = named_same selectors (remove selectors k) region h (get-remove_other selectors k region.of other)
+
+object_of : (o : Option Object) (a b : Object) → o ≡ Some a → o ≡ Some b → a ≡ b
+object_of o a b x y = same_Some a b (sym x ∙ y)
+
+-- and where bytes are put over others
+named_poked : (selectors : NatMap Object) (k offset : ℕ) (part : List ℕ) (object : Object) (region : Region) → get selectors k ≡ Some object →
+    NamesDataspace selectors region → NamesDataspace (insert selectors k (object_with object offset part)) region
+named_poked selectors k offset part object region there h =
+    elim (eqb region.of k) as (λ b. eqb region.of k ≡ b → NamesDataspace (insert selectors k (object_with object offset part)) region) [
+      | true ↦ λ same.
+          let at : region.of ≡ k = eqb-true region.of k same in
+          let is : object ≡ Dataspace h.bytes = object_of (get selectors k) object (Dataspace h.bytes) there (ap (get selectors) (sym at) ∙ h.there) in
+          record {
+            bytes = with_part h.bytes offset part;
+            there = get-insert_same selectors k (object_with object offset part) region.of at ∙ ap (λ o. Some (object_with o offset part)) is;
+            pages = h.pages ∙ ap (λ l. l / 4096) (sym (length-with_part h.bytes offset part));
+          }
+      | false ↦ λ other. named_same selectors _ region h (get-insert_other selectors k (object_with object offset part) region.of (apart_by region.of k other))
+    ] refl
+
+pages_poked : (object : Object) (offset : ℕ) (part : List ℕ) → ObjectWhole object → ObjectWhole (object_with object offset part)
+pages_poked (Dataspace bytes) offset part h =
+    let e = length-with_part bytes offset part in
+    record { some = subst (λ l. 1 ≤ l / 4096) (sym e) h.some; whole = subst (λ l. l ≡ l / 4096 * 4096) (sym e) h.whole }
+pages_poked RpcObject offset part h = tt
+
+-- ---- what each effect keeps
+
+sound_allocated : (n : ℕ) (s : OwnState) → IsSound s → alloc_refusal n s.account ≡ None → IsSound (allocated n s).next
+sound_allocated n s h accepted =
+    let key = new_selector s.selectors in
+    let free = new_selector_free s.selectors in
+    let space = Dataspace (zeros (page_of n)) in
+    record {
+      whole = whole_after s.selectors key space h.whole (pages_of_length (zeros (page_of n)) n (length-zeros (page_of n)) (valid_some n s.account accepted));
+      named = λ start region is. named_new s.selectors key space region free (h.named start region is);
+      within = h.within;
+      apart = h.apart;
+      few = h.few;
+    }
+
+sound_cap_allocated : (s : OwnState) → IsSound s → IsSound (cap_allocated s).next
+sound_cap_allocated s h =
+    let key = new_selector s.selectors in
+    let free = new_selector_free s.selectors in
+    record {
+      whole = whole_after s.selectors key RpcObject h.whole tt;
+      named = λ start region is. named_new s.selectors key RpcObject region free (h.named start region is);
+      within = h.within;
+      apart = h.apart;
+      few = h.few;
+    }
+
+sound_freed : (selector : ℕ) (bytes : List ℕ) (s : OwnState) → IsSound s → IsSound (freed selector (Some (Dataspace bytes)) s).next
+sound_freed selector bytes s h = record {
+  whole = λ q b is. h.whole q b (before_remove s.selectors selector q (Dataspace b) is);
+  named = λ start region is.
+      let left = left_without selector s.regions start region is in
+      named_left s.selectors selector region left.1 (h.named start region left.0);
+  within = λ start region is. h.within start region (left_without selector s.regions start region is).0;
+  apart = λ a b r q x y. h.apart a b r q (left_without selector s.regions a r x).0 (left_without selector s.regions b q y).0;
+  few = omega (arith, h.few, len-without selector s.regions);
+}
+
+abbrev is_rpc : Object → Bool
+is_rpc (Dataspace bytes) = false
+is_rpc RpcObject = true
+
+rpc_is_none : (bytes : List ℕ) → ¬ (RpcObject ≡ Dataspace bytes)
+rpc_is_none bytes e = true≢false (ap is_rpc e)
+
+-- who names an RPC object names no dataspace
+not_rpc : (selectors : NatMap Object) (k : ℕ) (region : Region) → get selectors k ≡ Some RpcObject → NamesDataspace selectors region → region.of ≢ k
+not_rpc selectors k region there h at = rpc_is_none h.bytes (object_of (get selectors k) RpcObject (Dataspace h.bytes) there (ap (get selectors) (sym at) ∙ h.there))
+
+sound_cap_freed : (selector : ℕ) (s : OwnState) → get s.selectors selector ≡ Some RpcObject → IsSound s → IsSound (cap_freed selector (Some RpcObject) s).next
+sound_cap_freed selector s there h = record {
+  whole = λ q b is. h.whole q b (before_remove s.selectors selector q (Dataspace b) is);
+  named = λ start region is.
+      let before = h.named start region is in
+      named_left s.selectors selector region (not_rpc s.selectors selector region there before) before;
+  within = h.within;
+  apart = h.apart;
+  few = h.few;
+}
+
+len-remove_le : {X : Type 0} (m : NatMap X) (k : ℕ) → len (remove m k) ≤ len m
+len-remove_le m k = grind (arith, len-remove nat_cmp_total m k)
+
+sound_detached : (address : ℕ) (s : OwnState) → IsSound s → IsSound (region_detached address s).next
+sound_detached address s h = record {
+  whole = h.whole;
+  named = λ start region is. h.named start region (before_remove s.regions address start region is);
+  within = λ start region is. h.within start region (before_remove s.regions address start region is);
+  apart = λ a b r q x y. h.apart a b r q (before_remove s.regions address a r x) (before_remove s.regions address b q y);
+  few = omega (arith, h.few, len-remove_le s.regions address);
+}
+
+sound_poked : (selector offset : ℕ) (bytes : List ℕ) (object : Object) (s : OwnState) → get s.selectors selector ≡ Some object → IsSound s →
+    IsSound (poked_at selector offset bytes (Some object) s).next
+sound_poked selector offset bytes object s there h = record {
+  whole = whole_after s.selectors selector (object_with object offset bytes) h.whole
+      (pages_poked object offset bytes (whole_objects s.selectors h.whole selector object there));
+  named = λ start region is. named_poked s.selectors selector offset bytes object region there (h.named start region is);
+  within = h.within;
+  apart = h.apart;
+  few = h.few;
+}
+
+-- each region has a page
+some_pages : (s : OwnState) → IsSound s → (start : ℕ) (region : Region) → get s.regions start ≡ Some region → 1 ≤ region.pages
+some_pages s h start region there =
+    let named = h.named start region there in
+    let pages = h.whole region.of named.bytes named.there in
+    subst (λ n. 1 ≤ n) (sym named.pages) pages.some
+
+fewer : (most n : ℕ) → nat_le most n ≡ false → n + 1 ≤ most
+fewer most n h = grind (arith, nat_tests)
+
+-- a region more lies apart from the others, where pages can stand
+apart_after : (regions : NatMap Region) (address : ℕ) (region : Region) →
+    ((a b : ℕ) (r q : Region) → get regions a ≡ Some r → get regions b ≡ Some q → a ≢ b → overlap a r.pages b q.pages ≡ false) →
+    ((start : ℕ) (r : Region) → get regions start ≡ Some r → overlap start r.pages address region.pages ≡ false) →
+    (a b : ℕ) (r q : Region) → get (insert regions address region) a ≡ Some r → get (insert regions address region) b ≡ Some q → a ≢ b → overlap a r.pages b q.pages ≡ false
+apart_after regions address region apart free a b r q x y =
+    after_insert (λ a r. (b : ℕ) (q : Region) → get (insert regions address region) b ≡ Some q → a ≢ b → overlap a r.pages b q.pages ≡ false) regions address region
+    (λ a r x. after_insert (λ b q. a ≢ b → overlap a r.pages b q.pages ≡ false) regions address region (λ b q y. apart a b r q x y) (λ _. free a r x))
+    (after_insert (λ b q. address ≢ b → overlap address region.pages b q.pages ≡ false) regions address region
+    (λ b q y _. overlap_sym address region.pages b q.pages ∙ free b q y) (λ same. absurd (same refl)))
+    a r x b q y
+
+sound_attached : (selector address : ℕ) (bytes : List ℕ) (s : OwnState) → get s.selectors selector ≡ Some (Dataspace bytes) →
+    can_stand user_low user_high s.regions (pages_in bytes) address ≡ true → nat_le most_regions (len s.regions) ≡ false →
+    IsSound s → IsSound (with_region selector (pages_in bytes) address s).next
+sound_attached selector address bytes s there can room h =
+    let at = place user_low user_high s.regions (pages_in bytes) address can in
+    let region : Region = record { of = selector; pages = pages_in bytes } in
+    let free = free_place s.regions (pages_in bytes) address (h.whole selector bytes there).some (some_pages s h) at in
+    record {
+      whole = h.whole;
+      named = after_insert (λ start r. NamesDataspace s.selectors r) s.regions address region h.named (record { bytes = bytes; there = there; pages = refl });
+      within = after_insert (λ start r. IsInWindow start r.pages) s.regions address region h.within
+          (record { aligned = at.aligned; from_low = at.from_low; to_high = at.to_high });
+      apart = apart_after s.regions address region h.apart at.free;
+      few = omega (arith, fewer most_regions (len s.regions) room, len-insert_new s.regions address region free);
+    }
+
+effects_sound : (s : OwnState) → IsSound s → KeptByEffects IsSound s
+effects_sound s h = record {
+  allocates = λ n accepted. sound_allocated n s h accepted;
+  frees = λ selector bytes there. sound_freed selector bytes s h;
+  attaches = λ selector address bytes there can room. sound_attached selector address bytes s there can room h;
+  detaches = λ address. sound_detached address s h;
+  pokes = λ selector offset bytes object there. sound_poked selector offset bytes object s there h;
+  allocates_cap = λ accepted. sound_cap_allocated s h;
+  frees_cap = λ selector there. sound_cap_freed selector s there h;
+}
+
+-- who starts has no regions and no dataspaces
+pub start_sound : (start : StartEntry) → IsSound (start_state start)
+start_sound start = record {
+  whole = λ selector bytes is. absurd (none-some (Dataspace bytes) (sym (get-empty selector) ∙ is));
+  named = λ at region is. absurd (none-some region (sym (get-empty at) ∙ is));
+  within = λ at region is. absurd (none-some region (sym (get-empty at) ∙ is));
+  apart = λ a b r q x y. absurd (none-some r (sym (get-empty a) ∙ x));
+  few = omega (arith, len-empty nat_cmp Region);
+}
+
+-- a call keeps it so
+pub step_sound : (entry : Entry) (call : Call) (s : OwnState) → IsSound s → IsSound (own_step entry call s).next
+step_sound entry call s h = step_keeps IsSound s h (effects_sound s h) entry call
+
+-- and so do calls
+pub run_sound : (entry : Entry) (calls : List Call) (s : OwnState) → IsSound s → IsSound (own_run entry calls s)
+run_sound = run_keeps IsSound effects_sound
+
+-- what is freed has no region left
+pub freed_has_none : (s : OwnState) (selector : ℕ) (bytes : List ℕ) → get s.selectors selector ≡ Some (Dataspace bytes) →
+    (start : ℕ) (region : Region) → get (script_step (Free selector) s).next.regions start ≡ Some region → region.of ≢ selector
+freed_has_none s selector bytes there start region is =
+    (left_without selector s.regions start region (subst (λ o. get (freed selector o s).next.regions start ≡ Some region) there is)).1
+
+full : (most n : ℕ) → n ≡ most → nat_le most n ≡ true
+full most n e = grind (arith, nat_tests)
+
+-- a map with as many regions as there can be takes no more
+pub full_refuses : (s : OwnState) (selector address : ℕ) (bytes : List ℕ) → get s.selectors selector ≡ Some (Dataspace bytes) → len s.regions ≡ most_regions →
+    (script_step (Attach selector) s ≡ refused s TooManyRegions) × (script_step (AttachAt selector address) s ≡ refused s TooManyRegions)
+full_refuses s selector address bytes there count =
+    let is_full : nat_le most_regions (len s.regions) ≡ true = full most_regions (len s.regions) count in (
+      ap (λ o. attached_first selector o s) there ∙ ap (λ b. unless (cond b (Some TooManyRegions) (cond (is_none (first_gap user_low user_high s.regions (pages_in bytes))) (Some RegionConflict) None)) s (with_region selector (pages_in bytes) (user_gap s.regions (pages_in bytes)) s)) is_full,
+      ap (λ o. attached_at selector address o s) there ∙ ap (λ b. unless (cond b (Some TooManyRegions) (cond (can_stand user_low user_high s.regions (pages_in bytes) address) None (Some RegionConflict))) s (with_region selector (pages_in bytes) address s)) is_full,
+    )
+
+-- what no selector names can't be attached, even to a map that is full
+pub unnamed_refused : (s : OwnState) (selector address : ℕ) → get s.selectors selector ≡ None →
+    (script_step (Attach selector) s ≡ refused s InvalidCap) × (script_step (AttachAt selector address) s ≡ refused s InvalidCap)
+unnamed_refused s selector address free = (ap (λ o. attached_first selector o s) free, ap (λ o. attached_at selector address o s) free)

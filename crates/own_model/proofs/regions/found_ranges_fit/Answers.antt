@@ -1,0 +1,5 @@
+use Rattle.own_model.proofs.RangeLemmas.{range_fits}
+use Rattle.own_model.proofs.regions.found_ranges_fit.Goals as goal
+
+pub returns : goal.returns
+returns c = range_fits

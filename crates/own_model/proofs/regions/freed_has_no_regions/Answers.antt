@@ -1,0 +1,5 @@
+use Rattle.own_model.proofs.SoundLemmas.{freed_has_none}
+use Rattle.own_model.proofs.regions.freed_has_no_regions.Goals as goal
+
+pub returns : goal.returns
+returns c = freed_has_none

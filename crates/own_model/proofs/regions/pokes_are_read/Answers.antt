@@ -1,0 +1,5 @@
+use Rattle.own_model.proofs.RangeLemmas.{poke_read}
+use Rattle.own_model.proofs.regions.pokes_are_read.Goals as goal
+
+pub returns : goal.returns
+returns c = poke_read

@@ -1,0 +1,23 @@
+use Rattle.std.proofs.Common.{refl}
+use Rattle.own_model.proofs.rows.arguments_are_read.Goals as goal
+
+pub returns-clause-address : goal.returns-clause-address
+returns-clause-address c = refl
+
+pub returns-clause-zeros : goal.returns-clause-zeros
+returns-clause-zeros c = refl
+
+pub returns-clause-at : goal.returns-clause-at
+returns-clause-at c = refl
+
+pub returns-clause-bytes : goal.returns-clause-bytes
+returns-clause-bytes c = refl
+
+pub returns-clause-addresses : goal.returns-clause-addresses
+returns-clause-addresses c = refl
+
+pub returns-clause-hex : goal.returns-clause-hex
+returns-clause-hex c = refl
+
+pub returns-clause-spaces : goal.returns-clause-spaces
+returns-clause-spaces c = refl

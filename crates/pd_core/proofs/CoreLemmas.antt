@@ -1,0 +1,142 @@
+-- The world when one component's call has changed the memory and the component.
+use Rattle.std.proofs.Common.{◌≡◌, ℕ, ◌<◌, ◌≢◌, List, length, map, get_or, set, subst, sym, ap, ◌∙◌, inl, inr, arith, length-set, get_or-set_other}
+use Rattle.std.specs.Option.{unwrap_or}
+use Rattle.std.proofs.lemmas.Bool.{cases_eq}
+use Rattle.std.proofs.lemmas.List.{map-set, set-get_or, get_or-map, ext_get_or, length-map, get_or_read}
+use Rattle.std.proofs.lemmas.Grind.{get_or-set_at}
+use Rattle.trade_base.specs.declared.id.AccountId.{AccountId}
+use Rattle.own_model.specs.Account.{opened}
+use Rattle.own_model.specs.Call.{Call}
+use Rattle.own_model.specs.OwnStep.{own_step}
+use Rattle.own_model.specs.Transcript.{nobody, nothing, entry_at, state_at}
+use Rattle.own_model.specs.World.{World, with_state, outcome_at}
+use Rattle.quota_core.specs.Books.{account_at}
+use Rattle.dataspace_core.specs.Store.{Store, part}
+use Rattle.pd_core.specs.Own.{own_of}
+use Rattle.pd_core.specs.Component.{entry_of, caps_of, user_of, own, IsSound, IsSoundRole}
+use Rattle.pd_core.specs.Core.{world_of, payer_at, IsCore}
+use Rattle.pd_core.specs.declared.component.Component.{Component}
+
+-- the whole core has the component's entry and own state in its place
+module _ (store : Store) (components : List Component) (i : ℕ) (caller : Component) (here : i < length components) (read : caller ≡ get_or components i caller) where
+  caller_is : (d : Component) → caller ≡ get_or components i d
+  caller_is d = get_or_read components i caller here read d
+
+  entry_is : entry_at (map entry_of components) i ≡ entry_of caller
+  entry_is = get_or-map entry_of components i caller nobody here ∙ ap entry_of (sym (caller_is caller))
+
+  state_is : state_at (map (own store) components) i ≡ own store caller
+  state_is = get_or-map (own store) components i caller nothing here ∙ ap (own store) (sym (caller_is caller))
+
+  pub outcome_is : (call : Call) → outcome_at (world_of store components) i call ≡ own_step (entry_of caller) call (own store caller)
+  outcome_is call = ap (λ e. own_step e call (state_at (map (own store) components) i)) entry_is ∙ ap (λ s. own_step (entry_of caller) call s) state_is
+
+  pub caller_sound : IsCore store components → IsSound store caller
+  caller_sound core = subst (IsSound store) (sym (caller_is caller)) (core.sound i caller here)
+
+  module _ (core : IsCore store components) (store' : Store) (after : Component) (entry : entry_of after ≡ entry_of caller) (account : after.account ≡ caller.account)
+      (root : store'.books.root ≡ store.books.root) (others : (other : ℕ) → other ≢ caller.account.0 → part other store' ≡ part other store) where
+    same_entries : map entry_of (set components i after) ≡ map entry_of components
+    same_entries =
+        map-set entry_of components i after
+        ∙ ap (set (map entry_of components) i) (entry ∙ sym entry_is)
+        ∙ set-get_or (map entry_of components) i nobody
+
+    init_apart : store.books.root ≢ caller.account.0
+    init_apart e = core.not_init i caller here (ap (λ (c : Component). c.account.0) (sym (caller_is caller)) ∙ sym e)
+
+    same_init : account_at store'.books store'.books.root ≡ account_at store.books store.books.root
+    unfolding part
+    same_init = ap (account_at store'.books) root ∙ ap (λ p. unwrap_or p.account (opened 0 0)) (others store.books.root init_apart)
+
+    -- the others' parts
+    other_part : (k : ℕ) (d : Component) → k < length components → k ≢ i → part (payer_at components k d) store' ≡ part (payer_at components k d) store
+    other_part k d within differs =
+        let theirs : payer_at components k d ≢ caller.account.0 = λ e. core.apart k i d within here differs (e ∙ ap (λ (c : Component). c.account.0) (caller_is d)) in
+        others (payer_at components k d) theirs
+
+    -- and own states
+    other_states : (k : ℕ) → k < length components → k ≢ i → own store' (get_or components k caller) ≡ own store (get_or components k caller)
+    other_states k within differs =
+        let other : Component = get_or components k caller in
+        ap (λ p. own_of p (caps_of other.role) (user_of other.role)) (other_part k caller within differs)
+
+    states_at : (k : ℕ) → k < length components →
+        get_or (set (map (own store') components) i (own store' after)) k nothing ≡ get_or (set (map (own store) components) i (own store' after)) k nothing
+    states_at k within = elim (cases_eq k i) [
+      | inl at ↦
+          get_or-set_at (map (own store') components) i k (own store' after) nothing at (omega (arith, here, length-map components (own store')))
+          ∙ sym (get_or-set_at (map (own store) components) i k (own store' after) nothing at (omega (arith, here, length-map components (own store))))
+      | inr differs ↦
+          get_or-set_other (map (own store') components) i k (own store' after) nothing differs
+          ∙ get_or-map (own store') components k caller nothing within
+          ∙ other_states k within differs
+          ∙ sym (get_or-map (own store) components k caller nothing within)
+          ∙ sym (get_or-set_other (map (own store) components) i k (own store' after) nothing differs)
+    ]
+
+    rows : (s : Store) → length (set (map (own s) components) i (own store' after)) ≡ length components
+    rows s = length-set (map (own s) components) i (own store' after) ∙ length-map components (own s)
+
+    same_states : map (own store') (set components i after) ≡ set (map (own store) components) i (own store' after)
+    same_states = map-set (own store') components i after ∙ ext_get_or nothing _ _ (rows store' ∙ sym (rows store)) (λ k h. states_at k (omega (arith, h, rows store')))
+
+    pub world_after : (call : Call) → own store' after ≡ (own_step (entry_of caller) call (own store caller)).next →
+        world_of store' (set components i after) ≡ with_state (world_of store components) i (outcome_at (world_of store components) i call).next
+    world_after call next =
+        let state : own store' after ≡ (outcome_at (world_of store components) i call).next = next ∙ ap (λ o. o.next) (sym (outcome_is call)) in
+        let states = same_states ∙ ap (set (map (own store) components) i) state in
+        λ j. record { entries = same_entries j; init = same_init j; states = states j }
+
+    after_at : (k : ℕ) (d : Component) → k ≡ i → get_or (set components i after) k d ≡ after
+    after_at k d at = get_or-set_at components i k after d at here
+
+    payer_stays : (k : ℕ) (d : Component) → payer_at (set components i after) k d ≡ payer_at components k d
+    payer_stays k d = elim (cases_eq k i) [
+      | inl at ↦
+          ap (λ (c : Component). c.account.0) (after_at k d at) ∙ ap (λ (a : AccountId). a.0) account
+          ∙ ap (λ (c : Component). c.account.0) (caller_is d ∙ ap (λ j. get_or components j d) (sym at))
+      | inr differs ↦ ap (λ (c : Component). c.account.0) (get_or-set_other components i k after d differs)
+    ]
+
+    sound_at : IsSound store' after → (k : ℕ) (d : Component) → k < length components → IsSound store' (get_or (set components i after) k d)
+    sound_at sound k d within = elim (cases_eq k i) [
+      | inl at ↦ subst (IsSound store') (sym (after_at k d at)) sound
+      | inr differs ↦ subst (IsSound store') (sym (get_or-set_other components i k after d differs))
+          (let other : Component = get_or components k d in subst (λ p. IsSoundRole p other.role) (sym (other_part k d within differs)) (core.sound k d within))
+    ]
+
+    as_many : length (set components i after) ≡ length components
+    as_many = length-set components i after
+
+    pub core_after : IsSound store' after → IsCore store' (set components i after)
+    core_after sound = record {
+      sound = λ k d h. sound_at sound k d (omega (arith, h, as_many));
+      not_init = λ k d h e. core.not_init k d (omega (arith, h, as_many)) (sym (payer_stays k d) ∙ e ∙ root);
+      apart = λ j k d g h differs e. core.apart j k d (omega (arith, g, as_many)) (omega (arith, h, as_many)) differs (sym (payer_stays j d) ∙ e ∙ payer_stays k d);
+    }
+
+-- the same where the world is told by another name, as the model's value is
+module _ (store : Store) (components : List Component) (world : World) (is : world_of store components ≡ world) (i : ℕ) (caller : Component)
+    (inside : i < length world.entries) (read : caller ≡ get_or components i caller) (core : IsCore store components) where
+  pub caller_within : i < length components
+  caller_within = omega (arith, inside, ap (λ w. length w.entries) is, length-map components entry_of)
+
+  pub sound_caller : IsSound store caller
+  sound_caller = caller_sound store components i caller caller_within read core
+
+  pub told_outcome : (call : Call) → own_step (entry_of caller) call (own store caller) ≡ outcome_at world i call
+  told_outcome call = sym (outcome_is store components i caller caller_within read call) ∙ ap (λ w. outcome_at w i call) is
+
+  pub told_world : (store' : Store) (after : Component) → entry_of after ≡ entry_of caller → after.account ≡ caller.account → store'.books.root ≡ store.books.root →
+      ((other : ℕ) → other ≢ caller.account.0 → part other store' ≡ part other store) →
+      (call : Call) → own store' after ≡ (own_step (entry_of caller) call (own store caller)).next →
+      world_of store' (set components i after) ≡ with_state world i (outcome_at world i call).next
+  told_world store' after entry account root others call next =
+      world_after store components i caller caller_within read core store' after entry account root others call next
+      ∙ ap (λ w. with_state w i (outcome_at w i call).next) is
+
+  pub told_core : (store' : Store) (after : Component) → entry_of after ≡ entry_of caller → after.account ≡ caller.account → store'.books.root ≡ store.books.root →
+      ((other : ℕ) → other ≢ caller.account.0 → part other store' ≡ part other store) → IsSound store' after → IsCore store' (set components i after)
+  told_core store' after entry account root others sound =
+      core_after store components i caller caller_within read core store' after entry account root others sound

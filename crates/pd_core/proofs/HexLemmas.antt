@@ -1,0 +1,85 @@
+-- What hexadecimal digits stand for.
+use Rattle.std.proofs.Common.{◌≡◌, ℕ, ◌+◌, ◌*◌, ◌/◌, ◌%◌, List, [], ◌∷◌, length, refl, sym, ap, ◌∙◌, arith, is_some, IsSome, Bool, true, false, eqb, cond, true≢false, Option, Some, None}
+use Rattle.std.specs.Prelude.{Result, Ok, is_none}
+use Rattle.std.specs.Option.{option_map, option_and_then, unwrap_or}
+use Rattle.std.proofs.lemmas.Bool.Decides.{nat_tests}
+use Rattle.trade_base.specs.declared.refusal.Refusal.{Refusal}
+use Rattle.trade_base.specs.declared.refusal.Refusal.TheVariants.{InvalidSize}
+use Rattle.own_model.specs.Call.Call.{Poke}
+use Rattle.own_model.specs.OwnStep.{Outcome, refused, unless, poked, count_refusal}
+use Rattle.own_model.specs.Region.{resolved}
+use Rattle.dataspace_core.specs.Store.{Part}
+use Rattle.pd_core.specs.Call.{bytes_in}
+use Rattle.pd_core.specs.Own.{own_at, outcome_of}
+use Rattle.pd_core.specs.declared.tables.Tables.{Tables}
+use Rattle.own_model.specs.Text.{bytes_of_hex, hex_digit_of}
+use Rattle.hex.specs.declared.error.FromHexError.{FromHexError}
+use Rattle.hex.specs.Hex.{decode_pairs, decode_sized, hex_digit_value, digit_or_error, ◌>>=◌}
+
+-- two digits and the rest
+record Parts (h l : Option ℕ) (r : Option (List ℕ)) (bytes : List ℕ) : Type 0 where
+  high : ℕ
+  low : ℕ
+  rest : List ℕ
+  is_high : h ≡ Some high
+  is_low : l ≡ Some low
+  is_rest : r ≡ Some rest
+  all : bytes ≡ (high * 16 + low) ∷ rest
+
+same_list : (a b : List ℕ) → Some a ≡ Some b → b ≡ a
+same_list a b e = cc
+
+parts : (h l : Option ℕ) (r : Option (List ℕ)) (bytes : List ℕ) →
+    option_and_then (λ byte. option_map (λ (bytes : List ℕ). byte ∷ bytes) r) (option_and_then (λ h. option_map (λ l. h * 16 + l) l) h) ≡ Some bytes → Parts h l r bytes
+parts None l r bytes is = absurd (true≢false (sym (ap is_some is)))
+parts (Some h) None r bytes is = absurd (true≢false (sym (ap is_some is)))
+parts (Some h) (Some l) None bytes is = absurd (true≢false (sym (ap is_some is)))
+parts (Some h) (Some l) (Some rest) bytes is = record { high = h; low = l; rest = rest; is_high = refl; is_low = refl; is_rest = refl; all = same_list ((h * 16 + l) ∷ rest) bytes is }
+
+pub pairs : (i : ℕ) (text bytes : List ℕ) → bytes_of_hex text ≡ Some bytes → (decode_pairs i text ≡ Ok bytes) × (length text ≡ length bytes * 2)
+unfolding decode_pairs
+pairs i [] bytes is = let e = same_list [] bytes is in (ap (λ l. Ok l) (sym e), sym (ap (λ (l : List ℕ). length l * 2) e))
+pairs i (digit ∷ []) bytes is = absurd (true≢false (sym (ap is_some is)))
+pairs i (high ∷ low ∷ rest) bytes is =
+    let p = parts (hex_digit_of high) (hex_digit_of low) (bytes_of_hex rest) bytes is in
+    let later = pairs (i + 2) rest p.rest p.is_rest in (
+      ap (λ o. (digit_or_error high i o >>= (λ h. digit_or_error low (i + 1) (hex_digit_value low) >>= (λ l. Ok (h * 16 + l)))) >>= (λ byte. decode_pairs (i + 2) rest >>= (λ bytes. Ok (byte ∷ bytes)))) p.is_high
+          ∙ ap (λ o. (digit_or_error low (i + 1) o >>= (λ l. Ok (p.high * 16 + l))) >>= (λ byte. decode_pairs (i + 2) rest >>= (λ bytes. Ok (byte ∷ bytes)))) p.is_low
+          ∙ ap (λ o. o >>= (λ bytes. Ok ((p.high * 16 + p.low) ∷ bytes))) later.0
+          ∙ ap (λ l. Ok l) (sym p.all),
+      omega (arith, later.1, ap length p.all),
+    )
+
+-- as many bytes as pairs of digits
+pub half : (text bytes : List ℕ) → bytes_of_hex text ≡ Some bytes → length text / 2 ≡ length bytes
+half text bytes is = omega (arith, (pairs 0 text bytes is).1)
+
+sized : (l n : ℕ) (r odd short : Result (List ℕ) FromHexError) → l ≡ n * 2 → cond (eqb (l % 2) 1) odd (cond (eqb (l / 2) n) r short) ≡ r
+sized l n r odd short even =
+    let first : eqb (l % 2) 1 ≡ false = grind (arith, nat_tests) in
+    let second : eqb (l / 2) n ≡ true = grind (arith, nat_tests) in
+    rw (first, second) refl
+
+-- what is decoded into room for the bytes
+pub decode_is : (text bytes : List ℕ) → bytes_of_hex text ≡ Some bytes → (n : ℕ) → n ≡ length bytes → decode_sized text n ≡ Ok bytes
+decode_is text bytes is n size =
+    let p = pairs 0 text bytes is in
+    sized (length text) n (decode_pairs 0 text) _ _ (p.1 ∙ ap (λ k. k * 2) (sym size)) ∙ p.0
+
+value_of : (o : Option (List ℕ)) → IsSome o → o ≡ Some (unwrap_or o [])
+value_of None h = absurd (true≢false (sym h))
+value_of (Some bytes) h = refl
+
+pub half_is : (text : List ℕ) → IsSome (bytes_of_hex text) → length text / 2 ≡ length (bytes_in text)
+half_is text some = half text (bytes_in text) (value_of (bytes_of_hex text) some)
+
+-- a count that is refused
+counted : (b : Bool) → false ≡ is_none (cond b None (Some InvalidSize)) → cond b None (Some InvalidSize) ≡ Some InvalidSize
+counted true h = absurd (true≢false (sym h))
+counted false h = refl
+
+pub poke_too_long : (p : Part) (tables : Tables) (address : ℕ) (text : List ℕ) → IsSome (bytes_of_hex text) → false ≡ is_none (count_refusal (length text / 2)) →
+    outcome_of p tables (Poke address (bytes_in text)) ≡ refused (own_at p tables) InvalidSize
+poke_too_long p tables address text some h =
+    ap (λ r. unless r (own_at p tables) (poked (bytes_in text) (resolved (own_at p tables).regions address (length (bytes_in text))) (own_at p tables)))
+    (ap count_refusal (sym (half_is text some)) ∙ counted _ h)

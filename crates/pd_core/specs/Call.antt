@@ -1,0 +1,30 @@
+-- A call as the model sees it.
+use Rattle.std.specs.Prelude.{◌≡◌, ℕ, List, [], IsSome}
+use Rattle.std.specs.Option.{unwrap_or}
+use Rattle.own_model.specs.Call.{Call as Modelled}
+use Rattle.own_model.specs.Call.Call.{Alloc as ModelledAlloc, Free as ModelledFree, Attach as ModelledAttach, AttachAt as ModelledAttachAt, Detach as ModelledDetach, Peek as ModelledPeek, Poke as ModelledPoke, Capalloc as ModelledCapalloc, Capfree as ModelledCapfree, Quota as ModelledQuota}
+use Rattle.own_model.specs.Text.{bytes_of_hex}
+use Rattle.pd_core.specs.declared.call.Call.{Call}
+use Rattle.pd_core.specs.declared.call.Call.TheVariants.{Alloc, Free, Attach, AttachAt, Detach, Peek, Poke, Capalloc, Capfree, Quota}
+
+-- the bytes that a text of hexadecimal digits stands for
+abbrev pub bytes_in : List ℕ → List ℕ
+bytes_in hex = unwrap_or (bytes_of_hex hex) []
+
+-- the model's word for a call
+abbrev pub model_call : Call → Modelled
+model_call (Alloc n) = ModelledAlloc n
+model_call (Free selector) = ModelledFree selector
+model_call (Attach selector) = ModelledAttach selector
+model_call (AttachAt selector address) = ModelledAttachAt selector address
+model_call (Detach address) = ModelledDetach address
+model_call (Peek address count) = ModelledPeek address count
+model_call (Poke address hex) = ModelledPoke address (bytes_in hex.now)
+model_call Capalloc = ModelledCapalloc
+model_call (Capfree selector) = ModelledCapfree selector
+model_call Quota = ModelledQuota
+
+-- a poke's text is hexadecimal digits
+abbrev pub IsWellFormed : Call → Type 0
+IsWellFormed (Poke address hex) = IsSome (bytes_of_hex hex.now)
+IsWellFormed _ = Unit {0}

@@ -1,0 +1,69 @@
+-- How a world is stored as a model's value.
+use Rattle.std.specs.Prelude.{◌≡◌, ℕ, Bool, true, false, List, Option, Some, None}
+use Rattle.std.proofs.Common.{refl}
+use Rattle.std.specs.Coded.{Coded, code_by, coded×, coded_ℕ, coded_bool, coded_list, coded_option}
+use Rattle.std.specs.FinMap as map
+use Rattle.own_model.specs.NatMap.{NatMap}
+use Rattle.own_model.specs.Account.{Account}
+use Rattle.own_model.specs.OwnState.{OwnState, Object}
+use Rattle.own_model.specs.OwnState.Object.{Dataspace, RpcObject}
+use Rattle.own_model.specs.StartList.{Entry, Kind}
+use Rattle.own_model.specs.StartList.Kind.{Script, Server}
+use Rattle.own_model.specs.World.{World}
+use Rattle.own_model.specs.Region.{Region}
+use Rattle.quota_core.specs.Books.{coded_account}
+use Rattle.region_map.specs.Regions.{coded_region}
+
+-- an object is stored as its bytes, if it has any
+abbrev pub object_bytes : Object → Option (List ℕ)
+object_bytes (Dataspace bytes) = Some bytes
+object_bytes RpcObject = None
+
+abbrev pub object_from : Option (List ℕ) → Object
+object_from (Some bytes) = Dataspace bytes
+object_from None = RpcObject
+
+abbrev pub object_back : (o : Object) → object_from (object_bytes o) ≡ o
+object_back (Dataspace bytes) = refl
+object_back RpcObject = refl
+
+abbrev pub coded_object : Coded Object
+coded_object = code_by (Option (List ℕ)) (coded_option (coded_list coded_ℕ)) object_bytes object_from object_back
+
+-- a kind is stored as whether it is a script
+abbrev pub is_script : Kind → Bool
+is_script Script = true
+is_script Server = false
+
+abbrev pub kind_from : Bool → Kind
+kind_from true = Script
+kind_from false = Server
+
+abbrev pub kind_back : (k : Kind) → kind_from (is_script k) ≡ k
+kind_back Script = refl
+kind_back Server = refl
+
+abbrev pub coded_kind : Coded Kind
+coded_kind = code_by Bool coded_bool is_script kind_from kind_back
+
+-- the records are stored as the tuples of their fields
+abbrev pub coded_entry : Coded Entry
+coded_entry = code_by (List ℕ × Kind) (coded× (coded_list coded_ℕ) coded_kind) (λ e. (e.name, e.kind)) (λ p. record { name = p.0; kind = p.1 }) (λ _. refl)
+
+abbrev pub coded_own_state : Coded OwnState
+coded_own_state =
+    code_by
+    (Account × (NatMap Object × (NatMap Region × Bool)))
+    (coded× coded_account (coded× (map.code coded_ℕ coded_object) (coded× (map.code coded_ℕ coded_region) coded_bool)))
+    (λ s. (s.account, (s.selectors, (s.regions, s.gone))))
+    (λ p. record { account = p.0; selectors = p.1.0; regions = p.1.1.0; gone = p.1.1.1 })
+    (λ _. refl)
+
+abbrev pub coded_world : Coded World
+coded_world =
+    code_by
+    (List Entry × (Account × List OwnState))
+    (coded× (coded_list coded_entry) (coded× coded_account (coded_list coded_own_state)))
+    (λ w. (w.entries, (w.init, w.states)))
+    (λ p. record { entries = p.0; init = p.1.0; states = p.1.1 })
+    (λ _. refl)

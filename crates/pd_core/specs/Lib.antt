@@ -1,0 +1,6 @@
+pub mod Call
+pub mod Answer
+pub mod Own
+pub mod Component
+pub mod CodedWorld
+pub mod Core

@@ -1,0 +1,26 @@
+//! The calls of a component.
+
+/// A call of a component. Its texts are slices of the line that made it.
+#[derive(Clone, Copy, Debug)]
+pub enum Call<'a> {
+    /// A dataspace of so many bytes.
+    Alloc(u64),
+    /// The dataspace that a selector names goes.
+    Free(u64),
+    /// The dataspace that a selector names is attached at the first gap.
+    Attach(u64),
+    /// The dataspace that a selector names is attached at an address.
+    AttachAt { selector: u64, address: u64 },
+    /// The region that starts at an address goes.
+    Detach(u64),
+    /// So many bytes from an address on are told.
+    Peek { address: u64, count: u64 },
+    /// Bytes, in hexadecimal digits, are put from an address on.
+    Poke { address: u64, hex: &'a [u8] },
+    /// An RPC object.
+    Capalloc,
+    /// The RPC object that a selector names goes.
+    Capfree(u64),
+    /// The use and the limits of the caller's account are told.
+    Quota,
+}

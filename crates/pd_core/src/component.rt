@@ -1,0 +1,88 @@
+//! A component: what it is, and what its calls do.
+ghost use Rattle.std.specs.Prelude.{◌≡◌, ◌≢◌, ℕ};
+
+use crate::answer::Answer;
+use crate::call::Call;
+use crate::reply::Reply;
+use crate::script::script_step;
+use crate::tables::Tables;
+use cap_space::CapSpace;
+use dataspace_core::Memory;
+use region_map::RegionMap;
+use trade_base::{AccountId, Refusal};
+
+/// What a component is for.
+#[derive(Drop)]
+pub enum Role {
+    /// It makes calls, and has capabilities and regions.
+    Script(Tables),
+    /// It answers the calls of others.
+    Server,
+}
+
+/// A component: its name, the account that it is charged on, and its role.
+#[derive(Drop)]
+pub struct Component {
+    pub name: &'static [u8],
+    pub account: AccountId,
+    pub role: Role,
+}
+
+impl Component {
+    ghost use Rattle.std.specs.Prelude.{◌≡◌, ◌≢◌, ℕ};
+    ghost use Rattle.own_model.specs.OwnStep.{own_step};
+    ghost use Rattle.own_model.specs.Reply.{reply_text};
+    ghost use Rattle.dataspace_core.specs.Store.{part};
+    ghost use Rattle.pd_core.specs.Call.{model_call, IsWellFormed};
+    ghost use Rattle.pd_core.specs.Component.{entry_of, own, IsSound};
+    ghost use Rattle.pd_core.specs.declared.component.Role.TheVariants.{Script, Server};
+
+    /// A script with what it has at the boot.
+    pub fn script(
+        name: &'static [u8],
+        account: AccountId,
+        caps: CapSpace,
+        regions: RegionMap,
+    ) -> Component
+        ensures name { result.name.now ≡ name.now }
+        ensures account { result.account ≡ account }
+        ensures role { result.role ≡ Script (record { caps = caps; regions = regions }) }
+    {
+        Component {
+            name,
+            account,
+            role: Role::Script(Tables { caps, regions }),
+        }
+    }
+
+    /// A server.
+    pub fn server(name: &'static [u8], account: AccountId) -> Component
+        ensures name { result.name.now ≡ name.now }
+        ensures account { result.account ≡ account }
+        ensures role { result.role ≡ Server }
+    {
+        Component {
+            name,
+            account,
+            role: Role::Server,
+        }
+    }
+
+    /// Carries a call of the component out, and writes what it is answered in place of what the reply was.
+    pub(crate) fn step(&mut self, memory: &mut Memory, call: Call<'_>, reply: &mut Reply)
+        requires sound { IsSound memory.old self.old }
+        requires call { IsWellFormed call }
+        ensures answered { reply.new ≡ reply_text (own_step (entry_of self.old) (model_call call.entry) (own memory.old self.old)).reply }
+        ensures next { own memory.new self.new ≡ (own_step (entry_of self.old) (model_call call.entry) (own memory.old self.old)).next }
+        ensures sound { IsSound memory.new self.new }
+        ensures entry { entry_of self.new ≡ entry_of self.old }
+        ensures account { self.new.account ≡ self.old.account }
+        ensures root { memory.new.books.root ≡ memory.old.books.root }
+        ensures others { (other : ℕ) → other ≢ self.old.account.0 → part other memory.new ≡ part other memory.old }
+    {
+        match &mut self.role {
+            Role::Script(tables) => script_step(memory, self.account, tables, call, reply),
+            Role::Server => Answer::Refused(Refusal::NotAScript).tell(reply),
+        }
+    }
+}

@@ -1,0 +1,60 @@
+//! The core: the memory, and the components whose calls it carries out.
+ghost use Rattle.std.specs.Prelude.{◌≡◌, ◌<◌, ℕ, length};
+
+use crate::call::Call;
+use crate::component::Component;
+use crate::reply::Reply;
+use dataspace_core::Memory;
+use std::marker::Model;
+
+/// The machine's memory with its components. Contracts see the entries of the start list, what init keeps, and each
+/// component's own state.
+#[derive(Drop)]
+pub struct Core {
+    memory: Memory,
+    components: Vec<Component>,
+}
+
+impl Model for Core {
+    ghost use Rattle.own_model.specs.World.{World};
+    ghost use Rattle.pd_core.specs.CodedWorld.{coded_world};
+
+    ghost Value = { World };
+
+    ghost coded = { coded_world };
+
+    ghost use Rattle.pd_core.specs.Core.{world_of, IsCore};
+
+    ghost view = { λ core. world_of core.memory core.components.items };
+
+    ghost invariant = { λ core. IsCore core.memory core.components.items };
+}
+
+impl Core {
+    ghost use Rattle.std.specs.Prelude.{◌≡◌, ◌<◌, ℕ, length};
+    ghost use Rattle.own_model.specs.Reply.{reply_text};
+    ghost use Rattle.own_model.specs.World.{outcome_at, with_state, IsBalanced};
+    ghost use Rattle.pd_core.specs.Call.{model_call, IsWellFormed};
+    ghost use Rattle.pd_core.specs.Core.{world_of, IsCore};
+
+    /// The core of a memory and its components.
+    pub fn from_parts(memory: Memory, components: Vec<Component>) -> Core
+        requires { IsCore memory components.items }
+        ensures { result ≡ world_of memory components.items }
+    {
+        Core { memory, components }
+    }
+
+    /// Carries a call out, and writes what it is answered in place of what the reply was. No other component is
+    /// touched.
+    pub fn step(&mut self, component: usize, call: Call<'_>, reply: &mut Reply)
+        requires component { component < length self.old.entries }
+        requires call { IsWellFormed call }
+        ensures answered { reply.new ≡ reply_text (outcome_at self.old component (model_call call.entry)).reply }
+        ensures stepped { self.new ≡ with_state self.old component (outcome_at self.old component (model_call call.entry)).next }
+        ensures balance { (pages caps : ℕ) → IsBalanced pages caps self.old → IsBalanced pages caps self.new }
+    {
+        let caller = &mut self.components[component];
+        caller.step(&mut self.memory, call, reply);
+    }
+}
