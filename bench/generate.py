@@ -2,7 +2,9 @@
 """Writes a large scenario to standard output: generate.py SHAPE LINES [SEED].
 
 Shapes: quota (quota alone, both scripts in turn), churn (an allocation and its release, one dataspace at a time),
-limit (allocations and releases at the account's limit), hostile (lines that are refused, of all kinds).
+limit (allocations and releases at the account's limit), bytes (pokes and peeks of 1 to 1,024 bytes in turn), short (the
+same of 1 to 16 bytes), regions (attaches and detaches, up to 128 regions), full (detaches, attaches and peeks with 127 or
+128 regions attached), caps (selectors taken and given back, up to 16), hostile (lines that are refused, of all kinds).
 """
 import random
 import sys
@@ -31,6 +33,71 @@ def limit(lines, rng):
             yield f"alice free {held.pop(rng.randrange(len(held)))}"
 
 
+USER_WINDOW = 0x10000000
+PAGE = 4096
+MOST_REGIONS = 128
+
+
+def pokes_and_peeks(lines, rng, most):
+    """Pokes and peeks of 1 to `most` bytes, anywhere in a region of four pages."""
+    yield "alice alloc 16384"
+    yield "alice attach 1"
+    for number in range(lines - 2):
+        count = rng.randint(1, most)
+        address = USER_WINDOW + rng.randrange(4 * PAGE - count + 1)
+        if number % 2 == 0:
+            yield f"alice poke {address:#x} {rng.randbytes(count).hex()}"
+        else:
+            yield f"alice peek {address:#x} {count}"
+
+
+def bytes_of_all_lengths(lines, rng):
+    return pokes_and_peeks(lines, rng, 1024)
+
+
+def bytes_of_short_lengths(lines, rng):
+    return pokes_and_peeks(lines, rng, 16)
+
+
+def regions(lines, rng):
+    """Attaches and detaches of one page, three attaches to two detaches until all regions are attached."""
+    yield "alice alloc 1"
+    attached = []
+    for _ in range(lines - 1):
+        if len(attached) == MOST_REGIONS or (attached and rng.random() < 0.4):
+            place = attached.pop(rng.randrange(len(attached)))
+            yield f"alice detach {USER_WINDOW + place * PAGE:#x}"
+        else:
+            attached.append(next(p for p in range(MOST_REGIONS) if p not in attached))
+            yield "alice attach 1"
+
+
+def full(lines, rng):
+    """A detach, an attach and two peeks in turn, while all regions are attached."""
+    yield "alice alloc 1"
+    for _ in range(MOST_REGIONS):
+        yield "alice attach 1"
+    for number in range(lines - 1 - MOST_REGIONS):
+        if number % 4 == 0:
+            yield f"alice detach {USER_WINDOW + rng.randrange(MOST_REGIONS) * PAGE:#x}"
+        elif number % 4 == 1:
+            yield "alice attach 1"
+        else:
+            yield f"alice peek {USER_WINDOW + rng.randrange(MOST_REGIONS * PAGE):#x} 1"
+
+
+def caps(lines, rng):
+    held = []
+    for _ in range(lines):
+        if len(held) < 16 and (not held or rng.random() < 0.6):
+            held.append(next(s for s in range(1, 18) if s not in held))
+            yield "alice capalloc"
+        elif len(held) == 16 and rng.random() < 0.5:
+            yield "alice capalloc"
+        else:
+            yield f"alice capfree {held.pop(rng.randrange(len(held)))}"
+
+
 def hostile(lines, rng):
     bad = [
         "",
@@ -52,12 +119,32 @@ def hostile(lines, rng):
         "alice alloc 0",
         "alice alloc 18446744073709551615",
         "alice alloc 65537",
+        "alice attach 1",
+        "alice attach_at 1 0x10000800",
+        "alice attach_at 1 0X10000000",
+        "alice detach 0xffffffffffffffff",
+        "alice detach 0x00000000000000001",
+        "alice peek 0xffffffffffffffff 1024",
+        "alice peek 0x10000000 0",
+        "alice poke 0x10000000 abc",
+        "alice poke 0x10000000 " + "ab" * 1025,
+        "alice capfree 1",
     ]
     for _ in range(lines):
         yield rng.choice(bad)
 
 
-SHAPES = {"quota": quota, "churn": churn, "limit": limit, "hostile": hostile}
+SHAPES = {
+    "quota": quota,
+    "churn": churn,
+    "limit": limit,
+    "bytes": bytes_of_all_lengths,
+    "short": bytes_of_short_lengths,
+    "regions": regions,
+    "full": full,
+    "caps": caps,
+    "hostile": hostile,
+}
 
 
 def main():
