@@ -1,13 +1,15 @@
 -- An account's use of capabilities may change while it covers the account's dataspaces.
 use Rattle.std.proofs.Common.{◌≡◌, ◌≢◌, ℕ, ◌<◌, ◌≤◌, List, length, Some, Ok, Err, unwrap_or, refl, sym, ap, subst, ◌∙◌, arith, Bool, cond, eqb, true, false, inl, inr}
-use Rattle.std.specs.Prelude.{⊤, Option, None, Result, OnOk, OnErr}
+use Rattle.std.proofs.lemmas.Bool.Decides.{nat_tests}
+use Rattle.std.specs.Prelude.{⊤, Option, None, Result, IfErr, OnOk, OnErr}
 use Rattle.std.specs.Option.{option_map}
 use Rattle.std.specs.Result.{result_err}
 use Rattle.std.specs.FinMap.{get, len}
 use Rattle.page_pool.specs.Pages.{free_count}
 use Rattle.slab.specs.Slab.{Slab}
 use Rattle.trade_base.specs.declared.refusal.Refusal.{Refusal}
-use Rattle.own_model.specs.Account.{Account, shortage, charged, credited, opened}
+use Rattle.trade_base.specs.declared.refusal.Refusal.TheVariants.{OutOfCaps}
+use Rattle.own_model.specs.Account.{Account, WithinLimits, shortage, charged, credited, opened}
 use Rattle.own_model.proofs.NatMapLemmas.{IsSome-insert}
 use Rattle.own_model.proofs.Totals.{len-total, total_same, total-picked, total-insert_same, owed-total, owed_nothing}
 use Rattle.quota_core.specs.Books.{Books, IsOpen, account_at, with_account}
@@ -32,6 +34,12 @@ caps_owed-len store account =
     ∙ total-picked (λ _. 1) (bytes_paid_by account) store.spaces
     ∙ total_same _ _ store.spaces (λ ds space there. counts (eqb space.payer account) space.bytes)
     ∙ sym (owed-total (λ _. 1) payer_of store.spaces account)
+
+-- an account within its limits lacks nothing but capabilities where no bytes are asked for
+short_of_caps : (a : Account) (caps : ℕ) (refusal : Refusal) → WithinLimits a → Some refusal ≡ shortage a 0 caps → refusal ≡ OutOfCaps
+short_of_caps a caps refusal within short =
+    let ram = within.ram in
+    grind (arith, nat_tests)
 
 module _ (store : Store) (account : ℕ) (b : Account) where
   -- the memory where the account is another
@@ -97,6 +105,11 @@ module _ {books : Books} {pool : List (Option (List ℕ))} {next : List ℕ} {sp
           let owes = sound.paid.caps account (account_at books account) (open_at books account opens) in
           IsSound-capped (charged (account_at books account) 0 1) ok (omega arith) refl refl (omega (arith, owes)) covered.caps_fit
       IsSound-charge_cap (Err e) refusal ok err = subst (λ b. IsSound b pool next spaces) (sym err) sound
+
+      -- it is refused for want of a capability alone
+      pub only-charge_cap : (r : Result ⊤ Refusal) → result_err r ≡ shortage (account_at books account) 0 1 → IfErr r (λ refusal. refusal ≡ OutOfCaps)
+      only-charge_cap (Ok done) refusal = tt
+      only-charge_cap (Err e) refusal = short_of_caps (account_at books account) 1 e (sound.paid.within account (account_at books account) (open_at books account opens)) refusal
 
       -- a credit of one that pays for no dataspace
       pub IsSound-credit_cap : len (part account store).spaces < (account_at books account).caps_used → new_books ≡ with_account books account (credited (account_at books account) 0 1) → IsSound new_books pool next spaces

@@ -1,9 +1,10 @@
 //! Dataspaces over a pool of pages and the books of accounts.
-ghost use Rattle.std.specs.Prelude.{◌≡◌, ◌≢◌, ℕ, ◌+◌, ◌*◌, ◌<◌, ◌≤◌, length, if◌then◌else◌, Some, None, IfOk, OnOk, OnErr, slice_range};
+ghost use Rattle.std.specs.Prelude.{◌≡◌, ◌≢◌, ℕ, ◌+◌, ◌*◌, ◌<◌, ◌≤◌, length, if◌then◌else◌, Some, None, IfOk, IfErr, OnOk, OnErr, slice_range};
 ghost use Rattle.std.specs.Result.{result_err};
 ghost use Rattle.std.specs.FinMap.{get, insert, remove, len};
 ghost use Rattle.std.specs.FinMap as map;
 ghost use Rattle.trade_base.specs.Page.{page_of};
+ghost use Rattle.trade_base.specs.declared.refusal.Refusal.TheVariants.{OutOfCaps};
 ghost use Rattle.own_model.specs.Account.{shortage, charged, credited, opened, WithinLimits};
 ghost use Rattle.own_model.specs.OwnState.{zeros};
 ghost use Rattle.own_model.specs.OwnStep.{alloc_refusal, is_valid_size};
@@ -160,10 +161,11 @@ impl Memory {
 
     /// Charges an account for one capability that is no dataspace's.
     ///
-    /// It is refused with `OutOfCaps` where no capability of the account's limit is free.
+    /// It is refused with `OutOfCaps` where no capability of the account's limit is free. Nothing else refuses it.
     pub fn charge_cap(&mut self, account: AccountId) -> Result<(), Refusal>
         requires { IsOpen self.old.books account.0 }
         ensures refusal { result_err result ≡ shortage (account_at self.old.books account.0) 0 1 }
+        ensures only { IfErr result (λ refusal. refusal ≡ OutOfCaps) }
         ensures ok { OnOk result (self.new ≡ with_books self.old (with_account self.old.books account.0 (charged (account_at self.old.books account.0) 0 1))) }
         ensures own { OnOk result (part account.0 self.new ≡ record {
           account = Some (charged (account_at self.old.books account.0) 0 1);

@@ -4,7 +4,7 @@ use Rattle.own_model.specs.Account.{charged}
 use Rattle.quota_core.specs.Books.{IsOpen, account_at}
 use Rattle.dataspace_core.specs.Store.{Store, part}
 use Rattle.dataspace_core.specs.Layout.{store_of}
-use Rattle.dataspace_core.proofs.CapsLemmas.{spaces_paid, IsSound-charge_cap, own-charge_cap, others-charge_cap}
+use Rattle.dataspace_core.proofs.CapsLemmas.{spaces_paid, IsSound-charge_cap, only-charge_cap, own-charge_cap, others-charge_cap}
 use Rattle.dataspace_core.proofs.memory.Memory.charge_cap.Goals as goal
 
 -- the account is open in the books
@@ -14,6 +14,10 @@ opens c = subst (λ (s : Store). IsOpen s.books c.args.account.0) (sym c.self.vi
 pub invariant_of-self : goal.invariant_of-self
 invariant_of-self c =
     IsSound-charge_cap c.self.invariant c.args.account.0 (opens c) c.charge.new.self c.charge.result c.charge.ensures.refusal c.charge.ensures.ok c.charge.ensures.err
+
+pub returns-clause-only : goal.returns-clause-only
+returns-clause-only c =
+    only-charge_cap c.self.invariant c.args.account.0 (opens c) c.charge.new.self c.charge.result c.charge.ensures.refusal
 
 pub returns-clause-own : goal.returns-clause-own
 returns-clause-own c =
