@@ -8,7 +8,9 @@ use Rattle.std.proofs.lemmas.Option.{none-some}
 use Rattle.page_pool.specs.Pages.{free_count, fresh_pages}
 use Rattle.slab.specs.Slab.{Slab, Updates, HasRoomFor}
 use Rattle.slab.specs.Slab as slab
+use Rattle.trade_base.specs.Bytes.{with_bytes}
 use Rattle.trade_base.specs.Page.{page_of}
+use Rattle.trade_base.proofs.BytesLemmas.{length-with_bytes}
 use Rattle.trade_base.specs.declared.id.AccountId.{AccountId}
 use Rattle.trade_base.specs.declared.refusal.Refusal.{Refusal}
 use Rattle.own_model.specs.Account.{Account, Fits, shortage, charged, credited, opened}
@@ -16,12 +18,11 @@ use Rattle.own_model.specs.OwnState.{zeros}
 use Rattle.own_model.proofs.NatMapLemmas.{value_at}
 use Rattle.quota_core.specs.Books.{Books, IsOpen, account_at, fresh_books, with_account, with_child, ram_limits, caps_limits}
 use Rattle.quota_core.proofs.SlabMap.{map_of-empty, get-map_of_at, get-map_of_none, ContainsKey-map_of, len-map_of}
-use Rattle.dataspace_core.specs.Store.{Store, Space, fresh_store, Exists, space_at, with_space, without_space, with_bytes_at, overwritten, part}
+use Rattle.dataspace_core.specs.Store.{Store, Space, fresh_store, Exists, space_at, with_space, without_space, with_bytes_at, part}
 use Rattle.dataspace_core.specs.Layout.{IsNewChain, IsGiven, IsWritten, IsChain, space_of, store_of}
 use Rattle.dataspace_core.specs.Paid.{IsPaid, IsSound, size_of}
 use Rattle.dataspace_core.specs.declared.dataspace.Dataspace.{Dataspace}
 use Rattle.dataspace_core.proofs.PartLemmas.{space_at-some, part-with_child, part-with_child_other}
-use Rattle.dataspace_core.proofs.ByteLemmas.{length-overwritten}
 use Rattle.dataspace_core.proofs.LaidOutLemmas.{IsChain-laid_out, length-space_of, IsLaidOut-insert, map_of-insert_space, IsLaidOut-remove, map_of-remove_space, IsLaidOut-written, map_of-written}
 use Rattle.dataspace_core.proofs.PaidLemmas.{account_at-some, Fits-shortage, free_covers, places_cover, size_fits, use_covers, payer_apart, IsPaid-more, IsPaid-less, IsPaid-same, IsPaid-opened, IsPaid-fresh}
 
@@ -130,14 +131,14 @@ module _ {books : Books} {pool : List (Option (List ℕ))} {next : List ℕ} {sp
   module _ (ds : ℕ) (d : Dataspace) (there : slab.get spaces ds ≡ Some d) {new_pool : List (Option (List ℕ))} {offset : ℕ} {bytes : List ℕ} (fits : offset + length bytes ≤ length (space_at store ds).bytes) (written : IsWritten pool new_pool next d.chain.first d.chain.count offset bytes) where
     -- the dataspace with the part in it
     abbrev becomes : Space
-    becomes = record { payer = (space_of pool next d).payer; bytes = overwritten (space_of pool next d).bytes offset bytes }
+    becomes = record { payer = (space_of pool next d).payer; bytes = with_bytes (space_of pool next d).bytes offset bytes }
 
     changed : store_of books new_pool next spaces ≡ record { books = books; spaces = insert store.spaces ds becomes }
     changed = ap (λ m. record { books = books; spaces = m }) (map_of-written pool next spaces sound.laid_out ds d there new_pool offset bytes written)
 
     -- it has the size that it had
     same_size : size_of becomes ≡ size_of (space_of pool next d)
-    same_size = length-overwritten (space_of pool next d).bytes offset bytes (subst (λ (s : Space). offset + length bytes ≤ length s.bytes) (space_at-there ds d there) fits)
+    same_size = length-with_bytes (space_of pool next d).bytes offset bytes (subst (λ (s : Space). offset + length bytes ≤ length s.bytes) (space_at-there ds d there) fits)
 
     -- the memory stays sound
     pub IsSound-write : IsSound books new_pool next spaces
@@ -152,7 +153,7 @@ module _ {books : Books} {pool : List (Option (List ℕ))} {next : List ℕ} {sp
     pub store-write : store_of books new_pool next spaces ≡ with_bytes_at store ds offset bytes
     store-write =
         changed
-        ∙ ap (λ (s : Space). record { books = books; spaces = insert store.spaces ds (record { payer = s.payer; bytes = overwritten s.bytes offset bytes }) })
+        ∙ ap (λ (s : Space). record { books = books; spaces = insert store.spaces ds (record { payer = s.payer; bytes = with_bytes s.bytes offset bytes }) })
         (sym (space_at-there ds d there))
 
   -- ---- a dataspace comes

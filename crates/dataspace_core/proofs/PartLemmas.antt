@@ -4,13 +4,14 @@ use Rattle.std.proofs.lemmas.Bool.Decides.{nat_tests}
 use Rattle.std.specs.Prelude.{Option, None}
 use Rattle.std.specs.Option.{option_and_then}
 use Rattle.std.specs.FinMap.{get, insert, remove, empty}
+use Rattle.trade_base.specs.Bytes.{with_bytes}
 use Rattle.trade_base.specs.Page.{page_of}
 use Rattle.own_model.specs.NatMap.{NatMap, picked}
 use Rattle.own_model.specs.Account.{Account, charged, credited, opened}
 use Rattle.own_model.specs.OwnState.{zeros}
 use Rattle.own_model.proofs.NatMapLemmas.{same, get-empty, get-insert_same, get-insert_other, get-picked, get-picked_none, get-picked_at, picked-insert_some, picked-insert_hidden, picked-insert_alike, picked-remove, picked-remove_hidden}
 use Rattle.quota_core.specs.Books.{account_at, with_account, with_child}
-use Rattle.dataspace_core.specs.Store.{Store, Space, Part, part, bytes_paid_by, space_at, with_space, without_space, with_bytes_at, with_books, overwritten}
+use Rattle.dataspace_core.specs.Store.{Store, Space, Part, part, bytes_paid_by, space_at, with_space, without_space, with_bytes_at, with_books}
 
 -- its payer has the bytes of a dataspace in its part, and nobody else
 paid_by : (account : ℕ) (space : Space) → space.payer ≡ account → bytes_paid_by account space ≡ Some space.bytes
@@ -66,11 +67,11 @@ module _ (store : Store) (ds : ℕ) (space : Space) (there : get store.spaces ds
       (get-insert_other store.books.accounts (space_at store ds).payer _ other apart)
       (picked-remove_hidden (bytes_paid_by other) store.spaces ds (hidden other apart))
 
-  pub part-with_bytes_at : (offset : ℕ) (bytes : List ℕ) → part (space_at store ds).payer (with_bytes_at store ds offset bytes) ≡ record { account = (part (space_at store ds).payer store).account; spaces = insert (part (space_at store ds).payer store).spaces ds (overwritten (space_at store ds).bytes offset bytes) }
+  pub part-with_bytes_at : (offset : ℕ) (bytes : List ℕ) → part (space_at store ds).payer (with_bytes_at store ds offset bytes) ≡ record { account = (part (space_at store ds).payer store).account; spaces = insert (part (space_at store ds).payer store).spaces ds (with_bytes (space_at store ds).bytes offset bytes) }
   unfolding part
   part-with_bytes_at offset bytes = same_part _ _ _ _
       refl
-      (picked-insert_some (bytes_paid_by (space_at store ds).payer) store.spaces ds _ (overwritten (space_at store ds).bytes offset bytes) (paid_by (space_at store ds).payer _ refl))
+      (picked-insert_some (bytes_paid_by (space_at store ds).payer) store.spaces ds _ (with_bytes (space_at store ds).bytes offset bytes) (paid_by (space_at store ds).payer _ refl))
 
   -- the parts of the others stay
   pub part-with_bytes_at_other : (offset : ℕ) (bytes : List ℕ) (other : ℕ) → other ≢ (space_at store ds).payer → part other (with_bytes_at store ds offset bytes) ≡ part other store

@@ -1,10 +1,11 @@
 -- What a contract sees of the memory.
-use Rattle.std.specs.Prelude.{ℕ, ◌+◌, ◌*◌, ◌==◌, List, [], ◌++◌, length, take, drop, Option, Some, None, IsSome, if◌then◌else◌}
+use Rattle.std.specs.Prelude.{ℕ, ◌*◌, ◌==◌, List, [], length, Option, Some, None, IsSome, if◌then◌else◌}
 use Rattle.std.proofs.Common.{refl}
 use Rattle.std.specs.Option.{unwrap_or}
 use Rattle.std.specs.Coded.{Coded, code_by, coded×, coded_ℕ, coded_list}
 use Rattle.std.specs.FinMap as map
 use Rattle.std.specs.FinMap.{get, insert, remove, empty}
+use Rattle.trade_base.specs.Bytes.{with_bytes}
 use Rattle.trade_base.specs.Page.{page_of}
 use Rattle.own_model.specs.NatMap.{NatMap, picked}
 use Rattle.own_model.specs.Account.{Account, charged, credited}
@@ -59,14 +60,10 @@ without_space store ds = record {
   spaces = remove store.spaces ds;
 }
 
--- bytes with a part put at an offset
-abbrev pub overwritten : List ℕ → ℕ → List ℕ → List ℕ
-overwritten bytes offset part = take offset bytes ++ part ++ drop (offset + length part) bytes
-
 -- a part put at an offset of a dataspace
 abbrev pub with_bytes_at : Store → ℕ → ℕ → List ℕ → Store
 with_bytes_at store ds offset part = record store {
-  spaces = insert store.spaces ds (record { payer = (space_at store ds).payer; bytes = overwritten (space_at store ds).bytes offset part });
+  spaces = insert store.spaces ds (record { payer = (space_at store ds).payer; bytes = with_bytes (space_at store ds).bytes offset part });
 }
 
 -- a memory whose books have another account under the root or below it

@@ -3,13 +3,14 @@ ghost use Rattle.std.specs.Prelude.{◌≡◌, ◌≢◌, ℕ, ◌+◌, ◌*◌,
 ghost use Rattle.std.specs.Result.{result_err};
 ghost use Rattle.std.specs.FinMap.{get, insert, remove, len};
 ghost use Rattle.std.specs.FinMap as map;
+ghost use Rattle.trade_base.specs.Bytes.{with_bytes};
 ghost use Rattle.trade_base.specs.Page.{page_of};
 ghost use Rattle.trade_base.specs.declared.refusal.Refusal.TheVariants.{OutOfCaps};
 ghost use Rattle.own_model.specs.Account.{shortage, charged, credited, opened, WithinLimits};
 ghost use Rattle.own_model.specs.OwnState.{zeros};
 ghost use Rattle.own_model.specs.OwnStep.{alloc_refusal, is_valid_size};
 ghost use Rattle.quota_core.specs.Books.{IsOpen, account_at, with_account, with_child, ram_limits, caps_limits};
-ghost use Rattle.dataspace_core.specs.Store.{fresh_store, Exists, space_at, with_space, without_space, with_bytes_at, with_books, part, overwritten};
+ghost use Rattle.dataspace_core.specs.Store.{fresh_store, Exists, space_at, with_space, without_space, with_bytes_at, with_books, part};
 
 use crate::chains::{give_chain, no_links, read_chain, take_chain, write_chain};
 use crate::dataspace::{Dataspace, no_spaces, size_of, space_under};
@@ -151,7 +152,7 @@ impl Memory {
         ensures written { self.new ≡ with_bytes_at self.old ds.0 offset bytes.now }
         ensures own { let payer = (space_at self.old ds.0).payer in part payer self.new ≡ record {
           account = (part payer self.old).account;
-          spaces = insert (part payer self.old).spaces ds.0 (overwritten (space_at self.old ds.0).bytes offset bytes.now);
+          spaces = insert (part payer self.old).spaces ds.0 (with_bytes (space_at self.old ds.0).bytes offset bytes.now);
         } }
         ensures others { (other : ℕ) → other ≢ (space_at self.old ds.0).payer → part other self.new ≡ part other self.old }
     {
