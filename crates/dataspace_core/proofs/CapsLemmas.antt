@@ -12,8 +12,8 @@ use Rattle.trade_base.specs.declared.refusal.Refusal.TheVariants.{OutOfCaps}
 use Rattle.own_model.specs.Account.{Account, WithinLimits, shortage, charged, credited, opened}
 use Rattle.own_model.proofs.NatMapLemmas.{IsSome-insert}
 use Rattle.own_model.proofs.Totals.{len-total, total_same, total-picked, total-insert_same, owed-total, owed_nothing}
-use Rattle.quota_core.specs.Books.{Books, IsOpen, account_at, with_account}
-use Rattle.dataspace_core.specs.Store.{Store, part, bytes_paid_by, with_books}
+use Rattle.quota_core.specs.Books.{Books, IsOpen, account_at, with_account, ram_limits, caps_limits}
+use Rattle.dataspace_core.specs.Store.{Store, part, bytes_paid_by, with_account_in}
 use Rattle.dataspace_core.specs.Layout.{store_of}
 use Rattle.dataspace_core.specs.Paid.{IsPaid, IsSound, payer_of, caps_owed}
 use Rattle.dataspace_core.specs.declared.dataspace.Dataspace.{Dataspace}
@@ -44,7 +44,7 @@ short_of_caps a caps refusal within short =
 module _ (store : Store) (account : ℕ) (b : Account) where
   -- the memory where the account is another
   abbrev after : Store
-  after = with_books store (with_account store.books account b)
+  after = with_account_in store account b
 
   -- all stays paid for where only the use of capabilities is another, and covers the account's dataspaces
   IsPaid-capped : (free pages places : ℕ) → IsPaid store free pages places → (a : Account) → get store.books.accounts account ≡ Some a → b.ram_used ≡ a.ram_used → b.ram_limit ≡ a.ram_limit → b.caps_limit ≡ a.caps_limit → caps_owed store account ≤ b.caps_used → b.caps_used ≤ b.caps_limit → IsPaid after free pages places

@@ -11,8 +11,8 @@ use Rattle.own_model.specs.Account.{Account, Fits, shortage, charged, credited, 
 use Rattle.own_model.specs.OwnState.{zeros}
 use Rattle.own_model.proofs.NatMapLemmas.{get-empty, get-insert_same, get-insert_other, get-remove_same, get-remove_other, IsSome-insert_same, IsSome-insert, apart_from_free}
 use Rattle.own_model.proofs.Totals.{total-empty, total-insert_new, total-insert_same, total-remove, total_spare, len-total, owed-empty, owed-insert_new, owed-insert_same, owed-remove, owed_nothing, owed_at_le, total_owed_le, total-owed, total_at_le}
-use Rattle.quota_core.specs.Books.{Books, IsOpen, account_at, with_child, ram_limits, caps_limits}
-use Rattle.dataspace_core.specs.Store.{Store, Space, fresh_store, with_books}
+use Rattle.quota_core.specs.Books.{Books, account_at, with_child, ram_limits, caps_limits}
+use Rattle.dataspace_core.specs.Store.{Store, Space, fresh_store, IsOpenIn, account_in, ram_limits_in, caps_limits_in}
 use Rattle.dataspace_core.specs.Paid.{IsPaid, size_of, payer_of, ram_owed, caps_owed}
 
 -- ---- a map after a change
@@ -192,7 +192,7 @@ module _ (store : Store) (free pages places : ℕ) (paid : IsPaid store free pag
     pub IsPaid-same : IsPaid (record store { spaces = insert store.spaces ds other }) free pages places
     IsPaid-same = record {
       payers = λ q s found. elim (after_insert store.spaces ds other q s found) [
-        | inl new ↦ subst (IsOpen store.books) (sym (ap payer_of new.1 ∙ payer)) (paid.payers ds space there)
+        | inl new ↦ subst (IsOpenIn store) (sym (ap payer_of new.1 ∙ payer)) (paid.payers ds space there)
         | inr old ↦ paid.payers q s old.1
       ];
       within = paid.within;
@@ -213,14 +213,14 @@ module _ (store : Store) (free pages places : ℕ) (paid : IsPaid store free pag
 
     -- what the parent keeps
     abbrev rest : Account
-    rest = parted_with (account_at store.books parent) ram caps
+    rest = parted_with (account_in store parent) ram caps
 
     -- which is its account after its limits went
     rest_is : rest ≡ parted_with a ram caps
     rest_is = ap (λ (v : Account). parted_with v ram caps) (account_at-some store.books parent a opens)
 
     -- all is paid for
-    pub IsPaid-opened : ram_limits opening ≡ ram_limits store.books → caps_limits opening ≡ caps_limits store.books → IsPaid (with_books store opening) free pages places
+    pub IsPaid-opened : ram_limits opening ≡ ram_limits_in store → caps_limits opening ≡ caps_limits_in store → IsPaid (record store { books = opening }) free pages places
     IsPaid-opened ram_moved caps_moved = record {
       payers = λ q s found. IsSome-insert (insert store.books.accounts parent rest) child (opened ram caps) s.payer (IsSome-insert store.books.accounts parent rest s.payer (paid.payers q s found));
       within = λ k v found. elim (after_insert (insert store.books.accounts parent rest) child (opened ram caps) k v found) [
