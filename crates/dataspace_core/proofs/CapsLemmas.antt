@@ -12,14 +12,16 @@ use Rattle.trade_base.specs.declared.refusal.Refusal.TheVariants.{OutOfCaps}
 use Rattle.own_model.specs.Account.{Account, WithinLimits, shortage, charged, credited, opened}
 use Rattle.own_model.proofs.NatMapLemmas.{IsSome-insert}
 use Rattle.own_model.proofs.Totals.{len-total, total_same, total-picked, total-insert_same, owed-total, owed_nothing}
-use Rattle.quota_core.specs.Books.{Books, IsOpen, account_at, with_account, ram_limits, caps_limits}
+use Rattle.own_model.proofs.StepLemmas.{covers}
+use Rattle.quota_core.specs.Books.{Books, IsOpen, account_at, with_account}
+use Rattle.quota_core.proofs.BooksLemmas.{account_there}
 use Rattle.dataspace_core.specs.Store.{Store, part, bytes_paid_by, with_account_in}
 use Rattle.dataspace_core.specs.Layout.{store_of}
 use Rattle.dataspace_core.specs.Paid.{IsPaid, IsSound, payer_of, caps_owed}
 use Rattle.dataspace_core.specs.declared.dataspace.Dataspace.{Dataspace}
-use Rattle.dataspace_core.proofs.PaidLemmas.{Fits-shortage, after_insert, payer_apart}
+use Rattle.dataspace_core.proofs.PaidLemmas.{after_insert, payer_apart}
 use Rattle.dataspace_core.proofs.PartLemmas.{part-with_account, part-with_account_other}
-use Rattle.dataspace_core.proofs.MemoryLemmas.{open_at, same_store}
+use Rattle.dataspace_core.proofs.MemoryLemmas.{same_store}
 
 -- a dataspace counts for one in its payer's part, and for none in another
 counts : (b : Bool) (bytes : List ℕ) → ◌≡◌ {A = ℕ} (unwrap_or (option_map (λ (_ : List ℕ). 1) (cond b (Some bytes) None)) 0) (cond b 1 0)
@@ -95,26 +97,26 @@ module _ {books : Books} {pool : List (Option (List ℕ))} {next : List ℕ} {sp
       IsSound-capped b is used limit caps_limit covers within = record {
         laid_out = sound.laid_out;
         paid = subst (λ (s : Store). IsPaid s (free_count pool) (length pool) spaces.capacity) (sym (same_store new_books _ pool next spaces is))
-            (IsPaid-capped store account b (free_count pool) (length pool) spaces.capacity sound.paid (account_at books account) (open_at books account opens) used limit caps_limit covers within);
+            (IsPaid-capped store account b (free_count pool) (length pool) spaces.capacity sound.paid (account_at books account) (account_there books account opens) used limit caps_limit covers within);
       }
 
       -- a charge of one capability
       pub IsSound-charge_cap : (r : Result ⊤ Refusal) → result_err r ≡ shortage (account_at books account) 0 1 → OnOk r (new_books ≡ with_account books account (charged (account_at books account) 0 1)) → OnErr r (new_books ≡ books) → IsSound new_books pool next spaces
       IsSound-charge_cap (Ok done) refusal ok err =
-          let covered = Fits-shortage (account_at books account) 0 1 (sym refusal) in
-          let owes = sound.paid.caps account (account_at books account) (open_at books account opens) in
+          let covered = covers (account_at books account) 0 1 (sym refusal) in
+          let owes = sound.paid.caps account (account_at books account) (account_there books account opens) in
           IsSound-capped (charged (account_at books account) 0 1) ok (omega arith) refl refl (omega (arith, owes)) covered.caps_fit
       IsSound-charge_cap (Err e) refusal ok err = subst (λ b. IsSound b pool next spaces) (sym err) sound
 
       -- it is refused for want of a capability alone
       pub only-charge_cap : (r : Result ⊤ Refusal) → result_err r ≡ shortage (account_at books account) 0 1 → IfErr r (λ refusal. refusal ≡ OutOfCaps)
       only-charge_cap (Ok done) refusal = tt
-      only-charge_cap (Err e) refusal = short_of_caps (account_at books account) 1 e (sound.paid.within account (account_at books account) (open_at books account opens)) refusal
+      only-charge_cap (Err e) refusal = short_of_caps (account_at books account) 1 e (sound.paid.within account (account_at books account) (account_there books account opens)) refusal
 
       -- a credit of one that pays for no dataspace
       pub IsSound-credit_cap : len (part account store).spaces < (account_at books account).caps_used → new_books ≡ with_account books account (credited (account_at books account) 0 1) → IsSound new_books pool next spaces
       IsSound-credit_cap spare is =
-          let within = sound.paid.within account (account_at books account) (open_at books account opens) in
+          let within = sound.paid.within account (account_at books account) (account_there books account opens) in
           IsSound-capped (credited (account_at books account) 0 1) is (omega arith) refl refl
           (omega (arith, caps_owed-len store account, spare)) (omega (arith, within.caps))
 

@@ -5,7 +5,7 @@ use Rattle.page_pool.specs.Pages.{free_count}
 use Rattle.slab.specs.Slab.{Slab}
 use Rattle.own_model.specs.NatMap.{total, owed}
 use Rattle.own_model.specs.Account.{Account, WithinLimits}
-use Rattle.quota_core.specs.Books.{Books, ram_limits, caps_limits}
+use Rattle.quota_core.specs.Books.{Books}
 use Rattle.dataspace_core.specs.Store.{Store, Space, IsOpenIn, ram_limits_in, caps_limits_in}
 use Rattle.dataspace_core.specs.Layout.{IsLaidOut, store_of}
 use Rattle.dataspace_core.specs.declared.dataspace.Dataspace.{Dataspace}

@@ -1,5 +1,5 @@
 -- A script's calls on RPC objects.
-use Rattle.std.proofs.Common.{◌≡◌, ℕ, ◌+◌, ◌*◌, ◌<◌, ◌≤◌, ◌≢◌, Bool, true, false, List, length, Option, Some, None, is_some, true≢false, subst, refl, sym, ap, ◌∙◌, arith}
+use Rattle.std.proofs.Common.{◌≡◌, ℕ, ◌<◌, ◌≢◌, true, false, List, Option, Some, None, true≢false, subst, refl, sym, ap, ◌∙◌, arith}
 use Rattle.std.specs.Option.{option_map, option_and_then}
 use Rattle.std.specs.FinMap.{get, insert, remove, len}
 use Rattle.trade_base.specs.declared.id.DsId.{DsId}
@@ -7,7 +7,7 @@ use Rattle.trade_base.specs.declared.refusal.Refusal.{Refusal}
 use Rattle.trade_base.specs.declared.refusal.Refusal.TheVariants.{InvalidCap}
 use Rattle.own_model.specs.Account.{Account, shortage, charged, credited, Fits}
 use Rattle.own_model.specs.Call.Call.{Capalloc, Capfree}
-use Rattle.own_model.specs.OwnState.{OwnState, Object, new_selector}
+use Rattle.own_model.specs.OwnState.{OwnState, new_selector}
 use Rattle.own_model.specs.OwnState.Object.{Dataspace as ADataspace, RpcObject as AnRpcObject}
 use Rattle.own_model.specs.OwnStep.{Outcome, refused, cap_allocated, cap_freed, unless}
 use Rattle.own_model.specs.Region.{Region}
