@@ -1,23 +1,27 @@
 -- An account's use of capabilities may change while it covers the account's dataspaces.
 use Rattle.std.proofs.Common.{◌≡◌, ◌≢◌, ℕ, ◌<◌, ◌≤◌, List, length, Some, Ok, Err, unwrap_or, refl, sym, ap, subst, ◌∙◌, arith, Bool, cond, eqb, true, false, inl, inr}
-use Rattle.std.specs.Prelude.{⊤, Option, None, Result, OnOk, OnErr}
+use Rattle.std.proofs.lemmas.Bool.Decides.{nat_tests}
+use Rattle.std.specs.Prelude.{⊤, Option, None, Result, IfErr, OnOk, OnErr}
 use Rattle.std.specs.Option.{option_map}
 use Rattle.std.specs.Result.{result_err}
 use Rattle.std.specs.FinMap.{get, len}
 use Rattle.page_pool.specs.Pages.{free_count}
 use Rattle.slab.specs.Slab.{Slab}
 use Rattle.trade_base.specs.declared.refusal.Refusal.{Refusal}
-use Rattle.own_model.specs.Account.{Account, shortage, charged, credited, opened}
+use Rattle.trade_base.specs.declared.refusal.Refusal.TheVariants.{OutOfCaps}
+use Rattle.own_model.specs.Account.{Account, WithinLimits, shortage, charged, credited, opened}
 use Rattle.own_model.proofs.NatMapLemmas.{IsSome-insert}
 use Rattle.own_model.proofs.Totals.{len-total, total_same, total-picked, total-insert_same, owed-total, owed_nothing}
+use Rattle.own_model.proofs.StepLemmas.{covers}
 use Rattle.quota_core.specs.Books.{Books, IsOpen, account_at, with_account}
-use Rattle.dataspace_core.specs.Store.{Store, part, bytes_paid_by, with_books}
+use Rattle.quota_core.proofs.BooksLemmas.{account_there}
+use Rattle.dataspace_core.specs.Store.{Store, part, bytes_paid_by, with_account_in}
 use Rattle.dataspace_core.specs.Layout.{store_of}
 use Rattle.dataspace_core.specs.Paid.{IsPaid, IsSound, payer_of, caps_owed}
 use Rattle.dataspace_core.specs.declared.dataspace.Dataspace.{Dataspace}
-use Rattle.dataspace_core.proofs.PaidLemmas.{Fits-shortage, after_insert, payer_apart}
+use Rattle.dataspace_core.proofs.PaidLemmas.{after_insert, payer_apart}
 use Rattle.dataspace_core.proofs.PartLemmas.{part-with_account, part-with_account_other}
-use Rattle.dataspace_core.proofs.MemoryLemmas.{open_at, same_store}
+use Rattle.dataspace_core.proofs.MemoryLemmas.{same_store}
 
 -- a dataspace counts for one in its payer's part, and for none in another
 counts : (b : Bool) (bytes : List ℕ) → ◌≡◌ {A = ℕ} (unwrap_or (option_map (λ (_ : List ℕ). 1) (cond b (Some bytes) None)) 0) (cond b 1 0)
@@ -33,10 +37,16 @@ caps_owed-len store account =
     ∙ total_same _ _ store.spaces (λ ds space there. counts (eqb space.payer account) space.bytes)
     ∙ sym (owed-total (λ _. 1) payer_of store.spaces account)
 
+-- an account within its limits lacks nothing but capabilities where no bytes are asked for
+short_of_caps : (a : Account) (caps : ℕ) (refusal : Refusal) → WithinLimits a → Some refusal ≡ shortage a 0 caps → refusal ≡ OutOfCaps
+short_of_caps a caps refusal within short =
+    let ram = within.ram in
+    grind (arith, nat_tests)
+
 module _ (store : Store) (account : ℕ) (b : Account) where
   -- the memory where the account is another
   abbrev after : Store
-  after = with_books store (with_account store.books account b)
+  after = with_account_in store account b
 
   -- all stays paid for where only the use of capabilities is another, and covers the account's dataspaces
   IsPaid-capped : (free pages places : ℕ) → IsPaid store free pages places → (a : Account) → get store.books.accounts account ≡ Some a → b.ram_used ≡ a.ram_used → b.ram_limit ≡ a.ram_limit → b.caps_limit ≡ a.caps_limit → caps_owed store account ≤ b.caps_used → b.caps_used ≤ b.caps_limit → IsPaid after free pages places
@@ -87,21 +97,26 @@ module _ {books : Books} {pool : List (Option (List ℕ))} {next : List ℕ} {sp
       IsSound-capped b is used limit caps_limit covers within = record {
         laid_out = sound.laid_out;
         paid = subst (λ (s : Store). IsPaid s (free_count pool) (length pool) spaces.capacity) (sym (same_store new_books _ pool next spaces is))
-            (IsPaid-capped store account b (free_count pool) (length pool) spaces.capacity sound.paid (account_at books account) (open_at books account opens) used limit caps_limit covers within);
+            (IsPaid-capped store account b (free_count pool) (length pool) spaces.capacity sound.paid (account_at books account) (account_there books account opens) used limit caps_limit covers within);
       }
 
       -- a charge of one capability
       pub IsSound-charge_cap : (r : Result ⊤ Refusal) → result_err r ≡ shortage (account_at books account) 0 1 → OnOk r (new_books ≡ with_account books account (charged (account_at books account) 0 1)) → OnErr r (new_books ≡ books) → IsSound new_books pool next spaces
       IsSound-charge_cap (Ok done) refusal ok err =
-          let covered = Fits-shortage (account_at books account) 0 1 (sym refusal) in
-          let owes = sound.paid.caps account (account_at books account) (open_at books account opens) in
+          let covered = covers (account_at books account) 0 1 (sym refusal) in
+          let owes = sound.paid.caps account (account_at books account) (account_there books account opens) in
           IsSound-capped (charged (account_at books account) 0 1) ok (omega arith) refl refl (omega (arith, owes)) covered.caps_fit
       IsSound-charge_cap (Err e) refusal ok err = subst (λ b. IsSound b pool next spaces) (sym err) sound
+
+      -- it is refused for want of a capability alone
+      pub only-charge_cap : (r : Result ⊤ Refusal) → result_err r ≡ shortage (account_at books account) 0 1 → IfErr r (λ refusal. refusal ≡ OutOfCaps)
+      only-charge_cap (Ok done) refusal = tt
+      only-charge_cap (Err e) refusal = short_of_caps (account_at books account) 1 e (sound.paid.within account (account_at books account) (account_there books account opens)) refusal
 
       -- a credit of one that pays for no dataspace
       pub IsSound-credit_cap : len (part account store).spaces < (account_at books account).caps_used → new_books ≡ with_account books account (credited (account_at books account) 0 1) → IsSound new_books pool next spaces
       IsSound-credit_cap spare is =
-          let within = sound.paid.within account (account_at books account) (open_at books account opens) in
+          let within = sound.paid.within account (account_at books account) (account_there books account opens) in
           IsSound-capped (credited (account_at books account) 0 1) is (omega arith) refl refl
           (omega (arith, caps_owed-len store account, spare)) (omega (arith, within.caps))
 

@@ -4,6 +4,7 @@ use Rattle.std.specs.Option.{option_map}
 use Rattle.std.specs.FinMap.{insert, remove}
 use Rattle.std.proofs.lemmas.Bool.{cases_eq}
 use Rattle.std.proofs.lemmas.Option.{none-some, same_Some}
+use Rattle.trade_base.specs.Bytes.{with_bytes}
 use Rattle.page_pool.specs.Pages.{is_taken, page_bytes}
 use Rattle.page_pool.specs.PageLaws.{length-zero_page}
 use Rattle.slab.specs.Slab.{Slab, Updates}
@@ -12,7 +13,7 @@ use Rattle.own_model.specs.OwnState.{zeros}
 use Rattle.own_model.proofs.NatMapLemmas.{same, get-insert_same, get-insert_other}
 use Rattle.quota_core.specs.SlabMap.{map_of}
 use Rattle.quota_core.proofs.SlabMap.{get-map_of, map_of-insert, map_of-remove}
-use Rattle.dataspace_core.specs.Store.{Space, overwritten}
+use Rattle.dataspace_core.specs.Store.{Space}
 use Rattle.dataspace_core.specs.Layout.{page_at, chain_bytes, IsOutside, IsChain, IsNewChain, IsGiven, IsWritten, IsLaidOut, space_of}
 use Rattle.dataspace_core.specs.declared.dataspace.Dataspace.{Dataspace}
 use Rattle.dataspace_core.proofs.ChainLemmas.{is_taken-held, page_bytes_same, page_at_same, joined_same, length-joined, joined-zero_page}
@@ -194,7 +195,7 @@ module _ (pages : List (Option (List ℕ))) (next : List ℕ) (spaces : Slab Dat
   unfolding space_of chain_bytes
   space_of_other a x found apart = ap (λ bytes. record { payer = x.payer.0; bytes = bytes }) (joined_same _ _ x.chain.count (bytes_of_other a x found apart))
 
-  space_written : space_of new_pages next d ≡ record { payer = (space_of pages next d).payer; bytes = overwritten (space_of pages next d).bytes offset bytes }
+  space_written : space_of new_pages next d ≡ record { payer = (space_of pages next d).payer; bytes = with_bytes (space_of pages next d).bytes offset bytes }
   unfolding space_of
   space_written = ap (λ all. record { payer = d.payer.0; bytes = all }) written.bytes
 
@@ -204,7 +205,7 @@ module _ (pages : List (Option (List ℕ))) (next : List ℕ) (spaces : Slab Dat
   read_written q (Some x) found apart = ap Some (space_of_other q x found apart)
 
   -- and this one has the new bytes
-  pub map_of-written : map_of (space_of new_pages next) spaces ≡ insert (map_of (space_of pages next) spaces) ds (record { payer = (space_of pages next d).payer; bytes = overwritten (space_of pages next d).bytes offset bytes })
+  pub map_of-written : map_of (space_of new_pages next) spaces ≡ insert (map_of (space_of pages next) spaces) ds (record { payer = (space_of pages next d).payer; bytes = with_bytes (space_of pages next d).bytes offset bytes })
   map_of-written = same _ _ (λ q.
       elim (cases_eq q ds) [
         | inl here ↦

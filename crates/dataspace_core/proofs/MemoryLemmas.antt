@@ -8,28 +8,24 @@ use Rattle.std.proofs.lemmas.Option.{none-some}
 use Rattle.page_pool.specs.Pages.{free_count, fresh_pages}
 use Rattle.slab.specs.Slab.{Slab, Updates, HasRoomFor}
 use Rattle.slab.specs.Slab as slab
+use Rattle.trade_base.specs.Bytes.{with_bytes}
 use Rattle.trade_base.specs.Page.{page_of}
+use Rattle.trade_base.proofs.BytesLemmas.{length-with_bytes}
 use Rattle.trade_base.specs.declared.id.AccountId.{AccountId}
 use Rattle.trade_base.specs.declared.refusal.Refusal.{Refusal}
 use Rattle.own_model.specs.Account.{Account, Fits, shortage, charged, credited, opened}
 use Rattle.own_model.specs.OwnState.{zeros}
-use Rattle.own_model.proofs.NatMapLemmas.{value_at}
+use Rattle.own_model.proofs.StepLemmas.{covers}
 use Rattle.quota_core.specs.Books.{Books, IsOpen, account_at, fresh_books, with_account, with_child, ram_limits, caps_limits}
+use Rattle.quota_core.proofs.BooksLemmas.{account_there}
 use Rattle.quota_core.proofs.SlabMap.{map_of-empty, get-map_of_at, get-map_of_none, ContainsKey-map_of, len-map_of}
-use Rattle.dataspace_core.specs.Store.{Store, Space, fresh_store, Exists, space_at, with_space, without_space, with_bytes_at, overwritten, part}
+use Rattle.dataspace_core.specs.Store.{Store, Space, fresh_store, Exists, space_at, with_space, without_space, with_bytes_at, part}
 use Rattle.dataspace_core.specs.Layout.{IsNewChain, IsGiven, IsWritten, IsChain, space_of, store_of}
 use Rattle.dataspace_core.specs.Paid.{IsPaid, IsSound, size_of}
 use Rattle.dataspace_core.specs.declared.dataspace.Dataspace.{Dataspace}
 use Rattle.dataspace_core.proofs.PartLemmas.{space_at-some, part-with_child, part-with_child_other}
-use Rattle.dataspace_core.proofs.ByteLemmas.{length-overwritten}
 use Rattle.dataspace_core.proofs.LaidOutLemmas.{IsChain-laid_out, length-space_of, IsLaidOut-insert, map_of-insert_space, IsLaidOut-remove, map_of-remove_space, IsLaidOut-written, map_of-written}
-use Rattle.dataspace_core.proofs.PaidLemmas.{account_at-some, Fits-shortage, free_covers, places_cover, size_fits, use_covers, payer_apart, IsPaid-more, IsPaid-less, IsPaid-same, IsPaid-opened, IsPaid-fresh}
-
--- an account that is open has what a contract reads under its key
-pub open_at : (books : Books) (account : ℕ) → IsOpen books account → get books.accounts account ≡ Some (account_at books account)
-open_at books account is =
-    let found = value_at books.accounts account is in
-    found.1 ∙ ap Some (sym (account_at-some books account found.0 found.1))
+use Rattle.dataspace_core.proofs.PaidLemmas.{free_covers, places_cover, size_fits, use_covers, payer_apart, IsPaid-more, IsPaid-less, IsPaid-same, IsPaid-opened, IsPaid-fresh}
 
 -- the same facts of equal memories
 moved : (s t : Store) (free pages more places room : ℕ) → t ≡ s → pages ≡ more → places ≡ room → IsPaid s free pages places → IsPaid t free more room
@@ -84,7 +80,7 @@ module _ {books : Books} {pool : List (Option (List ℕ))} {next : List ℕ} {sp
 
     -- and has an account
     payer_at : get books.accounts d.payer.0 ≡ Some (account_at books d.payer.0)
-    payer_at = open_at books d.payer.0 payer_open
+    payer_at = account_there books d.payer.0 payer_open
 
     -- whose use covers it
     covered : (d.chain.count * 4096 ≤ (account_at books d.payer.0).ram_used) × (1 ≤ (account_at books d.payer.0).caps_used)
@@ -130,14 +126,14 @@ module _ {books : Books} {pool : List (Option (List ℕ))} {next : List ℕ} {sp
   module _ (ds : ℕ) (d : Dataspace) (there : slab.get spaces ds ≡ Some d) {new_pool : List (Option (List ℕ))} {offset : ℕ} {bytes : List ℕ} (fits : offset + length bytes ≤ length (space_at store ds).bytes) (written : IsWritten pool new_pool next d.chain.first d.chain.count offset bytes) where
     -- the dataspace with the part in it
     abbrev becomes : Space
-    becomes = record { payer = (space_of pool next d).payer; bytes = overwritten (space_of pool next d).bytes offset bytes }
+    becomes = record { payer = (space_of pool next d).payer; bytes = with_bytes (space_of pool next d).bytes offset bytes }
 
     changed : store_of books new_pool next spaces ≡ record { books = books; spaces = insert store.spaces ds becomes }
     changed = ap (λ m. record { books = books; spaces = m }) (map_of-written pool next spaces sound.laid_out ds d there new_pool offset bytes written)
 
     -- it has the size that it had
     same_size : size_of becomes ≡ size_of (space_of pool next d)
-    same_size = length-overwritten (space_of pool next d).bytes offset bytes (subst (λ (s : Space). offset + length bytes ≤ length s.bytes) (space_at-there ds d there) fits)
+    same_size = length-with_bytes (space_of pool next d).bytes offset bytes (subst (λ (s : Space). offset + length bytes ≤ length s.bytes) (space_at-there ds d there) fits)
 
     -- the memory stays sound
     pub IsSound-write : IsSound books new_pool next spaces
@@ -152,7 +148,7 @@ module _ {books : Books} {pool : List (Option (List ℕ))} {next : List ℕ} {sp
     pub store-write : store_of books new_pool next spaces ≡ with_bytes_at store ds offset bytes
     store-write =
         changed
-        ∙ ap (λ (s : Space). record { books = books; spaces = insert store.spaces ds (record { payer = s.payer; bytes = overwritten s.bytes offset bytes }) })
+        ∙ ap (λ (s : Space). record { books = books; spaces = insert store.spaces ds (record { payer = s.payer; bytes = with_bytes s.bytes offset bytes }) })
         (sym (space_at-there ds d there))
 
   -- ---- a dataspace comes
@@ -160,18 +156,18 @@ module _ {books : Books} {pool : List (Option (List ℕ))} {next : List ℕ} {sp
   module _ (account n size : ℕ) (is : size ≡ page_of n) (opens : IsOpen books account) (enough : None ≡ shortage (account_at books account) size 1) where
     -- the account covers it
     fits : Fits (account_at books account) size 1
-    fits = Fits-shortage (account_at books account) size 1 (sym enough)
+    fits = covers (account_at books account) size 1 (sym enough)
 
     -- there is a page for each that the account can pay for
     pub pages_free : size / 4096 ≤ free_count pool
     pages_free =
-        let free = free_covers store _ _ _ sound.paid account (account_at books account) size (open_at books account opens) fits.ram_fits in
+        let free = free_covers store _ _ _ sound.paid account (account_at books account) size (account_there books account opens) fits.ram_fits in
         omega (arith, free)
 
     -- and a place
     pub place_free : HasRoomFor spaces 1
     place_free =
-        let place = places_cover store _ _ _ sound.paid account (account_at books account) (open_at books account opens) fits.caps_fit in
+        let place = places_cover store _ _ _ sound.paid account (account_at books account) (account_there books account opens) fits.caps_fit in
         omega (arith, place, len-map_of (space_of pool next) spaces)
 
     module _ {new_books : Books} {new_pool : List (Option (List ℕ))} {new_next : List ℕ} {new_spaces : Slab Dataspace} {key : ℕ} {d : Dataspace} (updates : Updates spaces new_spaces key (Some d)) (charge : new_books ≡ with_account books account (charged (account_at books account) size 1)) (payer : d.payer.0 ≡ account) (count : d.chain.count ≡ size / 4096) (chain : IsNewChain pool next new_pool new_next d.chain.first (size / 4096)) (vacant : slab.get spaces key ≡ None) (room : new_spaces.capacity ≡ spaces.capacity) where
@@ -199,7 +195,7 @@ module _ {books : Books} {pool : List (Option (List ℕ))} {next : List ℕ} {sp
       IsSound-alloc = record {
         laid_out = IsLaidOut-insert pool next spaces sound.laid_out new_pool new_next d new_chain key new_spaces updates;
         paid = moved _ (store_of new_books new_pool new_next new_spaces) (free_count new_pool) _ _ _ _ come (sym chain.size) (sym room)
-            (IsPaid-more store _ _ _ sound.paid key account size (account_at books account) (charged (account_at books account) size 1) (open_at books account opens) fits refl vacant_there (free_count new_pool) (omega (arith, chain.taken, whole)));
+            (IsPaid-more store _ _ _ sound.paid key account size (account_at books account) (charged (account_at books account) size 1) (account_there books account opens) fits refl vacant_there (free_count new_pool) (omega (arith, chain.taken, whole)));
       }
 
       -- and is what the contract of `alloc` says
@@ -216,7 +212,7 @@ module _ {books : Books} {pool : List (Option (List ℕ))} {next : List ℕ} {sp
     IsSound-with_child child enough is new = record {
       laid_out = sound.laid_out;
       paid = moved _ (store_of new_books pool next spaces) _ _ _ _ _ (same_store new_books _ pool next spaces is) refl refl
-          (IsPaid-opened store _ _ _ sound.paid parent child ram caps (account_at books parent) (open_at books parent opens) (Fits-shortage (account_at books parent) ram caps (sym enough)) new
+          (IsPaid-opened store _ _ _ sound.paid parent child ram caps (account_at books parent) (account_there books parent opens) (covers (account_at books parent) ram caps (sym enough)) new
           (sym (ap ram_limits is) ∙ ram_moved) (sym (ap caps_limits is) ∙ caps_moved));
     }
 

@@ -1,18 +1,18 @@
 -- Dataspaces stay paid for, and what an account has left the machine has.
-use Rattle.std.proofs.Common.{◌≡◌, ◌≢◌, ℕ, ◌+◌, ◌*◌, ◌≤◌, length, Some, unwrap_or, refl, sym, ap, subst, ◌∙◌, ◌⊎◌, inl, inr, arith, eqb, cond, zero-add}
+use Rattle.std.proofs.Common.{◌≡◌, ◌≢◌, ℕ, ◌+◌, ◌*◌, ◌≤◌, Some, unwrap_or, refl, sym, ap, subst, ◌∙◌, ◌⊎◌, inl, inr, arith, eqb, cond, zero-add}
 use Rattle.std.proofs.lemmas.Bool.{cases_eq}
 use Rattle.std.proofs.lemmas.Bool.Decides.{nat_tests}
-use Rattle.std.proofs.lemmas.List.{length-replicate}
 use Rattle.std.proofs.lemmas.Option.{none-some, same_Some}
 use Rattle.std.specs.Prelude.{Option, None}
 use Rattle.std.specs.FinMap.{get, insert, remove, empty, len}
 use Rattle.own_model.specs.NatMap.{NatMap, owed}
-use Rattle.own_model.specs.Account.{Account, Fits, shortage, charged, credited, opened, parted_with}
+use Rattle.own_model.specs.Account.{Account, Fits, charged, credited, opened, parted_with}
 use Rattle.own_model.specs.OwnState.{zeros}
-use Rattle.own_model.proofs.NatMapLemmas.{get-empty, get-insert_same, get-insert_other, get-remove_same, get-remove_other, IsSome-insert_same, IsSome-insert, apart_from_free}
+use Rattle.own_model.proofs.NatMapLemmas.{get-empty, get-insert_same, get-insert_other, IsSome-insert_same, IsSome-insert, apart_from_free, before_remove}
+use Rattle.own_model.proofs.UseLemmas.{length-zeros}
 use Rattle.own_model.proofs.Totals.{total-empty, total-insert_new, total-insert_same, total-remove, total_spare, len-total, owed-empty, owed-insert_new, owed-insert_same, owed-remove, owed_nothing, owed_at_le, total_owed_le, total-owed, total_at_le}
-use Rattle.quota_core.specs.Books.{Books, IsOpen, account_at, with_child, ram_limits, caps_limits}
-use Rattle.dataspace_core.specs.Store.{Store, Space, fresh_store, with_books}
+use Rattle.quota_core.specs.Books.{Books, account_at, with_child, ram_limits, caps_limits}
+use Rattle.dataspace_core.specs.Store.{Store, Space, fresh_store, IsOpenIn, account_in, ram_limits_in, caps_limits_in}
 use Rattle.dataspace_core.specs.Paid.{IsPaid, size_of, payer_of, ram_owed, caps_owed}
 
 -- ---- a map after a change
@@ -26,28 +26,11 @@ module _ {X : Type 0} where
         | inr apart ↦ inr (apart, sym (get-insert_other m k v q apart) ∙ there)
       ]
 
-  -- what it has after a removal was there before
-  after_remove : (m : NatMap X) (k q : ℕ) (w : X) → get (remove m k) q ≡ Some w → get m q ≡ Some w
-  after_remove m k q w there =
-      elim (cases_eq q k) [
-        | inl here ↦ absurd (none-some w (sym (get-remove_same m k q here) ∙ there))
-        | inr apart ↦ sym (get-remove_other m k q apart) ∙ there
-      ]
-
 -- ---- accounts
 
 -- an account that is open is what a contract reads under its key
-pub account_at-some : (books : Books) (account : ℕ) (a : Account) → get books.accounts account ≡ Some a → account_at books account ≡ a
+account_at-some : (books : Books) (account : ℕ) (a : Account) → get books.accounts account ≡ Some a → account_at books account ≡ a
 account_at-some books account a there = ap (λ (o : Option Account). unwrap_or o (opened 0 0)) there
-
--- an account that lacks nothing covers it
-pub Fits-shortage : (a : Account) (ram caps : ℕ) → shortage a ram caps ≡ None → Fits a ram caps
-Fits-shortage a ram caps none = record { ram_fits = grind (arith, nat_tests); caps_fit = grind (arith, nat_tests) }
-
--- so many zeros are so long
-pub length-zeros : (n : ℕ) → length (zeros n) ≡ n
-unfolding zeros
-length-zeros n = length-replicate n 0
 
 -- ---- no hidden shortage
 
@@ -148,7 +131,7 @@ module _ (store : Store) (free pages places : ℕ) (paid : IsPaid store free pag
     -- all that is left is paid for
     pub IsPaid-less : (free_now : ℕ) → free_now * 4096 ≡ free * 4096 + size_of space → IsPaid left free_now pages places
     IsPaid-less free_now more = record {
-      payers = λ q s found. IsSome-insert store.books.accounts space.payer b s.payer (paid.payers q s (after_remove store.spaces ds q s found));
+      payers = λ q s found. IsSome-insert store.books.accounts space.payer b s.payer (paid.payers q s (before_remove store.spaces ds q s found));
       within = λ k v found. elim (after_insert store.books.accounts space.payer b k v found) [
         | inl new ↦
             let old = paid.within space.payer a opens in
@@ -192,7 +175,7 @@ module _ (store : Store) (free pages places : ℕ) (paid : IsPaid store free pag
     pub IsPaid-same : IsPaid (record store { spaces = insert store.spaces ds other }) free pages places
     IsPaid-same = record {
       payers = λ q s found. elim (after_insert store.spaces ds other q s found) [
-        | inl new ↦ subst (IsOpen store.books) (sym (ap payer_of new.1 ∙ payer)) (paid.payers ds space there)
+        | inl new ↦ subst (IsOpenIn store) (sym (ap payer_of new.1 ∙ payer)) (paid.payers ds space there)
         | inr old ↦ paid.payers q s old.1
       ];
       within = paid.within;
@@ -213,14 +196,14 @@ module _ (store : Store) (free pages places : ℕ) (paid : IsPaid store free pag
 
     -- what the parent keeps
     abbrev rest : Account
-    rest = parted_with (account_at store.books parent) ram caps
+    rest = parted_with (account_in store parent) ram caps
 
     -- which is its account after its limits went
     rest_is : rest ≡ parted_with a ram caps
     rest_is = ap (λ (v : Account). parted_with v ram caps) (account_at-some store.books parent a opens)
 
     -- all is paid for
-    pub IsPaid-opened : ram_limits opening ≡ ram_limits store.books → caps_limits opening ≡ caps_limits store.books → IsPaid (with_books store opening) free pages places
+    pub IsPaid-opened : ram_limits opening ≡ ram_limits_in store → caps_limits opening ≡ caps_limits_in store → IsPaid (record store { books = opening }) free pages places
     IsPaid-opened ram_moved caps_moved = record {
       payers = λ q s found. IsSome-insert (insert store.books.accounts parent rest) child (opened ram caps) s.payer (IsSome-insert store.books.accounts parent rest s.payer (paid.payers q s found));
       within = λ k v found. elim (after_insert (insert store.books.accounts parent rest) child (opened ram caps) k v found) [

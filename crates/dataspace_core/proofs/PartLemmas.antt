@@ -4,13 +4,13 @@ use Rattle.std.proofs.lemmas.Bool.Decides.{nat_tests}
 use Rattle.std.specs.Prelude.{Option, None}
 use Rattle.std.specs.Option.{option_and_then}
 use Rattle.std.specs.FinMap.{get, insert, remove, empty}
+use Rattle.trade_base.specs.Bytes.{with_bytes}
 use Rattle.trade_base.specs.Page.{page_of}
 use Rattle.own_model.specs.NatMap.{NatMap, picked}
 use Rattle.own_model.specs.Account.{Account, charged, credited, opened}
 use Rattle.own_model.specs.OwnState.{zeros}
 use Rattle.own_model.proofs.NatMapLemmas.{same, get-empty, get-insert_same, get-insert_other, get-picked, get-picked_none, get-picked_at, picked-insert_some, picked-insert_hidden, picked-insert_alike, picked-remove, picked-remove_hidden}
-use Rattle.quota_core.specs.Books.{account_at, with_account, with_child}
-use Rattle.dataspace_core.specs.Store.{Store, Space, Part, part, bytes_paid_by, space_at, with_space, without_space, with_bytes_at, with_books, overwritten}
+use Rattle.dataspace_core.specs.Store.{Store, Space, Part, part, bytes_paid_by, space_at, with_space, without_space, with_bytes_at, account_in, with_account_in, with_child_in}
 
 -- its payer has the bytes of a dataspace in its part, and nobody else
 paid_by : (account : ℕ) (space : Space) → space.payer ≡ account → bytes_paid_by account space ≡ Some space.bytes
@@ -29,7 +29,7 @@ pub space_at-some : (store : Store) (ds : ℕ) (space : Space) → get store.spa
 space_at-some store ds space there = ap (λ (o : Option Space). unwrap_or o (record { payer = 0; bytes = [] })) there
 
 module _ (store : Store) (ds payer n : ℕ) (free : get store.spaces ds ≡ None) where
-  pub part-with_space : part payer (with_space store ds payer n) ≡ record { account = Some (charged (account_at store.books payer) (page_of n) 1); spaces = insert (part payer store).spaces ds (zeros (page_of n)) }
+  pub part-with_space : part payer (with_space store ds payer n) ≡ record { account = Some (charged (account_in store payer) (page_of n) 1); spaces = insert (part payer store).spaces ds (zeros (page_of n)) }
   unfolding part
   part-with_space = same_part _ _ _ _
       (get-insert_same store.books.accounts payer _ payer refl)
@@ -47,7 +47,7 @@ unfolding part
 own_fresh store account ds free = get-picked_none (bytes_paid_by account) store.spaces ds free
 
 module _ (store : Store) (ds : ℕ) (space : Space) (there : get store.spaces ds ≡ Some space) where
-  pub part-without_space : part (space_at store ds).payer (without_space store ds) ≡ record { account = Some (credited (account_at store.books (space_at store ds).payer) (length (space_at store ds).bytes) 1); spaces = remove (part (space_at store ds).payer store).spaces ds }
+  pub part-without_space : part (space_at store ds).payer (without_space store ds) ≡ record { account = Some (credited (account_in store (space_at store ds).payer) (length (space_at store ds).bytes) 1); spaces = remove (part (space_at store ds).payer store).spaces ds }
   unfolding part
   part-without_space = same_part _ _ _ _
       (get-insert_same store.books.accounts (space_at store ds).payer _ (space_at store ds).payer refl)
@@ -66,11 +66,11 @@ module _ (store : Store) (ds : ℕ) (space : Space) (there : get store.spaces ds
       (get-insert_other store.books.accounts (space_at store ds).payer _ other apart)
       (picked-remove_hidden (bytes_paid_by other) store.spaces ds (hidden other apart))
 
-  pub part-with_bytes_at : (offset : ℕ) (bytes : List ℕ) → part (space_at store ds).payer (with_bytes_at store ds offset bytes) ≡ record { account = (part (space_at store ds).payer store).account; spaces = insert (part (space_at store ds).payer store).spaces ds (overwritten (space_at store ds).bytes offset bytes) }
+  pub part-with_bytes_at : (offset : ℕ) (bytes : List ℕ) → part (space_at store ds).payer (with_bytes_at store ds offset bytes) ≡ record { account = (part (space_at store ds).payer store).account; spaces = insert (part (space_at store ds).payer store).spaces ds (with_bytes (space_at store ds).bytes offset bytes) }
   unfolding part
   part-with_bytes_at offset bytes = same_part _ _ _ _
       refl
-      (picked-insert_some (bytes_paid_by (space_at store ds).payer) store.spaces ds _ (overwritten (space_at store ds).bytes offset bytes) (paid_by (space_at store ds).payer _ refl))
+      (picked-insert_some (bytes_paid_by (space_at store ds).payer) store.spaces ds _ (with_bytes (space_at store ds).bytes offset bytes) (paid_by (space_at store ds).payer _ refl))
 
   -- the parts of the others stay
   pub part-with_bytes_at_other : (offset : ℕ) (bytes : List ℕ) (other : ℕ) → other ≢ (space_at store ds).payer → part other (with_bytes_at store ds offset bytes) ≡ part other store
@@ -86,14 +86,14 @@ module _ (store : Store) (parent child ram caps : ℕ) where
   nothing_picked (Some space) apart = paid_by_another child space (apart space refl)
 
   -- a new account pays for nothing
-  pub part-with_child : ((ds : ℕ) (space : Space) → get store.spaces ds ≡ Some space → space.payer ≢ child) → part child (with_books store (with_child store.books parent child ram caps)) ≡ record { account = Some (opened ram caps); spaces = empty }
+  pub part-with_child : ((ds : ℕ) (space : Space) → get store.spaces ds ≡ Some space → space.payer ≢ child) → part child (with_child_in store parent child ram caps) ≡ record { account = Some (opened ram caps); spaces = empty }
   unfolding part
   part-with_child apart = same_part _ _ _ _
       (get-insert_same _ child (opened ram caps) child refl)
       (same _ _ (λ q. get-picked (bytes_paid_by child) store.spaces q ∙ nothing_picked (get store.spaces q) (apart q) ∙ sym (get-empty q)))
 
   -- the parts of the others stay
-  pub part-with_child_other : (other : ℕ) → other ≢ parent → other ≢ child → part other (with_books store (with_child store.books parent child ram caps)) ≡ part other store
+  pub part-with_child_other : (other : ℕ) → other ≢ parent → other ≢ child → part other (with_child_in store parent child ram caps) ≡ part other store
   unfolding part
   part-with_child_other other apart_parent apart_child = same_part _ _ _ _
       (get-insert_other _ child (opened ram caps) other apart_child ∙ get-insert_other store.books.accounts parent _ other apart_parent)
@@ -101,11 +101,11 @@ module _ (store : Store) (parent child ram caps : ℕ) where
 
 module _ (store : Store) (account : ℕ) (b : Account) where
   -- the part of an account that is another has that one, and the same dataspaces
-  pub part-with_account : part account (with_books store (with_account store.books account b)) ≡ record { account = Some b; spaces = (part account store).spaces }
+  pub part-with_account : part account (with_account_in store account b) ≡ record { account = Some b; spaces = (part account store).spaces }
   unfolding part
   part-with_account = same_part _ _ _ _ (get-insert_same store.books.accounts account b account refl) refl
 
   -- the parts of the others stay
-  pub part-with_account_other : (other : ℕ) → other ≢ account → part other (with_books store (with_account store.books account b)) ≡ part other store
+  pub part-with_account_other : (other : ℕ) → other ≢ account → part other (with_account_in store account b) ≡ part other store
   unfolding part
   part-with_account_other other apart = same_part _ _ _ _ (get-insert_other store.books.accounts account b other apart) refl

@@ -1,6 +1,6 @@
 -- What the tests know of a memory after a call.
+use Rattle.trade_base.proofs.BytesLemmas.{length-with_bytes}
 use Rattle.own_model.proofs.NatMapLemmas.{natmaps}
-use Rattle.dataspace_core.proofs.PaidLemmas.{length-zeros}
-use Rattle.dataspace_core.proofs.ByteLemmas.{length-overwritten}
+use Rattle.own_model.proofs.UseLemmas.{length-zeros}
 
-pub ruleset store_laws = (natmaps, length-zeros, length-overwritten)
+pub ruleset store_laws = (natmaps, length-zeros, length-with_bytes)

@@ -4,13 +4,13 @@ use Rattle.std.specs.Prelude.{Option, None}
 use Rattle.std.proofs.Math.Seq.{take-add}
 use Rattle.std.proofs.lemmas.Bool.{cases_eq}
 use Rattle.std.proofs.lemmas.List.{get_or-set_other, length-set, length-take-le}
-use Rattle.page_pool.specs.Pages.{free_count, page_bytes, with_bytes}
-use Rattle.page_pool.specs.PageLaws.{length-with_bytes}
-use Rattle.dataspace_core.specs.Store.{overwritten}
+use Rattle.trade_base.specs.Bytes.{with_bytes}
+use Rattle.trade_base.proofs.BytesLemmas.{length-with_bytes, with_bytes-nothing, with_bytes-more}
+use Rattle.page_pool.specs.Pages.{free_count, page_bytes}
 use Rattle.dataspace_core.specs.Layout.{page_at, chain_bytes, IsChain, IsWritten}
 use Rattle.dataspace_core.proofs.ChainLemmas.{held-lt-length, page_bytes-set_here, page_bytes-set_other, length-joined}
 use Rattle.dataspace_core.proofs.WalkLemmas.{IsStep, length-lent}
-use Rattle.dataspace_core.proofs.ByteLemmas.{overwritten_nothing, overwritten_more, joined_put, joined_piece}
+use Rattle.dataspace_core.proofs.ByteLemmas.{joined_put, joined_piece}
 
 -- a chain has all bytes of its pages
 pub length-chain_bytes : (pages : List (Option (List ℕ))) (next : List ℕ) (first count : ℕ) → ((i : ℕ) → i < count → length (page_bytes pages (page_at next first i)) ≡ 4096) → length (chain_bytes pages next first count) ≡ count * 4096
@@ -28,7 +28,7 @@ IsWritten-nothing pages next first count offset chain = record {
   size = refl;
   taken = refl;
   held = chain.held;
-  bytes = sym (overwritten_nothing _ offset);
+  bytes = sym (with_bytes-nothing _ offset);
   others = λ page outside. refl;
 }
 
@@ -58,8 +58,8 @@ module _ (old_pages pages : List (Option (List ℕ))) (next : List ℕ) (first c
   still_held j before (inr apart) = ap length (old_bytes j before apart) ∙ so_far.held j before
 
   -- the bytes of the chain after the write
-  bytes_after : chain_bytes written next first count ≡ overwritten (chain_bytes pages next first count) (i * 4096 + from) more
-  unfolding chain_bytes with_bytes
+  bytes_after : chain_bytes written next first count ≡ with_bytes (chain_bytes pages next first count) (i * 4096 + from) more
+  unfolding chain_bytes
   bytes_after = joined_put (λ j. page_bytes pages (page_at next first j)) (λ j. page_bytes written (page_at next first j)) count i from more so_far.held below fits new_bytes old_bytes
 
   -- more of the part is written
@@ -70,9 +70,9 @@ module _ (old_pages pages : List (Option (List ℕ))) (next : List ℕ) (first c
     held = λ j before. still_held j before (cases_eq j i);
     bytes =
         bytes_after
-        ∙ ap (λ l. overwritten l (i * 4096 + from) more) so_far.bytes
-        ∙ ap (λ k. overwritten (overwritten (chain_bytes old_pages next first count) offset part) k more) (sym place)
-        ∙ overwritten_more (chain_bytes old_pages next first count) offset part more (omega (arith, length-chain_bytes old_pages next first count chain.held, place, fits, below));
+        ∙ ap (λ l. with_bytes l (i * 4096 + from) more) so_far.bytes
+        ∙ ap (λ k. with_bytes (with_bytes (chain_bytes old_pages next first count) offset part) k more) (sym place)
+        ∙ with_bytes-more (chain_bytes old_pages next first count) offset part more (omega (arith, length-chain_bytes old_pages next first count chain.held, place, fits, below));
     others = λ q outside. get_or-set_other pages page q _ None (outside i below) ∙ so_far.others q outside;
   }
 

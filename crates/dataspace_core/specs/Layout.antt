@@ -1,10 +1,11 @@
 -- How the pages of dataspaces are linked. No public clause cites this module.
 use Rattle.std.specs.Prelude.{◌≡◌, ◌≢◌, ℕ, zero, suc, ◌+◌, ◌<◌, true, false, List, [], ◌++◌, length, Option, Some, None, slice_index, slice_index_or}
+use Rattle.trade_base.specs.Bytes.{with_bytes}
 use Rattle.page_pool.specs.Pages.{free_count, is_taken, page_bytes, zero_page}
 use Rattle.slab.specs.Slab.{Slab, get}
 use Rattle.quota_core.specs.Books.{Books}
 use Rattle.quota_core.specs.SlabMap.{map_of}
-use Rattle.dataspace_core.specs.Store.{Space, Store, overwritten}
+use Rattle.dataspace_core.specs.Store.{Space, Store}
 use Rattle.dataspace_core.specs.declared.dataspace.Dataspace.{Dataspace}
 
 -- the page at an index of the chain that starts with this page: the table has for each page the one that follows it
@@ -53,7 +54,7 @@ pub record IsWritten (pages new_pages : List (Option (List ℕ))) (next : List �
   pub size : length new_pages ≡ length pages
   pub taken : free_count new_pages ≡ free_count pages
   pub held : (i : ℕ) → i < count → length (page_bytes new_pages (page_at next first i)) ≡ 4096
-  pub bytes : chain_bytes new_pages next first count ≡ overwritten (chain_bytes pages next first count) offset part
+  pub bytes : chain_bytes new_pages next first count ≡ with_bytes (chain_bytes pages next first count) offset part
   pub others : (page : ℕ) → IsOutside next first count page → slice_index_or new_pages page None ≡ slice_index_or pages page None
 
 -- each page of each dataspace has all its bytes, and is in one place of one dataspace

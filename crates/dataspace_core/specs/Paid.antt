@@ -5,8 +5,8 @@ use Rattle.page_pool.specs.Pages.{free_count}
 use Rattle.slab.specs.Slab.{Slab}
 use Rattle.own_model.specs.NatMap.{total, owed}
 use Rattle.own_model.specs.Account.{Account, WithinLimits}
-use Rattle.quota_core.specs.Books.{Books, IsOpen, ram_limits, caps_limits}
-use Rattle.dataspace_core.specs.Store.{Store, Space}
+use Rattle.quota_core.specs.Books.{Books}
+use Rattle.dataspace_core.specs.Store.{Store, Space, IsOpenIn, ram_limits_in, caps_limits_in}
 use Rattle.dataspace_core.specs.Layout.{IsLaidOut, store_of}
 use Rattle.dataspace_core.specs.declared.dataspace.Dataspace.{Dataspace}
 
@@ -29,12 +29,12 @@ caps_owed store account = owed (λ _. 1) payer_of store.spaces account
 -- every dataspace is paid for by an open account within its limits, and the limits are what the machine has: so many pages,
 -- some of them free, and places for so many dataspaces
 pub record IsPaid (store : Store) (free pages places : ℕ) : Type 0 where
-  pub payers : (ds : ℕ) (space : Space) → get store.spaces ds ≡ Some space → IsOpen store.books space.payer
+  pub payers : (ds : ℕ) (space : Space) → get store.spaces ds ≡ Some space → IsOpenIn store space.payer
   pub within : (account : ℕ) (a : Account) → get store.books.accounts account ≡ Some a → WithinLimits a
   pub ram : (account : ℕ) (a : Account) → get store.books.accounts account ≡ Some a → ram_owed store account ≡ a.ram_used
   pub caps : (account : ℕ) (a : Account) → get store.books.accounts account ≡ Some a → caps_owed store account ≤ a.caps_used
-  pub ram_limits : ram_limits store.books ≡ pages * 4096
-  pub caps_limits : caps_limits store.books ≤ places
+  pub ram_limits : ram_limits_in store ≡ pages * 4096
+  pub caps_limits : caps_limits_in store ≤ places
   pub backed : free * 4096 + total size_of store.spaces ≡ pages * 4096
   pub few : pages ≤ 4096
 

@@ -1,15 +1,16 @@
 -- What a contract sees of the memory.
-use Rattle.std.specs.Prelude.{ℕ, ◌+◌, ◌*◌, ◌==◌, List, [], ◌++◌, length, take, drop, Option, Some, None, IsSome, if◌then◌else◌}
+use Rattle.std.specs.Prelude.{ℕ, ◌*◌, ◌==◌, List, [], length, Option, Some, None, IsSome, if◌then◌else◌}
 use Rattle.std.proofs.Common.{refl}
 use Rattle.std.specs.Option.{unwrap_or}
 use Rattle.std.specs.Coded.{Coded, code_by, coded×, coded_ℕ, coded_list}
 use Rattle.std.specs.FinMap as map
 use Rattle.std.specs.FinMap.{get, insert, remove, empty}
+use Rattle.trade_base.specs.Bytes.{with_bytes}
 use Rattle.trade_base.specs.Page.{page_of}
 use Rattle.own_model.specs.NatMap.{NatMap, picked}
 use Rattle.own_model.specs.Account.{Account, charged, credited}
 use Rattle.own_model.specs.OwnState.{zeros}
-use Rattle.quota_core.specs.Books.{Books, coded_books, fresh_books, account_at, with_account}
+use Rattle.quota_core.specs.Books.{Books, IsOpen, coded_books, fresh_books, account_at, with_account, with_child, ram_limits, caps_limits}
 
 -- a dataspace: the account that pays for it, and its bytes
 pub record Space : Type 0 where
@@ -36,6 +37,46 @@ abbrev pub fresh_store : ℕ → ℕ → ℕ → ℕ → Store
 fresh_store root pages caps places =
     record { books = fresh_books root (pages * 4096) caps places; spaces = empty }
 
+-- ---- the accounts of a memory
+
+-- the accounts by their keys
+abbrev pub accounts_in : Store → NatMap Account
+accounts_in store = store.books.accounts
+
+-- the root's key
+abbrev pub root_in : Store → ℕ
+root_in store = store.books.root
+
+-- how many more accounts find a place
+abbrev pub room_in : Store → ℕ
+room_in store = store.books.room
+
+-- the account is open
+abbrev pub IsOpenIn : Store → ℕ → Type 0
+IsOpenIn store account = IsOpen store.books account
+
+-- an account that is open, or one of nothing
+abbrev pub account_in : Store → ℕ → Account
+account_in store account = account_at store.books account
+
+-- the memory with another account under a key
+abbrev pub with_account_in : Store → ℕ → Account → Store
+with_account_in store key account = record store { books = with_account store.books key account }
+
+-- the memory with limits moved from the parent to a new account
+abbrev pub with_child_in : Store → ℕ → ℕ → ℕ → ℕ → Store
+with_child_in store parent child ram caps = record store { books = with_child store.books parent child ram caps }
+
+-- all limits of RAM, in bytes
+abbrev pub ram_limits_in : Store → ℕ
+ram_limits_in store = ram_limits store.books
+
+-- all limits of capabilities
+abbrev pub caps_limits_in : Store → ℕ
+caps_limits_in store = caps_limits store.books
+
+-- ---- the dataspaces of a memory
+
 -- there is a dataspace under this key
 abbrev pub Exists : Store → ℕ → Type 0
 Exists store ds = IsSome (get store.spaces ds)
@@ -46,32 +87,25 @@ space_at store ds = unwrap_or (get store.spaces ds) (record { payer = 0; bytes =
 
 -- an account is charged for a new dataspace of n bytes in whole pages, all zero
 abbrev pub with_space : Store → ℕ → ℕ → ℕ → Store
-with_space store ds payer n = record {
-  books = with_account store.books payer (charged (account_at store.books payer) (page_of n) 1);
+with_space store ds payer n = record (with_account_in store payer (charged (account_in store payer) (page_of n) 1)) {
   spaces = insert store.spaces ds (record { payer = payer; bytes = zeros (page_of n) });
 }
 
 -- a dataspace goes, and its payer is credited
 abbrev pub without_space : Store → ℕ → Store
-without_space store ds = record {
-  books = with_account store.books (space_at store ds).payer
-      (credited (account_at store.books (space_at store ds).payer) (length (space_at store ds).bytes) 1);
-  spaces = remove store.spaces ds;
-}
-
--- bytes with a part put at an offset
-abbrev pub overwritten : List ℕ → ℕ → List ℕ → List ℕ
-overwritten bytes offset part = take offset bytes ++ part ++ drop (offset + length part) bytes
+without_space store ds =
+    let space = space_at store ds in
+    record (with_account_in store space.payer (credited (account_in store space.payer) (length space.bytes) 1)) {
+      spaces = remove store.spaces ds;
+    }
 
 -- a part put at an offset of a dataspace
 abbrev pub with_bytes_at : Store → ℕ → ℕ → List ℕ → Store
 with_bytes_at store ds offset part = record store {
-  spaces = insert store.spaces ds (record { payer = (space_at store ds).payer; bytes = overwritten (space_at store ds).bytes offset part });
+  spaces = insert store.spaces ds (record { payer = (space_at store ds).payer; bytes = with_bytes (space_at store ds).bytes offset part });
 }
 
--- a memory whose books have another account under the root or below it
-abbrev pub with_books : Store → Books → Store
-with_books store books = record store { books = books }
+-- ---- the part of one account
 
 -- what one account is and pays for: the account, and the bytes of its dataspaces by their keys
 pub record Part : Type 0 where

@@ -1,14 +1,15 @@
 //! Dataspaces over a pool of pages and the books of accounts.
-ghost use Rattle.std.specs.Prelude.{◌≡◌, ◌≢◌, ℕ, ◌+◌, ◌*◌, ◌<◌, ◌≤◌, length, if◌then◌else◌, Some, None, IfOk, OnOk, OnErr, slice_range};
+ghost use Rattle.std.specs.Prelude.{◌≡◌, ◌≢◌, ℕ, ◌+◌, ◌*◌, ◌<◌, ◌≤◌, length, if◌then◌else◌, Some, None, IfOk, IfErr, OnOk, OnErr, slice_range};
 ghost use Rattle.std.specs.Result.{result_err};
 ghost use Rattle.std.specs.FinMap.{get, insert, remove, len};
 ghost use Rattle.std.specs.FinMap as map;
+ghost use Rattle.trade_base.specs.Bytes.{with_bytes};
 ghost use Rattle.trade_base.specs.Page.{page_of};
+ghost use Rattle.trade_base.specs.declared.refusal.Refusal.TheVariants.{OutOfCaps};
 ghost use Rattle.own_model.specs.Account.{shortage, charged, credited, opened, WithinLimits};
 ghost use Rattle.own_model.specs.OwnState.{zeros};
 ghost use Rattle.own_model.specs.OwnStep.{alloc_refusal, is_valid_size};
-ghost use Rattle.quota_core.specs.Books.{IsOpen, account_at, with_account, with_child, ram_limits, caps_limits};
-ghost use Rattle.dataspace_core.specs.Store.{fresh_store, Exists, space_at, with_space, without_space, with_bytes_at, with_books, part, overwritten};
+ghost use Rattle.dataspace_core.specs.Store.{fresh_store, accounts_in, root_in, room_in, IsOpenIn, account_in, with_account_in, with_child_in, ram_limits_in, caps_limits_in, Exists, space_at, with_space, without_space, with_bytes_at, part};
 
 use crate::chains::{give_chain, no_links, read_chain, take_chain, write_chain};
 use crate::dataspace::{Dataspace, no_spaces, size_of, space_under};
@@ -62,7 +63,7 @@ impl Memory {
         requires caps { caps.0 ≤ 4096 }
         requires some { 1 ≤ accounts }
         requires few { accounts ≤ 4096 }
-        ensures { IfOk result (λ memory. memory ≡ fresh_store memory.books.root pages caps.0 accounts) }
+        ensures { IfOk result (λ memory. memory ≡ fresh_store (root_in memory) pages caps.0 accounts) }
     {
         let pool = Pool::boot(alloc, pages)?;
         let books = Books::boot(alloc, Ram(pages as u64 * PAGE), caps, accounts)?;
@@ -82,18 +83,18 @@ impl Memory {
     /// It is refused with `InvalidSize` where `bytes` is 0 or past 64 bits in whole pages, else with `OutOfRam` where less
     /// RAM of the account's limit is free, and else with `OutOfCaps` where no capability is. Nothing else refuses it.
     pub fn alloc(&mut self, account: AccountId, bytes: u64) -> Result<DsId, Refusal>
-        requires { IsOpen self.old.books account.0 }
-        ensures refusal { result_err result ≡ alloc_refusal bytes (account_at self.old.books account.0) }
+        requires { IsOpenIn self.old account.0 }
+        ensures refusal { result_err result ≡ alloc_refusal bytes (account_in self.old account.0) }
         ensures ok { IfOk result (λ ds. self.new ≡ with_space self.old ds.0 account.0 bytes) }
         ensures fresh { IfOk result (λ ds. get self.old.spaces ds.0 ≡ None) }
         ensures own { IfOk result (λ ds. part account.0 self.new ≡ record {
-          account = Some (charged (account_at self.old.books account.0) (page_of bytes) 1);
+          account = Some (charged (account_in self.old account.0) (page_of bytes) 1);
           spaces = insert (part account.0 self.old).spaces ds.0 (zeros (page_of bytes));
         }) }
         ensures own_fresh { IfOk result (λ ds. get (part account.0 self.old).spaces ds.0 ≡ None) }
         ensures others { (other : ℕ) → other ≢ account.0 → part other self.new ≡ part other self.old }
         ensures err { OnErr result (self.new ≡ self.old) }
-        ensures paid { IfOk result (λ _. len (part account.0 self.new).spaces ≤ (account_at self.new.books account.0).caps_used) }
+        ensures paid { IfOk result (λ _. len (part account.0 self.new).spaces ≤ (account_in self.new account.0).caps_used) }
     {
         let size = valid_size(bytes).ok_or(Refusal::InvalidSize)?;
         self.books.charge(account, Ram(size), Caps(1))?;
@@ -110,7 +111,7 @@ impl Memory {
         requires { Exists self.old ds.0 }
         ensures freed { self.new ≡ without_space self.old ds.0 }
         ensures own { let payer = (space_at self.old ds.0).payer in part payer self.new ≡ record {
-          account = Some (credited (account_at self.old.books payer) (length (space_at self.old ds.0).bytes) 1);
+          account = Some (credited (account_in self.old payer) (length (space_at self.old ds.0).bytes) 1);
           spaces = remove (part payer self.old).spaces ds.0;
         } }
         ensures others { (other : ℕ) → other ≢ (space_at self.old ds.0).payer → part other self.new ≡ part other self.old }
@@ -150,7 +151,7 @@ impl Memory {
         ensures written { self.new ≡ with_bytes_at self.old ds.0 offset bytes.now }
         ensures own { let payer = (space_at self.old ds.0).payer in part payer self.new ≡ record {
           account = (part payer self.old).account;
-          spaces = insert (part payer self.old).spaces ds.0 (overwritten (space_at self.old ds.0).bytes offset bytes.now);
+          spaces = insert (part payer self.old).spaces ds.0 (with_bytes (space_at self.old ds.0).bytes offset bytes.now);
         } }
         ensures others { (other : ℕ) → other ≢ (space_at self.old ds.0).payer → part other self.new ≡ part other self.old }
     {
@@ -160,41 +161,42 @@ impl Memory {
 
     /// Charges an account for one capability that is no dataspace's.
     ///
-    /// It is refused with `OutOfCaps` where no capability of the account's limit is free.
+    /// It is refused with `OutOfCaps` where no capability of the account's limit is free. Nothing else refuses it.
     pub fn charge_cap(&mut self, account: AccountId) -> Result<(), Refusal>
-        requires { IsOpen self.old.books account.0 }
-        ensures refusal { result_err result ≡ shortage (account_at self.old.books account.0) 0 1 }
-        ensures ok { OnOk result (self.new ≡ with_books self.old (with_account self.old.books account.0 (charged (account_at self.old.books account.0) 0 1))) }
+        requires { IsOpenIn self.old account.0 }
+        ensures refusal { result_err result ≡ shortage (account_in self.old account.0) 0 1 }
+        ensures only { IfErr result (λ refusal. refusal ≡ OutOfCaps) }
+        ensures ok { OnOk result (self.new ≡ with_account_in self.old account.0 (charged (account_in self.old account.0) 0 1)) }
         ensures own { OnOk result (part account.0 self.new ≡ record {
-          account = Some (charged (account_at self.old.books account.0) 0 1);
+          account = Some (charged (account_in self.old account.0) 0 1);
           spaces = (part account.0 self.old).spaces;
         }) }
         ensures others { (other : ℕ) → other ≢ account.0 → part other self.new ≡ part other self.old }
         ensures err { OnErr result (self.new ≡ self.old) }
-        ensures paid { len (part account.0 self.new).spaces ≤ (account_at self.new.books account.0).caps_used }
+        ensures paid { len (part account.0 self.new).spaces ≤ (account_in self.new account.0).caps_used }
     {
         self.books.charge(account, Ram(0), Caps(1))
     }
 
     /// Credits an account with one capability. It must use more capabilities than it pays for dataspaces.
     pub fn credit_cap(&mut self, account: AccountId)
-        requires open { IsOpen self.old.books account.0 }
-        requires spare { len (part account.0 self.old).spaces < (account_at self.old.books account.0).caps_used }
-        ensures credited { self.new ≡ with_books self.old (with_account self.old.books account.0 (credited (account_at self.old.books account.0) 0 1)) }
+        requires open { IsOpenIn self.old account.0 }
+        requires spare { len (part account.0 self.old).spaces < (account_in self.old account.0).caps_used }
+        ensures credited { self.new ≡ with_account_in self.old account.0 (credited (account_in self.old account.0) 0 1) }
         ensures own { part account.0 self.new ≡ record {
-          account = Some (credited (account_at self.old.books account.0) 0 1);
+          account = Some (credited (account_in self.old account.0) 0 1);
           spaces = (part account.0 self.old).spaces;
         } }
         ensures others { (other : ℕ) → other ≢ account.0 → part other self.new ≡ part other self.old }
-        ensures paid { len (part account.0 self.new).spaces ≤ (account_at self.new.books account.0).caps_used }
+        ensures paid { len (part account.0 self.new).spaces ≤ (account_in self.new account.0).caps_used }
     {
         self.books.credit(account, Ram(0), Caps(1));
     }
 
     /// The root's key.
     pub fn root(&self) -> AccountId
-        ensures key { result.0 ≡ self.now.books.root }
-        ensures open { IsOpen self.now.books result.0 }
+        ensures key { result.0 ≡ root_in self.now }
+        ensures open { IsOpenIn self.now result.0 }
     {
         self.books.root()
     }
@@ -205,36 +207,36 @@ impl Memory {
     /// It is refused with `OutOfRam` where less RAM of the parent's limit is free, and else with `OutOfCaps` where fewer
     /// capabilities are.
     pub fn open(&mut self, parent: AccountId, ram: Ram, caps: Caps) -> Result<AccountId, Refusal>
-        requires parent { IsOpen self.old.books parent.0 }
-        requires room { 0 < self.old.books.room }
-        ensures refusal { result_err result ≡ shortage (account_at self.old.books parent.0) ram.0 caps.0 }
-        ensures ok { IfOk result (λ child. self.new ≡ with_books self.old (with_child self.old.books parent.0 child.0 ram.0 caps.0)) }
-        ensures fresh { IfOk result (λ child. get self.old.books.accounts child.0 ≡ None) }
+        requires parent { IsOpenIn self.old parent.0 }
+        requires room { 0 < room_in self.old }
+        ensures refusal { result_err result ≡ shortage (account_in self.old parent.0) ram.0 caps.0 }
+        ensures ok { IfOk result (λ child. self.new ≡ with_child_in self.old parent.0 child.0 ram.0 caps.0) }
+        ensures fresh { IfOk result (λ child. get (accounts_in self.old) child.0 ≡ None) }
         ensures own { IfOk result (λ child. part child.0 self.new ≡ record { account = Some (opened ram.0 caps.0); spaces = map.empty }) }
         ensures others { IfOk result (λ child. (other : ℕ) → other ≢ parent.0 → other ≢ child.0 → part other self.new ≡ part other self.old) }
         ensures err { OnErr result (self.new ≡ self.old) }
-        ensures ram_moved { ram_limits self.new.books ≡ ram_limits self.old.books }
-        ensures caps_moved { caps_limits self.new.books ≡ caps_limits self.old.books }
+        ensures ram_moved { ram_limits_in self.new ≡ ram_limits_in self.old }
+        ensures caps_moved { caps_limits_in self.new ≡ caps_limits_in self.old }
     {
         self.books.open(parent, ram, caps)
     }
 
     /// An account's limits, of RAM in bytes and of capabilities.
     pub fn limits(&self, account: AccountId) -> (Ram, Caps)
-        requires { IsOpen self.now.books account.0 }
-        ensures ram { result.0.0 ≡ (account_at self.now.books account.0).ram_limit }
-        ensures caps { result.1.0 ≡ (account_at self.now.books account.0).caps_limit }
-        ensures within { WithinLimits (account_at self.now.books account.0) }
+        requires { IsOpenIn self.now account.0 }
+        ensures ram { result.0.0 ≡ (account_in self.now account.0).ram_limit }
+        ensures caps { result.1.0 ≡ (account_in self.now account.0).caps_limit }
+        ensures within { WithinLimits (account_in self.now account.0) }
     {
         self.books.limits(account)
     }
 
     /// What an account uses, of RAM in bytes and of capabilities.
     pub fn used(&self, account: AccountId) -> (Ram, Caps)
-        requires { IsOpen self.now.books account.0 }
-        ensures ram { result.0.0 ≡ (account_at self.now.books account.0).ram_used }
-        ensures caps { result.1.0 ≡ (account_at self.now.books account.0).caps_used }
-        ensures within { WithinLimits (account_at self.now.books account.0) }
+        requires { IsOpenIn self.now account.0 }
+        ensures ram { result.0.0 ≡ (account_in self.now account.0).ram_used }
+        ensures caps { result.1.0 ≡ (account_in self.now account.0).caps_used }
+        ensures within { WithinLimits (account_in self.now account.0) }
     {
         self.books.used(account)
     }

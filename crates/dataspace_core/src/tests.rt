@@ -1,6 +1,6 @@
 //! What no contract says: that calls succeed where there is memory. And what a payer sees.
 ghost use Rattle.std.specs.Prelude.{◌≡◌};
-ghost use Rattle.quota_core.specs.Books.{IsOpen};
+ghost use Rattle.dataspace_core.specs.Store.{IsOpenIn};
 
 use super::Memory;
 use std::process::Abort;
@@ -8,7 +8,7 @@ use trade_base::{AccountId, Caps, Refusal};
 
 /// Why an allocation is refused that must not be granted.
 fn refusal_of(rt: &impl Abort, memory: &mut Memory, account: AccountId, bytes: u64) -> Refusal
-    requires { IsOpen memory.old.books account.0 }
+    requires { IsOpenIn memory.old account.0 }
     ensures { memory.new ≡ memory.old }
 {
     match memory.alloc(account, bytes) {

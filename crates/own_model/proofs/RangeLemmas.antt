@@ -1,14 +1,14 @@
 -- The range of addresses that a region holds, and the bytes that are read and written there.
-use Rattle.std.proofs.Common.{◌≡◌, ℕ, ◌+◌, ◌-◌, ◌*◌, ◌≤◌, ◌++◌, ◌&&◌, Bool, true, false, List, [], ◌∷◌, Some, length, take, drop, nat_le, refl, sym, ap, subst, ◌∙◌, true≢false, append_assoc, arith, slice_range, length-take, length-drop}
-use Rattle.std.proofs.Math.Seq.{drop-append_seam, take-append_seam}
-use Rattle.std.proofs.lemmas.List.{length-take-le}
+use Rattle.std.proofs.Common.{◌≡◌, ℕ, ◌+◌, ◌-◌, ◌*◌, ◌≤◌, ◌&&◌, Bool, true, false, List, [], ◌∷◌, Some, length, nat_le, refl, sym, ap, subst, ◌∙◌, true≢false, arith, slice_range, length-take, length-drop}
 use Rattle.std.proofs.lemmas.Bool.Decides.{nat_tests}
 use Rattle.std.proofs.lemmas.Option.{none-some, same_Some}
 use Rattle.std.specs.Prelude.{Option, None}
 use Rattle.std.specs.Option.{option_map}
 use Rattle.std.specs.FinMap.{get}
+use Rattle.trade_base.specs.Bytes.{with_bytes}
 use Rattle.trade_base.specs.declared.refusal.Refusal.{Refusal}
 use Rattle.trade_base.specs.declared.refusal.Refusal.TheVariants.{PageFault}
+use Rattle.trade_base.proofs.BytesLemmas.{slice_range-with_bytes}
 use Rattle.own_model.proofs.CallLemmas.{peeks, pokes}
 use Rattle.own_model.proofs.NatMapLemmas.{get-insert_same}
 use Rattle.own_model.proofs.EntryLemmas.{found_in_map}
@@ -68,7 +68,7 @@ range_fits s address count selector offset h is =
 
 -- a part that fits within bytes is put over them
 pub with_part-within : (bytes : List ℕ) (offset : ℕ) (part : List ℕ) → offset + length part ≤ length bytes →
-    with_part bytes offset part ≡ take offset bytes ++ part ++ drop (offset + length part) bytes
+    with_part bytes offset part ≡ with_bytes bytes offset part
 unfolding with_part
 with_part-within bytes offset part fits =
     let test : nat_le (offset + length part) (length bytes) ≡ true = grind (arith, nat_tests) in
@@ -86,23 +86,12 @@ length-hex_text (b ∷ bs) = omega (arith, length-hex_text bs)
 
 -- ---- what was put is read back
 
-part_back : (xs part zs : List ℕ) → slice_range (xs ++ part ++ zs) (length xs) (length xs + length part) ≡ part
-part_back xs part zs =
-    let size : length xs + length part - length xs ≡ length part = omega arith in
-    ap (λ l. take (length xs + length part - length xs) (drop (length xs) l)) (append_assoc xs part zs)
-    ∙ ap (take (length xs + length part - length xs)) (drop-append_seam xs (part ++ zs))
-    ∙ ap (λ n. take n (part ++ zs)) size
-    ∙ take-append_seam part zs
-
-part_at : (xs part zs : List ℕ) (offset : ℕ) → length xs ≡ offset → slice_range (xs ++ part ++ zs) offset (offset + length part) ≡ part
-part_at xs part zs offset e = subst (λ o. slice_range (xs ++ part ++ zs) o (o + length part) ≡ part) e (part_back xs part zs)
-
 -- a part that fits within bytes stands where it was put
 pub slice_range-with_part : (bytes : List ℕ) (offset : ℕ) (part : List ℕ) → offset + length part ≤ length bytes →
     slice_range (with_part bytes offset part) offset (offset + length part) ≡ part
 slice_range-with_part bytes offset part fits =
     ap (λ l. slice_range l offset (offset + length part)) (with_part-within bytes offset part fits)
-    ∙ part_at (take offset bytes) part (drop (offset + length part) bytes) offset (length-take-le offset bytes (omega arith))
+    ∙ slice_range-with_bytes bytes offset part fits
 
 abbrev is_done : Reply → Bool
 is_done (Selected selector) = false

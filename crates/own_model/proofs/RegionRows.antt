@@ -6,6 +6,7 @@ use Rattle.std.specs.Cmp.{nat_cmp_total}
 use Rattle.std.specs.Fmt.{digits}
 use Rattle.std.specs.FinMap.{get, insert, remove, empty, entries, entries-insert, len, len-empty, len-entries, gets}
 use Rattle.trade_base.specs.declared.refusal.Refusal.TheVariants.{RegionConflict, TooManyRegions, PageFault, InvalidCap}
+use Rattle.trade_base.specs.Bytes.{with_bytes}
 use Rattle.own_model.proofs.CallLemmas.{attaches, attaches_at, conflicts_at, detaches, detaches_none, peeks, peeks_none, pokes}
 use Rattle.own_model.proofs.GapLemmas.{filled, gap_next, len-filled, without_filled}
 use Rattle.own_model.proofs.NatMapLemmas.{entries-empty, get-insert_same}
@@ -241,7 +242,7 @@ byte_poked : own_step alice (Poke 0x1fffe000 (171 ∷ [])) (two_of at_both) ≡ 
 byte_poked = pokes (two_of at_both) 0x1fffe000 1 0 (171 ∷ []) (Dataspace (zeros 8192)) refl (rw entries_both) two_there
 
 byte_there : slice_range (with_part (zeros 8192) 0 (171 ∷ [])) 0 1 ≡ 171 ∷ []
-unfolding with_part
+unfolding with_part with_bytes
 byte_there = rw (length-zeros 8192)
 
 byte_peeked : own_step alice (Peek 0x10000000 1) (poked_of at_both) ≡ record { reply = Bytes (171 ∷ []); lines = []; next = poked_of at_both }

@@ -1,9 +1,11 @@
 -- The use of an account is what its selectors name, before and after a call.
-use Rattle.std.proofs.Common.{◌≡◌, ℕ, ◌+◌, ◌≤◌, ◌++◌, Bool, true, false, cond, List, Some, length, take, drop, nat_le, refl, sym, nat_cmp, arith, length-append, length-take, length-drop}
+use Rattle.std.proofs.Common.{◌≡◌, ℕ, ◌+◌, Bool, true, false, cond, List, Some, length, nat_le, refl, sym, nat_cmp, arith}
 use Rattle.std.proofs.lemmas.List.{length-replicate}
 use Rattle.std.proofs.lemmas.Bool.Decides.{nat_tests}
 use Rattle.std.specs.FinMap.{get, len-empty}
+use Rattle.trade_base.specs.Bytes.{with_bytes}
 use Rattle.trade_base.specs.Page.{page_of}
+use Rattle.trade_base.proofs.BytesLemmas.{length-with_bytes}
 use Rattle.own_model.proofs.NewSelector.{new_selector_free}
 use Rattle.own_model.proofs.StepLemmas.{KeptByEffects, run_keeps}
 use Rattle.own_model.proofs.Totals.{total-empty, total-insert_new, total-insert_same, total-remove, len-insert_new, len-insert_at, len-remove_at}
@@ -42,11 +44,10 @@ freed_uses selector bytes s there h =
     record { ram = omega (arith, h.ram, left); caps = omega (arith, h.caps, count) }
 
 length_put : (fits : Bool) (bytes : List ℕ) (offset : ℕ) (part : List ℕ) → nat_le (offset + length part) (length bytes) ≡ fits →
-    length (cond fits (take offset bytes ++ part ++ drop (offset + length part) bytes) bytes) ≡ length bytes
+    length (cond fits (with_bytes bytes offset part) bytes) ≡ length bytes
 length_put false bytes offset part e = refl
 length_put true bytes offset part e =
-    let fits : offset + length part ≤ length bytes = grind (arith, nat_tests) in
-    simp (length-append, length-take, length-drop) (omega arith)
+    length-with_bytes bytes offset part (grind (arith, nat_tests))
 
 -- bytes put over others leave their number
 pub length-with_part : (bytes : List ℕ) (offset : ℕ) (part : List ℕ) → length (with_part bytes offset part) ≡ length bytes

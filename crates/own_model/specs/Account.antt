@@ -1,5 +1,7 @@
 -- An account of RAM (bytes) and capabilities.
 use Rattle.std.specs.Prelude.{ℕ, ◌+◌, ◌-◌, ◌≤◌, nat_lt, if◌then◌else◌, Option, Some, None}
+use Rattle.std.proofs.Common.{refl}
+use Rattle.std.specs.Coded.{Coded, code_by, coded×, coded_ℕ}
 use Rattle.trade_base.specs.declared.refusal.Refusal.{Refusal}
 use Rattle.trade_base.specs.declared.refusal.Refusal.TheVariants.{OutOfRam, OutOfCaps}
 
@@ -9,6 +11,16 @@ pub record Account : Type 0 where
   pub ram_used : ℕ
   pub caps_limit : ℕ
   pub caps_used : ℕ
+
+-- an account is stored as the tuple of its fields
+abbrev pub coded_account : Coded Account
+coded_account =
+    code_by
+    (ℕ × (ℕ × (ℕ × ℕ)))
+    (coded× coded_ℕ (coded× coded_ℕ (coded× coded_ℕ coded_ℕ)))
+    (λ a. (a.ram_limit, (a.ram_used, (a.caps_limit, a.caps_used))))
+    (λ p. record { ram_limit = p.0; ram_used = p.1.0; caps_limit = p.1.1.0; caps_used = p.1.1.1 })
+    (λ _. refl)
 
 -- the account covers so many bytes and capabilities more
 pub record Fits (a : Account) (ram caps : ℕ) : Type 0 where

@@ -1,6 +1,7 @@
 -- What a component has: its own state.
-use Rattle.std.specs.Prelude.{ℕ, ◌+◌, ◌/◌, List, [], ◌++◌, length, take, drop, Bool, nat_le, if◌then◌else◌, Option, Some, None, replicate}
+use Rattle.std.specs.Prelude.{ℕ, ◌+◌, ◌/◌, List, [], length, Bool, nat_le, if◌then◌else◌, Option, Some, None, replicate}
 use Rattle.std.specs.FinMap.{keys}
+use Rattle.trade_base.specs.Bytes.{with_bytes}
 use Rattle.own_model.specs.NatMap.{NatMap, least_gap}
 use Rattle.own_model.specs.Account.{Account}
 use Rattle.own_model.specs.Region.{Region}
@@ -29,8 +30,7 @@ pages_in bytes = length bytes / 4096
 -- bytes with a part put over them at an offset, where it fits within them
 unfoldable pub with_part : List ℕ → ℕ → List ℕ → List ℕ
 with_part bytes offset part =
-    if nat_le (offset + length part) (length bytes) then take offset bytes ++ part ++ drop (offset + length part) bytes
-    else bytes
+    if nat_le (offset + length part) (length bytes) then with_bytes bytes offset part else bytes
 
 -- the bytes of the dataspace that a selector names, or none
 abbrev pub bytes_named : Option Object → List ℕ

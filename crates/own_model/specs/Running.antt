@@ -8,7 +8,7 @@ use Rattle.own_model.specs.StartList.{Entry}
 use Rattle.own_model.specs.Transcript.{Made, Heard, heard, entry_at, state_at, reply_line, outcome_text}
 use Rattle.own_model.specs.Transcript.Heard.{NoCall, Stranger, Caller}
 
--- what a call does to its caller's running state
+-- what a call gives from the running states: own step from its caller's state
 abbrev pub running_step : List Entry → List OwnState → Made → Outcome
 running_step entries states made = own_step (entry_at entries made.component) made.call (state_at states made.component)
 

@@ -4,9 +4,9 @@ use Rattle.std.specs.List.{AllByRecursion}
 use Rattle.own_model.specs.Account.{Account, WithinLimits}
 use Rattle.own_model.specs.Call.{Call}
 use Rattle.own_model.specs.OwnState.{OwnState}
-use Rattle.own_model.specs.OwnStep.{Outcome, own_step}
+use Rattle.own_model.specs.OwnStep.{Outcome}
+use Rattle.own_model.specs.Running.{running_step}
 use Rattle.own_model.specs.StartList.{Entry, StartList, entries_of, start_states, machine_account, init_keeps}
-use Rattle.own_model.specs.Transcript.{entry_at, state_at}
 
 -- the entries, init's account, and the own states in the order of the entries
 pub record World : Type 0 where
@@ -24,7 +24,7 @@ start_world list = record {
 
 -- what a component's call gives: own step from the component's own state
 abbrev pub outcome_at : World → ℕ → Call → Outcome
-outcome_at world component call = own_step (entry_at world.entries component) call (state_at world.states component)
+outcome_at world component call = running_step world.entries world.states (record { component = component; call = call })
 
 -- the world with another own state for one component
 abbrev pub with_state : World → ℕ → OwnState → World

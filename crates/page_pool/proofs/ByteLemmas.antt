@@ -3,8 +3,9 @@ use Rattle.std.proofs.Common.{◌≡◌, ℕ, ◌+◌, ◌≤◌, List, [], ◌+
 use Rattle.std.specs.Prelude.{slice_range, replicate}
 use Rattle.std.proofs.lemmas.List.{same_lists, places, drop-drop, take_all, drop_all, append-nil, append_assoc, length-take-le, length-drop}
 use borrow.Rule.Slice.PartMut.{post_of}
-use Rattle.page_pool.specs.Pages.{zero_page, with_bytes}
-use Rattle.page_pool.specs.PageLaws.{length-with_bytes}
+use Rattle.trade_base.specs.Bytes.{with_bytes}
+use Rattle.trade_base.proofs.BytesLemmas.{length-with_bytes}
+use Rattle.page_pool.specs.Pages.{zero_page}
 
 -- a range that has the part in it
 pub range_with_part : (bytes part : List ℕ) (from offset size : ℕ) → offset + length part ≤ size → from + size ≤ length bytes → slice_range (with_bytes bytes (from + offset) part) from (from + size) ≡ with_bytes (slice_range bytes from (from + size)) offset part
@@ -42,8 +43,3 @@ zeros_of_page bytes size zeros whole = rw whole at zeros
 -- a range of a range
 pub range_of_range : (bytes : List ℕ) (from size offset count : ℕ) → offset + count ≤ size → from + size ≤ length bytes → slice_range (slice_range bytes from (from + size)) offset (offset + count) ≡ slice_range bytes (from + offset) (from + offset + count)
 range_of_range bytes from size offset count fits inside = same_lists _ _ (search (rules, places)) (λ k d h. grind (arith, places))
-
--- a part that covers all
-pub with_bytes-whole : (bytes part : List ℕ) → length bytes ≡ length part → with_bytes bytes 0 part ≡ part
-unfolding with_bytes
-with_bytes-whole bytes part same = rw (drop_all (0 + length part) bytes (omega arith)) (append-nil part)

@@ -5,11 +5,13 @@ use Rattle.std.specs.Prelude.{slice_range, slice_set, slice_get}
 use Rattle.std.proofs.lemmas.List.{same_lists, length_push, get_or-replicate, length-replicate}
 use Rattle.std.proofs.lemmas.Option.{slice_get-get_or}
 use Rattle.std.proofs.lemmas.Bool.Decides.{nat_tests}
-use Rattle.page_pool.specs.Pages.{fresh_pages, free_count, is_taken, page_bytes, zero_page, with_bytes}
-use Rattle.page_pool.specs.PageLaws.{length-zero_page, length-with_bytes}
+use Rattle.trade_base.specs.Bytes.{with_bytes}
+use Rattle.trade_base.proofs.BytesLemmas.{length-with_bytes, with_bytes-whole}
+use Rattle.page_pool.specs.Pages.{fresh_pages, free_count, is_taken, page_bytes, zero_page}
+use Rattle.page_pool.specs.PageLaws.{length-zero_page}
 use Rattle.page_pool.specs.Layout.{is_listed, has_no_repeat, AreNumbersBelow, page_count, bytes_at, pages_of, IsLaidOut}
 use Rattle.page_pool.proofs.NumberLemmas.{is_listed-push, has_no_repeat-push}
-use Rattle.page_pool.proofs.ByteLemmas.{range_with_part, range_of_range, with_bytes-whole}
+use Rattle.page_pool.proofs.ByteLemmas.{range_with_part, range_of_range}
 use Rattle.page_pool.proofs.CountLemmas.{free_count-take, free_count-give, free_count-write, free_count-le-length, free_count-fresh_pages}
 use Rattle.page_pool.proofs.LayoutLemmas.{length-pages_of, get_or-pages_of, pages_of-set, IsHeld-from_taken, page_bytes-pages_of, length-bytes_at, bytes_at_other}
 

@@ -5,7 +5,8 @@ use Rattle.std.proofs.lemmas.List.{same_lists, get_or-set_same, get_or-set_other
 use Rattle.std.proofs.lemmas.List.FromFn.{get_or-map-range_with_len, length-map-range_with_len}
 use Rattle.std.proofs.lemmas.Bool.{cases_eq, cases_lt}
 use Rattle.std.proofs.lemmas.Bool.Decides.{nat_tests}
-use Rattle.page_pool.specs.Pages.{is_taken, page_bytes, with_bytes}
+use Rattle.trade_base.specs.Bytes.{with_bytes}
+use Rattle.page_pool.specs.Pages.{is_taken, page_bytes}
 use Rattle.page_pool.specs.Layout.{is_listed, page_count, bytes_at, page_at, pages_of, IsLaidOut}
 use Rattle.page_pool.proofs.NumberLemmas.{is_listed-push}
 use Rattle.page_pool.proofs.ByteLemmas.{range_before_part, range_after_part, length-range}

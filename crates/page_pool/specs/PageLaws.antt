@@ -1,11 +1,12 @@
--- Laws for callers: the pages of a pool after a change, and the bytes of a page after a write.
-use Rattle.std.proofs.Common.{◌≡◌, ◌≢◌, ℕ, ◌+◌, ◌<◌, ◌≤◌, true, false, cond, eqb, ◌||◌, ◌&&◌, not, List, [], length, get_or, Option, Some, None, sym, ap, ◌∙◌, arith, ⊎_elim, length-append, length-drop}
+-- Laws for callers: the pages of a pool after a change.
+use Rattle.std.proofs.Common.{◌≡◌, ◌≢◌, ℕ, ◌<◌, ◌≤◌, true, false, cond, eqb, ◌||◌, ◌&&◌, not, List, [], length, get_or, Option, Some, None, sym, ap, ◌∙◌, arith, ⊎_elim}
 use Rattle.std.specs.Prelude.{slice_get, slice_set, is_some}
-use Rattle.std.proofs.lemmas.List.{get_or-set_same, get_or-set_other, get_or-replicate, get_or_past, length-take-le, length-replicate, set_past}
+use Rattle.std.proofs.lemmas.List.{get_or-set_same, get_or-set_other, get_or-replicate, get_or_past, length-replicate, set_past}
 use Rattle.std.proofs.lemmas.Option.{slice_get_within, get_or_from_slice_get}
 use Rattle.std.proofs.lemmas.Bool.{cases_lt, cases_eq}
 use Rattle.std.proofs.lemmas.Bool.Decides.{nat_tests}
-use Rattle.page_pool.specs.Pages.{fresh_pages, is_taken, page_bytes, zero_page, with_bytes}
+use Rattle.trade_base.proofs.BytesLemmas.{length-with_bytes}
+use Rattle.page_pool.specs.Pages.{fresh_pages, is_taken, page_bytes, zero_page}
 
 -- what stands at a place after a change
 get_or-set_there : (pages : List (Option (List ℕ))) (page other : ℕ) (value : Option (List ℕ)) → page < length pages → get_or (slice_set pages page value) other None ≡ cond (eqb other page) value (get_or pages other None)
@@ -75,10 +76,6 @@ is_taken-fresh_pages count page = grind (arith, get_or-replicate, get_or_past, l
 pub length-zero_page : length zero_page ≡ 4096
 unfolding zero_page
 length-zero_page = length-replicate {A = ℕ} 4096 0
-
-pub length-with_bytes : (bytes : List ℕ) (offset : ℕ) (part : List ℕ) → offset + length part ≤ length bytes → length (with_bytes bytes offset part) ≡ length bytes
-unfolding with_bytes
-length-with_bytes bytes offset part fits = simp (length-append, length-drop) (grind (arith, length-take-le))
 
 -- all of them, for `grind`
 pub ruleset page_laws = (nat_tests, is_taken-free_page, is_taken-set_free, is_taken-set_taken, is_taken-set_none, page_bytes-set_free, page_bytes-set_taken, page_bytes-set_none, is_taken-fresh_pages, length-zero_page, length-with_bytes)

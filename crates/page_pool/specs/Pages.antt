@@ -1,5 +1,5 @@
 -- The pages of a pool as its callers see them: for each page by its number None where it is free, its bytes where it is taken.
-use Rattle.std.specs.Prelude.{ℕ, ◌+◌, Bool, List, [], ◌++◌, length, take, drop, Option, None, is_some, unwrap_or, replicate, slice_index_or, count_by}
+use Rattle.std.specs.Prelude.{ℕ, Bool, List, [], Option, None, is_some, unwrap_or, replicate, slice_index_or, count_by}
 use Rattle.std.specs.Option.{is_none}
 
 -- pages that are all free
@@ -21,7 +21,3 @@ page_bytes pages page = unwrap_or (slice_index_or pages page None) []
 -- a page that is all zero
 unfoldable pub zero_page : List ℕ
 zero_page = replicate 4096 0
-
--- bytes with a part put at an offset
-unfoldable pub with_bytes : List ℕ → ℕ → List ℕ → List ℕ
-with_bytes bytes offset part = take offset bytes ++ part ++ drop (offset + length part) bytes

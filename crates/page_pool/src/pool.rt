@@ -1,7 +1,8 @@
 //! The pool over one vector of bytes, with the numbers of the free pages in another.
 ghost use Rattle.std.specs.Prelude.{◌≡◌, ◌+◌, ◌≤◌, length, IsTrue, IfOk, IfSome, IfNone, Some, None, is_some, nat_lt, slice_get, slice_set, slice_range, vec_len, vec_capacity};
 ghost use Rattle.page_pool.specs.Layout.{AreNumbersBelow};
-ghost use Rattle.page_pool.specs.Pages.{fresh_pages, free_count, is_taken, page_bytes, zero_page, with_bytes};
+ghost use Rattle.trade_base.specs.Bytes.{with_bytes};
+ghost use Rattle.page_pool.specs.Pages.{fresh_pages, free_count, is_taken, page_bytes, zero_page};
 
 use std::alloc::Global;
 use std::marker::Model;

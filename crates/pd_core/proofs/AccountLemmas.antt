@@ -1,5 +1,5 @@
 -- A script's calls on its account and its capabilities.
-use Rattle.std.proofs.Common.{◌≡◌, ℕ, ◌+◌, ◌*◌, ◌<◌, ◌≤◌, ◌≢◌, Bool, true, false, cond, eqb, List, [], length, Option, Some, None, is_some, IsSome, true≢false, ◌⊎◌, inl, inr, subst, refl, sym, ap, ◌∙◌, arith}
+use Rattle.std.proofs.Common.{◌≡◌, ℕ, ◌*◌, ◌<◌, ◌≤◌, ◌≢◌, true, false, eqb, List, length, Option, Some, None, is_some, IsSome, true≢false, ◌⊎◌, inl, inr, subst, refl, sym, ap, ◌∙◌, arith}
 use Rattle.std.proofs.lemmas.Bool.Decides.{nat_tests}
 use Rattle.std.specs.Option.{option_map, option_and_then}
 use Rattle.std.specs.FinMap.{get, insert, remove, len}
@@ -7,13 +7,12 @@ use Rattle.trade_base.specs.Page.{page_of}
 use Rattle.trade_base.specs.declared.id.DsId.{DsId}
 use Rattle.trade_base.specs.declared.refusal.Refusal.{Refusal}
 use Rattle.trade_base.specs.declared.refusal.Refusal.TheVariants.{InvalidCap}
-use Rattle.own_model.specs.Account.{Account, charged, credited, Fits}
-use Rattle.own_model.specs.Call.{Call}
+use Rattle.own_model.specs.Account.{charged, credited, Fits}
 use Rattle.own_model.specs.Call.Call.{Alloc, Free}
 use Rattle.own_model.specs.NatMap.{NatMap}
 use Rattle.own_model.specs.OwnState.{OwnState, Object, zeros, new_selector}
 use Rattle.own_model.specs.OwnState.Object.{Dataspace as ADataspace, RpcObject as AnRpcObject}
-use Rattle.own_model.specs.OwnStep.{Outcome, refused, alloc_refusal, allocated, freed, unless, script_step}
+use Rattle.own_model.specs.OwnStep.{Outcome, refused, alloc_refusal, allocated, freed, unless}
 use Rattle.own_model.specs.Region.{Region, without}
 use Rattle.own_model.specs.Reply.Reply.{Selected, Done, Refused}
 use Rattle.own_model.specs.Sound.{IsSound}
@@ -21,12 +20,11 @@ use Rattle.own_model.proofs.NatMapLemmas.{get-picked, get-picked_at, get-insert_
 use Rattle.own_model.proofs.RegionLemmas.{renamed-without}
 use Rattle.own_model.proofs.UseLemmas.{length-zeros}
 use Rattle.own_model.proofs.StepLemmas.{covers, accepted_size}
-use Rattle.quota_core.specs.Books.{account_at, IsOpen}
 use Rattle.cap_space.specs.Space.{Space, with_cap, without_cap}
 use Rattle.cap_space.specs.declared.cap.Cap.{Cap}
 use Rattle.cap_space.specs.declared.cap.Cap.TheVariants.{Dataspace, RpcObject, Session}
 use Rattle.region_map.specs.Regions.{Regions, all_detached}
-use Rattle.dataspace_core.specs.Store.{Store, Part, part, Exists, space_at}
+use Rattle.dataspace_core.specs.Store.{Store, Part, part, Exists, space_at, IsOpenIn, account_in}
 use Rattle.pd_core.specs.Own.{account_of, object_of, selector_of, regions_of, own_of, own_at, outcome_of, dataspace_of, IsScript, IsScriptAt}
 use Rattle.pd_core.specs.declared.tables.Tables.{Tables}
 use Rattle.pd_core.proofs.NameLemmas.{is_named, named_is, some_of}
@@ -87,34 +85,34 @@ module _ (p : Part) (tables : Tables) (sound : IsScriptAt p tables) (selector : 
 
 module _ (store : Store) (a : ℕ) (tables : Tables) (sound : IsScriptAt (part a store) tables) where
   -- the account is open in the books
-  pub is_open : IsOpen store.books a
+  pub is_open : IsOpenIn store a
   unfolding part
   is_open = sound.is_open
 
   abbrev before : OwnState
   before = own_at (part a store) tables
 
-  pub own_account : before.account ≡ account_at store.books a
+  pub own_account : before.account ≡ account_in store a
   unfolding own_of part
   own_account = refl
 
-  part_account : account_of (part a store) ≡ account_at store.books a
+  part_account : account_of (part a store) ≡ account_in store a
   unfolding part
   part_account = refl
 
   -- ---- alloc
 
-  refused_alloc : (n : ℕ) (o : Option Refusal) → o ≡ alloc_refusal n (account_at store.books a) → outcome_of (part a store) tables (Alloc n) ≡ unless o before (allocated n before)
+  refused_alloc : (n : ℕ) (o : Option Refusal) → o ≡ alloc_refusal n (account_in store a) → outcome_of (part a store) tables (Alloc n) ≡ unless o before (allocated n before)
   refused_alloc n o is = ap (λ account. unless (alloc_refusal n account) before (allocated n before)) own_account ∙ ap (λ r. unless r before (allocated n before)) (sym is)
 
   -- a refusal is told, and nothing changes
-  pub refusal_told : (n : ℕ) (refusal : Refusal) → Some refusal ≡ alloc_refusal n (account_at store.books a) → Refused refusal ≡ (outcome_of (part a store) tables (Alloc n)).reply
+  pub refusal_told : (n : ℕ) (refusal : Refusal) → Some refusal ≡ alloc_refusal n (account_in store a) → Refused refusal ≡ (outcome_of (part a store) tables (Alloc n)).reply
   refusal_told n refusal is = ap (λ o. o.reply) (sym (refused_alloc n (Some refusal) is))
 
-  pub refusal_stays : (n : ℕ) (refusal : Refusal) (store' : Store) → Some refusal ≡ alloc_refusal n (account_at store.books a) → store' ≡ store → own_at (part a store') tables ≡ (outcome_of (part a store) tables (Alloc n)).next
+  pub refusal_stays : (n : ℕ) (refusal : Refusal) (store' : Store) → Some refusal ≡ alloc_refusal n (account_in store a) → store' ≡ store → own_at (part a store') tables ≡ (outcome_of (part a store) tables (Alloc n)).next
   refusal_stays n refusal store' is same = ap (λ s. own_at (part a s) tables) same ∙ ap (λ o. o.next) (sym (refused_alloc n (Some refusal) is))
 
-  module _ (n : ℕ) (accepted : None ≡ alloc_refusal n (account_at store.books a)) where
+  module _ (n : ℕ) (accepted : None ≡ alloc_refusal n (account_in store a)) where
     fits : Fits (account_of (part a store)) (page_of n) 1
     fits = covers _ _ _ (accepted_size n _ (ap (alloc_refusal n) part_account ∙ sym accepted))
 
@@ -126,7 +124,7 @@ module _ (store : Store) (a : ℕ) (tables : Tables) (sound : IsScriptAt (part a
     selector_told s least = ap Selected (least ∙ sym (same_new_selector (part a store) tables.caps tables.regions sound)) ∙ ap (λ o. o.reply) (sym (refused_alloc n None accepted))
 
     module _ (store' : Store) (space' : Space) (ds : DsId) (s : ℕ) (new : get (part a store).spaces ds.0 ≡ None) (least : s ≡ new_selector tables.caps.caps)
-        (paid : part a store' ≡ record { account = Some (charged (account_at store.books a) (page_of n) 1); spaces = insert (part a store).spaces ds.0 (zeros (page_of n)) })
+        (paid : part a store' ≡ record { account = Some (charged (account_in store a) (page_of n) 1); spaces = insert (part a store).spaces ds.0 (zeros (page_of n)) })
         (taken : space' ≡ with_cap tables.caps s (Dataspace ds)) where
       abbrev bigger : Part
       bigger = record { account = Some (charged (account_of (part a store)) (page_of n) 1); spaces = insert (part a store).spaces ds.0 (zeros (page_of n)) }
@@ -206,7 +204,7 @@ module _ (store : Store) (a : ℕ) (tables : Tables) (sound : IsScriptAt (part a
 
     module _ (store' : Store) (space' : Space) (regions' : Regions)
         (credits : part (space_at store ds.0).payer store' ≡ record {
-          account = Some (credited (account_at store.books (space_at store ds.0).payer) (length (space_at store ds.0).bytes) 1);
+          account = Some (credited (account_in store (space_at store ds.0).payer) (length (space_at store ds.0).bytes) 1);
           spaces = remove (part (space_at store ds.0).payer store).spaces ds.0;
         })
         (removed : space' ≡ without_cap tables.caps selector) (detached : regions' ≡ all_detached tables.regions ds.0) where
@@ -217,7 +215,7 @@ module _ (store : Store) (a : ℕ) (tables : Tables) (sound : IsScriptAt (part a
       unfolding part
       is_smaller =
           let family : ℕ → List ℕ → Type 0 = λ b bytes. part b store' ≡ record {
-            account = Some (credited (account_at store.books b) (length bytes) 1);
+            account = Some (credited (account_in store b) (length bytes) 1);
             spaces = remove (part b store).spaces ds.0;
           } in
           subst (λ bytes. family a bytes) named_bytes (subst (λ b. family b (space_at store ds.0).bytes) named_payer credits)

@@ -1,16 +1,16 @@
 -- A script's peeks and pokes.
-use Rattle.std.proofs.Common.{◌≡◌, ℕ, ◌+◌, ◌*◌, ◌≤◌, ◌≢◌, List, [], ◌∷◌, ◌++◌, length, take, drop, Option, Some, None, is_some, IsSome, subst, refl, sym, ap, ◌∙◌, arith, slice_range, true, true≢false}
+use Rattle.std.proofs.Common.{◌≡◌, ℕ, ◌+◌, ◌≤◌, ◌≢◌, List, [], length, Option, Some, None, IsSome, subst, refl, sym, ap, ◌∙◌, slice_range, true, true≢false}
 use Rattle.std.specs.Option.{option_map, option_and_then}
 use Rattle.std.specs.Prelude.{is_none}
+use Rattle.trade_base.specs.Bytes.{with_bytes}
 use Rattle.trade_base.specs.declared.refusal.Refusal.{Refusal}
 use Rattle.std.specs.FinMap.{get, insert}
 use Rattle.trade_base.specs.declared.id.DsId.{DsId}
 use Rattle.trade_base.specs.declared.refusal.Refusal.TheVariants.{PageFault}
 use Rattle.own_model.specs.Call.Call.{Peek, Poke}
-use Rattle.own_model.specs.NatMap.{NatMap}
-use Rattle.own_model.specs.OwnState.{OwnState, Object, with_part}
+use Rattle.own_model.specs.OwnState.{OwnState, with_part}
 use Rattle.own_model.specs.OwnState.Object.{Dataspace as ADataspace}
-use Rattle.own_model.specs.OwnStep.{Outcome, refused, unless, count_refusal, peeked, poked, poked_at}
+use Rattle.own_model.specs.OwnStep.{Outcome, refused, unless, count_refusal, poked, poked_at}
 use Rattle.own_model.specs.Region.{Region, resolved}
 use Rattle.own_model.specs.Reply.Reply.{Bytes, Done, Refused}
 use Rattle.own_model.specs.Sound.{IsSound}
@@ -19,8 +19,8 @@ use Rattle.own_model.proofs.RangeLemmas.{range_fits, with_part-within}
 use Rattle.own_model.proofs.RegionLemmas.{resolved_renamed, resolved_facts}
 use Rattle.own_model.proofs.UseLemmas.{length-with_part}
 use Rattle.cap_space.specs.declared.cap.Cap.TheVariants.{Dataspace}
-use Rattle.dataspace_core.specs.Store.{Store, Part, part, Exists, space_at, overwritten}
-use Rattle.pd_core.specs.Own.{selector_of, regions_of, own_of, own_at, outcome_of, IsScript, IsScriptAt}
+use Rattle.dataspace_core.specs.Store.{Store, Part, part, Exists, space_at}
+use Rattle.pd_core.specs.Own.{selector_of, regions_of, own_of, own_at, outcome_of, IsScriptAt}
 use Rattle.pd_core.specs.declared.tables.Tables.{Tables}
 use Rattle.pd_core.proofs.NameLemmas.{is_named, some_of}
 use Rattle.pd_core.proofs.AccountLemmas.{held, names_object}
@@ -112,7 +112,7 @@ module _ (store : Store) (a : ℕ) (tables : Tables) (sound : IsScriptAt (part a
   ds : DsId
   ds = (names (part a store) tables sound address (length bytes) key offset found).0
 
-  over_is : with_part old offset bytes ≡ overwritten old offset bytes
+  over_is : with_part old offset bytes ≡ with_bytes old offset bytes
   unfolding old
   over_is = with_part-within old offset bytes (fits (part a store) tables sound address (length bytes) key offset found)
 
@@ -128,34 +128,34 @@ module _ (store : Store) (a : ℕ) (tables : Tables) (sound : IsScriptAt (part a
   module _ (store' : Store)
       (written : part (space_at store key).payer store' ≡ record {
         account = (part (space_at store key).payer store).account;
-        spaces = insert (part (space_at store key).payer store).spaces key (overwritten (space_at store key).bytes offset bytes);
+        spaces = insert (part (space_at store key).payer store).spaces key (with_bytes (space_at store key).bytes offset bytes);
       }) where
-    is_written : part a store' ≡ record { account = (part a store).account; spaces = insert (part a store).spaces ds.0 (overwritten old offset bytes) }
+    is_written : part a store' ≡ record { account = (part a store).account; spaces = insert (part a store).spaces ds.0 (with_bytes old offset bytes) }
     unfolding ds old
     is_written =
-        let family : ℕ → ℕ → List ℕ → Type 0 = λ b k l. part b store' ≡ record { account = (part b store).account; spaces = insert (part b store).spaces k (overwritten l offset bytes) } in
+        let family : ℕ → ℕ → List ℕ → Type 0 = λ b k l. part b store' ≡ record { account = (part b store).account; spaces = insert (part b store).spaces k (with_bytes l offset bytes) } in
         let at = space_of_part store a key old (at_key (part a store) tables sound address (length bytes) key offset found) in
         subst (λ k. family a k old) (sym (names (part a store) tables sound address (length bytes) key offset found).2)
         (subst (λ l. family a key l) at.2 (subst (λ b. family b key (space_at store key).bytes) at.1 written))
 
-    own_written : own_of (record { account = (part a store).account; spaces = insert (part a store).spaces ds.0 (overwritten old offset bytes) }) tables.caps.caps tables.regions.user ≡ (outcome_of (part a store) tables (Poke address bytes)).next
+    own_written : own_of (record { account = (part a store).account; spaces = insert (part a store).spaces ds.0 (with_bytes old offset bytes) }) tables.caps.caps tables.regions.user ≡ (outcome_of (part a store) tables (Poke address bytes)).next
     unfolding s ds old
     own_written =
-        written_own (part a store) tables.caps tables.regions sound ds s old (overwritten old offset bytes) (names (part a store) tables sound address (length bytes) key offset found).1 (here (part a store) tables sound address (length bytes) key offset found).1
+        written_own (part a store) tables.caps tables.regions sound ds s old (with_bytes old offset bytes) (names (part a store) tables sound address (length bytes) key offset found).1 (here (part a store) tables sound address (length bytes) key offset found).1
         ∙ ap (λ (l : List ℕ). record (own_at (part a store) tables) { selectors = insert (own_at (part a store) tables).selectors s (ADataspace l) }) (sym over_is)
         ∙ ap (λ (o : Outcome). o.next) (sym poke_is)
 
     pub next_poked : own_at (part a store') tables ≡ (outcome_of (part a store) tables (Poke address bytes)).next
     next_poked = ap (λ p. own_at p tables) is_written ∙ own_written
 
-    same_length : length (overwritten old offset bytes) ≡ length old
+    same_length : length (with_bytes old offset bytes) ≡ length old
     same_length = ap length (sym over_is) ∙ length-with_part old offset bytes
 
     pub sound_poked : IsScriptAt (part a store') tables
     unfolding s ds old
     sound_poked =
         subst (λ p. IsScriptAt p tables) (sym is_written)
-        (rewritten (part a store) tables.caps tables.regions sound ds s old (overwritten old offset bytes) (names (part a store) tables sound address (length bytes) key offset found).1 (here (part a store) tables sound address (length bytes) key offset found).1
+        (rewritten (part a store) tables.caps tables.regions sound ds s old (with_bytes old offset bytes) (names (part a store) tables sound address (length bytes) key offset found).1 (here (part a store) tables sound address (length bytes) key offset found).1
         same_length (subst IsSound (sym own_written) (kept (part a store) tables.caps tables.regions sound (Poke address bytes))))
 
 -- where no region holds the range, nothing changes

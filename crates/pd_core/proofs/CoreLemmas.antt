@@ -10,8 +10,7 @@ use Rattle.own_model.specs.Call.{Call}
 use Rattle.own_model.specs.OwnStep.{own_step}
 use Rattle.own_model.specs.Transcript.{nobody, nothing, entry_at, state_at}
 use Rattle.own_model.specs.World.{World, with_state, outcome_at}
-use Rattle.quota_core.specs.Books.{account_at}
-use Rattle.dataspace_core.specs.Store.{Store, part}
+use Rattle.dataspace_core.specs.Store.{Store, part, account_in}
 use Rattle.pd_core.specs.Own.{own_of}
 use Rattle.pd_core.specs.Component.{entry_of, caps_of, user_of, own, IsSound, IsSoundRole}
 use Rattle.pd_core.specs.Core.{world_of, payer_at, IsCore}
@@ -45,9 +44,9 @@ module _ (store : Store) (components : List Component) (i : ℕ) (caller : Compo
     init_apart : store.books.root ≢ caller.account.0
     init_apart e = core.not_init i caller here (ap (λ (c : Component). c.account.0) (sym (caller_is caller)) ∙ sym e)
 
-    same_init : account_at store'.books store'.books.root ≡ account_at store.books store.books.root
+    same_init : account_in store' store'.books.root ≡ account_in store store.books.root
     unfolding part
-    same_init = ap (account_at store'.books) root ∙ ap (λ p. unwrap_or p.account (opened 0 0)) (others store.books.root init_apart)
+    same_init = ap (account_in store') root ∙ ap (λ p. unwrap_or p.account (opened 0 0)) (others store.books.root init_apart)
 
     -- the others' parts
     other_part : (k : ℕ) (d : Component) → k < length components → k ≢ i → part (payer_at components k d) store' ≡ part (payer_at components k d) store

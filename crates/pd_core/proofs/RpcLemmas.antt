@@ -1,5 +1,5 @@
 -- A script's calls on RPC objects.
-use Rattle.std.proofs.Common.{◌≡◌, ℕ, ◌+◌, ◌*◌, ◌<◌, ◌≤◌, ◌≢◌, Bool, true, false, List, length, Option, Some, None, is_some, true≢false, subst, refl, sym, ap, ◌∙◌, arith}
+use Rattle.std.proofs.Common.{◌≡◌, ℕ, ◌<◌, ◌≢◌, true, false, List, Option, Some, None, true≢false, subst, refl, sym, ap, ◌∙◌, arith}
 use Rattle.std.specs.Option.{option_map, option_and_then}
 use Rattle.std.specs.FinMap.{get, insert, remove, len}
 use Rattle.trade_base.specs.declared.id.DsId.{DsId}
@@ -7,7 +7,7 @@ use Rattle.trade_base.specs.declared.refusal.Refusal.{Refusal}
 use Rattle.trade_base.specs.declared.refusal.Refusal.TheVariants.{InvalidCap}
 use Rattle.own_model.specs.Account.{Account, shortage, charged, credited, Fits}
 use Rattle.own_model.specs.Call.Call.{Capalloc, Capfree}
-use Rattle.own_model.specs.OwnState.{OwnState, Object, new_selector}
+use Rattle.own_model.specs.OwnState.{OwnState, new_selector}
 use Rattle.own_model.specs.OwnState.Object.{Dataspace as ADataspace, RpcObject as AnRpcObject}
 use Rattle.own_model.specs.OwnStep.{Outcome, refused, cap_allocated, cap_freed, unless}
 use Rattle.own_model.specs.Region.{Region}
@@ -16,11 +16,10 @@ use Rattle.own_model.specs.Sound.{IsSound}
 use Rattle.own_model.proofs.NatMapLemmas.{get-picked, get-picked_at}
 use Rattle.own_model.proofs.StepLemmas.{covers}
 use Rattle.own_model.proofs.Totals.{total_at_le}
-use Rattle.quota_core.specs.Books.{account_at, IsOpen}
 use Rattle.cap_space.specs.Space.{Space, with_cap, without_cap}
 use Rattle.cap_space.specs.declared.cap.Cap.{Cap}
 use Rattle.cap_space.specs.declared.cap.Cap.TheVariants.{Dataspace, RpcObject, Session}
-use Rattle.dataspace_core.specs.Store.{Store, Part, part}
+use Rattle.dataspace_core.specs.Store.{Store, Part, part, account_in}
 use Rattle.pd_core.specs.Own.{account_of, object_of, selector_of, own_of, own_at, outcome_of, is_rpc_object, rpc_weight, IsScript, IsScriptAt}
 use Rattle.pd_core.specs.declared.tables.Tables.{Tables}
 use Rattle.pd_core.proofs.NameLemmas.{is_named}
@@ -49,22 +48,22 @@ module _ (store : Store) (a : ℕ) (tables : Tables) (sound : IsScriptAt (part a
   abbrev before : OwnState
   before = own_at (part a store) tables
 
-  part_account : account_of (part a store) ≡ account_at store.books a
+  part_account : account_of (part a store) ≡ account_in store a
   unfolding part
   part_account = refl
 
   -- ---- capalloc
 
-  refused_cap : (o : Option Refusal) → o ≡ shortage (account_at store.books a) 0 1 → outcome_of (part a store) tables Capalloc ≡ unless o before (cap_allocated before)
+  refused_cap : (o : Option Refusal) → o ≡ shortage (account_in store a) 0 1 → outcome_of (part a store) tables Capalloc ≡ unless o before (cap_allocated before)
   refused_cap o is = ap (λ account. unless (shortage account 0 1) before (cap_allocated before)) (own_account store a tables sound) ∙ ap (λ r. unless r before (cap_allocated before)) (sym is)
 
-  pub cap_refusal_told : (refusal : Refusal) → Some refusal ≡ shortage (account_at store.books a) 0 1 → Refused refusal ≡ (outcome_of (part a store) tables Capalloc).reply
+  pub cap_refusal_told : (refusal : Refusal) → Some refusal ≡ shortage (account_in store a) 0 1 → Refused refusal ≡ (outcome_of (part a store) tables Capalloc).reply
   cap_refusal_told refusal is = ap (λ o. o.reply) (sym (refused_cap (Some refusal) is))
 
-  pub cap_refusal_stays : (refusal : Refusal) (store' : Store) → Some refusal ≡ shortage (account_at store.books a) 0 1 → store' ≡ store → own_at (part a store') tables ≡ (outcome_of (part a store) tables Capalloc).next
+  pub cap_refusal_stays : (refusal : Refusal) (store' : Store) → Some refusal ≡ shortage (account_in store a) 0 1 → store' ≡ store → own_at (part a store') tables ≡ (outcome_of (part a store) tables Capalloc).next
   cap_refusal_stays refusal store' is same = ap (λ s. own_at (part a s) tables) same ∙ ap (λ o. o.next) (sym (refused_cap (Some refusal) is))
 
-  module _ (accepted : None ≡ shortage (account_at store.books a) 0 1) where
+  module _ (accepted : None ≡ shortage (account_in store a) 0 1) where
     fits : Fits (account_of (part a store)) 0 1
     fits = covers _ _ _ (ap (λ x. shortage x 0 1) part_account ∙ sym accepted)
 
@@ -75,7 +74,7 @@ module _ (store : Store) (a : ℕ) (tables : Tables) (sound : IsScriptAt (part a
     cap_told s least = ap Selected (least ∙ sym (same_new_selector (part a store) tables.caps tables.regions sound)) ∙ ap (λ o. o.reply) (sym (refused_cap None accepted))
 
     module _ (store' : Store) (space' : Space) (s : ℕ) (least : s ≡ new_selector tables.caps.caps)
-        (paid : part a store' ≡ record { account = Some (charged (account_at store.books a) 0 1); spaces = (part a store).spaces })
+        (paid : part a store' ≡ record { account = Some (charged (account_in store a) 0 1); spaces = (part a store).spaces })
         (taken : space' ≡ with_cap tables.caps s RpcObject) where
       abbrev dearer : Part
       dearer = record { account = Some (charged (account_of (part a store)) 0 1); spaces = (part a store).spaces }
@@ -128,7 +127,7 @@ module _ (store : Store) (a : ℕ) (tables : Tables) (sound : IsScriptAt (part a
     named = is_rpc (get tables.caps.caps selector) found
 
     -- the account uses a capability more than it pays dataspaces
-    pub has_spare : len (part a store).spaces < (account_at store.books a).caps_used
+    pub has_spare : len (part a store).spaces < (account_in store a).caps_used
     has_spare = omega (arith, sound.spare, total_at_le rpc_weight tables.caps.caps selector RpcObject named, ap (λ (x : Account). x.caps_used) part_account)
 
     object_is : get before.selectors selector ≡ Some AnRpcObject
@@ -139,7 +138,7 @@ module _ (store : Store) (a : ℕ) (tables : Tables) (sound : IsScriptAt (part a
     cap_done_told = ap (λ o. (cap_freed selector o before).reply) (sym object_is)
 
     module _ (store' : Store) (space' : Space)
-        (credits : part a store' ≡ record { account = Some (credited (account_at store.books a) 0 1); spaces = (part a store).spaces })
+        (credits : part a store' ≡ record { account = Some (credited (account_in store a) 0 1); spaces = (part a store).spaces })
         (removed : space' ≡ without_cap tables.caps selector) where
       abbrev cheaper : Part
       cheaper = record { account = Some (credited (account_of (part a store)) 0 1); spaces = (part a store).spaces }

@@ -4,14 +4,13 @@ use Rattle.std.proofs.Common.{refl}
 use Rattle.std.specs.Coded.{Coded, code_by, coded×, coded_ℕ, coded_bool, coded_list, coded_option}
 use Rattle.std.specs.FinMap as map
 use Rattle.own_model.specs.NatMap.{NatMap}
-use Rattle.own_model.specs.Account.{Account}
+use Rattle.own_model.specs.Account.{Account, coded_account}
 use Rattle.own_model.specs.OwnState.{OwnState, Object}
 use Rattle.own_model.specs.OwnState.Object.{Dataspace, RpcObject}
 use Rattle.own_model.specs.StartList.{Entry, Kind}
 use Rattle.own_model.specs.StartList.Kind.{Script, Server}
 use Rattle.own_model.specs.World.{World}
 use Rattle.own_model.specs.Region.{Region}
-use Rattle.quota_core.specs.Books.{coded_account}
 use Rattle.region_map.specs.Regions.{coded_region}
 
 -- an object is stored as its bytes, if it has any

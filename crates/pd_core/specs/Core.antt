@@ -1,8 +1,7 @@
 -- The core as the model sees it, and what is true of it between calls.
 use Rattle.std.specs.Prelude.{◌≢◌, ℕ, ◌<◌, List, length, map, slice_index_or}
 use Rattle.own_model.specs.World.{World}
-use Rattle.quota_core.specs.Books.{account_at}
-use Rattle.dataspace_core.specs.Store.{Store}
+use Rattle.dataspace_core.specs.Store.{Store, account_in}
 use Rattle.pd_core.specs.Component.{entry_of, own, IsSound}
 use Rattle.pd_core.specs.declared.component.Component.{Component}
 
@@ -10,7 +9,7 @@ use Rattle.pd_core.specs.declared.component.Component.{Component}
 abbrev pub world_of : Store → List Component → World
 world_of store components = record {
   entries = map entry_of components;
-  init = account_at store.books store.books.root;
+  init = account_in store store.books.root;
   states = map (own store) components;
 }
 

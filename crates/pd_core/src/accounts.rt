@@ -1,8 +1,7 @@
 //! The calls of a script on its account and its capabilities.
 ghost use Rattle.std.specs.Prelude.{◌≡◌, ◌≢◌, ℕ};
 ghost use Rattle.own_model.specs.Call.Call.{Alloc as ModelledAlloc, Free as ModelledFree, Capalloc as ModelledCapalloc, Capfree as ModelledCapfree};
-ghost use Rattle.quota_core.specs.Books.{IsOpen, account_at};
-ghost use Rattle.dataspace_core.specs.Store.{part};
+ghost use Rattle.dataspace_core.specs.Store.{IsOpenIn, account_in, root_in, part};
 ghost use Rattle.pd_core.specs.Answer.{model_answer, quotas_account};
 ghost use Rattle.pd_core.specs.Own.{own_at, outcome_of, IsScriptAt};
 
@@ -18,7 +17,7 @@ pub fn alloc(memory: &mut Memory, account: AccountId, tables: &mut Tables, bytes
     ensures answered { model_answer result ≡ (outcome_of (part account.0 memory.old) tables.old (ModelledAlloc bytes)).reply }
     ensures next { own_at (part account.0 memory.new) tables.new ≡ (outcome_of (part account.0 memory.old) tables.old (ModelledAlloc bytes)).next }
     ensures sound { IsScriptAt (part account.0 memory.new) tables.new }
-    ensures root { memory.new.books.root ≡ memory.old.books.root }
+    ensures root { root_in memory.new ≡ root_in memory.old }
     ensures others { (other : ℕ) → other ≢ account.0 → part other memory.new ≡ part other memory.old }
 {
     match memory.alloc(account, bytes) {
@@ -33,7 +32,7 @@ pub fn free(memory: &mut Memory, account: AccountId, tables: &mut Tables, select
     ensures answered { model_answer result ≡ (outcome_of (part account.0 memory.old) tables.old (ModelledFree selector)).reply }
     ensures next { own_at (part account.0 memory.new) tables.new ≡ (outcome_of (part account.0 memory.old) tables.old (ModelledFree selector)).next }
     ensures sound { IsScriptAt (part account.0 memory.new) tables.new }
-    ensures root { memory.new.books.root ≡ memory.old.books.root }
+    ensures root { root_in memory.new ≡ root_in memory.old }
     ensures others { (other : ℕ) → other ≢ account.0 → part other memory.new ≡ part other memory.old }
 {
     match dataspace_at(&tables.caps, selector) {
@@ -53,7 +52,7 @@ pub fn capalloc(memory: &mut Memory, account: AccountId, tables: &mut Tables) ->
     ensures answered { model_answer result ≡ (outcome_of (part account.0 memory.old) tables.old ModelledCapalloc).reply }
     ensures next { own_at (part account.0 memory.new) tables.new ≡ (outcome_of (part account.0 memory.old) tables.old ModelledCapalloc).next }
     ensures sound { IsScriptAt (part account.0 memory.new) tables.new }
-    ensures root { memory.new.books.root ≡ memory.old.books.root }
+    ensures root { root_in memory.new ≡ root_in memory.old }
     ensures others { (other : ℕ) → other ≢ account.0 → part other memory.new ≡ part other memory.old }
 {
     match memory.charge_cap(account) {
@@ -73,7 +72,7 @@ pub fn capfree(
     ensures answered { model_answer result ≡ (outcome_of (part account.0 memory.old) tables.old (ModelledCapfree selector)).reply }
     ensures next { own_at (part account.0 memory.new) tables.new ≡ (outcome_of (part account.0 memory.old) tables.old (ModelledCapfree selector)).next }
     ensures sound { IsScriptAt (part account.0 memory.new) tables.new }
-    ensures root { memory.new.books.root ≡ memory.old.books.root }
+    ensures root { root_in memory.new ≡ root_in memory.old }
     ensures others { (other : ℕ) → other ≢ account.0 → part other memory.new ≡ part other memory.old }
 {
     if is_rpc_object(&tables.caps, selector) {
@@ -87,8 +86,8 @@ pub fn capfree(
 
 /// The use and the limits of an account.
 pub fn quota(memory: &Memory, account: AccountId) -> Quotas
-    requires { IsOpen memory.now.books account.0 }
-    ensures { quotas_account result ≡ account_at memory.now.books account.0 }
+    requires { IsOpenIn memory.now account.0 }
+    ensures { quotas_account result ≡ account_in memory.now account.0 }
 {
     let (ram_used, caps_used) = memory.used(account);
     let (ram_limit, caps_limit) = memory.limits(account);

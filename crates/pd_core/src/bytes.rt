@@ -1,7 +1,7 @@
 //! The calls of a script on the bytes of its regions.
 ghost use Rattle.std.specs.Prelude.{◌≡◌, ◌≢◌, ℕ, ◌≤◌, Some, None, length, IsSome, true, false, codes, ◌++◌, is_none, slice_range, ◌+◌, ◌/◌};
 ghost use Rattle.own_model.specs.Call.Call.{Peek as ModelledPeek, Poke as ModelledPoke};
-ghost use Rattle.dataspace_core.specs.Store.{part, Exists, space_at};
+ghost use Rattle.dataspace_core.specs.Store.{root_in, part, Exists, space_at};
 ghost use Rattle.pd_core.specs.Answer.{model_answer};
 ghost use Rattle.own_model.specs.OwnStep.{count_refusal};
 ghost use Rattle.own_model.specs.Text.{bytes_of_hex};
@@ -55,7 +55,7 @@ pub fn poke(
     ensures answered { model_answer result ≡ (outcome_of (part account.0 memory.old) tables.old (ModelledPoke address (bytes_in hex.now))).reply }
     ensures next { own_at (part account.0 memory.new) tables.new ≡ (outcome_of (part account.0 memory.old) tables.old (ModelledPoke address (bytes_in hex.now))).next }
     ensures sound { IsScriptAt (part account.0 memory.new) tables.new }
-    ensures root { memory.new.books.root ≡ memory.old.books.root }
+    ensures root { root_in memory.new ≡ root_in memory.old }
     ensures others { (other : ℕ) → other ≢ account.0 → part other memory.new ≡ part other memory.old }
 {
     let count = hex.len() / 2;
@@ -81,7 +81,7 @@ fn put(
     ensures answered { model_answer result ≡ (outcome_of (part account.0 memory.old) tables.old (ModelledPoke address bytes.now)).reply }
     ensures next { own_at (part account.0 memory.new) tables.new ≡ (outcome_of (part account.0 memory.old) tables.old (ModelledPoke address bytes.now)).next }
     ensures sound { IsScriptAt (part account.0 memory.new) tables.new }
-    ensures root { memory.new.books.root ≡ memory.old.books.root }
+    ensures root { root_in memory.new ≡ root_in memory.old }
     ensures others { (other : ℕ) → other ≢ account.0 → part other memory.new ≡ part other memory.old }
 {
     match tables.regions.resolve(address, bytes.len() as u64) {

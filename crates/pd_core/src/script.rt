@@ -1,7 +1,7 @@
 //! The calls of a script: what each does to its account, its capabilities, its regions and the memory.
 ghost use Rattle.std.specs.Prelude.{◌≡◌, ◌≢◌, ℕ};
 ghost use Rattle.own_model.specs.Reply.{reply_text};
-ghost use Rattle.dataspace_core.specs.Store.{part};
+ghost use Rattle.dataspace_core.specs.Store.{root_in, part};
 ghost use Rattle.pd_core.specs.Call.{model_call, IsWellFormed};
 ghost use Rattle.pd_core.specs.Own.{own_at, outcome_of, IsScriptAt};
 
@@ -28,7 +28,7 @@ pub fn script_step(
     ensures answered { reply.new ≡ reply_text (outcome_of (part account.0 memory.old) tables.old (model_call call.entry)).reply }
     ensures next { own_at (part account.0 memory.new) tables.new ≡ (outcome_of (part account.0 memory.old) tables.old (model_call call.entry)).next }
     ensures sound { IsScriptAt (part account.0 memory.new) tables.new }
-    ensures root { memory.new.books.root ≡ memory.old.books.root }
+    ensures root { root_in memory.new ≡ root_in memory.old }
     ensures others { (other : ℕ) → other ≢ account.0 → part other memory.new ≡ part other memory.old }
 {
     match call {

@@ -1,14 +1,14 @@
 -- What a change of the slab of accounts does to the books.
 use Rattle.std.proofs.Common.{◌≡◌, ℕ, ◌+◌, ◌-◌, ◌<◌, [], Some, is_some, count_by, unwrap_or, refl, sym, ap, ◌∙◌, arith}
-use Rattle.std.proofs.lemmas.Bool.Decides.{nat_tests}
 use Rattle.std.specs.Prelude.{None}
 use Rattle.std.specs.FinMap.{get, insert, empty}
 use Rattle.slab.specs.Slab.{Slab, Updates, slab_len, with_value, ContainsKey}
 use Rattle.slab.specs.Slab as slab
 use Rattle.slab.proofs.SlabLemmas.{Updates-with_value}
-use Rattle.own_model.specs.Account.{Account, shortage, opened, parted_with, Fits}
+use Rattle.own_model.specs.Account.{Account, shortage, opened, parted_with}
 use Rattle.own_model.specs.NatMap.{NatMap}
 use Rattle.own_model.proofs.NatMapLemmas.{value_at}
+use Rattle.own_model.proofs.StepLemmas.{covers}
 use Rattle.own_model.proofs.Totals.{total_parted}
 use Rattle.quota_core.specs.Books.{Books, IsOpen, account_at, fresh_books, with_account, with_child, ram_limits, caps_limits}
 use Rattle.quota_core.specs.Kept.{books_of, IsKept}
@@ -69,24 +69,20 @@ booted s t root places ram caps account none opens updates more =
     refl (ap (λ n. places - n) one)
 
 -- an open account is what the map has
-account_there : (books : Books) (account : ℕ) → IsOpen books account → get books.accounts account ≡ Some (account_at books account)
+pub account_there : (books : Books) (account : ℕ) → IsOpen books account → get books.accounts account ≡ Some (account_at books account)
 account_there books account there =
     let at = value_at books.accounts account there in
     at.1 ∙ ap (λ o. Some (unwrap_or o (opened 0 0))) (sym at.1)
-
--- what falls short of nothing fits
-fits : (a : Account) (ram caps : ℕ) → shortage a ram caps ≡ None → Fits a ram caps
-fits a ram caps enough = record { ram_fits = grind (arith, nat_tests); caps_fit = grind (arith, nat_tests) }
 
 module _ (books : Books) (parent child ram caps : ℕ) (there : IsOpen books parent) (free : get books.accounts child ≡ None) (enough : shortage (account_at books parent) ram caps ≡ None) where
   -- limits of RAM are moved, and never made
   pub ram_moved : ram_limits (with_child books parent child ram caps) ≡ ram_limits books
   ram_moved =
-      let covered = fits (account_at books parent) ram caps enough in
+      let covered = covers (account_at books parent) ram caps enough in
       total_parted (λ a. a.ram_limit) books.accounts parent child _ (account_at books parent) _ (account_there books parent there) free (omega (arith, covered.ram_fits))
 
   -- nor are limits of capabilities
   pub caps_moved : caps_limits (with_child books parent child ram caps) ≡ caps_limits books
   caps_moved =
-      let covered = fits (account_at books parent) ram caps enough in
+      let covered = covers (account_at books parent) ram caps enough in
       total_parted (λ a. a.caps_limit) books.accounts parent child _ (account_at books parent) _ (account_there books parent there) free (omega (arith, covered.caps_fit))

@@ -6,23 +6,13 @@ use Rattle.std.specs.Coded.{Coded, code_by, coded×, coded_ℕ}
 use Rattle.std.specs.FinMap as map
 use Rattle.std.specs.FinMap.{get, insert, empty}
 use Rattle.own_model.specs.NatMap.{NatMap, total}
-use Rattle.own_model.specs.Account.{Account, opened, parted_with}
+use Rattle.own_model.specs.Account.{Account, coded_account, opened, parted_with}
 
 -- the accounts by their keys, the root's key, and how many more accounts find a place
 pub record Books : Type 0 where
   pub accounts : NatMap Account
   pub root : ℕ
   pub room : ℕ
-
--- an account is stored as the tuple of its fields
-abbrev pub coded_account : Coded Account
-coded_account =
-    code_by
-    (ℕ × (ℕ × (ℕ × ℕ)))
-    (coded× coded_ℕ (coded× coded_ℕ (coded× coded_ℕ coded_ℕ)))
-    (λ a. (a.ram_limit, (a.ram_used, (a.caps_limit, a.caps_used))))
-    (λ p. record { ram_limit = p.0; ram_used = p.1.0; caps_limit = p.1.1.0; caps_used = p.1.1.1 })
-    (λ _. refl)
 
 -- books are stored as the tuple of their fields
 abbrev pub coded_books : Coded Books

@@ -15,8 +15,7 @@ use Rattle.own_model.specs.Region.{Region}
 use Rattle.cap_space.specs.declared.cap.Cap.{Cap}
 use Rattle.pd_core.specs.declared.tables.Tables.{Tables}
 use Rattle.own_model.proofs.NatMapLemmas.{get-empty, get-insert_same, get-insert_other, apart_from_free, picked-empty}
-use Rattle.quota_core.specs.Books.{IsOpen, account_at, with_child}
-use Rattle.dataspace_core.specs.Store.{Store, Part, part, with_books}
+use Rattle.dataspace_core.specs.Store.{Store, Part, part, IsOpenIn, account_in, with_child_in}
 use Rattle.pd_core.specs.Own.{own_of, object_of, regions_of, selector_of, rpc_weight, IsScriptAt}
 use Rattle.pd_core.specs.Component.{entry_of, kind_of, caps_of, user_of, own, IsSound, IsSoundRole}
 use Rattle.pd_core.specs.Core.{world_of, payer_at, IsCore}
@@ -93,9 +92,9 @@ user_none : (ram caps : ℕ) (role : Role) → IsFreshRole ram caps role → use
 user_none ram caps (Script tables) fresh = fresh.no_regions
 user_none ram caps Server fresh = refl
 
-module _ (store store' : Store) (root child ram caps : ℕ) (is_root : root ≡ store.books.root) (is_open : IsOpen store.books root)
+module _ (store store' : Store) (root child ram caps : ℕ) (is_root : root ≡ store.books.root) (is_open : IsOpenIn store root)
     (fresh : get store.books.accounts child ≡ None)
-    (parted : store' ≡ with_books store (with_child store.books root child ram caps)) where
+    (parted : store' ≡ with_child_in store root child ram caps) where
   root_apart : root ≢ child
   root_apart = apart_from_free store.books.accounts child root fresh is_open
 
@@ -103,13 +102,13 @@ module _ (store store' : Store) (root child ram caps : ℕ) (is_root : root ≡ 
   same_root = ap (λ s. s.books.root) parted
 
   -- init keeps the rest
-  pub init_after : account_at store'.books store'.books.root ≡ parted_with (account_at store.books store.books.root) ram caps
+  pub init_after : account_in store' store'.books.root ≡ parted_with (account_in store store.books.root) ram caps
   init_after =
-      ap (λ s. account_at s.books s.books.root) parted
-      ∙ ap (λ r. unwrap_or (get (insert (insert store.books.accounts root (parted_with (account_at store.books root) ram caps)) child (opened ram caps)) r) (opened 0 0)) (sym is_root)
-      ∙ ap (λ o. unwrap_or o (opened 0 0)) (get-insert_other (insert store.books.accounts root (parted_with (account_at store.books root) ram caps)) child (opened ram caps) root root_apart
-      ∙ get-insert_same store.books.accounts root (parted_with (account_at store.books root) ram caps) root refl)
-      ∙ ap (λ r. parted_with (account_at store.books r) ram caps) is_root
+      ap (λ s. account_in s s.books.root) parted
+      ∙ ap (λ r. unwrap_or (get (insert (insert store.books.accounts root (parted_with (account_in store root) ram caps)) child (opened ram caps)) r) (opened 0 0)) (sym is_root)
+      ∙ ap (λ o. unwrap_or o (opened 0 0)) (get-insert_other (insert store.books.accounts root (parted_with (account_in store root) ram caps)) child (opened ram caps) root root_apart
+      ∙ get-insert_same store.books.accounts root (parted_with (account_in store root) ram caps) root refl)
+      ∙ ap (λ r. parted_with (account_in store r) ram caps) is_root
 
   module _ (components : List Component) (after : Component) (role : IsFreshRole ram caps after.role) (account : after.account.0 ≡ child) (core : IsCore store components)
       (own_part : part child store' ≡ opened_part ram caps)

@@ -8,16 +8,15 @@ use Rattle.own_model.specs.StartList.Kind.{Script as AScript, Server as AServer}
 use Rattle.own_model.specs.World.{World, IsBalanced, start_world}
 use Rattle.own_model.proofs.NatMapLemmas.{get-insert_same}
 use Rattle.own_model.proofs.StartLemmas.{start_balanced}
-use Rattle.quota_core.specs.Books.{account_at}
-use Rattle.dataspace_core.specs.Store.{Store, fresh_store}
+use Rattle.dataspace_core.specs.Store.{Store, fresh_store, account_in}
 use Rattle.pd_core.specs.Core.{world_of}
 use Rattle.scenario_run.specs.Boot.{with_start}
 use Rattle.pd_core.specs.declared.component.Component.{Component}
 
 -- init has all of a memory that has just booted
-fresh_account : (store : Store) (pages caps places : ℕ) → store ≡ fresh_store store.books.root pages caps places → account_at store.books store.books.root ≡ opened (pages * 4096) caps
+fresh_account : (store : Store) (pages caps places : ℕ) → store ≡ fresh_store store.books.root pages caps places → account_in store store.books.root ≡ opened (pages * 4096) caps
 fresh_account store pages caps places fresh =
-    ap (λ s. account_at s.books store.books.root) fresh
+    ap (λ s. account_in s store.books.root) fresh
     ∙ ap (λ o. unwrap_or o (opened 0 0)) (get-insert_same empty store.books.root (opened (pages * 4096) caps) store.books.root refl)
 
 -- nothing has started
@@ -26,14 +25,14 @@ unstarted = record { entries = []; init = opened 262144 64; states = [] }
 
 pub nothing_started : (store : Store) (components : List Component) → store ≡ fresh_store store.books.root 64 64 5 → components ≡ [] → world_of store components ≡ unstarted
 nothing_started store components fresh none =
-    let init : account_at store.books store.books.root ≡ opened 262144 64 = fresh_account store 64 64 5 fresh in
+    let init : account_in store store.books.root ≡ opened 262144 64 = fresh_account store 64 64 5 fresh in
     ap (world_of store) none ∙ ap (λ a. record { entries = []; init = a; states = [] }) init
 
 -- init covers each budget in turn
-pub covers_log : (store : Store) → store ≡ fresh_store store.books.root 64 64 5 → Fits (account_at store.books store.books.root) 16384 8
+pub covers_log : (store : Store) → store ≡ fresh_store store.books.root 64 64 5 → Fits (account_in store store.books.root) 16384 8
 covers_log store fresh = subst (λ a. Fits a 16384 8) (sym (fresh_account store 64 64 5 fresh)) (record { ram_fits = lit≤ tt; caps_fit = lit≤ tt })
 
-module _ (store : Store) (fresh : store ≡ fresh_store store.books.root 64 64 5) (a1 : Account) (log : a1 ≡ parted_with (account_at store.books store.books.root) 16384 8) where
+module _ (store : Store) (fresh : store ≡ fresh_store store.books.root 64 64 5) (a1 : Account) (log : a1 ≡ parted_with (account_in store store.books.root) 16384 8) where
   after_log : a1 ≡ opened 245760 56
   after_log = log ∙ ap (λ a. parted_with a 16384 8) (fresh_account store 64 64 5 fresh)
 

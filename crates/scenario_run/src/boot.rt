@@ -3,7 +3,7 @@ ghost use Rattle.std.specs.Prelude.{◌≡◌, ◌+◌, ◌<◌, OnOk, IfOk};
 ghost use Rattle.own_model.specs.Account.{Fits, parted_with};
 ghost use Rattle.own_model.specs.StartList.{machine_a};
 ghost use Rattle.own_model.specs.World.{start_world, IsBalanced};
-ghost use Rattle.quota_core.specs.Books.{account_at};
+ghost use Rattle.dataspace_core.specs.Store.{account_in};
 ghost use Rattle.pd_core.specs.Component.{kind_of};
 ghost use Rattle.pd_core.specs.Core.{world_of, IsCore};
 ghost use Rattle.scenario_run.specs.Boot.{with_start, AreFresh, IsFreshRole};
@@ -83,13 +83,13 @@ fn start(
     role: Role,
     budget: Budget,
 ) -> Result<(), NoMemory>
-    requires covered { Fits (account_at memory.old.books memory.old.books.root) budget.ram.0 budget.caps.0 }
+    requires covered { Fits (account_in memory.old memory.old.books.root) budget.ram.0 budget.caps.0 }
     requires room { 0 < memory.old.books.room }
     requires fresh { IsFreshRole budget.ram.0 budget.caps.0 role }
     requires core { IsCore memory.old components.old.items }
     ensures started { OnOk result (world_of memory.new components.new.items ≡ with_start (world_of memory.old components.old.items) name.now (kind_of role) budget.ram.0 budget.caps.0) }
     ensures core { OnOk result (IsCore memory.new components.new.items) }
-    ensures init { account_at memory.new.books memory.new.books.root ≡ parted_with (account_at memory.old.books memory.old.books.root) budget.ram.0 budget.caps.0 }
+    ensures init { account_in memory.new memory.new.books.root ≡ parted_with (account_in memory.old memory.old.books.root) budget.ram.0 budget.caps.0 }
     ensures room { memory.new.books.room + 1 ≡ memory.old.books.room }
 {
     let init = memory.root();

@@ -4,8 +4,7 @@ use Rattle.std.specs.Prelude.{Option, None}
 use Rattle.std.specs.FinMap.{get}
 use Rattle.trade_base.specs.Page.{page_of}
 use Rattle.own_model.specs.OwnStep.{is_valid_size}
-use Rattle.quota_core.specs.Books.{IsOpen}
-use Rattle.dataspace_core.specs.Store.{Store, with_space, part}
+use Rattle.dataspace_core.specs.Store.{Store, with_space, part, IsOpenIn}
 use Rattle.dataspace_core.proofs.PartLemmas.{part-with_space, part-with_space_other, own_fresh}
 use Rattle.dataspace_core.proofs.MemoryLemmas.{pages_free, place_free, vacant_there, IsSound-alloc, store-alloc}
 use Rattle.dataspace_core.proofs.CapsLemmas.{spaces_paid}
@@ -19,19 +18,19 @@ pub take_chain-chain-requires-clause-room : goal.take_chain-chain-requires-claus
 take_chain-chain-requires-clause-room c =
     pages_free c.self.invariant c.args.account.0 c.args.bytes c.in_ok-size.size
     (size_valid c.args.bytes c.in_ok-size.size c.valid_size.result c.valid_size.ensures c.in_ok-size.ensures.ok_part)
-    (subst (λ (s : Store). IsOpen s.books c.args.account.0) (sym c.self.view_is) c.requires) c.in_ok-charge.ensures.refusal
+    (subst (λ (s : Store). IsOpenIn s c.args.account.0) (sym c.self.view_is) c.requires) c.in_ok-charge.ensures.refusal
 
 pub insert_reserved-key-requires : goal.insert_reserved-key-requires
 insert_reserved-key-requires c =
     place_free c.self.invariant c.args.account.0 c.args.bytes c.in_ok-size.size
     (size_valid c.args.bytes c.in_ok-size.size c.valid_size.result c.valid_size.ensures c.in_ok-size.ensures.ok_part)
-    (subst (λ (s : Store). IsOpen s.books c.args.account.0) (sym c.self.view_is) c.requires) c.in_ok-charge.ensures.refusal
+    (subst (λ (s : Store). IsOpenIn s c.args.account.0) (sym c.self.view_is) c.requires) c.in_ok-charge.ensures.refusal
 
 pub invariant_of-self-2 : goal.invariant_of-self-2
 invariant_of-self-2 c =
     IsSound-alloc c.self.invariant c.args.account.0 c.args.bytes c.in_ok-size.size
     (size_valid c.args.bytes c.in_ok-size.size c.valid_size.result c.valid_size.ensures c.in_ok-size.ensures.ok_part)
-    (subst (λ (s : Store). IsOpen s.books c.args.account.0) (sym c.self.view_is) c.requires) c.in_ok-charge.ensures.refusal
+    (subst (λ (s : Store). IsOpenIn s c.args.account.0) (sym c.self.view_is) c.requires) c.in_ok-charge.ensures.refusal
     c.insert_reserved-key.ensures.updates
     c.in_ok-charge.ensures.ok refl c.take_chain-chain.ensures.count c.take_chain-chain.ensures.chain c.insert_reserved-key.ensures.was_vacant c.insert_reserved-key.ensures.capacity
 
@@ -39,7 +38,7 @@ pub returns-clause-ok : goal.returns-clause-ok
 returns-clause-ok c =
     store-alloc c.self.invariant c.args.account.0 c.args.bytes c.in_ok-size.size
     (size_valid c.args.bytes c.in_ok-size.size c.valid_size.result c.valid_size.ensures c.in_ok-size.ensures.ok_part)
-    (subst (λ (s : Store). IsOpen s.books c.args.account.0) (sym c.self.view_is) c.requires) c.in_ok-charge.ensures.refusal
+    (subst (λ (s : Store). IsOpenIn s c.args.account.0) (sym c.self.view_is) c.requires) c.in_ok-charge.ensures.refusal
     c.insert_reserved-key.ensures.updates
     c.in_ok-charge.ensures.ok refl c.take_chain-chain.ensures.count c.take_chain-chain.ensures.chain c.insert_reserved-key.ensures.was_vacant c.insert_reserved-key.ensures.capacity
     ∙ ap (λ (s : Store). with_space s c.insert_reserved-key.result c.args.account.0 c.args.bytes) c.self.view_is
@@ -49,7 +48,7 @@ returns-clause-fresh c =
     subst (λ (s : Store). get s.spaces c.insert_reserved-key.result ≡ None) c.self.view_is
     (vacant_there c.self.invariant c.args.account.0 c.args.bytes c.in_ok-size.size
     (size_valid c.args.bytes c.in_ok-size.size c.valid_size.result c.valid_size.ensures c.in_ok-size.ensures.ok_part)
-    (subst (λ (s : Store). IsOpen s.books c.args.account.0) (sym c.self.view_is) c.requires) c.in_ok-charge.ensures.refusal
+    (subst (λ (s : Store). IsOpenIn s c.args.account.0) (sym c.self.view_is) c.requires) c.in_ok-charge.ensures.refusal
     c.insert_reserved-key.ensures.updates
     c.in_ok-charge.ensures.ok refl c.take_chain-chain.ensures.count c.take_chain-chain.ensures.chain c.insert_reserved-key.ensures.was_vacant c.insert_reserved-key.ensures.capacity)
 

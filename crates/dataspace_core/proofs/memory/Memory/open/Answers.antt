@@ -1,13 +1,13 @@
 use Rattle.std.proofs.Common.{sym, ap, subst, ◌∙◌}
 use Rattle.std.proofs.lemmas.Result.{IfOk-weaker}
 use Rattle.quota_core.specs.Books.{IsOpen}
-use Rattle.dataspace_core.specs.Store.{Store, part}
+use Rattle.dataspace_core.specs.Store.{Store, part, IsOpenIn}
 use Rattle.dataspace_core.proofs.MemoryLemmas.{IsSound-open, own-open, others-open}
 use Rattle.dataspace_core.proofs.memory.Memory.open.Goals as goal
 
 -- the parent is open in the books
 parent_open : (c : goal.After-open) → IsOpen c.self.inside.books c.args.parent.0
-parent_open c = subst (λ (s : Store). IsOpen s.books c.args.parent.0) (sym c.self.view_is) c.requires.parent
+parent_open c = subst (λ (s : Store). IsOpenIn s c.args.parent.0) (sym c.self.view_is) c.requires.parent
 
 pub invariant_of-self : goal.invariant_of-self
 invariant_of-self c =
