@@ -1,5 +1,5 @@
 -- A script's calls on its account and its capabilities.
-use Rattle.std.proofs.Common.{◌≡◌, ℕ, ◌+◌, ◌*◌, ◌<◌, ◌≤◌, ◌≢◌, Bool, true, false, cond, eqb, List, [], length, Option, Some, None, is_some, IsSome, true≢false, ◌⊎◌, inl, inr, subst, refl, sym, ap, ◌∙◌, arith}
+use Rattle.std.proofs.Common.{◌≡◌, ℕ, ◌*◌, ◌<◌, ◌≤◌, ◌≢◌, true, eqb, List, length, Option, Some, None, is_some, IsSome, true≢false, ◌⊎◌, inl, inr, subst, refl, sym, ap, ◌∙◌, arith}
 use Rattle.std.proofs.lemmas.Bool.Decides.{nat_tests}
 use Rattle.std.specs.Option.{option_map, option_and_then}
 use Rattle.std.specs.FinMap.{get, insert, remove, len}
@@ -7,13 +7,12 @@ use Rattle.trade_base.specs.Page.{page_of}
 use Rattle.trade_base.specs.declared.id.DsId.{DsId}
 use Rattle.trade_base.specs.declared.refusal.Refusal.{Refusal}
 use Rattle.trade_base.specs.declared.refusal.Refusal.TheVariants.{InvalidCap}
-use Rattle.own_model.specs.Account.{Account, charged, credited, Fits}
-use Rattle.own_model.specs.Call.{Call}
+use Rattle.own_model.specs.Account.{charged, credited, Fits}
 use Rattle.own_model.specs.Call.Call.{Alloc, Free}
 use Rattle.own_model.specs.NatMap.{NatMap}
 use Rattle.own_model.specs.OwnState.{OwnState, Object, zeros, new_selector}
 use Rattle.own_model.specs.OwnState.Object.{Dataspace as ADataspace, RpcObject as AnRpcObject}
-use Rattle.own_model.specs.OwnStep.{Outcome, refused, alloc_refusal, allocated, freed, unless, script_step}
+use Rattle.own_model.specs.OwnStep.{Outcome, refused, alloc_refusal, allocated, freed, unless}
 use Rattle.own_model.specs.Region.{Region, without}
 use Rattle.own_model.specs.Reply.Reply.{Selected, Done, Refused}
 use Rattle.own_model.specs.Sound.{IsSound}

@@ -1,5 +1,5 @@
 -- A script's peeks and pokes.
-use Rattle.std.proofs.Common.{◌≡◌, ℕ, ◌+◌, ◌*◌, ◌≤◌, ◌≢◌, List, [], ◌∷◌, ◌++◌, length, take, drop, Option, Some, None, is_some, IsSome, subst, refl, sym, ap, ◌∙◌, arith, slice_range, true, true≢false}
+use Rattle.std.proofs.Common.{◌≡◌, ℕ, ◌+◌, ◌≤◌, ◌≢◌, List, [], length, Option, Some, None, IsSome, subst, refl, sym, ap, ◌∙◌, slice_range, true, true≢false}
 use Rattle.std.specs.Option.{option_map, option_and_then}
 use Rattle.std.specs.Prelude.{is_none}
 use Rattle.trade_base.specs.declared.refusal.Refusal.{Refusal}
@@ -7,10 +7,9 @@ use Rattle.std.specs.FinMap.{get, insert}
 use Rattle.trade_base.specs.declared.id.DsId.{DsId}
 use Rattle.trade_base.specs.declared.refusal.Refusal.TheVariants.{PageFault}
 use Rattle.own_model.specs.Call.Call.{Peek, Poke}
-use Rattle.own_model.specs.NatMap.{NatMap}
-use Rattle.own_model.specs.OwnState.{OwnState, Object, with_part}
+use Rattle.own_model.specs.OwnState.{OwnState, with_part}
 use Rattle.own_model.specs.OwnState.Object.{Dataspace as ADataspace}
-use Rattle.own_model.specs.OwnStep.{Outcome, refused, unless, count_refusal, peeked, poked, poked_at}
+use Rattle.own_model.specs.OwnStep.{Outcome, refused, unless, count_refusal, poked, poked_at}
 use Rattle.own_model.specs.Region.{Region, resolved}
 use Rattle.own_model.specs.Reply.Reply.{Bytes, Done, Refused}
 use Rattle.own_model.specs.Sound.{IsSound}
@@ -20,7 +19,7 @@ use Rattle.own_model.proofs.RegionLemmas.{resolved_renamed, resolved_facts}
 use Rattle.own_model.proofs.UseLemmas.{length-with_part}
 use Rattle.cap_space.specs.declared.cap.Cap.TheVariants.{Dataspace}
 use Rattle.dataspace_core.specs.Store.{Store, Part, part, Exists, space_at, overwritten}
-use Rattle.pd_core.specs.Own.{selector_of, regions_of, own_of, own_at, outcome_of, IsScript, IsScriptAt}
+use Rattle.pd_core.specs.Own.{selector_of, regions_of, own_of, own_at, outcome_of, IsScriptAt}
 use Rattle.pd_core.specs.declared.tables.Tables.{Tables}
 use Rattle.pd_core.proofs.NameLemmas.{is_named, some_of}
 use Rattle.pd_core.proofs.AccountLemmas.{held, names_object}

@@ -1,5 +1,5 @@
 -- A core of fresh parts is sound, and its own states are the start states.
-use Rattle.std.proofs.Common.{◌≡◌, ℕ, ◌<◌, List, [], ◌∷◌, map, Some, None, is_some, true≢false, subst, refl, sym, ap, ◌∙◌, arith, nat_cmp}
+use Rattle.std.proofs.Common.{◌≡◌, ℕ, List, [], ◌∷◌, map, Some, is_some, true≢false, subst, refl, sym, ap, ◌∙◌, arith, nat_cmp}
 use Rattle.std.specs.Prelude.{IfSome}
 use Rattle.std.specs.Option.{option_map}
 use Rattle.std.specs.List.{All}
@@ -7,7 +7,6 @@ use Rattle.std.specs.FinMap as finmap
 use Rattle.std.specs.FinMap.{get, empty, len}
 use Rattle.std.proofs.lemmas.List.Elements.{All-head, All-tail}
 use Rattle.own_model.specs.NatMap.{NatMap, total}
-use Rattle.own_model.specs.OwnState.{OwnState}
 use Rattle.own_model.specs.Region.{Region}
 use Rattle.own_model.specs.Sound.{IsSound as IsSoundState}
 use Rattle.own_model.specs.StartList.{StartEntry, start_state}

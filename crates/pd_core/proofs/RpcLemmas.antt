@@ -1,5 +1,5 @@
 -- A script's calls on RPC objects.
-use Rattle.std.proofs.Common.{◌≡◌, ℕ, ◌+◌, ◌*◌, ◌<◌, ◌≤◌, ◌≢◌, Bool, true, false, List, length, Option, Some, None, is_some, true≢false, subst, refl, sym, ap, ◌∙◌, arith}
+use Rattle.std.proofs.Common.{◌≡◌, ℕ, ◌<◌, ◌≢◌, true, false, List, Option, Some, None, true≢false, subst, refl, sym, ap, ◌∙◌, arith}
 use Rattle.std.specs.Option.{option_map, option_and_then}
 use Rattle.std.specs.FinMap.{get, insert, remove, len}
 use Rattle.trade_base.specs.declared.id.DsId.{DsId}
@@ -7,7 +7,7 @@ use Rattle.trade_base.specs.declared.refusal.Refusal.{Refusal}
 use Rattle.trade_base.specs.declared.refusal.Refusal.TheVariants.{InvalidCap}
 use Rattle.own_model.specs.Account.{Account, shortage, charged, credited, Fits}
 use Rattle.own_model.specs.Call.Call.{Capalloc, Capfree}
-use Rattle.own_model.specs.OwnState.{OwnState, Object, new_selector}
+use Rattle.own_model.specs.OwnState.{OwnState, new_selector}
 use Rattle.own_model.specs.OwnState.Object.{Dataspace as ADataspace, RpcObject as AnRpcObject}
 use Rattle.own_model.specs.OwnStep.{Outcome, refused, cap_allocated, cap_freed, unless}
 use Rattle.own_model.specs.Region.{Region}
@@ -16,7 +16,7 @@ use Rattle.own_model.specs.Sound.{IsSound}
 use Rattle.own_model.proofs.NatMapLemmas.{get-picked, get-picked_at}
 use Rattle.own_model.proofs.StepLemmas.{covers}
 use Rattle.own_model.proofs.Totals.{total_at_le}
-use Rattle.quota_core.specs.Books.{account_at, IsOpen}
+use Rattle.quota_core.specs.Books.{account_at}
 use Rattle.cap_space.specs.Space.{Space, with_cap, without_cap}
 use Rattle.cap_space.specs.declared.cap.Cap.{Cap}
 use Rattle.cap_space.specs.declared.cap.Cap.TheVariants.{Dataspace, RpcObject, Session}

@@ -15,7 +15,7 @@ world_of store components = record {
   states = map (own store) components;
 }
 
--- each component is sound, and no two have one account; nor has one init's
+-- each component is sound and has an account of its own, which isn't init's
 pub record IsCore (store : Store) (components : List Component) : Type 0 where
   pub sound : All (IsSound store) components
   pub not_init : All (λ c. payer_of c ≢ store.books.root) components

@@ -1,4 +1,4 @@
--- The parts of a core that hasn't made a call yet, and what starts with them.
+-- The parts of a core before its first call, and the world that starts with them.
 use Rattle.std.specs.Prelude.{◌≡◌, ◌≢◌, ℕ, ◌*◌, ◌≤◌, List, map, Some, IfSome}
 use Rattle.std.specs.List.{All, AllPairs}
 use Rattle.std.specs.FinMap.{empty}
@@ -12,7 +12,7 @@ use Rattle.dataspace_core.specs.Store.{Store, Part, part}
 use Rattle.pd_core.specs.Component.{entry_of, payer_of, tables_of}
 use Rattle.pd_core.specs.declared.component.Component.{Component}
 
--- a component starts with its entry, and the limits of its account for a budget
+-- what a component starts with: its entry, and the limits of its account for its budget
 abbrev pub start_of : Store → Component → StartEntry
 start_of store component = record {
   entry = entry_of component;
@@ -20,14 +20,15 @@ start_of store component = record {
   caps = (account_at store.books (payer_of component)).caps_limit;
 }
 
+-- the same of each component, in their order
 abbrev pub starts_of : Store → List Component → List StartEntry
 starts_of store components = map (start_of store) components
 
--- an account with these limits, of which nothing is used, and no dataspace
+-- an account with these limits, of which nothing is used, and which pays for no dataspace
 abbrev pub opened_part : ℕ → ℕ → Part
 opened_part ram caps = record { account = Some (opened ram caps); spaces = empty }
 
--- tables of nothing, with a place for each capability of a budget, and 128 user regions of pages enough for its RAM
+-- tables of nothing, with a place for each capability of a budget, room for 128 user regions, and pages enough for its RAM
 pub record AreEmpty (ram caps : ℕ) (space : Space) (regions : Regions) : Type 0 where
   pub no_caps : space.caps ≡ empty
   pub places : caps ≤ space.places
@@ -35,7 +36,7 @@ pub record AreEmpty (ram caps : ℕ) (space : Space) (regions : Regions) : Type 
   pub most : regions.most ≡ 128
   pub pages : ram ≤ regions.pages * 4096
 
--- a component has an account that isn't init's, its whole budget, and nothing else
+-- a component has an account that isn't init's, all of its budget, and nothing else
 pub record IsFresh (store : Store) (component : Component) : Type 0 where
   pub not_init : payer_of component ≢ store.books.root
   pub unused : part (payer_of component) store ≡ opened_part (start_of store component).ram (start_of store component).caps
@@ -46,7 +47,7 @@ pub record AreFresh (store : Store) (components : List Component) : Type 0 where
   pub each : All (IsFresh store) components
   pub apart : AllPairs (λ c d. payer_of c ≢ payer_of d) components
 
--- the world in which these components start, and init keeps what the root's account has
+-- the world of these starts, in which init keeps what the root's account has
 abbrev pub started_world : Store → List Component → World
 started_world store components = record {
   entries = map (λ start. start.entry) (starts_of store components);

@@ -37,7 +37,7 @@ impl Component {
     ghost use Rattle.pd_core.specs.Call.{model_call, IsWellFormed};
     ghost use Rattle.pd_core.specs.Component.{entry_of, payer_of, tables_of, own, IsSound};
 
-    /// A script with what it has at the boot.
+    /// A script that is charged on the account, with these capabilities and regions.
     pub fn script(
         name: &'static [u8],
         account: AccountId,
@@ -55,7 +55,7 @@ impl Component {
         }
     }
 
-    /// A server.
+    /// A server that is charged on the account.
     pub fn server(name: &'static [u8], account: AccountId) -> Component
         ensures entry { entry_of result ≡ record { name = name.now; kind = AServer } }
         ensures account { payer_of result ≡ account.0 }

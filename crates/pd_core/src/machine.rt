@@ -37,8 +37,8 @@ impl Core {
     ghost use Rattle.pd_core.specs.Call.{model_call, IsWellFormed};
     ghost use Rattle.pd_core.specs.Fresh.{started_world, AreFresh};
 
-    /// The core of a memory and its components, which haven't made a call yet: each has an account of its own that
-    /// nothing is used of, and tables without anything.
+    /// The core of fresh parts: a memory, and components that have made no call. Each has an account of its own, of which
+    /// nothing is used, and empty tables; it starts with the account's limits for its budget.
     pub fn from_parts(memory: Memory, components: Vec<Component>) -> Core
         requires fresh { AreFresh memory components.items }
         ensures started { result ≡ started_world memory components.items }
