@@ -1,5 +1,5 @@
 -- A script's calls on its account and its capabilities.
-use Rattle.std.proofs.Common.{◌≡◌, ℕ, ◌*◌, ◌<◌, ◌≤◌, ◌≢◌, true, false, eqb, List, length, Option, Some, None, is_some, IsSome, true≢false, ◌⊎◌, inl, inr, subst, refl, sym, ap, ◌∙◌, arith}
+use Rattle.std.proofs.Common.{◌≡◌, ℕ, ◌*◌, ◌<◌, ◌≤◌, ◌≢◌, true, eqb, List, length, Option, Some, None, is_some, IsSome, true≢false, ◌⊎◌, inl, inr, subst, refl, sym, ap, ◌∙◌, arith}
 use Rattle.std.proofs.lemmas.Bool.Decides.{nat_tests}
 use Rattle.std.specs.Option.{option_map, option_and_then}
 use Rattle.std.specs.FinMap.{get, insert, remove, len}

@@ -1,10 +1,10 @@
 -- The world when one component's call has changed the memory and the component.
 use Rattle.std.proofs.Common.{◌≡◌, ℕ, ◌<◌, ◌≢◌, List, length, map, get_or, set, subst, sym, ap, ◌∙◌, inl, inr, arith, length-set, get_or-set_other}
 use Rattle.std.specs.Option.{unwrap_or}
-use Rattle.std.proofs.lemmas.Bool.{cases_eq}
+use Rattle.std.specs.List.{AllPairs}
+use Rattle.std.proofs.lemmas.Bool.{cases_eq, cases_lt}
 use Rattle.std.proofs.lemmas.List.{map-set, set-get_or, get_or-map, ext_get_or, length-map, get_or_read}
 use Rattle.std.proofs.lemmas.Grind.{get_or-set_at}
-use Rattle.trade_base.specs.declared.id.AccountId.{AccountId}
 use Rattle.own_model.specs.Account.{opened}
 use Rattle.own_model.specs.Call.{Call}
 use Rattle.own_model.specs.OwnStep.{own_step}
@@ -12,9 +12,21 @@ use Rattle.own_model.specs.Transcript.{nobody, nothing, entry_at, state_at}
 use Rattle.own_model.specs.World.{World, with_state, outcome_at}
 use Rattle.dataspace_core.specs.Store.{Store, part, account_in}
 use Rattle.pd_core.specs.Own.{own_of}
-use Rattle.pd_core.specs.Component.{entry_of, caps_of, user_of, own, IsSound, IsSoundRole}
-use Rattle.pd_core.specs.Core.{world_of, payer_at, IsCore}
+use Rattle.pd_core.specs.Component.{entry_of, payer_of, caps_of, user_of, own, IsSound, IsSoundRole}
+use Rattle.pd_core.specs.Core.{world_of, IsCore}
 use Rattle.pd_core.specs.declared.component.Component.{Component}
+
+-- the key of a component's account
+abbrev payer_at : List Component → ℕ → Component → ℕ
+payer_at components k d = payer_of (get_or components k d)
+
+-- two components at different places have different accounts, whichever comes first
+payers_differ : (components : List Component) → AllPairs (λ c d. payer_of c ≢ payer_of d) components →
+    (j k : ℕ) (d : Component) → j < length components → k < length components → j ≢ k → payer_at components j d ≢ payer_at components k d
+payers_differ components apart j k d g h differs = elim (cases_lt j k) [
+  | inl before ↦ apart j k d before h
+  | inr after ↦ λ e. apart k j d (omega (arith, after, differs)) g (sym e)
+]
 
 -- the whole core has the component's entry and own state in its place
 module _ (store : Store) (components : List Component) (i : ℕ) (caller : Component) (here : i < length components) (read : caller ≡ get_or components i caller) where
@@ -33,16 +45,16 @@ module _ (store : Store) (components : List Component) (i : ℕ) (caller : Compo
   pub caller_sound : IsCore store components → IsSound store caller
   caller_sound core = subst (IsSound store) (sym (caller_is caller)) (core.sound i caller here)
 
-  module _ (core : IsCore store components) (store' : Store) (after : Component) (entry : entry_of after ≡ entry_of caller) (account : after.account ≡ caller.account)
-      (root : store'.books.root ≡ store.books.root) (others : (other : ℕ) → other ≢ caller.account.0 → part other store' ≡ part other store) where
+  module _ (core : IsCore store components) (store' : Store) (after : Component) (entry : entry_of after ≡ entry_of caller) (account : payer_of after ≡ payer_of caller)
+      (root : store'.books.root ≡ store.books.root) (others : (other : ℕ) → other ≢ payer_of caller → part other store' ≡ part other store) where
     same_entries : map entry_of (set components i after) ≡ map entry_of components
     same_entries =
         map-set entry_of components i after
         ∙ ap (set (map entry_of components) i) (entry ∙ sym entry_is)
         ∙ set-get_or (map entry_of components) i nobody
 
-    init_apart : store.books.root ≢ caller.account.0
-    init_apart e = core.not_init i caller here (ap (λ (c : Component). c.account.0) (sym (caller_is caller)) ∙ sym e)
+    init_apart : store.books.root ≢ payer_of caller
+    init_apart e = core.not_init i caller here (ap payer_of (sym (caller_is caller)) ∙ sym e)
 
     same_init : account_in store' store'.books.root ≡ account_in store store.books.root
     unfolding part
@@ -51,7 +63,7 @@ module _ (store : Store) (components : List Component) (i : ℕ) (caller : Compo
     -- the others' parts
     other_part : (k : ℕ) (d : Component) → k < length components → k ≢ i → part (payer_at components k d) store' ≡ part (payer_at components k d) store
     other_part k d within differs =
-        let theirs : payer_at components k d ≢ caller.account.0 = λ e. core.apart k i d within here differs (e ∙ ap (λ (c : Component). c.account.0) (caller_is d)) in
+        let theirs : payer_at components k d ≢ payer_of caller = λ e. payers_differ components core.apart k i d within here differs (e ∙ ap payer_of (caller_is d)) in
         others (payer_at components k d) theirs
 
     -- and own states
@@ -93,9 +105,8 @@ module _ (store : Store) (components : List Component) (i : ℕ) (caller : Compo
     payer_stays : (k : ℕ) (d : Component) → payer_at (set components i after) k d ≡ payer_at components k d
     payer_stays k d = elim (cases_eq k i) [
       | inl at ↦
-          ap (λ (c : Component). c.account.0) (after_at k d at) ∙ ap (λ (a : AccountId). a.0) account
-          ∙ ap (λ (c : Component). c.account.0) (caller_is d ∙ ap (λ j. get_or components j d) (sym at))
-      | inr differs ↦ ap (λ (c : Component). c.account.0) (get_or-set_other components i k after d differs)
+          ap payer_of (after_at k d at) ∙ account ∙ ap payer_of (caller_is d ∙ ap (λ j. get_or components j d) (sym at))
+      | inr differs ↦ ap payer_of (get_or-set_other components i k after d differs)
     ]
 
     sound_at : IsSound store' after → (k : ℕ) (d : Component) → k < length components → IsSound store' (get_or (set components i after) k d)
@@ -112,7 +123,7 @@ module _ (store : Store) (components : List Component) (i : ℕ) (caller : Compo
     core_after sound = record {
       sound = λ k d h. sound_at sound k d (omega (arith, h, as_many));
       not_init = λ k d h e. core.not_init k d (omega (arith, h, as_many)) (sym (payer_stays k d) ∙ e ∙ root);
-      apart = λ j k d g h differs e. core.apart j k d (omega (arith, g, as_many)) (omega (arith, h, as_many)) differs (sym (payer_stays j d) ∙ e ∙ payer_stays k d);
+      apart = λ j k d before h e. core.apart j k d before (omega (arith, h, as_many)) (sym (payer_stays j d) ∙ e ∙ payer_stays k d);
     }
 
 -- the same where the world is told by another name, as the model's value is
@@ -127,15 +138,15 @@ module _ (store : Store) (components : List Component) (world : World) (is : wor
   pub told_outcome : (call : Call) → own_step (entry_of caller) call (own store caller) ≡ outcome_at world i call
   told_outcome call = sym (outcome_is store components i caller caller_within read call) ∙ ap (λ w. outcome_at w i call) is
 
-  pub told_world : (store' : Store) (after : Component) → entry_of after ≡ entry_of caller → after.account ≡ caller.account → store'.books.root ≡ store.books.root →
-      ((other : ℕ) → other ≢ caller.account.0 → part other store' ≡ part other store) →
+  pub told_world : (store' : Store) (after : Component) → entry_of after ≡ entry_of caller → payer_of after ≡ payer_of caller → store'.books.root ≡ store.books.root →
+      ((other : ℕ) → other ≢ payer_of caller → part other store' ≡ part other store) →
       (call : Call) → own store' after ≡ (own_step (entry_of caller) call (own store caller)).next →
       world_of store' (set components i after) ≡ with_state world i (outcome_at world i call).next
   told_world store' after entry account root others call next =
       world_after store components i caller caller_within read core store' after entry account root others call next
       ∙ ap (λ w. with_state w i (outcome_at w i call).next) is
 
-  pub told_core : (store' : Store) (after : Component) → entry_of after ≡ entry_of caller → after.account ≡ caller.account → store'.books.root ≡ store.books.root →
-      ((other : ℕ) → other ≢ caller.account.0 → part other store' ≡ part other store) → IsSound store' after → IsCore store' (set components i after)
+  pub told_core : (store' : Store) (after : Component) → entry_of after ≡ entry_of caller → payer_of after ≡ payer_of caller → store'.books.root ≡ store.books.root →
+      ((other : ℕ) → other ≢ payer_of caller → part other store' ≡ part other store) → IsSound store' after → IsCore store' (set components i after)
   told_core store' after entry account root others sound =
       core_after store components i caller caller_within read core store' after entry account root others sound

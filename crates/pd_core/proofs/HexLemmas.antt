@@ -3,10 +3,9 @@ use Rattle.std.proofs.Common.{◌≡◌, ℕ, ◌+◌, ◌*◌, ◌/◌, ◌%◌
 use Rattle.std.specs.Prelude.{Result, Ok, is_none}
 use Rattle.std.specs.Option.{option_map, option_and_then, unwrap_or}
 use Rattle.std.proofs.lemmas.Bool.Decides.{nat_tests}
-use Rattle.trade_base.specs.declared.refusal.Refusal.{Refusal}
 use Rattle.trade_base.specs.declared.refusal.Refusal.TheVariants.{InvalidSize}
 use Rattle.own_model.specs.Call.Call.{Poke}
-use Rattle.own_model.specs.OwnStep.{Outcome, refused, unless, poked, count_refusal}
+use Rattle.own_model.specs.OwnStep.{refused, unless, poked, count_refusal}
 use Rattle.own_model.specs.Region.{resolved}
 use Rattle.dataspace_core.specs.Store.{Part}
 use Rattle.pd_core.specs.Call.{bytes_in}

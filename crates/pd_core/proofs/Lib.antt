@@ -10,3 +10,4 @@ pub mod SpellingLemmas
 pub mod BytesLemmas
 pub mod ComponentLemmas
 pub mod CoreLemmas
+pub mod FreshLemmas

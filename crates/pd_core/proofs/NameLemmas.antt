@@ -1,9 +1,9 @@
 -- The selector that names a dataspace, when capabilities change.
-use Rattle.std.proofs.Common.{◌≡◌, ℕ, true, false, Bool, List, Option, Some, None, is_some, IsSome, eqb, eqb-true, true≢false, subst, refl, sym, ap, ◌∙◌, arith}
+use Rattle.std.proofs.Common.{◌≡◌, ℕ, true, Option, Some, None, is_some, IsSome, eqb, eqb-true, true≢false, subst, refl, sym, ap, ◌∙◌, arith}
 use Rattle.std.proofs.lemmas.Bool.Decides.{nat_tests}
 use Rattle.std.specs.List.{find}
 use Rattle.std.specs.Option.{option_map, option_and_then}
-use Rattle.std.specs.FinMap.{get, insert, remove, entries}
+use Rattle.std.specs.FinMap.{get, entries}
 use Rattle.trade_base.specs.declared.id.DsId.{DsId}
 use Rattle.own_model.specs.NatMap.{NatMap, picked}
 use Rattle.own_model.specs.Region.{Region}

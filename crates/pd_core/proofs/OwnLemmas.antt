@@ -6,7 +6,6 @@ use Rattle.std.specs.Cmp.{nat_cmp_total}
 use Rattle.std.specs.FinMap as map
 use Rattle.std.specs.FinMap.{get, insert, remove, len}
 use Rattle.std.proofs.lemmas.Bool.{cases_eq}
-use Rattle.std.proofs.lemmas.Bool.Decides.{nat_tests}
 use Rattle.trade_base.specs.declared.id.DsId.{DsId}
 use Rattle.own_model.specs.NatMap.{NatMap, picked}
 use Rattle.own_model.specs.Call.{Call}
@@ -16,7 +15,7 @@ use Rattle.own_model.specs.OwnStep.{script_step}
 use Rattle.own_model.specs.Region.{Region, without}
 use Rattle.own_model.specs.Sound.{IsSound}
 use Rattle.own_model.specs.StartList.Kind.{Script}
-use Rattle.own_model.proofs.NatMapLemmas.{same, get-insert_same, get-insert_other, get-remove_same, get-remove_other, get-picked, picked-insert_some, picked-remove, apart_from_free, none_at, before_remove}
+use Rattle.own_model.proofs.NatMapLemmas.{same, get-insert_same, get-insert_other, get-remove_other, get-picked, picked-insert_some, picked-remove, apart_from_free, none_at, before_remove}
 use Rattle.own_model.proofs.NewSelector.{new_selector_is, new_selector_positive, new_selector_free, new_selector_least}
 use Rattle.own_model.proofs.Totals.{len-total, total-insert_new, total-remove}
 use Rattle.own_model.proofs.SoundLemmas.{step_sound}

@@ -1,5 +1,5 @@
 -- A script's calls on its regions.
-use Rattle.std.proofs.Common.{◌≡◌, ℕ, ◌+◌, ◌*◌, ◌/◌, ◌≤◌, ◌≢◌, List, length, Option, Some, None, is_some, IsSome, inl, inr, subst, refl, sym, ap, ◌∙◌, arith}
+use Rattle.std.proofs.Common.{◌≡◌, ℕ, ◌/◌, ◌≤◌, List, length, Option, Some, None, is_some, IsSome, inl, inr, subst, refl, sym, ap, ◌∙◌, arith}
 use Rattle.std.specs.Option.{unwrap_or}
 use Rattle.std.specs.FinMap.{get, insert, remove}
 use Rattle.trade_base.specs.declared.id.DsId.{DsId}
@@ -7,16 +7,15 @@ use Rattle.trade_base.specs.declared.refusal.Refusal.{Refusal}
 use Rattle.trade_base.specs.declared.refusal.Refusal.TheVariants.{InvalidCap}
 use Rattle.own_model.specs.Call.Call.{Attach, AttachAt, Detach}
 use Rattle.own_model.specs.NatMap.{NatMap}
-use Rattle.own_model.specs.OwnState.{OwnState, Object, pages_in}
+use Rattle.own_model.specs.OwnState.{OwnState, pages_in}
 use Rattle.own_model.specs.OwnStep.{Outcome, refused, unless, attached_first, attached_at, with_region, region_detached}
 use Rattle.own_model.specs.Region.{Region, user_low, user_high, first_gap, user_gap, attach_refusal, attach_at_refusal, detach_refusal, most_regions}
-use Rattle.own_model.specs.Reply.Reply.{Attached, Done, Refused}
 use Rattle.own_model.specs.Sound.{IsSound, IsPages}
 use Rattle.own_model.proofs.NatMapLemmas.{before_remove}
-use Rattle.own_model.proofs.RegionLemmas.{AreAlike, AreAlike-renamed, AreAlike-sym, attach_refusal_alike, attach_at_refusal_alike, detach_refusal_alike, first_gap_alike, renamed-insert, renamed-remove}
+use Rattle.own_model.proofs.RegionLemmas.{AreAlike, AreAlike-renamed, attach_refusal_alike, attach_at_refusal_alike, detach_refusal_alike, first_gap_alike, renamed-insert, renamed-remove}
 use Rattle.cap_space.specs.declared.cap.Cap.TheVariants.{Dataspace}
 use Rattle.region_map.specs.Regions.{Regions, attached, detached}
-use Rattle.dataspace_core.specs.Store.{Store, Part, part, Exists, space_at}
+use Rattle.dataspace_core.specs.Store.{Store, Part, part, space_at}
 use Rattle.pd_core.specs.Own.{selector_of, regions_of, own_of, own_at, outcome_of, dataspace_of, IsScript, IsScriptAt}
 use Rattle.pd_core.specs.declared.tables.Tables.{Tables}
 use Rattle.pd_core.proofs.AccountLemmas.{refuses, is_dataspace, held, names_object, selector_is}

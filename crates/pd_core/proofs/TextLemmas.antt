@@ -1,5 +1,5 @@
 -- Bytes and their hexadecimal digits.
-use Rattle.std.proofs.Common.{◌≡◌, ℕ, ◌+◌, ◌*◌, ◌/◌, ◌%◌, List, [], ◌∷◌, length, refl, sym, ap, ◌∙◌, arith, is_some, IsSome, true≢false, Option, Some, None}
+use Rattle.std.proofs.Common.{◌≡◌, ℕ, ◌/◌, ◌%◌, List, [], ◌∷◌, refl, ap}
 use Rattle.std.specs.Prelude.{slice_index}
 use Rattle.own_model.specs.Reply.{hex_text}
 use Rattle.hex.specs.Hex.{encode_with, encode_lower, lower_digits}

@@ -1,5 +1,5 @@
 -- A call as the model sees it.
-use Rattle.std.specs.Prelude.{◌≡◌, ℕ, List, [], IsSome}
+use Rattle.std.specs.Prelude.{ℕ, List, [], IsSome}
 use Rattle.std.specs.Option.{unwrap_or}
 use Rattle.own_model.specs.Call.{Call as Modelled}
 use Rattle.own_model.specs.Call.Call.{Alloc as ModelledAlloc, Free as ModelledFree, Attach as ModelledAttach, AttachAt as ModelledAttachAt, Detach as ModelledDetach, Peek as ModelledPeek, Poke as ModelledPoke, Capalloc as ModelledCapalloc, Capfree as ModelledCapfree, Quota as ModelledQuota}

@@ -4,3 +4,4 @@ pub mod Own
 pub mod Component
 pub mod CodedWorld
 pub mod Core
+pub mod Fresh

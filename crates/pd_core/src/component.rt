@@ -13,7 +13,7 @@ use trade_base::{AccountId, Refusal};
 
 /// What a component is for.
 #[derive(Drop)]
-pub enum Role {
+enum Role {
     /// It makes calls, and has capabilities and regions.
     Script(Tables),
     /// It answers the calls of others.
@@ -23,30 +23,30 @@ pub enum Role {
 /// A component: its name, the account that it is charged on, and its role.
 #[derive(Drop)]
 pub struct Component {
-    pub name: &'static [u8],
-    pub account: AccountId,
-    pub role: Role,
+    name: &'static [u8],
+    account: AccountId,
+    role: Role,
 }
 
 impl Component {
     ghost use Rattle.std.specs.Prelude.{◌≡◌, ◌≢◌, ℕ};
     ghost use Rattle.own_model.specs.OwnStep.{own_step};
     ghost use Rattle.own_model.specs.Reply.{reply_text};
+    ghost use Rattle.own_model.specs.StartList.Kind.{Script as AScript, Server as AServer};
     ghost use Rattle.dataspace_core.specs.Store.{part};
     ghost use Rattle.pd_core.specs.Call.{model_call, IsWellFormed};
-    ghost use Rattle.pd_core.specs.Component.{entry_of, own, IsSound};
-    ghost use Rattle.pd_core.specs.declared.component.Role.TheVariants.{Script, Server};
+    ghost use Rattle.pd_core.specs.Component.{entry_of, payer_of, tables_of, own, IsSound};
 
-    /// A script with what it has at the boot.
+    /// A script that is charged on the account, with these capabilities and regions.
     pub fn script(
         name: &'static [u8],
         account: AccountId,
         caps: CapSpace,
         regions: RegionMap,
     ) -> Component
-        ensures name { result.name.now ≡ name.now }
-        ensures account { result.account ≡ account }
-        ensures role { result.role ≡ Script (record { caps = caps; regions = regions }) }
+        ensures entry { entry_of result ≡ record { name = name.now; kind = AScript } }
+        ensures account { payer_of result ≡ account.0 }
+        ensures tables { tables_of result ≡ Some (caps, regions) }
     {
         Component {
             name,
@@ -55,11 +55,11 @@ impl Component {
         }
     }
 
-    /// A server.
+    /// A server that is charged on the account.
     pub fn server(name: &'static [u8], account: AccountId) -> Component
-        ensures name { result.name.now ≡ name.now }
-        ensures account { result.account ≡ account }
-        ensures role { result.role ≡ Server }
+        ensures entry { entry_of result ≡ record { name = name.now; kind = AServer } }
+        ensures account { payer_of result ≡ account.0 }
+        ensures tables { tables_of result ≡ None }
     {
         Component {
             name,
@@ -76,9 +76,9 @@ impl Component {
         ensures next { own memory.new self.new ≡ (own_step (entry_of self.old) (model_call call.entry) (own memory.old self.old)).next }
         ensures sound { IsSound memory.new self.new }
         ensures entry { entry_of self.new ≡ entry_of self.old }
-        ensures account { self.new.account ≡ self.old.account }
+        ensures account { payer_of self.new ≡ payer_of self.old }
         ensures root { memory.new.books.root ≡ memory.old.books.root }
-        ensures others { (other : ℕ) → other ≢ self.old.account.0 → part other memory.new ≡ part other memory.old }
+        ensures others { (other : ℕ) → other ≢ payer_of self.old → part other memory.new ≡ part other memory.old }
     {
         match &mut self.role {
             Role::Script(tables) => script_step(memory, self.account, tables, call, reply),

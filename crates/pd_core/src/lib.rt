@@ -13,7 +13,6 @@ mod script;
 mod tables;
 
 pub use call::Call;
-pub use component::{Component, Role};
+pub use component::Component;
 pub use machine::Core;
 pub use reply::{LONGEST_REPLY, Reply};
-pub use tables::Tables;

@@ -35,12 +35,13 @@ impl Core {
     ghost use Rattle.own_model.specs.Reply.{reply_text};
     ghost use Rattle.own_model.specs.World.{outcome_at, with_state, IsBalanced};
     ghost use Rattle.pd_core.specs.Call.{model_call, IsWellFormed};
-    ghost use Rattle.pd_core.specs.Core.{world_of, IsCore};
+    ghost use Rattle.pd_core.specs.Fresh.{started_world, AreFresh};
 
-    /// The core of a memory and its components.
+    /// The core of fresh parts: a memory, and components that have made no call. Each has an account of its own, of which
+    /// nothing is used, and empty tables; it starts with the account's limits for its budget.
     pub fn from_parts(memory: Memory, components: Vec<Component>) -> Core
-        requires { IsCore memory components.items }
-        ensures { result ≡ world_of memory components.items }
+        requires fresh { AreFresh memory components.items }
+        ensures started { result ≡ started_world memory components.items }
     {
         Core { memory, components }
     }

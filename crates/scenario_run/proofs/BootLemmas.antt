@@ -1,108 +1,66 @@
--- The world when a component starts.
-use Rattle.std.proofs.Common.{◌≡◌, ℕ, ◌<◌, ◌≤◌, ◌≢◌, false, List, [], ◌∷◌, ◌++◌, length, map, get_or, Some, None, is_some, IsSome, true≢false, subst, refl, sym, ap, ◌∙◌, inl, inr, arith, nat_cmp}
-use Rattle.std.specs.Option.{unwrap_or, option_map}
-use Rattle.std.specs.FinMap as finmap
-use Rattle.std.specs.FinMap.{get, insert, empty, len}
-use Rattle.std.proofs.lemmas.Bool.{cases_lt}
-use Rattle.std.proofs.lemmas.List.{map_push, get_or-map, ext_get_or, length-map, length_push, get_or_append_left, get_or_push}
+-- The parts when a component starts.
+use Rattle.std.proofs.Common.{◌≡◌, ◌≢◌, ℕ, ◌+◌, ◌<◌, List, [], ◌∷◌, ◌++◌, map, cond, None, IsSome, Result, Ok, Err, subst, refl, sym, ap, ◌∙◌, arith}
+use Rattle.std.specs.Prelude.{IfSome, IfOk, OnOk, is_ok}
+use Rattle.std.specs.Option.{unwrap_or}
+use Rattle.std.specs.List.{All}
+use Rattle.std.specs.FinMap.{get, insert}
+use Rattle.std.proofs.lemmas.List.{map_push}
+use Rattle.std.proofs.lemmas.List.Elements.{All-head, All-tail, All-weaker, All-push}
+use Rattle.std.proofs.lemmas.List.Quantifiers.{all_pairs_push}
+use Rattle.trade_base.specs.declared.id.AccountId.{AccountId}
+use Rattle.trade_base.specs.declared.refusal.Refusal.{Refusal}
 use Rattle.own_model.specs.Account.{opened, parted_with}
-use Rattle.own_model.specs.Transcript.{nothing, nobody}
-use Rattle.own_model.proofs.SoundLemmas.{start_sound}
-use Rattle.own_model.specs.Sound.{IsSound as IsSoundState}
-use Rattle.own_model.specs.NatMap.{NatMap, total}
-use Rattle.own_model.proofs.Totals.{total-empty}
-use Rattle.own_model.specs.Region.{Region}
-use Rattle.cap_space.specs.declared.cap.Cap.{Cap}
-use Rattle.pd_core.specs.declared.tables.Tables.{Tables}
-use Rattle.own_model.proofs.NatMapLemmas.{get-empty, get-insert_same, get-insert_other, apart_from_free, picked-empty}
+use Rattle.own_model.specs.StartList.{Entry, StartEntry}
+use Rattle.own_model.proofs.NatMapLemmas.{get-insert_same, get-insert_other, apart_from_free}
+use Rattle.cap_space.specs.Space.{Space, fresh_space}
+use Rattle.region_map.specs.Regions.{Regions, fresh_regions}
 use Rattle.dataspace_core.specs.Store.{Store, Part, part, IsOpenIn, account_in, with_child_in}
-use Rattle.pd_core.specs.Own.{own_of, object_of, regions_of, selector_of, rpc_weight, IsScriptAt}
-use Rattle.pd_core.specs.Component.{entry_of, kind_of, caps_of, user_of, own, IsSound, IsSoundRole}
-use Rattle.pd_core.specs.Core.{world_of, payer_at, IsCore}
-use Rattle.scenario_run.specs.Boot.{with_start, AreFresh, IsFreshRole}
-use Rattle.pd_core.specs.declared.component.Role.{Role}
-use Rattle.pd_core.specs.declared.component.Role.TheVariants.{Script, Server}
+use Rattle.pd_core.specs.Component.{entry_of, payer_of, tables_of}
+use Rattle.pd_core.specs.Fresh.{start_of, starts_of, opened_part, AreEmpty, IsFresh, AreFresh}
 use Rattle.pd_core.specs.declared.component.Component.{Component}
+use Rattle.scenario_run.specs.Boot.{HasStarted}
 
--- functions that agree on the elements make the same list of them
-map_alike : {X Y : Type 0} (f g : X → Y) (xs : List X) (d : X) (e : Y) → ((k : ℕ) → k < length xs → f (get_or xs k d) ≡ g (get_or xs k d)) → map f xs ≡ map g xs
-map_alike f g xs d e alike =
-    ext_get_or e (map f xs) (map g xs) (length-map xs f ∙ sym (length-map xs g))
-    (λ k h. let within : k < length xs = omega (arith, h, length-map xs f) in get_or-map f xs k d e within ∙ alike k within ∙ sym (get_or-map g xs k d e within))
+-- functions that agree on elements of a kind make the same list of them
+map_agree : {X Y : Type 0} (f g : X → Y) (P : X → Type 0) → ((x : X) → P x → f x ≡ g x) → (xs : List X) → All P xs → map f xs ≡ map g xs
+map_agree f g P agree [] all = refl
+map_agree f g P agree (x ∷ xs) all =
+    let first = agree x (All-head P x xs all) in
+    let others = map_agree f g P agree xs (All-tail P x xs all) in
+    λ j. first j ∷ others j
 
--- a sound role has an open account
-role_open : (p : Part) (role : Role) → IsSoundRole p role → IsSome p.account
-role_open p (Script tables) sound = sound.is_open
-role_open p Server sound = sound
+-- what a component starts with is read from its account's part
+start_by_part : (store store' : Store) (component : Component) → part (payer_of component) store' ≡ part (payer_of component) store →
+    start_of store' component ≡ start_of store component
+unfolding part
+start_by_part store store' component same =
+    ap (λ (p : Part). let account = unwrap_or p.account (opened 0 0) in record { entry = entry_of component; ram = account.ram_limit; caps = account.caps_limit }) same
 
--- a part that has just opened
-abbrev opened_part : ℕ → ℕ → Part
-opened_part ram caps = record { account = Some (opened ram caps); spaces = empty }
+start_of_opened : (store : Store) (component : Component) (ram caps : ℕ) → part (payer_of component) store ≡ opened_part ram caps →
+    start_of store component ≡ record { entry = entry_of component; ram = ram; caps = caps }
+unfolding part
+start_of_opened store component ram caps new =
+    ap (λ (p : Part). let account = unwrap_or p.account (opened 0 0) in record { entry = entry_of component; ram = account.ram_limit; caps = account.caps_limit }) new
 
--- nothing is in a map that is empty
-no_key : {X : Type 0} (m : NatMap X) → m ≡ empty → (q : ℕ) (x : X) → get m q ≡ Some x → ⊥
-no_key m none q x there = true≢false (sym (ap is_some there) ∙ ap is_some (ap (λ n. get n q) none ∙ get-empty q))
+-- a fresh component's account is open
+fresh_open : (store : Store) (component : Component) → IsFresh store component → IsOpenIn store (payer_of component)
+unfolding part
+fresh_open store component fresh = subst IsSome (sym (ap (λ (p : Part). p.account) fresh.unused)) refl
 
--- who has nothing has the own state of a start
-own_opened : (ram caps : ℕ) → own_of (opened_part ram caps) empty empty ≡ record { account = opened ram caps; selectors = empty; regions = empty; gone = false }
-unfolding own_of regions_of
-own_opened ram caps =
-    let selectors = picked-empty (object_of (opened_part ram caps)) in
-    let regions = picked-empty (λ (region : Region). option_map (λ (other : ℕ). record region { of = other }) (selector_of empty region.of)) in
-    λ j. record { account = opened ram caps; selectors = selectors j; regions = regions j; gone = false }
-
-own_fresh : (ram caps : ℕ) (m : NatMap Cap) (n : NatMap Region) → m ≡ empty → n ≡ empty
-    → own_of (opened_part ram caps) m n ≡ record { account = opened ram caps; selectors = empty; regions = empty; gone = false }
-own_fresh ram caps m n no_caps no_regions =
-    ap (λ (c : NatMap Cap). own_of (opened_part ram caps) c n) no_caps ∙ ap (own_of (opened_part ram caps) empty) no_regions ∙ own_opened ram caps
-
--- fresh tables are sound there
-tables_sound : (ram caps : ℕ) (tables : Tables) → AreFresh ram caps tables → IsScriptAt (opened_part ram caps) tables
-tables_sound ram caps tables fresh =
-    let length_is : len tables.caps.caps ≡ 0 = ap (λ m. len m) fresh.no_caps ∙ finmap.len-empty nat_cmp Cap in
-    record {
-      is_open = refl;
-      there = λ q cap names. absurd (no_key _ fresh.no_caps q cap names);
-      one = λ s t a b first second same. absurd (no_key _ fresh.no_caps s _ first);
-      paid = omega (arith, length_is);
-      spare =
-          let spaces_is : len (empty {X = List ℕ} {R = nat_cmp}) ≡ 0 = finmap.len-empty nat_cmp (List ℕ) in
-          let weight_is : total rpc_weight tables.caps.caps ≡ 0 = ap (total rpc_weight) fresh.no_caps ∙ total-empty rpc_weight in
-          omega (arith, spaces_is, weight_is);
-      within = omega arith;
-      placed = fresh.placed;
-      attached = λ start region there. absurd (no_key _ fresh.no_regions start region there);
-      most = fresh.most;
-      ram = fresh.ram_fits;
-      few = λ key bytes there. absurd (no_key (empty {X = List ℕ} {R = nat_cmp}) refl key bytes there);
-      sound = subst IsSoundState (sym (own_fresh ram caps tables.caps.caps tables.regions.user fresh.no_caps fresh.no_regions))
-          (start_sound (record { entry = nobody; ram = ram; caps = caps }));
-    }
-
-role_sound : (ram caps : ℕ) (role : Role) → IsFreshRole ram caps role → IsSoundRole (opened_part ram caps) role
-role_sound ram caps (Script tables) fresh = tables_sound ram caps tables fresh
-role_sound ram caps Server fresh = refl
-
--- a fresh role names nothing, and has no regions
-caps_none : (ram caps : ℕ) (role : Role) → IsFreshRole ram caps role → caps_of role ≡ empty
-caps_none ram caps (Script tables) fresh = fresh.no_caps
-caps_none ram caps Server fresh = refl
-
-user_none : (ram caps : ℕ) (role : Role) → IsFreshRole ram caps role → user_of role ≡ empty
-user_none ram caps (Script tables) fresh = fresh.no_regions
-user_none ram caps Server fresh = refl
-
+-- init opens an account for the component that comes last
 module _ (store store' : Store) (root child ram caps : ℕ) (is_root : root ≡ store.books.root) (is_open : IsOpenIn store root)
-    (fresh : get store.books.accounts child ≡ None)
+    (free : get store.books.accounts child ≡ None) (room : 0 < store.books.room)
     (parted : store' ≡ with_child_in store root child ram caps) where
   root_apart : root ≢ child
-  root_apart = apart_from_free store.books.accounts child root fresh is_open
+  root_apart = apart_from_free store.books.accounts child root free is_open
 
   same_root : store'.books.root ≡ store.books.root
   same_root = ap (λ s. s.books.root) parted
 
+  less_room : store'.books.room + 1 ≡ store.books.room
+  less_room = omega (arith, ap (λ s. s.books.room) parted)
+
   -- init keeps the rest
-  pub init_after : account_in store' store'.books.root ≡ parted_with (account_in store store.books.root) ram caps
+  init_after : account_in store' store'.books.root ≡ parted_with (account_in store store.books.root) ram caps
   init_after =
       ap (λ s. account_in s s.books.root) parted
       ∙ ap (λ r. unwrap_or (get (insert (insert store.books.accounts root (parted_with (account_in store root) ram caps)) child (opened ram caps)) r) (opened 0 0)) (sym is_root)
@@ -110,81 +68,82 @@ module _ (store store' : Store) (root child ram caps : ℕ) (is_root : root ≡ 
       ∙ get-insert_same store.books.accounts root (parted_with (account_in store root) ram caps) root refl)
       ∙ ap (λ r. parted_with (account_in store r) ram caps) is_root
 
-  module _ (components : List Component) (after : Component) (role : IsFreshRole ram caps after.role) (account : after.account.0 ≡ child) (core : IsCore store components)
-      (own_part : part child store' ≡ opened_part ram caps)
-      (others : (other : ℕ) → other ≢ root → other ≢ child → part other store' ≡ part other store) where
-    -- no component has the new account
-    child_apart : (k : ℕ) (d : Component) → k < length components → payer_at components k d ≢ child
-    unfolding part
-    child_apart k d within =
-        let c : Component = get_or components k d in
-        apart_from_free store.books.accounts child (payer_at components k d) fresh (role_open (part c.account.0 store) c.role (core.sound k d within))
+  module _ (own : part child store' ≡ opened_part ram caps) (others : (other : ℕ) → other ≢ root → other ≢ child → part other store' ≡ part other store) where
+    -- the components so far stay as they were
+    child_apart : (c : Component) → IsFresh store c → payer_of c ≢ child
+    child_apart c fresh = apart_from_free store.books.accounts child (payer_of c) free (fresh_open store c fresh)
 
-    part_stays : (k : ℕ) (d : Component) → k < length components → part (payer_at components k d) store' ≡ part (payer_at components k d) store
-    part_stays k d within = others (payer_at components k d) (λ e. core.not_init k d within (e ∙ is_root)) (child_apart k d within)
+    part_stays : (c : Component) → IsFresh store c → part (payer_of c) store' ≡ part (payer_of c) store
+    part_stays c fresh = others (payer_of c) (λ e. fresh.not_init (e ∙ is_root)) (child_apart c fresh)
 
-    states_stay : map (own store') components ≡ map (own store) components
-    states_stay = map_alike (own store') (own store) components after nothing
-        (λ k within. let c : Component = get_or components k after in ap (λ p. own_of p (caps_of c.role) (user_of c.role)) (part_stays k after within))
+    start_stays : (c : Component) → IsFresh store c → start_of store' c ≡ start_of store c
+    start_stays c fresh = start_by_part store store' c (part_stays c fresh)
 
-    part_after : part after.account.0 store' ≡ opened_part ram caps
-    part_after = ap (λ a. part a store') account ∙ own_part
+    fresh_stays : (c : Component) → IsFresh store c → IsFresh store' c
+    fresh_stays c fresh = record {
+      not_init = λ e. fresh.not_init (e ∙ same_root);
+      unused = part_stays c fresh ∙ fresh.unused ∙ ap (λ (s : StartEntry). opened_part s.ram s.caps) (sym (start_stays c fresh));
+      tables = subst (λ (s : StartEntry). IfSome (tables_of c) (λ tables. AreEmpty s.ram s.caps tables.0 tables.1)) (sym (start_stays c fresh)) fresh.tables;
+    }
 
-    state_after_start : own store' after ≡ record { account = opened ram caps; selectors = empty; regions = empty; gone = false }
-    state_after_start = ap (λ p. own_of p (caps_of after.role) (user_of after.role)) part_after
-        ∙ own_fresh ram caps (caps_of after.role) (user_of after.role) (caps_none ram caps after.role role) (user_none ram caps after.role role)
+    module _ (after : Component) (payer : payer_of after ≡ child) (tables : IfSome (tables_of after) (λ tables. AreEmpty ram caps tables.0 tables.1)) where
+      -- and the new one is fresh
+      part_after : part (payer_of after) store' ≡ opened_part ram caps
+      part_after = ap (λ a. part a store') payer ∙ own
 
-    -- the world has one more entry and own state
-    pub world_started : world_of store' (components ++ after ∷ []) ≡ with_start (world_of store components) after.name.now (kind_of after.role) ram caps
-    world_started =
-        let entries = map_push entry_of components after in
-        let states = map_push (own store') components after ∙ ap (λ xs. xs ++ own store' after ∷ []) states_stay ∙ ap (λ s. map (own store) components ++ s ∷ []) state_after_start in
-        λ j. record { entries = entries j; init = init_after j; states = states j }
+      start_after : start_of store' after ≡ record { entry = entry_of after; ram = ram; caps = caps }
+      start_after = start_of_opened store' after ram caps part_after
 
-    sound_after_start : IsSound store' after
-    sound_after_start = subst (λ p. IsSoundRole p after.role) (sym part_after) (role_sound ram caps after.role role)
+      fresh_after : IsFresh store' after
+      fresh_after = record {
+        not_init = λ e. root_apart (is_root ∙ sym same_root ∙ sym e ∙ payer);
+        unused = part_after ∙ ap (λ (s : StartEntry). opened_part s.ram s.caps) (sym start_after);
+        tables = subst (λ (s : StartEntry). IfSome (tables_of after) (λ tables. AreEmpty s.ram s.caps tables.0 tables.1)) (sym start_after) tables;
+      }
 
-    -- a component that was there is where it was, and the last one is the new one
-    was_there : (k : ℕ) (d : Component) → k < length components → get_or (components ++ after ∷ []) k d ≡ get_or components k d
-    was_there k d within = get_or_append_left components (after ∷ []) d k within
+      has_started : (components : List Component) → AreFresh store components →
+          HasStarted store components store' (components ++ after ∷ []) (record { entry = entry_of after; ram = ram; caps = caps })
+      has_started components fresh = record {
+        fresh = record {
+          each = All-push (IsFresh store') components after (All-weaker (IsFresh store) (IsFresh store') fresh_stays components fresh.each) fresh_after;
+          apart = all_pairs_push (λ c d. payer_of c ≢ payer_of d) components after fresh.apart (λ k d h e. child_apart _ (fresh.each k d h) (e ∙ payer));
+        };
+        starts =
+            map_push (start_of store') components after
+            ∙ ap (λ starts. starts ++ start_of store' after ∷ []) (map_agree (start_of store') (start_of store) (IsFresh store) start_stays components fresh.each)
+            ∙ ap (λ start. starts_of store components ++ start ∷ []) start_after;
+        init = init_after;
+        room = less_room;
+      }
 
-    is_new : (k : ℕ) (d : Component) → k ≡ length components → get_or (components ++ after ∷ []) k d ≡ after
-    is_new k d last = get_or_push components after d k (sym last)
+-- the same as the calls tell it: the account opens, and the component is pushed unless the host has no room for it
+pub started_on_ok : {E F : Type 0} (store store' : Store) (root ram caps : ℕ) (opening : Result AccountId Refusal) (account : AccountId) (after : Component) (entry : Entry)
+    (components items : List Component) (pushing : Result (Unit {0}) E) (told : Result (Unit {0}) F) →
+    root ≡ store.books.root → IsOpenIn store root → 0 < store.books.room → AreFresh store components →
+    opening ≡ Ok account → IfOk opening (λ child. get store.books.accounts child.0 ≡ None) →
+    IfOk opening (λ child. store' ≡ with_child_in store root child.0 ram caps) →
+    IfOk opening (λ child. part child.0 store' ≡ opened_part ram caps) →
+    IfOk opening (λ child. (other : ℕ) → other ≢ root → other ≢ child.0 → part other store' ≡ part other store) →
+    entry_of after ≡ entry → payer_of after ≡ account.0 → IfSome (tables_of after) (λ tables. AreEmpty ram caps tables.0 tables.1) →
+    items ≡ cond (is_ok pushing) (components ++ after ∷ []) components → is_ok told ≡ is_ok pushing →
+    OnOk told (HasStarted store components store' items (record { entry = entry; ram = ram; caps = caps }))
+started_on_ok store store' root ram caps opening account after entry components items pushing (Err fault) is_root is_open room fresh is free parted own others has payer tables pushed alike = tt
+started_on_ok store store' root ram caps opening account after entry components items pushing (Ok done) is_root is_open room fresh is free parted own others has payer tables pushed alike =
+    let free_there = subst (λ (r : Result AccountId Refusal). IfOk r (λ child. get store.books.accounts child.0 ≡ None)) is free in
+    let parted_there = subst (λ (r : Result AccountId Refusal). IfOk r (λ child. store' ≡ with_child_in store root child.0 ram caps)) is parted in
+    let own_there = subst (λ (r : Result AccountId Refusal). IfOk r (λ child. part child.0 store' ≡ opened_part ram caps)) is own in
+    let others_there = subst (λ (r : Result AccountId Refusal). IfOk r (λ child. (other : ℕ) → other ≢ root → other ≢ child.0 → part other store' ≡ part other store)) is others in
+    let last : items ≡ components ++ after ∷ [] = pushed ∙ ap (λ b. cond b (components ++ after ∷ []) components) (sym alike) in
+    let started = has_started store store' root account.0 ram caps is_root is_open free_there room parted_there own_there others_there after payer tables components fresh in
+    subst (λ (e : Entry). HasStarted store components store' items (record { entry = e; ram = ram; caps = caps })) has
+    (subst (λ (xs : List Component). HasStarted store components store' xs (record { entry = entry_of after; ram = ram; caps = caps })) (sym last) started)
 
-    last_or_before : (k : ℕ) → k < length (components ++ after ∷ []) → length components ≤ k → k ≡ length components
-    last_or_before k h past = omega (arith, h, past, length_push components after)
-
-    sound_started : (k : ℕ) (d : Component) → k < length (components ++ after ∷ []) → IsSound store' (get_or (components ++ after ∷ []) k d)
-    sound_started k d h = elim (cases_lt k (length components)) [
-      | inl within ↦ subst (IsSound store') (sym (was_there k d within))
-          (let c : Component = get_or components k d in subst (λ p. IsSoundRole p c.role) (sym (part_stays k d within)) (core.sound k d within))
-      | inr past ↦ subst (IsSound store') (sym (is_new k d (last_or_before k h past))) sound_after_start
-    ]
-
-    payer_of_new : (k : ℕ) (d : Component) → k < length (components ++ after ∷ []) → length components ≤ k → payer_at (components ++ after ∷ []) k d ≡ child
-    payer_of_new k d h past = ap (λ (c : Component). c.account.0) (is_new k d (last_or_before k h past)) ∙ account
-
-    payer_before : (k : ℕ) (d : Component) → k < length components → payer_at (components ++ after ∷ []) k d ≡ payer_at components k d
-    payer_before k d within = ap (λ (c : Component). c.account.0) (was_there k d within)
-
-    not_init_started : (k : ℕ) (d : Component) → k < length (components ++ after ∷ []) → payer_at (components ++ after ∷ []) k d ≢ store'.books.root
-    not_init_started k d h = elim (cases_lt k (length components)) [
-      | inl within ↦ λ e. core.not_init k d within (sym (payer_before k d within) ∙ e ∙ same_root)
-      | inr past ↦ λ e. root_apart (is_root ∙ sym same_root ∙ sym e ∙ payer_of_new k d h past)
-    ]
-
-    apart_started : (j k : ℕ) (d : Component) → j < length (components ++ after ∷ []) → k < length (components ++ after ∷ []) → j ≢ k →
-        payer_at (components ++ after ∷ []) j d ≢ payer_at (components ++ after ∷ []) k d
-    apart_started j k d g h differs = elim (cases_lt j (length components)) [
-      | inl first ↦ elim (cases_lt k (length components)) [
-        | inl second ↦ λ e. core.apart j k d first second differs (sym (payer_before j d first) ∙ e ∙ payer_before k d second)
-        | inr past ↦ λ e. child_apart j d first (sym (payer_before j d first) ∙ e ∙ payer_of_new k d h past)
-      ]
-      | inr past ↦ elim (cases_lt k (length components)) [
-        | inl second ↦ λ e. child_apart k d second (sym (payer_before k d second) ∙ sym e ∙ payer_of_new j d g past)
-        | inr too ↦ λ e. differs (last_or_before j g past ∙ sym (last_or_before k h too))
-      ]
-    ]
-
-    pub core_started : IsCore store' (components ++ after ∷ [])
-    core_started = record { sound = sound_started; not_init = not_init_started; apart = apart_started }
+-- the tables of a script that has just booted are empty, and have room for its budget
+pub script_empty : (space : Space) (regions : Regions) → space ≡ fresh_space 64 → regions ≡ fresh_regions 128 64 → AreEmpty 65536 16 space regions
+script_empty space regions caps_booted regions_booted = record {
+  no_caps = ap (λ s. s.caps) caps_booted;
+  places = omega (arith, ap (λ s. s.places) caps_booted);
+  no_regions = ap (λ r. r.user) regions_booted;
+  most = ap (λ r. r.most) regions_booted;
+  pages = omega (arith, ap (λ r. r.pages) regions_booted);
+}

@@ -1,62 +1,58 @@
--- The built-in machine as it starts.
-use Rattle.std.proofs.Common.{◌≡◌, ℕ, ◌*◌, List, [], lit≤, codes, subst, refl, sym, ap, ◌∙◌}
+-- The built-in machine as it starts, one component after another.
+use Rattle.std.proofs.Common.{◌≡◌, ℕ, ◌-◌, ◌<◌, ◌≤◌, List, [], ◌∷◌, ◌++◌, map, lit≤, subst, refl, sym, ap, ◌∙◌, arith}
 use Rattle.std.specs.Option.{unwrap_or}
 use Rattle.std.specs.FinMap.{empty}
-use Rattle.own_model.specs.Account.{Account, Fits, opened, parted_with}
-use Rattle.own_model.specs.StartList.{machine_a}
-use Rattle.own_model.specs.StartList.Kind.{Script as AScript, Server as AServer}
-use Rattle.own_model.specs.World.{World, IsBalanced, start_world}
+use Rattle.own_model.specs.Account.{Fits, opened, parted_with}
+use Rattle.own_model.specs.StartList.{StartEntry, machine_a, start_state}
+use Rattle.own_model.specs.World.{IsBalanced, start_world}
 use Rattle.own_model.proofs.NatMapLemmas.{get-insert_same}
 use Rattle.own_model.proofs.StartLemmas.{start_balanced}
 use Rattle.dataspace_core.specs.Store.{Store, fresh_store, account_in}
-use Rattle.pd_core.specs.Core.{world_of}
-use Rattle.scenario_run.specs.Boot.{with_start}
+use Rattle.pd_core.specs.Fresh.{starts_of, started_world, AreFresh}
 use Rattle.pd_core.specs.declared.component.Component.{Component}
+use Rattle.scenario_run.specs.Boot.{CanStart, HasStarted}
 
--- init has all of a memory that has just booted
-fresh_account : (store : Store) (pages caps places : ℕ) → store ≡ fresh_store store.books.root pages caps places → account_in store store.books.root ≡ opened (pages * 4096) caps
-fresh_account store pages caps places fresh =
-    ap (λ s. account_in s store.books.root) fresh
-    ∙ ap (λ o. unwrap_or o (opened 0 0)) (get-insert_same empty store.books.root (opened (pages * 4096) caps) store.books.root refl)
+-- these have started so far: the parts are fresh, init has so much left, and there is room for so many accounts more
+pub record SoFar (store : Store) (components : List Component) (list : List StartEntry) (ram caps places : ℕ) : Type 0 where
+  pub fresh : AreFresh store components
+  pub starts : starts_of store components ≡ list
+  pub init : account_in store store.books.root ≡ opened ram caps
+  pub room : store.books.room ≡ places
 
--- nothing has started
-abbrev pub unstarted : World
-unstarted = record { entries = []; init = opened 262144 64; states = [] }
+-- nothing has started in a memory that has just booted
+pub nothing_yet : (store : Store) (components : List Component) → store ≡ fresh_store store.books.root 64 64 5 → components ≡ [] → SoFar store components [] 262144 64 4
+nothing_yet store components booted none = record {
+  fresh = subst (AreFresh store) (sym none) (record { each = λ k d h. absurd (omega (arith, h)); apart = λ j k d before h. absurd (omega (arith, h)) });
+  starts = ap (starts_of store) none;
+  init =
+      ap (λ s. account_in s store.books.root) booted
+      ∙ ap (λ o. unwrap_or o (opened 0 0)) (get-insert_same empty store.books.root (opened 262144 64) store.books.root refl);
+  room = ap (λ s. s.books.room) booted;
+}
 
-pub nothing_started : (store : Store) (components : List Component) → store ≡ fresh_store store.books.root 64 64 5 → components ≡ [] → world_of store components ≡ unstarted
-nothing_started store components fresh none =
-    let init : account_in store store.books.root ≡ opened 262144 64 = fresh_account store 64 64 5 fresh in
-    ap (world_of store) none ∙ ap (λ a. record { entries = []; init = a; states = [] }) init
+module _ {store : Store} {components : List Component} {list : List StartEntry} {ram_left caps_left places : ℕ} where
+  -- a component more can start where init covers it
+  pub can_start : (ram caps : ℕ) → SoFar store components list ram_left caps_left places → ram ≤ ram_left → caps ≤ caps_left → 0 < places → CanStart store components ram caps
+  can_start ram caps so_far ram_fits caps_fit more = record {
+    fresh = so_far.fresh;
+    covered = subst (λ a. Fits a ram caps) (sym so_far.init) (record { ram_fits = omega (arith, ram_fits); caps_fit = omega (arith, caps_fit) });
+    room = omega (arith, more, so_far.room);
+  }
 
--- init covers each budget in turn
-pub covers_log : (store : Store) → store ≡ fresh_store store.books.root 64 64 5 → Fits (account_in store store.books.root) 16384 8
-covers_log store fresh = subst (λ a. Fits a 16384 8) (sym (fresh_account store 64 64 5 fresh)) (record { ram_fits = lit≤ tt; caps_fit = lit≤ tt })
+  -- and once it has, it comes last
+  pub one_more : {store' : Store} {components' : List Component} {start : StartEntry} → SoFar store components list ram_left caps_left places →
+      HasStarted store components store' components' start →
+      SoFar store' components' (list ++ start ∷ []) (ram_left - start.ram) (caps_left - start.caps) (places - 1)
+  one_more {start = start} so_far started = record {
+    fresh = started.fresh;
+    starts = started.starts ∙ ap (λ starts. starts ++ start ∷ []) so_far.starts;
+    init = started.init ∙ ap (λ a. parted_with a start.ram start.caps) so_far.init;
+    room = omega (arith, started.room, so_far.room);
+  }
 
-module _ (store : Store) (fresh : store ≡ fresh_store store.books.root 64 64 5) (a1 : Account) (log : a1 ≡ parted_with (account_in store store.books.root) 16384 8) where
-  after_log : a1 ≡ opened 245760 56
-  after_log = log ∙ ap (λ a. parted_with a 16384 8) (fresh_account store 64 64 5 fresh)
-
-  pub covers_files : Fits a1 16384 8
-  covers_files = subst (λ a. Fits a 16384 8) (sym after_log) (record { ram_fits = lit≤ tt; caps_fit = lit≤ tt })
-
-  module _ (a2 : Account) (files : a2 ≡ parted_with a1 16384 8) where
-    after_files : a2 ≡ opened 229376 48
-    after_files = files ∙ ap (λ a. parted_with a 16384 8) after_log
-
-    pub covers_alice : Fits a2 65536 16
-    covers_alice = subst (λ a. Fits a 65536 16) (sym after_files) (record { ram_fits = lit≤ tt; caps_fit = lit≤ tt })
-
-    pub covers_bob : (a3 : Account) → a3 ≡ parted_with a2 65536 16 → Fits a3 65536 16
-    covers_bob a3 alice = subst (λ a. Fits a 65536 16) (sym (alice ∙ ap (λ a. parted_with a 65536 16) after_files)) (record { ram_fits = lit≤ tt; caps_fit = lit≤ tt })
-
--- all four started
-pub all_started : (w0 w1 w2 w3 w4 : World) → w0 ≡ unstarted → w1 ≡ with_start w0 (codes "log") AServer 16384 8 → w2 ≡ with_start w1 (codes "files") AServer 16384 8 →
-    w3 ≡ with_start w2 (codes "alice") AScript 65536 16 → w4 ≡ with_start w3 (codes "bob") AScript 65536 16 → w4 ≡ start_world machine_a
-all_started w0 w1 w2 w3 w4 none log files alice bob =
-    bob ∙ ap (λ w. with_start w (codes "bob") AScript 65536 16) (alice
-    ∙ ap (λ w. with_start w (codes "alice") AScript 65536 16) (files
-    ∙ ap (λ w. with_start w (codes "files") AServer 16384 8) (log
-    ∙ ap (λ w. with_start w (codes "log") AServer 16384 8) none)))
+-- once all have started, it is the built-in machine
+pub machine_started : {store : Store} {components : List Component} → SoFar store components machine_a.starts 98304 16 0 → started_world store components ≡ start_world machine_a
+machine_started so_far = λ j. record { entries = map (λ start. start.entry) (so_far.starts j); init = so_far.init j; states = map start_state (so_far.starts j) }
 
 -- and it is balanced
 pub machine_a_balanced : IsBalanced 64 64 (start_world machine_a)

@@ -1,30 +1,29 @@
--- What a start does to the world.
-use Rattle.std.specs.Prelude.{◌≡◌, ℕ, ◌*◌, ◌≤◌, List, [], ◌∷◌, ◌++◌, false}
-use Rattle.std.specs.FinMap.{empty}
-use Rattle.own_model.specs.Account.{opened, parted_with}
-use Rattle.own_model.specs.StartList.{Kind}
-use Rattle.own_model.specs.World.{World}
-use Rattle.pd_core.specs.declared.component.Role.{Role}
-use Rattle.pd_core.specs.declared.component.Role.TheVariants.{Script, Server}
-use Rattle.pd_core.specs.declared.tables.Tables.{Tables}
+-- What a start does to the parts of the machine.
+use Rattle.std.specs.Prelude.{◌≡◌, ℕ, ◌+◌, ◌<◌, List, [], ◌∷◌, ◌++◌}
+use Rattle.own_model.specs.Account.{Fits, parted_with}
+use Rattle.own_model.specs.StartList.{StartEntry}
+use Rattle.own_model.specs.StartList.Kind.{Script, Server}
+use Rattle.dataspace_core.specs.Store.{Store, account_in}
+use Rattle.pd_core.specs.Fresh.{starts_of, AreFresh}
+use Rattle.pd_core.specs.declared.component.Component.{Component}
 
--- init parts with a budget, and one more component has it and nothing else
-abbrev pub with_start : World → List ℕ → Kind → ℕ → ℕ → World
-with_start world name kind ram caps = record {
-  entries = world.entries ++ record { name = name; kind = kind } ∷ [];
-  init = parted_with world.init ram caps;
-  states = world.states ++ record { account = opened ram caps; selectors = empty; regions = empty; gone = false } ∷ [];
-}
+-- a server with a budget
+abbrev pub server_start : List ℕ → ℕ → ℕ → StartEntry
+server_start name ram caps = record { entry = record { name = name; kind = Server }; ram = ram; caps = caps }
 
--- a script has nothing, a place for each capability of its budget, and regions for all its pages
-pub record AreFresh (ram caps : ℕ) (tables : Tables) : Type 0 where
-  pub no_caps : tables.caps.caps ≡ empty
-  pub placed : caps ≤ tables.caps.places
-  pub no_regions : tables.regions.user ≡ empty
-  pub most : tables.regions.most ≡ 128
-  pub ram_fits : ram ≤ tables.regions.pages * 4096
+-- a script with a budget
+abbrev pub script_start : List ℕ → ℕ → ℕ → StartEntry
+script_start name ram caps = record { entry = record { name = name; kind = Script }; ram = ram; caps = caps }
 
--- a component has nothing yet
-abbrev pub IsFreshRole : ℕ → ℕ → Role → Type 0
-IsFreshRole ram caps (Script tables) = AreFresh ram caps tables
-IsFreshRole ram caps Server = Unit {0}
+-- one component more can start: the parts so far are fresh, init covers its budget, and there is room for an account
+pub record CanStart (store : Store) (components : List Component) (ram caps : ℕ) : Type 0 where
+  pub fresh : AreFresh store components
+  pub covered : Fits (account_in store store.books.root) ram caps
+  pub room : 0 < store.books.room
+
+-- one component more has started after those so far, and init has parted with its budget
+pub record HasStarted (store : Store) (components : List Component) (after : Store) (with_it : List Component) (start : StartEntry) : Type 0 where
+  pub fresh : AreFresh after with_it
+  pub starts : starts_of after with_it ≡ starts_of store components ++ start ∷ []
+  pub init : account_in after after.books.root ≡ parted_with (account_in store store.books.root) start.ram start.caps
+  pub room : after.books.room + 1 ≡ store.books.room

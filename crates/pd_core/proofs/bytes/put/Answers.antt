@@ -1,5 +1,5 @@
 -- Bytes that are put over those of a region.
-use Rattle.std.proofs.Common.{sym, ap, ◌∙◌}
+use Rattle.std.proofs.Common.{sym}
 use Rattle.pd_core.proofs.BytesLemmas.{found_exists, found_fits, found_others, poke_told, next_poked, sound_poked, poke_refused_told, poke_refused_stays}
 use Rattle.pd_core.proofs.bytes.put.Goals as goal
 

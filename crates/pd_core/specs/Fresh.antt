@@ -1,0 +1,55 @@
+-- The parts of a core before its first call, and the world that starts with them.
+use Rattle.std.specs.Prelude.{◌≡◌, ◌≢◌, ℕ, ◌*◌, ◌≤◌, List, map, Some, IfSome}
+use Rattle.std.specs.List.{All, AllPairs}
+use Rattle.std.specs.FinMap.{empty}
+use Rattle.own_model.specs.Account.{opened}
+use Rattle.own_model.specs.StartList.{StartEntry, start_state}
+use Rattle.own_model.specs.World.{World}
+use Rattle.cap_space.specs.Space.{Space}
+use Rattle.region_map.specs.Regions.{Regions}
+use Rattle.dataspace_core.specs.Store.{Store, Part, part, account_in}
+use Rattle.pd_core.specs.Component.{entry_of, payer_of, tables_of}
+use Rattle.pd_core.specs.declared.component.Component.{Component}
+
+-- what a component starts with: its entry, and the limits of its account for its budget
+abbrev pub start_of : Store → Component → StartEntry
+start_of store component = record {
+  entry = entry_of component;
+  ram = (account_in store (payer_of component)).ram_limit;
+  caps = (account_in store (payer_of component)).caps_limit;
+}
+
+-- the same of each component, in their order
+abbrev pub starts_of : Store → List Component → List StartEntry
+starts_of store components = map (start_of store) components
+
+-- an account with these limits, of which nothing is used, and which pays for no dataspace
+abbrev pub opened_part : ℕ → ℕ → Part
+opened_part ram caps = record { account = Some (opened ram caps); spaces = empty }
+
+-- tables of nothing, with a place for each capability of a budget, room for 128 user regions, and pages enough for its RAM
+pub record AreEmpty (ram caps : ℕ) (space : Space) (regions : Regions) : Type 0 where
+  pub no_caps : space.caps ≡ empty
+  pub places : caps ≤ space.places
+  pub no_regions : regions.user ≡ empty
+  pub most : regions.most ≡ 128
+  pub pages : ram ≤ regions.pages * 4096
+
+-- a component has an account that isn't init's, all of its budget, and nothing else
+pub record IsFresh (store : Store) (component : Component) : Type 0 where
+  pub not_init : payer_of component ≢ store.books.root
+  pub unused : part (payer_of component) store ≡ opened_part (start_of store component).ram (start_of store component).caps
+  pub tables : IfSome (tables_of component) (λ tables. AreEmpty (start_of store component).ram (start_of store component).caps tables.0 tables.1)
+
+-- each component is fresh, and no two have one account
+pub record AreFresh (store : Store) (components : List Component) : Type 0 where
+  pub each : All (IsFresh store) components
+  pub apart : AllPairs (λ c d. payer_of c ≢ payer_of d) components
+
+-- the world of these starts, in which init keeps what the root's account has
+abbrev pub started_world : Store → List Component → World
+started_world store components = record {
+  entries = map (λ start. start.entry) (starts_of store components);
+  init = account_in store store.books.root;
+  states = map start_state (starts_of store components);
+}
