@@ -1,24 +1,22 @@
 -- What is told of a line, by what it says.
-use Rattle.std.proofs.Common.{◌≡◌, ℕ, ◌≤◌, ◌<◌, true, false, List, [], ◌∷◌, ◌++◌, length, Option, Some, None, refl, sym, ap, ◌∙◌, cond, subst, arith, Result, OnOk, OnErr}
+use Rattle.std.proofs.Common.{◌≡◌, ℕ, ◌≤◌, true, List, [], length, Option, Some, None, refl, sym, ap, ◌∙◌, cond, subst, arith, Result, OnOk, OnErr}
 use Rattle.std.proofs.lemmas.Bool.Decides.{nat_tests}
-use Rattle.std.specs.Prelude.{nat_le, codes}
+use Rattle.std.specs.Prelude.{nat_le}
 use Rattle.std.specs.Io.KnownBytes.{Appends}
 use Rattle.std.specs.List.{position}
 use Rattle.std.specs.Str.{bytes_eq}
-use Rattle.trade_base.specs.declared.refusal.Refusal.TheVariants.{BadLine, UnknownComponent}
 use Rattle.trade_base.specs.declared.refusal.Refusal.{Refusal}
-use Rattle.own_model.specs.Call.{Call, Spoken, spoken}
+use Rattle.own_model.specs.Call.{Call, spoken}
 use Rattle.own_model.specs.Account.{shortage}
 use Rattle.own_model.specs.Call.Call.{Alloc, Free, Attach, AttachAt, Detach, Peek, Poke, Capalloc, Capfree, Quota}
 use Rattle.own_model.specs.Region.{most_regions, user_gap, attach_refusal, attach_at_refusal, detach_refusal, resolved}
 use Rattle.own_model.specs.OwnState.{OwnState, Object, pages_in}
 use Rattle.own_model.specs.OwnState.Object.{Dataspace, RpcObject}
 use Rattle.own_model.specs.OwnStep.{Outcome, own_step, unless, turned_away, script_step, freed, alloc_refusal, allocated, attached_first, attached_at, with_region, region_detached, count_refusal, peeked, poked, poked_at, cap_allocated, cap_freed}
-use Rattle.own_model.specs.Reply.{LogLine, reply_text}
-use Rattle.own_model.specs.Reply.Reply.{Refused}
+use Rattle.own_model.specs.Reply.{reply_text}
 use Rattle.own_model.specs.StartList.{Entry}
-use Rattle.own_model.specs.Transcript.{Heard, heard, heard_spoken, heard_call, longest_line, entry_at, state_at, reply_line, outcome_text}
-use Rattle.own_model.specs.Transcript.Heard.{NoCall, Stranger, Caller}
+use Rattle.own_model.specs.Transcript.{heard, heard_spoken, heard_call, longest_line, entry_at, state_at, reply_line, outcome_text}
+use Rattle.own_model.specs.Transcript.Heard.{NoCall, Caller}
 use Rattle.own_model.specs.World.{World, outcome_at}
 use Rattle.scenario_run.specs.Answered.{told_of}
 use Rattle.scenario_run.specs.Gathered.{AppendsPart, line_with}
