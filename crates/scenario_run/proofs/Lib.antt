@@ -5,6 +5,7 @@ pub mod HexLemmas
 pub mod BootLemmas
 pub mod MachineLemmas
 pub mod BlockLemmas
+pub mod SearchLemmas
 pub mod LineLemmas
 pub mod GatheredLemmas
 pub mod ToCome

@@ -4,6 +4,7 @@ ghost use Rattle.std.specs.Io.KnownBytes.{Keeps, IsAtEnd};
 ghost use Rattle.scenario_run.specs.Lines.{is_newline, line_length, to_come};
 
 use crate::device::{DeviceFault, Source};
+use memchr::memchr;
 use std::marker::Model;
 
 /// The longest line that is read as a call, in bytes and without its newline.
@@ -130,5 +131,5 @@ fn line_length_of(bytes: &[u8]) -> usize
 fn newline_in(bytes: &[u8]) -> Option<usize>
     ensures { result ≡ position is_newline bytes.now }
 {
-    bytes.iter().position(|byte| *byte == b'\n')
+    memchr(b'\n', bytes)
 }

@@ -17,11 +17,22 @@ pub fn is_hex(text: &[u8]) -> bool
     text.len() % 2 == 0 && has_hex_digits(text)
 }
 
-/// Whether each byte is a hexadecimal digit.
+/// Whether each byte is a hexadecimal digit. It doesn't stop at the first that is none, so many bytes are tested at once.
 fn has_hex_digits(text: &[u8]) -> bool
     ensures { result ≡ list_all is_hex_digit text.now }
 {
-    text.iter().all(|byte| hex_digit(*byte).is_some())
+    let mut all = true;
+    for byte in text {
+        all &= is_hex_digit(*byte);
+    }
+    all
+}
+
+/// Whether a byte is a hexadecimal digit of either case.
+fn is_hex_digit(byte: u8) -> bool
+    ensures { result ≡ is_hex_digit byte }
+{
+    byte.is_ascii_hexdigit()
 }
 
 /// The value of a hexadecimal digit of either case, or `None` where a byte isn't one.

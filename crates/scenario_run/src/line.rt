@@ -12,6 +12,7 @@ ghost use Rattle.scenario_run.specs.Words.{is_space};
 use crate::address::read_address;
 use crate::hex_text::is_hex;
 use crate::number::read_number;
+use memchr::memchr;
 use pd_core::Call;
 use trade_base::Refusal;
 
@@ -132,7 +133,7 @@ fn first_space(text: &[u8]) -> Option<usize>
     ensures place { result ≡ position is_space text.now }
     ensures inside { IfSome result (λ end. end < length text.now) }
 {
-    text.iter().position(|byte| *byte == b' ')
+    memchr(b' ', text)
 }
 
 /// Whether a word is a name: 1 to 32 letters, digits, `_`, `-` and `.`.

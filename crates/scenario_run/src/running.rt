@@ -48,9 +48,9 @@ impl From<LineFault> for RunFault {
 }
 
 /// Answers each line of the reader in turn, at most `max_lines`, by the components that the list names. All that is
-/// told is written before each read and before the run returns, with a fault too; of several faults the first is
-/// returned: `ReadFault` where the reader failed or a line was too long, `WriteFault` where the writer failed,
-/// `TooManyLines` where a line began after the last that is allowed.
+/// told is written before each read and before the run returns, with a fault too. It returns `WriteFault` where the
+/// writer failed, after which nothing more is written; else `ReadFault` where the reader failed or a line was too long,
+/// and `TooManyLines` where a line began after the last that is allowed.
 ///
 /// What is written is the transcript: each call is answered as its caller's own run on its own part of the calls before
 /// it answers it, whatever other components called.
@@ -85,10 +85,12 @@ pub fn run<S: Source, K: Sink>(
         writer,
         max_lines,
     );
-    let flushed = gather.flush(writer);
-    let lines = answered?;
-    match flushed {
-        Ok(()) => Ok(Summary { lines }),
+    // What a failed write left is not tried again.
+    if let Err(RunFault::WriteFault) = answered {
+        return Err(RunFault::WriteFault);
+    }
+    match gather.flush(writer) {
+        Ok(()) => answered.map(|lines| Summary { lines }),
         Err(_) => Err(RunFault::WriteFault),
     }
 }

@@ -28,7 +28,7 @@ impl Read for Unreadable {
     }
 }
 
-/// Takes a few bytes at a time, until it has all it takes.
+/// Takes a few bytes at a time, until it has all it takes. Then it takes nothing once, and after that all.
 #[derive(Drop)]
 pub struct Trickle {
     pub bytes: Vec<u8>,
@@ -41,7 +41,11 @@ impl Write for Trickle {
     fn write(&mut self, buffer: &[u8]) -> io::Result<usize> {
         let count = self.size.min(buffer.len()).min(self.room);
         self.bytes.extend_from_slice(&buffer[..count])?;
-        self.room -= count;
+        self.room = if count == 0 {
+            usize::MAX
+        } else {
+            self.room - count
+        };
         self.writes = self.writes.saturating_add(1);
         Ok(count)
     }

@@ -97,9 +97,9 @@ fn short_writes_are_resumed(rt: HostRuntime) -> Result<(), Fail> {
 }
 
 #[test]
-fn writer_that_takes_nothing(rt: HostRuntime) -> Result<(), Fail> {
-    for room in [0, 5, 29, 30] {
-        let (ran, failed, writer) = trickled(rt.alloc(), 100, 100, room, 10)?;
+fn nothing_is_written_after_a_failed_write(rt: HostRuntime) -> Result<(), Fail> {
+    for (max_lines, room) in [(10, 0), (10, 5), (10, 29), (10, 30), (1, 0), (1, 5)] {
+        let (ran, failed, writer) = trickled(rt.alloc(), 100, 100, room, max_lines)?;
         assert_eq!(rt; ran, Err(RunFault::WriteFault));
         assert!(rt; failed);
         assert_eq!(rt; writer.bytes.len(), room);
