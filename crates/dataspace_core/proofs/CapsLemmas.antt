@@ -1,6 +1,5 @@
 -- An account's use of capabilities may change while it covers the account's dataspaces.
 use Rattle.std.proofs.Common.{◌≡◌, ◌≢◌, ℕ, ◌<◌, ◌≤◌, List, length, Some, Ok, Err, unwrap_or, refl, sym, ap, subst, ◌∙◌, arith, Bool, cond, eqb, true, false, inl, inr}
-use Rattle.std.proofs.lemmas.Bool.Decides.{nat_tests}
 use Rattle.std.specs.Prelude.{⊤, Option, None, Result, IfErr, OnOk, OnErr}
 use Rattle.std.specs.Option.{option_map}
 use Rattle.std.specs.Result.{result_err}
@@ -9,10 +8,10 @@ use Rattle.page_pool.specs.Pages.{free_count}
 use Rattle.slab.specs.Slab.{Slab}
 use Rattle.trade_base.specs.declared.refusal.Refusal.{Refusal}
 use Rattle.trade_base.specs.declared.refusal.Refusal.TheVariants.{OutOfCaps}
-use Rattle.own_model.specs.Account.{Account, WithinLimits, shortage, charged, credited, opened}
+use Rattle.own_model.specs.Account.{Account, shortage, charged, credited, opened}
 use Rattle.own_model.proofs.NatMapLemmas.{IsSome-insert}
 use Rattle.own_model.proofs.Totals.{len-total, total_same, total-picked, total-insert_same, owed-total, owed_nothing}
-use Rattle.own_model.proofs.StepLemmas.{covers}
+use Rattle.own_model.proofs.StepLemmas.{covers, short_of_caps}
 use Rattle.quota_core.specs.Books.{Books, IsOpen, account_at, with_account}
 use Rattle.quota_core.proofs.BooksLemmas.{account_there}
 use Rattle.dataspace_core.specs.Store.{Store, part, bytes_paid_by, with_account_in}
@@ -36,12 +35,6 @@ caps_owed-len store account =
     ∙ total-picked (λ _. 1) (bytes_paid_by account) store.spaces
     ∙ total_same _ _ store.spaces (λ ds space there. counts (eqb space.payer account) space.bytes)
     ∙ sym (owed-total (λ _. 1) payer_of store.spaces account)
-
--- an account within its limits lacks nothing but capabilities where no bytes are asked for
-short_of_caps : (a : Account) (caps : ℕ) (refusal : Refusal) → WithinLimits a → Some refusal ≡ shortage a 0 caps → refusal ≡ OutOfCaps
-short_of_caps a caps refusal within short =
-    let ram = within.ram in
-    grind (arith, nat_tests)
 
 module _ (store : Store) (account : ℕ) (b : Account) where
   -- the memory where the account is another

@@ -1,15 +1,19 @@
 -- What a call leaves of limits.
-use Rattle.std.proofs.Common.{◌≡◌, ℕ, zero, suc, lit≤, inl, inr, length, sum_by, List, [], ◌∷◌, refl, arith, set, get_or}
+use Rattle.std.proofs.Common.{◌≡◌, ℕ, zero, suc, lit≤, inl, inr, length, Option, Some, None, sum_by, List, [], ◌∷◌, refl, arith, set, get_or}
 use Rattle.std.proofs.lemmas.Bool.{cases_lt}
 use Rattle.std.proofs.lemmas.List.{set_past}
 use Rattle.std.proofs.lemmas.List.Sums.{sum_by-set}
 use Rattle.std.specs.List.{AllByRecursion}
 use Rattle.trade_base.specs.Page.{page_of}
-use Rattle.own_model.proofs.StepLemmas.{KeptByEffects, step_keeps, covers, accepted_size}
-use Rattle.own_model.specs.Account.{WithinLimits}
+use Rattle.trade_base.specs.declared.refusal.Refusal.{Refusal}
+use Rattle.trade_base.specs.declared.refusal.Refusal.TheVariants.{OutOfCaps}
+use Rattle.own_model.proofs.StepLemmas.{KeptByEffects, step_keeps, covers, short_of_caps, accepted_size}
+use Rattle.own_model.specs.Account.{WithinLimits, shortage}
 use Rattle.own_model.specs.Call.{Call}
+use Rattle.own_model.specs.Call.Call.{Capalloc}
 use Rattle.own_model.specs.OwnState.{OwnState}
-use Rattle.own_model.specs.OwnStep.{own_step, own_run}
+use Rattle.own_model.specs.OwnStep.{own_step, own_run, script_step, unless, cap_allocated}
+use Rattle.own_model.specs.Reply.Reply.{Refused}
 use Rattle.own_model.specs.StartList.{Entry}
 use Rattle.own_model.specs.StartList.Kind.{Server}
 use Rattle.own_model.specs.Transcript.{Heard, heard, entry_at, state_at, nothing}
@@ -21,6 +25,14 @@ use Rattle.own_model.specs.World.{World, IsBalanced, with_state, outcome_at}
 pub server_stays : (name : List ℕ) (calls : List Call) (s : OwnState) → own_run (record { name = name; kind = Server }) calls s ≡ s
 server_stays name [] s = refl
 server_stays name (call ∷ calls) s = server_stays name calls s
+
+-- what is told of an RPC object that is refused is why
+capalloc_told : (why : Option Refusal) (s : OwnState) (refusal : Refusal) → (unless why s (cap_allocated s)).reply ≡ Refused refusal → Some refusal ≡ why
+capalloc_told (Some other) s refusal told = cc
+capalloc_told None s refusal told = absurd (cc)
+
+pub capalloc_short : (s : OwnState) (refusal : Refusal) → WithinLimits s.account → (script_step Capalloc s).reply ≡ Refused refusal → refusal ≡ OutOfCaps
+capalloc_short s refusal within told = short_of_caps s.account 1 refusal within (capalloc_told (shortage s.account 0 1) s refusal told)
 
 -- nothing that a call can do overdraws an account
 effects_within : (s : OwnState) → WithinLimits s.account → KeptByEffects (λ t. WithinLimits t.account) s

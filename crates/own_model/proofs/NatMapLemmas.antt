@@ -1,5 +1,5 @@
 -- What a finite map from numbers answers: after a change, where it is picked from another, and by induction on its insertions.
-use Rattle.std.proofs.Common.{◌≡◌, ℕ, ◌≢◌, Bool, true, false, cond, eqb, ◌&&◌, T, List, [], ◌∷◌, is_some, IsSome, Some, unwrap_or, refl, sym, ap, subst, ◌∙◌, eqb-true, true≢false, nat_cmp, is_eq, is_lt, Ordering, Less, Equal, Greater, arith}
+use Rattle.std.proofs.Common.{◌≡◌, ℕ, ◌≢◌, Bool, true, false, cond, eqb, ◌&&◌, T, List, [], ◌∷◌, is_some, IsSome, Some, refl, sym, ap, subst, ◌∙◌, eqb-true, true≢false, nat_cmp, is_eq, is_lt, Ordering, Less, Equal, Greater, arith}
 use Rattle.std.proofs.lemmas.Bool.Decides.{nat_tests}
 use Rattle.std.proofs.lemmas.List.{nil_from_length}
 use Rattle.std.specs.Prelude.{Option, None}
@@ -57,37 +57,9 @@ module _ {X : Type 0} where
   pub same : (m n : NatMap X) → ((q : ℕ) → get m q ≡ get n q) → m ≡ n
   same m n alike = map.same_map nat_cmp_total nat_cmp-IsAntisymmetric m n alike
 
-  -- the later value at a key stays
-  pub insert-insert : (m : NatMap X) (k : ℕ) (v w : X) → insert (insert m k v) k w ≡ insert m k w
-  insert-insert m k v w = same _ _ (λ q. grind (arith, natmaps))
-
-  -- at two keys the order does not matter
-  pub insert_comm : (m : NatMap X) (k l : ℕ) (v w : X) → k ≢ l → insert (insert m k v) l w ≡ insert (insert m l w) k v
-  insert_comm m k l v w apart = same _ _ (λ q. grind (arith, natmaps))
-
   -- a removal at the key does not matter to what is inserted
   pub insert-remove : (m : NatMap X) (k : ℕ) (v : X) → insert (remove m k) k v ≡ insert m k v
   insert-remove m k v = same _ _ (λ q. grind (arith, natmaps))
-
-  -- nor does the order of an insertion and a removal at two keys
-  pub remove_insert_comm : (m : NatMap X) (k l : ℕ) (v : X) → k ≢ l → remove (insert m k v) l ≡ insert (remove m l) k v
-  remove_insert_comm m k l v apart = same _ _ (λ q. grind (arith, natmaps))
-
-  -- an insertion does not matter to a removal at its key
-  pub remove_insert_same : (m : NatMap X) (k : ℕ) (v : X) → remove (insert m k v) k ≡ remove m k
-  remove_insert_same m k v = same _ _ (λ q. grind (arith, natmaps))
-
-  -- a second removal changes nothing
-  pub remove-remove : (m : NatMap X) (k : ℕ) → remove (remove m k) k ≡ remove m k
-  remove-remove m k = same _ _ (λ q. grind (arith, natmaps))
-
-  -- the order of two removals does not matter
-  pub remove_comm : (m : NatMap X) (k l : ℕ) → remove (remove m k) l ≡ remove (remove m l) k
-  remove_comm m k l = same _ _ (λ q. grind (arith, natmaps))
-
-  -- what was inserted at a free key goes again
-  pub remove-insert : (m : NatMap X) (k : ℕ) (v : X) → get m k ≡ None → remove (insert m k v) k ≡ m
-  remove-insert m k v free = same _ _ (λ q. grind (arith, natmaps))
 
   -- to remove at a free key changes nothing
   pub remove_free : (m : NatMap X) (k : ℕ) → get m k ≡ None → remove m k ≡ m
@@ -224,18 +196,6 @@ module _ {X Y : Type 0} where
   pub get-picked_at : (f : X → Option Y) (m : NatMap X) (q : ℕ) (v : X) → get m q ≡ Some v → get (picked f m) q ≡ f v
   get-picked_at f m q v there = get-picked f m q ∙ ap (option_and_then f) there
 
-  -- a new value that f does not answer is not seen
-  pub picked-insert_apart : (f : X → Option Y) (m : NatMap X) (k : ℕ) (v : X) → get m k ≡ None → f v ≡ None → picked f (insert m k v) ≡ picked f m
-  picked-insert_apart f m k v free e = picked-insert_hidden f m k v e (get-picked_none f m k free)
-
-  -- nor is a change of a value for which f answers as before
-  pub picked-insert_at : (f : X → Option Y) (m : NatMap X) (k : ℕ) (v w : X) → get m k ≡ Some w → f v ≡ f w → picked f (insert m k v) ≡ picked f m
-  picked-insert_at f m k v w there e = picked-insert_alike f m k v (e ∙ sym (get-picked_at f m k w there))
-
-  -- nor that a value goes which f does not answer
-  pub picked-remove_apart : (f : X → Option Y) (m : NatMap X) (k : ℕ) (w : X) → get m k ≡ Some w → f w ≡ None → picked f (remove m k) ≡ picked f m
-  picked-remove_apart f m k w there e = picked-remove_hidden f m k (get-picked_at f m k w there ∙ e)
-
 -- the equations by which `grind` reads a picked map
 pub ruleset picks = (natmaps, get-picked, get-picked_insert, get-picked_remove)
 
@@ -253,10 +213,6 @@ module _ {X : Type 0} where
   -- a key that is there has a value
   pub value_at : (m : NatMap X) (q : ℕ) → IsSome (get m q) → (v : X) × (get m q ≡ Some v)
   value_at m q there = elim (get m q) as (λ o. IsSome o → (v : X) × (o ≡ Some v)) [ None ↦ λ h. absurd (true≢false (sym h)) | Some v ↦ λ h. (v, refl) ] there
-
-  -- and it is the one that is read with any default
-  pub value_or : (m : NatMap X) (q : ℕ) (d : X) → IsSome (get m q) → get m q ≡ Some (unwrap_or (get m q) d)
-  value_or m q d there = elim (get m q) as (λ o. IsSome o → o ≡ Some (unwrap_or o d)) [ None ↦ λ h. absurd (true≢false (sym h)) | Some v ↦ λ h. refl ] there
 
   -- a key that has a value is there
   pub IsSome-at : (m : NatMap X) (q : ℕ) (v : X) → get m q ≡ Some v → IsSome (get m q)

@@ -3,7 +3,7 @@ use Rattle.std.proofs.Common.{◌≡◌, ℕ, ◌+◌, ◌<◌, ◌≤◌, ◌�
 use Rattle.std.proofs.lemmas.Bool.Decides.{nat_tests}
 use Rattle.std.specs.Prelude.{None}
 use Rattle.std.specs.Cmp.{unsigned_tied, ranked}
-use Rattle.std.specs.FinMap.{get, len, entries, entries_sorted, get-entries, len-entries, find, is_sorted}
+use Rattle.std.specs.FinMap.{get, entries, entries_sorted, get-entries, find, is_sorted}
 use Rattle.std.specs.FinMap.Entries.{below_all}
 use Rattle.own_model.specs.NatMap.{NatMap, least_gap}
 use Rattle.own_model.specs.OwnState.{new_selector}
@@ -123,11 +123,3 @@ module _ {X : Type 0} (m : NatMap X) where
       let not_above : ¬ (s < new_selector m) = λ l. true≢false (sym (new_selector_least s positive l) ∙ ap is_some free) in
       let not_below : ¬ (new_selector m < s) = λ l. true≢false (sym (below _ own l) ∙ ap is_some new_selector_free) in
       grind arith
-
-  -- it is at most one more than there are in use
-  pub new_selector_le : new_selector m ≤ len m + 1
-  unfolding new_selector
-  new_selector_le =
-      let within = least_gap_within 1 (entries m) in
-      let many = len-entries m in
-      omega arith

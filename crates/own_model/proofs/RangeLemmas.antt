@@ -1,5 +1,5 @@
 -- The range of addresses that a region holds, and the bytes that are read and written there.
-use Rattle.std.proofs.Common.{◌≡◌, ℕ, ◌+◌, ◌-◌, ◌*◌, ◌≤◌, ◌&&◌, Bool, true, false, List, [], ◌∷◌, Some, length, nat_le, refl, sym, ap, subst, ◌∙◌, true≢false, arith, slice_range, length-take, length-drop}
+use Rattle.std.proofs.Common.{◌≡◌, ℕ, ◌+◌, ◌-◌, ◌*◌, ◌≤◌, ◌&&◌, Bool, true, false, List, [], ◌∷◌, Some, length, nat_le, refl, sym, ap, subst, ◌∙◌, true≢false, arith, slice_range}
 use Rattle.std.proofs.lemmas.Bool.Decides.{nat_tests}
 use Rattle.std.proofs.lemmas.Option.{none-some, same_Some}
 use Rattle.std.specs.Prelude.{Option, None}
@@ -73,10 +73,6 @@ unfolding with_part
 with_part-within bytes offset part fits =
     let test : nat_le (offset + length part) (length bytes) ≡ true = grind (arith, nat_tests) in
     rw test
-
--- as many bytes are read as are asked for, where they fit
-pub length-slice_range : (bytes : List ℕ) (offset count : ℕ) → offset + count ≤ length bytes → length (slice_range bytes offset (offset + count)) ≡ count
-length-slice_range bytes offset count fits = simp (length-take, length-drop) (omega arith)
 
 -- a byte is two hex digits
 pub length-hex_text : (bytes : List ℕ) → length (hex_text bytes) ≡ length bytes * 2

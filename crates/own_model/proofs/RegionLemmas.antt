@@ -226,10 +226,6 @@ meets_alike xs ys alike address pages =
     let test : ℕ × ℕ → Bool = λ s. overlap s.0 s.1 address pages in
     list_any-shape test (entries xs) ∙ ap (list_any test) (shapes_alike xs ys alike) ∙ sym (list_any-shape test (entries ys))
 
-pub can_stand_alike : (xs ys : NatMap Region) → AreAlike xs ys → (low high pages address : ℕ) → can_stand low high xs pages address ≡ can_stand low high ys pages address
-can_stand_alike xs ys alike low high pages address =
-    ap (λ m. (eqb (address % 4096) 0 && (nat_le low address && nat_le (address + pages * 4096) high)) && not m) (meets_alike xs ys alike address pages)
-
 -- regions of the same start and pages hold a range in either
 pub region_at_alike : (xs ys : NatMap Region) → AreAlike xs ys → (address length : ℕ) → option_map shape (region_at xs address length) ≡ option_map shape (region_at ys address length)
 region_at_alike xs ys alike address length =

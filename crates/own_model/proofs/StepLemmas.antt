@@ -8,7 +8,7 @@ use Rattle.trade_base.specs.declared.refusal.Refusal.{Refusal}
 use Rattle.trade_base.specs.declared.refusal.Refusal.TheVariants.{OutOfRam, OutOfCaps, InvalidSize, TooManyRegions, RegionConflict}
 use Rattle.trade_base.specs.Page.{page_of}
 use Rattle.own_model.proofs.RegionLemmas.{first_gap_least, stands}
-use Rattle.own_model.specs.Account.{Account, Fits, shortage}
+use Rattle.own_model.specs.Account.{Account, Fits, WithinLimits, shortage}
 use Rattle.own_model.specs.Call.{Call}
 use Rattle.own_model.specs.Call.Call.{Alloc, Free, Attach, AttachAt, Detach, Peek, Poke, Capalloc, Capfree, Quota}
 use Rattle.own_model.specs.NatMap.{NatMap}
@@ -73,6 +73,12 @@ pub covers : (a : Account) (ram caps : ℕ) → shortage a ram caps ≡ None →
 covers a ram caps enough =
     let parts = neither (nat_lt a.ram_limit (a.ram_used + ram)) (nat_lt a.caps_limit (a.caps_used + caps)) OutOfRam OutOfCaps enough in
     record { ram_fits = within a.ram_limit (a.ram_used + ram) parts.0; caps_fit = within a.caps_limit (a.caps_used + caps) parts.1 }
+
+-- an account within its limits lacks nothing but capabilities where no bytes are asked for
+pub short_of_caps : (a : Account) (caps : ℕ) (refusal : Refusal) → WithinLimits a → Some refusal ≡ shortage a 0 caps → refusal ≡ OutOfCaps
+short_of_caps a caps refusal within short =
+    let ram = within.ram in
+    grind (arith, nat_tests)
 
 -- a size that is accepted is covered
 size_tested : (valid : Bool) (o : Option Refusal) (x : Refusal) → cond valid o (Some x) ≡ None → o ≡ None

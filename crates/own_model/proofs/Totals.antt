@@ -1,5 +1,5 @@
 -- Sums over what a map holds: after a change, compared, and by who pays.
-use Rattle.std.proofs.Common.{◌≡◌, ℕ, ◌+◌, ◌*◌, ◌≤◌, ◌≢◌, true, false, cond, eqb, List, [], ◌∷◌, map, length, IsSome, is_some, Some, unwrap_or, refl, sym, ap, ◌∙◌, true≢false, nat_cmp, is_eq, Less, Equal, Greater, arith, add-mul, zero-mul, add-zero}
+use Rattle.std.proofs.Common.{◌≡◌, ℕ, ◌+◌, ◌≤◌, ◌≢◌, true, false, cond, eqb, List, [], ◌∷◌, map, length, IsSome, is_some, Some, unwrap_or, refl, sym, ap, ◌∙◌, true≢false, nat_cmp, is_eq, Less, Equal, Greater, arith, add-zero}
 use Rattle.std.proofs.lemmas.Bool.Decides.{nat_tests}
 use Rattle.std.proofs.lemmas.List.Sums.{sum_by-cons}
 use Rattle.std.proofs.lemmas.Option.{none-some}
@@ -9,7 +9,7 @@ use Rattle.std.specs.Cmp.{nat_cmp_total}
 use Rattle.std.specs.FinMap.{get, insert, remove, empty, entries, len, len-empty, len-entries, len-insert, get-entries, entries-insert, find}
 use Rattle.std.specs.FinMap.Entries.{put, by_order}
 use Rattle.own_model.specs.NatMap.{NatMap, total, picked, owed}
-use Rattle.own_model.proofs.NatMapLemmas.{natmaps, get-empty, get-insert, get-insert_same, get-insert_other, get-remove_same, insert-remove, insert_back, remove_free, apart_from_free, before_remove, by_insertions, picked-empty, picked-insert_some, picked-insert_hidden, get-picked_none}
+use Rattle.own_model.proofs.NatMapLemmas.{natmaps, get-empty, get-insert, get-insert_same, get-insert_other, get-remove_same, insert-remove, insert_back, apart_from_free, before_remove, by_insertions, picked-empty, picked-insert_some, picked-insert_hidden, get-picked_none}
 
 -- ---- after a change
 
@@ -53,10 +53,6 @@ module _ {X : Type 0} where
   pub total-remove : (f : X → ℕ) (m : NatMap X) (k : ℕ) (w : X) → get m k ≡ Some w → total f (remove m k) + f w ≡ total f m
   total-remove f m k w there = sym (total-insert_new f (remove m k) k w (get-remove_same m k k refl)) ∙ ap (total f) (put_back m k w there)
 
-  -- a removal at a free key leaves the sum
-  pub total-remove_free : (f : X → ℕ) (m : NatMap X) (k : ℕ) → get m k ≡ None → total f (remove m k) ≡ total f m
-  total-remove_free f m k free = ap (total f) (remove_free m k free)
-
   -- another value under a key comes in place of the old one
   pub total-insert_at : (f : X → ℕ) (m : NatMap X) (k : ℕ) (v w : X) → get m k ≡ Some w → total f (insert m k v) + f w ≡ total f m + f v
   total-insert_at f m k v w there =
@@ -69,20 +65,6 @@ module _ {X : Type 0} where
   total-insert_same f m k v w there e =
       let at = total-insert_at f m k v w there in
       omega arith
-
-  -- the same of any key, whatever it has
-  pub total-insert_any : (f : X → ℕ) (m : NatMap X) (k : ℕ) (v : X) → total f (insert m k v) + unwrap_or (option_map f (get m k)) 0 ≡ total f m + f v
-  total-insert_any f m k v = elim (get m k) as (λ o. get m k ≡ o → total f (insert m k v) + unwrap_or (option_map f o) 0 ≡ total f m + f v) [
-    | None ↦ λ free. add-zero _ ∙ total-insert_new f m k v free
-    | Some w ↦ λ there. total-insert_at f m k v w there
-  ] refl
-
-  -- a removal at any key, whatever it has
-  pub total-remove_any : (f : X → ℕ) (m : NatMap X) (k : ℕ) → total f (remove m k) + unwrap_or (option_map f (get m k)) 0 ≡ total f m
-  total-remove_any f m k = elim (get m k) as (λ o. get m k ≡ o → total f (remove m k) + unwrap_or (option_map f o) 0 ≡ total f m) [
-    | None ↦ λ free. add-zero _ ∙ total-remove_free f m k free
-    | Some w ↦ λ there. total-remove f m k w there
-  ] refl
 
   -- what one value parts with for a new one leaves the sum
   pub total_parted : (f : X → ℕ) (m : NatMap X) (k l : ℕ) (v w new : X) → get m k ≡ Some w → get m l ≡ None → f v + f new ≡ f w → total f (insert (insert m k v) l new) ≡ total f m
@@ -151,12 +133,6 @@ module _ {X : Type 0} where
   total-add f g = by_insertions (λ m. total (λ v. f v + g v) m ≡ total f m + total g m)
       (omega (arith, total-empty f, total-empty g, total-empty (λ (v : X). f v + g v)))
       (λ m k v free e. omega (arith, total-insert_new f m k v free, total-insert_new g m k v free, total-insert_new (λ (v : X). f v + g v) m k v free))
-
-  -- the sum of multiples is the multiple of the sum
-  pub total-scaled : (f : X → ℕ) (n : ℕ) (m : NatMap X) → total (λ v. f v * n) m ≡ total f m * n
-  total-scaled f n = by_insertions (λ m. total (λ v. f v * n) m ≡ total f m * n)
-      (total-empty (λ (v : X). f v * n) ∙ sym (ap (λ s. s * n) (total-empty f) ∙ zero-mul n))
-      (λ m k v free e. total-insert_new (λ (v : X). f v * n) m k v free ∙ ap (λ s. s + f v * n) e ∙ sym (add-mul _ _ n) ∙ ap (λ s. s * n) (sym (total-insert_new f m k v free)))
 
   -- what one value has to spare the sums have to spare, where no value overdraws
   pub total_spare : (f g : X → ℕ) (m : NatMap X) (k : ℕ) (v : X) (n : ℕ) → get m k ≡ Some v → f v + n ≤ g v → ((q : ℕ) (w : X) → get m q ≡ Some w → f w ≤ g w) → total f m + n ≤ total g m
@@ -232,22 +208,12 @@ module _ {S : Type 0} (size payer : S → ℕ) where
       let within = total_at_le (λ s. cond (eqb (payer s) k) (size s) 0) m d s there in
       grind (arith, nat_tests)
 
-  -- no payer owes more than all there is
-  pub owed_le_total : (m : NatMap S) (k : ℕ) → owed size payer m k ≤ total size m
-  unfolding owed
-  owed_le_total m k = total_le _ size m (λ d s there. grind (arith, nat_tests))
-
   -- a sum is what one payer owes and what the others owe
   pub owed_and_others : (m : NatMap S) (k : ℕ) → total size m ≡ owed size payer m k + total (λ s. cond (eqb (payer s) k) 0 (size s)) m
   unfolding owed
   owed_and_others m k = total_same size (λ s. cond (eqb (payer s) k) (size s) 0 + cond (eqb (payer s) k) 0 (size s)) m (λ d s there. grind (arith, nat_tests)) ∙ total-add _ _ m
 
 module _ {S : Type 0} (payer : S → ℕ) where
-  -- who pays owes more for larger sizes
-  pub owed_le : (size larger : S → ℕ) (m : NatMap S) (k : ℕ) → ((d : ℕ) (s : S) → get m d ≡ Some s → size s ≤ larger s) → owed size payer m k ≤ owed larger payer m k
-  unfolding owed
-  owed_le size larger m k each = total_le _ _ m (λ d s there. let e = each d s there in grind (arith, nat_tests))
-
   -- the sizes of those that one payer does not pay for
   abbrev size_of_others : (S → ℕ) → ℕ → S → ℕ
   size_of_others size k s = cond (eqb (payer s) k) 0 (size s)

@@ -1,15 +1,16 @@
 -- The laws of runs and of answers, as statements.
 use Rattle.std.specs.Prelude.{◌≡◌, ◌≢◌, ◌<◌, ◌≤◌, ℕ, ◌+◌, ◌++◌, List, [], ◌∷◌, length, Some, None}
 use Rattle.std.specs.FinMap.{get, len}
-use Rattle.trade_base.specs.declared.refusal.Refusal.TheVariants.{InvalidCap, TooManyRegions}
+use Rattle.trade_base.specs.declared.refusal.Refusal.{Refusal}
+use Rattle.trade_base.specs.declared.refusal.Refusal.TheVariants.{InvalidCap, OutOfCaps, TooManyRegions}
 use Rattle.own_model.specs.Account.{WithinLimits}
 use Rattle.own_model.specs.Call.{Call}
-use Rattle.own_model.specs.Call.Call.{Free, Attach, AttachAt, Peek, Poke}
+use Rattle.own_model.specs.Call.Call.{Free, Attach, AttachAt, Peek, Poke, Capalloc}
 use Rattle.own_model.specs.OwnState.{OwnState}
 use Rattle.own_model.specs.OwnState.Object.{Dataspace}
 use Rattle.own_model.specs.OwnStep.{own_run, own_step, script_step, refused}
 use Rattle.own_model.specs.Region.{Region, most_regions, resolved}
-use Rattle.own_model.specs.Reply.Reply.{Bytes, Done}
+use Rattle.own_model.specs.Reply.Reply.{Bytes, Done, Refused}
 use Rattle.own_model.specs.Running.{told_running, states_running, told_now, states_after_heard}
 use Rattle.own_model.specs.StartList.{Entry, StartEntry, StartList, Boots, start_state}
 use Rattle.own_model.specs.StartList.Kind.{Server}
@@ -106,6 +107,11 @@ StepKeepsLimits =
     (entry : Entry) (call : Call) (s : OwnState) →
     ((own_step entry call s).next.account.ram_limit ≡ s.account.ram_limit)
     × ((own_step entry call s).next.account.caps_limit ≡ s.account.caps_limit)
+
+-- an RPC object is refused to an account within its limits for want of capabilities alone
+abbrev pub CapallocLacksCapsAlone : Type 0
+CapallocLacksCapsAlone =
+    (s : OwnState) (refusal : Refusal) → WithinLimits s.account → (script_step Capalloc s).reply ≡ Refused refusal → refusal ≡ OutOfCaps
 
 -- no call overdraws its caller's account
 abbrev pub StepKeepsWithinLimits : Type 0

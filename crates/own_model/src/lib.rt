@@ -14,7 +14,10 @@ pub use answers::{
     equal_parts_equal_answers, equal_parts_equal_states, states_are_own_runs, states_over_a_line,
     told_over_a_line, transcript_is_running,
 };
-pub use limits::{calls_keep_balance, calls_keep_limits, servers_stay, use_is_what_is_held};
+pub use limits::{
+    calls_keep_balance, calls_keep_limits, capalloc_lacks_caps_alone, servers_stay,
+    use_is_what_is_held,
+};
 pub use regions::{
     found_ranges_fit, freed_has_no_regions, full_maps_refuse, pokes_are_read, regions_stay_sound,
 };

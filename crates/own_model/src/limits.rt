@@ -1,5 +1,5 @@
 //! Laws of limits: what a call leaves of them, and of the whole machine's balance.
-ghost use Rattle.own_model.specs.Laws.{ServersStay, StepKeepsLimits, StepKeepsWithinLimits, RunKeepsWithinLimits, StartsWithoutUse, RunKeepsUse, StepKeepsBalance, LinesKeepBalance};
+ghost use Rattle.own_model.specs.Laws.{ServersStay, CapallocLacksCapsAlone, StepKeepsLimits, StepKeepsWithinLimits, RunKeepsWithinLimits, StartsWithoutUse, RunKeepsUse, StepKeepsBalance, LinesKeepBalance};
 
 /// Every call leaves a server's own state.
 pub fn servers_stay()
@@ -11,6 +11,11 @@ pub fn calls_keep_limits()
     ensures same { StepKeepsLimits }
     ensures within { StepKeepsWithinLimits }
     ensures run { RunKeepsWithinLimits }
+{}
+
+/// An account that isn't overdrawn is refused an RPC object for want of capabilities alone.
+pub fn capalloc_lacks_caps_alone()
+    ensures { CapallocLacksCapsAlone }
 {}
 
 /// At the start and after any calls an account uses exactly the bytes of its component's dataspaces, and a capability for each selector.

@@ -1,5 +1,5 @@
 -- Lists of page numbers, as numbers are put at their end.
-use Rattle.std.proofs.Common.{◌≡◌, ℕ, ◌+◌, ap, ◌∙◌, ◌||◌, ◌&&◌, not, eqb, List, [], ◌∷◌, ◌++◌, refl, arith}
+use Rattle.std.proofs.Common.{◌≡◌, ℕ, ◌+◌, ap, ◌∙◌, ◌||◌, ◌&&◌, not, eqb, List, [], ◌∷◌, ◌++◌, arith}
 use Rattle.std.proofs.lemmas.List.{length_push}
 use Rattle.std.proofs.lemmas.Bool.Decides.{nat_tests}
 use Rattle.page_pool.specs.Layout.{is_listed, has_no_repeat, AreNumbersBelow}
@@ -11,9 +11,6 @@ is_listed-push (first ∷ rest) last page = let e = is_listed-push rest last pag
 pub has_no_repeat-push : (numbers : List ℕ) (last : ℕ) → has_no_repeat (numbers ++ last ∷ []) ≡ (has_no_repeat numbers && not (is_listed numbers last))
 has_no_repeat-push [] last = grind (arith, nat_tests)
 has_no_repeat-push (first ∷ rest) last = let e = has_no_repeat-push rest last in let l = is_listed-push rest last first in grind (arith, nat_tests, e, l)
-
-pub AreNumbersBelow-none : AreNumbersBelow 0 []
-AreNumbersBelow-none = record { listed = λ page. grind (arith, nat_tests); once = refl; counted = refl }
 
 -- one more number
 pub AreNumbersBelow-more : (count : ℕ) (numbers : List ℕ) → AreNumbersBelow count numbers → AreNumbersBelow (count + 1) (numbers ++ count ∷ [])

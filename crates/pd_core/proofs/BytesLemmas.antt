@@ -82,9 +82,6 @@ module _ (store : Store) (a : ℕ) (tables : Tables) (sound : IsScriptAt (part a
   pub found_exists : Exists store key
   found_exists = there.0
 
-  pub found_payer : (space_at store key).payer ≡ a
-  found_payer = there.1
-
   pub found_fits : offset + count ≤ length (space_at store key).bytes
   found_fits = subst (λ (l : List ℕ). offset + count ≤ length l) (sym there.2) (fits (part a store) tables sound address count key offset found)
 

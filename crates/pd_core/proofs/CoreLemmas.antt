@@ -42,9 +42,6 @@ module _ (store : Store) (components : List Component) (i : ℕ) (caller : Compo
   pub outcome_is : (call : Call) → outcome_at (world_of store components) i call ≡ own_step (entry_of caller) call (own store caller)
   outcome_is call = ap (λ e. own_step e call (state_at (map (own store) components) i)) entry_is ∙ ap (λ s. own_step (entry_of caller) call s) state_is
 
-  pub caller_sound : IsCore store components → IsSound store caller
-  caller_sound core = subst (IsSound store) (sym (caller_is caller)) (core.sound i caller here)
-
   module _ (core : IsCore store components) (store' : Store) (after : Component) (entry : entry_of after ≡ entry_of caller) (account : payer_of after ≡ payer_of caller)
       (root : store'.books.root ≡ store.books.root) (others : (other : ℕ) → other ≢ payer_of caller → part other store' ≡ part other store) where
     same_entries : map entry_of (set components i after) ≡ map entry_of components
@@ -131,9 +128,6 @@ module _ (store : Store) (components : List Component) (world : World) (is : wor
     (inside : i < length world.entries) (read : caller ≡ get_or components i caller) (core : IsCore store components) where
   pub caller_within : i < length components
   caller_within = omega (arith, inside, ap (λ w. length w.entries) is, length-map components entry_of)
-
-  pub sound_caller : IsSound store caller
-  sound_caller = caller_sound store components i caller caller_within read core
 
   pub told_outcome : (call : Call) → own_step (entry_of caller) call (own store caller) ≡ outcome_at world i call
   told_outcome call = sym (outcome_is store components i caller caller_within read call) ∙ ap (λ w. outcome_at w i call) is

@@ -70,7 +70,3 @@ take-next n m xs = same_lists _ _ (search (rules, places)) (λ k d h. grind (ari
 -- the first n, and the first m of the others
 pub take-rest : (n m : ℕ) (xs : List ℕ) → take (n + m) xs ≡ take n xs ++ take m (take (length xs - n) (drop n xs))
 take-rest n m xs = take-next n m xs ∙ ap (λ rest. take n xs ++ take m rest) (sym (take_rest xs n))
-
--- a part without bytes
-pub slice_range-nil : (bytes : List ℕ) (start end : ℕ) → end ≤ length bytes → slice_range bytes start end ≡ [] → end ≤ start
-slice_range-nil bytes start end within none = omega (arith, length-between bytes start end, ap length none)
