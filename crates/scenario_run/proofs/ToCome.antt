@@ -94,19 +94,22 @@ passed_on old mid_rest new ahead left n m passes is whole left_of keeps =
 
 -- a long line that ends ahead is passed with its newline
 pub long_line-within : (old rest : Option (List ℕ)) (ahead left : List ℕ) (n m : ℕ) → IfSome old (λ before. 8192 < line_length before)
-    → Passes old (to_come ahead rest) n → m ≡ line_length ahead → m < length ahead → left ≡ drop (m + 1) ahead
+    → Passes old (to_come ahead rest) n → m ≡ line_length ahead → m < length ahead → n + m ≤ 1048576 → left ≡ drop (m + 1) ahead
     → IfSome old (λ before. PassesLongLine before (to_come left rest))
-long_line-within None rest ahead left n m long passes is within left_of = tt
-long_line-within (Some before) rest ahead left n m long passes is within left_of =
+long_line-within None rest ahead left n m long passes is within few left_of = tt
+long_line-within (Some before) rest ahead left n m long passes is within few left_of =
     let same : left ≡ drop (line_length ahead + 1) ahead = left_of ∙ ap (λ k. drop (k + 1) ahead) is in
-    record { long = long; after = rw same ((passed_line (Some before) rest ahead n passes (omega arith)).1) }
+    let line = passed_line (Some before) rest ahead n passes (omega arith) in
+    record { long = long; ends = omega (arith, line.0); after = rw same (line.1) }
 
 -- and so is one that ends with what is to come
 pub long_line-end : (old rest : Option (List ℕ)) (ahead : List ℕ) (n : ℕ) → IfSome old (λ before. 8192 < line_length before)
-    → Passes old (to_come ahead rest) n → length ahead ≡ 0 → IsAtEnd rest → IfSome old (λ before. PassesLongLine before (to_come ahead rest))
-long_line-end None rest ahead n long passes none end = tt
-long_line-end (Some before) rest [] n long passes none end = record { long = long; after = (passed_end (Some before) rest n passes end).1 }
-long_line-end (Some before) rest (b ∷ bs) n long passes none end = absurd (omega arith)
+    → Passes old (to_come ahead rest) n → n ≤ 1048576 → length ahead ≡ 0 → IsAtEnd rest → IfSome old (λ before. PassesLongLine before (to_come ahead rest))
+long_line-end None rest ahead n long passes few none end = tt
+long_line-end (Some before) rest [] n long passes few none end =
+    let line = passed_end (Some before) rest n passes end in
+    record { long = long; ends = omega (arith, line.0); after = line.1 }
+long_line-end (Some before) rest (b ∷ bs) n long passes few none end = absurd (omega arith)
 
 -- a line of which too many bytes are passed or ahead is endless
 pub stops_endless : (old rest : Option (List ℕ)) (ahead : List ℕ) (n m : ℕ) → Passes old (to_come ahead rest) n → m ≡ line_length ahead → 1048576 < n + m

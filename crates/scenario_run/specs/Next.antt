@@ -12,9 +12,10 @@ pub record BeginsWithLine (before ahead : List ℕ) (rest : Option (List ℕ)) (
   pub line : take n ahead ≡ line_of before
   pub after : to_come (drop (n + 1) ahead) rest ≡ Some (after_line before)
 
--- the next line has more than 8192 bytes, and is passed
+-- the next line has more than 8192 bytes and at most 1048576, and is passed
 pub record PassesLongLine (before : List ℕ) (new : Option (List ℕ)) : Type 0 where
   pub long : 8192 < line_length before
+  pub ends : line_length before ≤ 1048576
   pub after : new ≡ Some (after_line before)
 
 -- what comes next

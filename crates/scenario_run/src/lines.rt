@@ -16,7 +16,7 @@ const LONGEST_READ: usize = 1_048_576;
 pub enum Next {
     /// A line of so many bytes, with which the bytes ahead begin. It is not passed yet.
     Line(usize),
-    /// A line of more than `LONGEST_LINE` bytes. It is passed.
+    /// A line of more than `LONGEST_LINE` bytes and at most `LONGEST_READ`. It is passed.
     TooLong,
     /// No more lines.
     End,

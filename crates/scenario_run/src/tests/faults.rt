@@ -6,6 +6,8 @@ use std::io::{ErrorKind, Read, repeat};
 
 const QUOTA: &[u8] = b"alice: ram 0/65536 caps 0/16\n";
 
+const BOTH: &[u8] = b"alice: ram 0/65536 caps 0/16\ncarol: Unknown_component\n";
+
 #[test]
 fn longest_line_is_read(rt: HostRuntime) -> Result<(), Fail> {
     for (length, told) in [
@@ -89,10 +91,7 @@ fn short_writes_are_resumed(rt: HostRuntime) -> Result<(), Fail> {
     let (ran, failed, writer) = trickled(rt.alloc(), 100, 2, 1000, 10)?;
     assert_eq!(rt; ran, Ok(Summary { lines: 2 }));
     assert!(rt; !failed);
-    assert_eq!(rt;
-        writer.bytes.as_slice(),
-        b"alice: ram 0/65536 caps 0/16\ncarol: Unknown_component\n".as_slice()
-    );
+    assert_eq!(rt; writer.bytes.as_slice(), BOTH);
     Ok(())
 }
 
@@ -102,7 +101,7 @@ fn nothing_is_written_after_a_failed_write(rt: HostRuntime) -> Result<(), Fail> 
         let (ran, failed, writer) = trickled(rt.alloc(), 100, 100, room, max_lines)?;
         assert_eq!(rt; ran, Err(RunFault::WriteFault));
         assert!(rt; failed);
-        assert_eq!(rt; writer.bytes.len(), room);
+        assert_eq!(rt; writer.bytes.as_slice(), &BOTH[..room]);
     }
     Ok(())
 }
@@ -113,6 +112,24 @@ fn answers_are_written_before_the_next_read(rt: HostRuntime) -> Result<(), Fail>
     assert_eq!(rt; writer.writes, 2, "each line comes alone");
     let (_, _, writer) = trickled(rt.alloc(), 100, 100, 1000, 10)?;
     assert_eq!(rt; writer.writes, 1, "both lines come at once");
+    let mut source = Input::new(
+        b"alice quota\n"
+            .as_slice()
+            .chain(Unreadable(ErrorKind::Other)),
+    );
+    let mut writer = Trickle {
+        bytes: Vec::new(rt.alloc()),
+        size: 100,
+        room: 5,
+        writes: 0,
+    };
+    let ran = run_over(rt.alloc(), &mut source, &mut Output::new(&mut writer), 10)?;
+    assert_eq!(rt;
+        ran,
+        Err(RunFault::WriteFault),
+        "the write comes before the read"
+    );
+    assert!(rt; !source.failed());
     Ok(())
 }
 

@@ -200,20 +200,20 @@ fn regions_and_their_edges(rt: HostRuntime) -> Result<(), Fail> {
 
 #[test]
 fn region_limit_comes_first(rt: HostRuntime) -> Result<(), Fail> {
-    let mut input = Vec::from_slice(rt.alloc(), b"alice alloc 1\n")?;
-    for _ in 0..128 {
+    let alloc = rt.alloc();
+    let mut input = Vec::from_slice(alloc, b"alice alloc 1\n")?;
+    let mut transcript = Vec::from_slice(alloc, b"alice: cap 1\n")?;
+    for page in 0..128 {
         input.extend_from_slice(b"alice attach 1\n")?;
+        let answer = format!(in alloc; "alice: at 0x100{page:02x}000\n")?;
+        transcript.extend_from_slice(answer.as_bytes())?;
     }
+    assert!(rt; transcript.ends_with(b"alice: at 0x1007f000\n"));
     input.extend_from_slice(b"alice attach 1\nalice attach_at 1 0x10000000\nalice attach 2\n")?;
-    let (ran, written) = run_in_pieces(rt.alloc(), &input, 1000, 1000)?;
-    assert_eq!(rt; ran, Ok(Summary { lines: 132 }));
-    assert!(rt; written.starts_with(b"alice: cap 1\nalice: at 0x10000000\nalice: at 0x10001000\n"));
-    assert!(rt;
-        written.ends_with(
-            b"alice: at 0x1007f000\nalice: Too_many_regions\nalice: Too_many_regions\nalice: Invalid_cap\n"
-        )
-    );
-    Ok(())
+    transcript.extend_from_slice(
+        b"alice: Too_many_regions\nalice: Too_many_regions\nalice: Invalid_cap\n",
+    )?;
+    check(&rt, &input, 132, &transcript)
 }
 
 // Lines that scripts call in turn, by the number of the turn.
@@ -233,66 +233,79 @@ const TURNS: [&[u8]; 12] = [
 ];
 
 // Lines of nobody that makes calls.
-const BETWEEN: [&[u8]; 5] = [
-    b"log quota\n",
-    b"files alloc 1\n",
-    b"carol quota\n",
-    b"alice  quota\n",
-    b"\n",
+const OTHERS: [&[u8]; 5] = [
+    b"log quota",
+    b"alice  quota",
+    b"files alloc 1",
+    b"carol quota",
+    b"",
 ];
 
-// The answers in a transcript to a name.
-fn answers_to(alloc: Global, transcript: &[u8], name: &[u8]) -> Result<Vec<u8>, AllocError> {
-    let mut answers = Vec::new(alloc);
-    for line in transcript.split(|byte| *byte == b'\n') {
-        if line.starts_with(name) {
-            answers.extend_from_slice(line)?;
-            answers.push(b'\n')?;
-        }
-    }
-    Ok(answers)
-}
+// What is answered to these.
+const OTHERS_ANSWERED: [&[u8]; 5] = [
+    b"log: Not_a_script",
+    b"?: Bad_line",
+    b"files: Not_a_script",
+    b"carol: Unknown_component",
+    b"?: Bad_line",
+];
 
-// Adds a line to an input.
-fn say(input: &mut Vec<u8>, name: &[u8], call: &[u8]) -> Result<(), AllocError> {
-    input.extend_from_slice(name)?;
-    input.extend_from_slice(call)?;
-    input.push(b'\n')?;
+// Adds a line to a text.
+fn say(text: &mut Vec<u8>, line: &[u8]) -> Result<(), AllocError> {
+    text.extend_from_slice(line)?;
+    text.push(b'\n')?;
     Ok(())
 }
 
-// What a name is told among others is what its lines alone are answered.
-fn answers_are_those_alone<R: Abort + AllocGlobal>(
-    rt: &R,
-    together: &[u8],
-    name: &[u8],
-    lines: &[u8],
-) -> Result<(), Fail> {
+// The lines of a script's 100 calls, each so many places of TURNS after the one before.
+fn lines_of_script(alloc: Global, name: &[u8], places: usize) -> Result<Vec<u8>, AllocError> {
+    let mut lines = Vec::new(alloc);
+    let mut place = 0;
+    for _ in 0..100 {
+        lines.extend_from_slice(name)?;
+        say(&mut lines, TURNS[place])?;
+        place = (place + places % 12) % 12;
+    }
+    Ok(lines)
+}
+
+// What a script is answered that calls alone.
+fn answers_alone<R: Abort + AllocGlobal>(rt: &R, lines: &[u8]) -> Result<Vec<u8>, Fail> {
     let (ran, written) = run_in_pieces(rt.alloc(), lines, 1000, 1000)?;
     assert_eq!(rt; ran, Ok(Summary { lines: 100 }));
-    assert_eq!(rt;
-        answers_to(rt.alloc(), together, name)?.as_slice(),
-        written.as_slice()
-    );
-    Ok(())
+    Ok(written)
 }
 
-// Both scripts call in turn, 200 calls in all, with other lines between. Each is answered as if it called alone.
+// The 100 lines of one text and of another in turn, with one of the others after each.
+fn in_turn(
+    alloc: Global,
+    one: &[u8],
+    another: &[u8],
+    others: [&[u8]; 5],
+) -> Result<Vec<u8>, AllocError> {
+    let mut text = Vec::new(alloc);
+    let mut one = one.split(|byte| *byte == b'\n');
+    let mut another = another.split(|byte| *byte == b'\n');
+    for turn in 0usize..100 {
+        if let (Some(first), Some(second)) = (one.next(), another.next()) {
+            say(&mut text, first)?;
+            say(&mut text, others[2 * turn % 5])?;
+            say(&mut text, second)?;
+            say(&mut text, others[(2 * turn + 1) % 5])?;
+        }
+    }
+    Ok(text)
+}
+
+// Both scripts call in turn, 200 calls in all, with a line of nobody after each. Each is answered as if it called alone.
 #[test]
 fn scripts_in_turn_are_answered_as_alone(rt: HostRuntime) -> Result<(), Fail> {
     let alloc = rt.alloc();
-    let mut whole = Vec::new(alloc);
-    let mut of_alice = Vec::new(alloc);
-    let mut of_bob = Vec::new(alloc);
-    for turn in 0usize..100 {
-        say(&mut whole, b"alice ", TURNS[turn % 12])?;
-        say(&mut of_alice, b"alice ", TURNS[turn % 12])?;
-        say(&mut whole, b"bob ", TURNS[turn * 7 % 12])?;
-        say(&mut of_bob, b"bob ", TURNS[turn * 7 % 12])?;
-        whole.extend_from_slice(BETWEEN[turn % 5])?;
-    }
-    let (_, together) = run_in_pieces(alloc, &whole, 1000, 1000)?;
-    answers_are_those_alone(&rt, &together, b"alice: ", &of_alice)?;
-    answers_are_those_alone(&rt, &together, b"bob: ", &of_bob)?;
-    Ok(())
+    let of_alice = lines_of_script(alloc, b"alice ", 1)?;
+    let of_bob = lines_of_script(alloc, b"bob ", 7)?;
+    let alice_alone = answers_alone(&rt, &of_alice)?;
+    let bob_alone = answers_alone(&rt, &of_bob)?;
+    let input = in_turn(alloc, &of_alice, &of_bob, OTHERS)?;
+    let transcript = in_turn(alloc, &alice_alone, &bob_alone, OTHERS_ANSWERED)?;
+    check(&rt, &input, 400, &transcript)
 }

@@ -12,7 +12,7 @@ returns-then-passed-length-gt-LONGEST_READ-clause-stops g c =
 
 pub returns-then-is_whole-clause-next : goal.returns-then-is_whole-clause-next
 returns-then-is_whole-clause-next g c =
-    long_line-within _ _ _ _ _ _ (IsLong-ahead _ _ c.requires) c.loop-passed.invariant.come c.line_length-length.ensures.value (omega arith) c.pass.ensures
+    long_line-within _ _ _ _ _ _ (IsLong-ahead _ _ c.requires) c.loop-passed.invariant.come c.line_length-length.ensures.value (omega arith) (omega arith) c.pass.ensures
 
 pub returns-in_err-read_more-clause-stops : goal.returns-in_err-read_more-clause-stops
 returns-in_err-read_more-clause-stops g c =
@@ -26,7 +26,7 @@ returns-then-branch-eq0-clause-next g c =
     let none : length c.read_more.new.block ≡ 0 = omega (arith, ap length c.pass.ensures, length-drop {A = ℕ}, c.in_ok-read_more.ensures.count) in
     long_line-end _ _ _ _ (IsLong-ahead _ _ c.requires)
     (passed_on _ _ _ _ _ _ _ c.loop-passed.invariant.come c.line_length-length.ensures.value (omega arith) c.pass.ensures c.in_ok-read_more.ensures.come)
-    none (c.in_ok-read_more.ensures.end c.if-branch-eq0.true)
+    (omega arith) none (c.in_ok-read_more.ensures.end c.if-branch-eq0.true)
 
 pub loop-passed-preserved : goal.loop-passed-preserved
 loop-passed-preserved g c = record {
