@@ -84,19 +84,30 @@ fn numbers_that_are_no_selectors(rt: HostRuntime) -> Result<(), Fail> {
     )
 }
 
-#[test]
-fn capabilities_are_exact_at_the_limit(rt: HostRuntime) -> Result<(), Fail> {
-    let mut input = Vec::new(rt.alloc());
-    let mut transcript = Vec::new(rt.alloc());
+// A line sixteen times over, which is answered the selectors 1 to 16 in turn.
+fn sixteen_times(
+    input: &mut Vec<u8>,
+    line: &[u8],
+    transcript: &mut Vec<u8>,
+    answer: &[u8],
+) -> Result<(), Fail> {
     for selector in 1u8..17 {
-        input.extend_from_slice(b"bob alloc 1\n")?;
-        transcript.extend_from_slice(b"bob: cap ")?;
+        input.extend_from_slice(line)?;
+        transcript.extend_from_slice(answer)?;
         if selector >= 10 {
             transcript.push(b'1')?;
         }
         transcript.push(b'0' + selector % 10)?;
         transcript.push(b'\n')?;
     }
+    Ok(())
+}
+
+#[test]
+fn freed_selector_comes_again_at_the_limit(rt: HostRuntime) -> Result<(), Fail> {
+    let mut input = Vec::new(rt.alloc());
+    let mut transcript = Vec::new(rt.alloc());
+    sixteen_times(&mut input, b"bob alloc 1\n", &mut transcript, b"bob: cap ")?;
     input.extend_from_slice(b"bob alloc 1\nbob free 3\nbob alloc 1\n")?;
     transcript.extend_from_slice(b"bob: Out_of_ram\nbob: ok\nbob: cap 3\n")?;
     check(&rt, &input, 19, &transcript)
@@ -137,18 +148,29 @@ fn reuse_example(rt: HostRuntime) -> Result<(), Fail> {
 }
 
 #[test]
+fn regions_example(rt: HostRuntime) -> Result<(), Fail> {
+    check(
+        &rt,
+        b"alice alloc 8192\nalice attach 1\nalice attach_at 1 0x10004000\nalice poke 0x10000ffe 73656372\n\
+          alice peek 0x10004ffe 4\nalice peek 0x10001fff 2\nbob peek 0x10000ffe 4\nalice free 1\n\
+          alice peek 0x10004ffe 4\nbob alloc 8192\nbob attach 1\nbob peek 0x10000ffe 4\n",
+        12,
+        b"alice: cap 1\nalice: at 0x10000000\nalice: at 0x10004000\nalice: ok\n\
+          alice: data 73656372\nalice: Page_fault\nbob: Page_fault\nalice: ok\n\
+          alice: Page_fault\nbob: cap 1\nbob: at 0x10000000\nbob: data 00000000\n",
+    )
+}
+
+#[test]
 fn ram_is_refused_before_capabilities(rt: HostRuntime) -> Result<(), Fail> {
     let mut input = Vec::new(rt.alloc());
     let mut transcript = Vec::new(rt.alloc());
-    for selector in 1u8..17 {
-        input.extend_from_slice(b"alice capalloc\n")?;
-        transcript.extend_from_slice(b"alice: cap ")?;
-        if selector >= 10 {
-            transcript.push(b'1')?;
-        }
-        transcript.push(b'0' + selector % 10)?;
-        transcript.push(b'\n')?;
-    }
+    sixteen_times(
+        &mut input,
+        b"alice capalloc\n",
+        &mut transcript,
+        b"alice: cap ",
+    )?;
     input.extend_from_slice(
         b"alice alloc 1\nalice alloc 65537\nalice capalloc\nalice capfree 16\nalice free 1\n",
     )?;
