@@ -1,7 +1,6 @@
 -- How what is told grows.
-use Rattle.std.proofs.Common.{◌≡◌, ℕ, ◌+◌, ◌-◌, ◌≤◌, List, [], ◌++◌, length, take, drop, slice_range, Option, Some, None, arith, rules, refl, sym, ◌∙◌, ap, append_assoc, append-nil, Bool, true, false, ◌||◌}
+use Rattle.std.proofs.Common.{◌≡◌, ℕ, ◌+◌, ◌-◌, List, [], ◌++◌, length, take, drop, Option, Some, None, arith, rules, refl, sym, ◌∙◌, ap, append_assoc, append-nil, Bool, true, false, ◌||◌}
 use Rattle.std.proofs.lemmas.List.{places, same_lists, take_rest, take-append-drop}
-use Rattle.std.proofs.lemmas.List.Edits.{length-between}
 use Rattle.std.specs.Io.KnownBytes.{Appends, Keeps}
 use Rattle.scenario_run.specs.Gathered.{told_so_far, AppendsPart}
 
