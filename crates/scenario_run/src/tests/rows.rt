@@ -260,11 +260,9 @@ fn say(text: &mut Vec<u8>, line: &[u8]) -> Result<(), AllocError> {
 // The lines of a script's 100 calls, each so many places of TURNS after the one before.
 fn lines_of_script(alloc: Global, name: &[u8], places: usize) -> Result<Vec<u8>, AllocError> {
     let mut lines = Vec::new(alloc);
-    let mut place = 0;
-    for _ in 0..100 {
+    for turn in 0usize..100 {
         lines.extend_from_slice(name)?;
-        say(&mut lines, TURNS[place])?;
-        place = (place + places % 12) % 12;
+        say(&mut lines, TURNS[turn.wrapping_mul(places) % 12])?;
     }
     Ok(lines)
 }
