@@ -80,6 +80,7 @@ module _ {books : Books} {pool : List (Option (List ℕ))} {next : List ℕ} {sp
       omega (arith, caps_owed-len store account, none)
   paid_for account (Some a) there = omega (arith, caps_owed-len store account, sound.paid.caps account a there)
 
+  -- so no account has more dataspaces than it uses capabilities
   pub spaces_paid : (account : ℕ) → len (part account store).spaces ≤ (account_at books account).caps_used
   spaces_paid account = paid_for account (get books.accounts account) refl
 

@@ -38,6 +38,7 @@ pub page_bytes_same : (old new : List (Option (List ℕ))) (page : ℕ) → get_
 unfolding page_bytes
 page_bytes_same old new page same = ap (λ (o : Option (List ℕ)). unwrap_or o []) same
 
+-- pages with the same slot are taken alike
 pub is_taken_same : (old new : List (Option (List ℕ))) (page : ℕ) → get_or new page None ≡ get_or old page None → is_taken new page ≡ is_taken old page
 unfolding is_taken
 is_taken_same old new page same = ap is_some same
@@ -69,6 +70,7 @@ page_at-after next first (suc i) = ap (λ page. get_or next page 0) (page_at-aft
 
 -- ---- lists by their index
 
+-- lists that are equal at each index are equal when joined
 pub joined_same : (old new : ℕ → List ℕ) (count : ℕ) → ((i : ℕ) → i < count → new i ≡ old i) → joined new count ≡ joined old count
 unfolding joined
 joined_same old new zero same = refl

@@ -89,6 +89,7 @@ module _ (pages : List (Option (List ℕ))) (next : List ℕ) (spaces : Slab Dat
   unfolding space_of chain_bytes
   space_kept a x there = ap (λ bytes. record { payer = x.payer.0; bytes = bytes }) (joined_same _ _ x.chain.count (bytes_kept a x there))
 
+  -- the new dataspace is all zeros
   new_space : space_of new_pages new_next d ≡ record { payer = d.payer.0; bytes = zeros (d.chain.count * 4096) }
   unfolding space_of chain_bytes
   new_space = ap (λ bytes. record { payer = d.payer.0; bytes = bytes }) (joined-zero_page _ d.chain.count chain.cleared)
@@ -195,6 +196,7 @@ module _ (pages : List (Option (List ℕ))) (next : List ℕ) (spaces : Slab Dat
   unfolding space_of chain_bytes
   space_of_other a x found apart = ap (λ bytes. record { payer = x.payer.0; bytes = bytes }) (joined_same _ _ x.chain.count (bytes_of_other a x found apart))
 
+  -- the dataspace that is written has the part in its bytes
   space_written : space_of new_pages next d ≡ record { payer = (space_of pages next d).payer; bytes = with_bytes (space_of pages next d).bytes offset bytes }
   unfolding space_of
   space_written = ap (λ all. record { payer = d.payer.0; bytes = all }) written.bytes

@@ -43,6 +43,7 @@ module _ {books : Books} {pool : List (Option (List ℕ))} {next : List ℕ} {sp
 
   -- ---- one dataspace
 
+  -- a dataspace that exists is in the slab
   pub key_there : (ds : ℕ) → Exists store ds → slab.ContainsKey spaces ds
   key_there ds exists = ContainsKey-map_of (space_of pool next) spaces ds exists
 
@@ -55,6 +56,7 @@ module _ {books : Books} {pool : List (Option (List ℕ))} {next : List ℕ} {sp
     pub space_at-there : space_at store ds ≡ space_of pool next d
     space_at-there = space_at-some store ds (space_of pool next d) space_there
 
+    -- its pages make a chain
     pub chain_there : IsChain pool next d.chain.first d.chain.count
     chain_there = IsChain-laid_out pool next spaces sound.laid_out ds d there
 
@@ -62,9 +64,11 @@ module _ {books : Books} {pool : List (Option (List ℕ))} {next : List ℕ} {sp
     size_there : length (space_of pool next d).bytes ≡ d.chain.count * 4096
     size_there = length-space_of pool next spaces sound.laid_out ds d there
 
+    -- its size is below 2^64
     pub size_small : d.chain.count * 4096 < 2 ^ 64
     size_small = omega (arith, size_fits store _ _ _ sound.paid ds (space_of pool next d) space_there, size_there, sound.paid.few)
 
+    -- and is the size that contracts see
     pub size_is : d.chain.count * 4096 ≡ length (space_at store ds).bytes
     size_is = sym (ap (λ (s : Space). length s.bytes) space_at-there ∙ size_there)
 
@@ -75,6 +79,7 @@ module _ {books : Books} {pool : List (Option (List ℕ))} {next : List ℕ} {sp
 
     -- ---- it goes
 
+    -- its payer's account is open
     pub payer_open : IsOpen books d.payer.0
     payer_open = subst (IsOpen books) payer_is (sound.paid.payers ds (space_of pool next d) space_there)
 
@@ -88,9 +93,11 @@ module _ {books : Books} {pool : List (Option (List ℕ))} {next : List ℕ} {sp
         let enough = use_covers store _ _ _ sound.paid ds (space_of pool next d) (account_at books d.payer.0) space_there (ap (get books.accounts) payer_is ∙ payer_at) in
         (omega (arith, enough.0, size_there), enough.1)
 
+    -- the payer uses as many bytes at least
     pub ram_covered : d.chain.count * 4096 ≤ (account_at books d.payer.0).ram_used
     ram_covered = covered.0
 
+    -- and one capability at least
     pub caps_covered : 1 ≤ (account_at books d.payer.0).caps_used
     caps_covered = covered.1
 
@@ -99,6 +106,7 @@ module _ {books : Books} {pool : List (Option (List ℕ))} {next : List ℕ} {sp
       abbrev credited_payer : Account
       credited_payer = credited (account_at books d.payer.0) (length (space_of pool next d).bytes) 1
 
+      -- the memory has lost this dataspace, and its payer has the credit
       gone : store_of new_books new_pool next new_spaces ≡ record { books = with_account books (space_of pool next d).payer credited_payer; spaces = remove store.spaces ds }
       gone =
           same_store new_books _ new_pool next new_spaces
@@ -128,6 +136,7 @@ module _ {books : Books} {pool : List (Option (List ℕ))} {next : List ℕ} {sp
     abbrev becomes : Space
     becomes = record { payer = (space_of pool next d).payer; bytes = with_bytes (space_of pool next d).bytes offset bytes }
 
+    -- the memory has the written dataspace under its key, and is else what it was
     changed : store_of books new_pool next spaces ≡ record { books = books; spaces = insert store.spaces ds becomes }
     changed = ap (λ m. record { books = books; spaces = m }) (map_of-written pool next spaces sound.laid_out ds d there new_pool offset bytes written)
 
@@ -179,9 +188,11 @@ module _ {books : Books} {pool : List (Option (List ℕ))} {next : List ℕ} {sp
       new_chain : IsNewChain pool next new_pool new_next d.chain.first d.chain.count
       new_chain = subst (IsNewChain pool next new_pool new_next d.chain.first) (sym count) chain
 
+      -- no dataspace had the key
       pub vacant_there : get store.spaces key ≡ None
       vacant_there = get-map_of_none (space_of pool next) spaces key vacant
 
+      -- the memory has a dataspace of zeros more, and its payer has the charge
       come : store_of new_books new_pool new_next new_spaces ≡ record { books = with_account books account (charged (account_at books account) size 1); spaces = insert store.spaces key (record { payer = account; bytes = zeros size }) }
       come =
           same_store new_books _ new_pool new_next new_spaces charge
@@ -221,6 +232,7 @@ module _ {books : Books} {pool : List (Option (List ℕ))} {next : List ℕ} {sp
     IsSound-open (Ok child) refusal ok fresh err = IsSound-with_child child.0 refusal ok fresh
     IsSound-open (Err e) refusal ok fresh err = subst (λ b. IsSound b pool next spaces) (sym err) sound
 
+    -- the new account's part has the limits it was opened with, and no dataspace
     pub own-open : (r : Result AccountId Refusal) → IfOk r (λ child. new_books ≡ with_child books parent child.0 ram caps) → IfOk r (λ child. get books.accounts child.0 ≡ None) → IfOk r (λ child. part child.0 (store_of new_books pool next spaces) ≡ record { account = Some (opened ram caps); spaces = empty })
     own-open (Ok child) ok fresh =
         ap (part child.0) (same_store new_books _ pool next spaces ok)

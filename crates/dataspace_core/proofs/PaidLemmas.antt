@@ -172,6 +172,7 @@ module _ (store : Store) (free pages places : ℕ) (paid : IsPaid store free pag
   -- ---- a dataspace gets other bytes
 
   module _ (ds : ℕ) (space other : Space) (there : get store.spaces ds ≡ Some space) (payer : other.payer ≡ space.payer) (size : size_of other ≡ size_of space) where
+    -- all stays paid for where the payer and the size stay
     pub IsPaid-same : IsPaid (record store { spaces = insert store.spaces ds other }) free pages places
     IsPaid-same = record {
       payers = λ q s found. elim (after_insert store.spaces ds other q s found) [

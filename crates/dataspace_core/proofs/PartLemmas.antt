@@ -29,6 +29,7 @@ pub space_at-some : (store : Store) (ds : ℕ) (space : Space) → get store.spa
 space_at-some store ds space there = ap (λ (o : Option Space). unwrap_or o (record { payer = 0; bytes = [] })) there
 
 module _ (store : Store) (ds payer n : ℕ) (free : get store.spaces ds ≡ None) where
+  -- the payer is charged, and its part has a dataspace of zeros more
   pub part-with_space : part payer (with_space store ds payer n) ≡ record { account = Some (charged (account_in store payer) (page_of n) 1); spaces = insert (part payer store).spaces ds (zeros (page_of n)) }
   unfolding part
   part-with_space = same_part _ _ _ _
@@ -42,11 +43,13 @@ module _ (store : Store) (ds payer n : ℕ) (free : get store.spaces ds ≡ None
       (get-insert_other store.books.accounts payer _ other apart)
       (picked-insert_hidden (bytes_paid_by other) store.spaces ds _ (paid_by_another other _ (λ e. apart (sym e))) (get-picked_none (bytes_paid_by other) store.spaces ds free))
 
+-- a key that no dataspace has is in no part
 pub own_fresh : (store : Store) (account ds : ℕ) → get store.spaces ds ≡ None → get (part account store).spaces ds ≡ None
 unfolding part
 own_fresh store account ds free = get-picked_none (bytes_paid_by account) store.spaces ds free
 
 module _ (store : Store) (ds : ℕ) (space : Space) (there : get store.spaces ds ≡ Some space) where
+  -- the payer is credited, and its part has lost the dataspace
   pub part-without_space : part (space_at store ds).payer (without_space store ds) ≡ record { account = Some (credited (account_in store (space_at store ds).payer) (length (space_at store ds).bytes) 1); spaces = remove (part (space_at store ds).payer store).spaces ds }
   unfolding part
   part-without_space = same_part _ _ _ _
@@ -66,6 +69,7 @@ module _ (store : Store) (ds : ℕ) (space : Space) (there : get store.spaces ds
       (get-insert_other store.books.accounts (space_at store ds).payer _ other apart)
       (picked-remove_hidden (bytes_paid_by other) store.spaces ds (hidden other apart))
 
+  -- the payer's account stays, and its part has the dataspace with the new bytes
   pub part-with_bytes_at : (offset : ℕ) (bytes : List ℕ) → part (space_at store ds).payer (with_bytes_at store ds offset bytes) ≡ record { account = (part (space_at store ds).payer store).account; spaces = insert (part (space_at store ds).payer store).spaces ds (with_bytes (space_at store ds).bytes offset bytes) }
   unfolding part
   part-with_bytes_at offset bytes = same_part _ _ _ _

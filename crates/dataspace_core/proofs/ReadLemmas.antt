@@ -18,6 +18,7 @@ range_piece xs from m n e = ap (λ k. take k (drop from xs)) (omega arith)
 pub length-filled : (buffer piece : List ℕ) (done n : ℕ) → length piece ≡ length (take (done + n - done) (drop done buffer)) → length (put_mid done (done + n - done) buffer piece) ≡ length buffer
 length-filled buffer piece done n fills = same_len_mid done (done + n - done) buffer piece fills
 
+-- with the piece of a step the buffer is filled up to where the step ends
 pub filled_more : (pages : List (Option (List ℕ))) (next : List ℕ) (first count offset done n page : ℕ) (buffer piece : List ℕ) → IsChain pages next first count → IsStep count offset (length buffer) done n → page ≡ page_at next first ((offset + done) / 4096) → length piece ≡ length (take (done + n - done) (drop done buffer)) → piece ≡ slice_range (page_bytes pages page) ((offset + done) % 4096) ((offset + done) % 4096 + length (take (done + n - done) (drop done buffer))) → take done buffer ≡ take done (drop offset (chain_bytes pages next first count)) → take (done + n) (put_mid done (done + n - done) buffer piece) ≡ take (done + n) (drop offset (chain_bytes pages next first count))
 filled_more pages next first count offset done n page buffer piece chain step here fills is so_far =
     let lent = length-lent buffer done n step.within in

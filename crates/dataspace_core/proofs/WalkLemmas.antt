@@ -6,10 +6,15 @@ use Rattle.dataspace_core.proofs.ChainLemmas.{page_at-more, held-lt-length}
 
 -- where the step stands, and how far it goes
 pub record IsStep (count offset len done n : ℕ) : Type 0 where
+  -- the step stands in a page of the chain
   pub below : (offset + done) / 4096 < count
+  -- so many whole pages on, and some bytes into that one
   pub place : offset + done ≡ (offset + done) / 4096 * 4096 + (offset + done) % 4096
+  -- it ends within the page
   pub within_page : (offset + done) % 4096 + n ≤ 4096
+  -- and within the walk
   pub within : done + n ≤ len
+  -- a walk that goes on does so in the next page
   pub next : done + n < len → (offset + (done + n)) / 4096 ≡ (offset + done) / 4096 + 1
 
 -- a position is in its page, and that many whole pages on

@@ -22,10 +22,12 @@ abbrev rpcs : ℕ → NatMap Object
 rpcs zero = empty
 rpcs (suc n) = insert (rpcs n) (n + 1) RpcObject
 
+-- each of these selectors names an RPC object
 rpcs_hold : (n t : ℕ) → 0 < t → t ≤ n → get (rpcs n) t ≡ Some RpcObject
 rpcs_hold zero t some within = absurd (omega arith)
 rpcs_hold (suc n) t some within = grind (arith, natmaps, rpcs_hold n t some)
 
+-- a selector past them names nothing
 rpcs_end : (n t : ℕ) → n < t → get (rpcs n) t ≡ None
 rpcs_end zero t past = get-empty t
 rpcs_end (suc n) t past = grind (arith, natmaps, rpcs_end n t)

@@ -11,6 +11,7 @@ use Rattle.std.specs.FinMap.Entries.{below_all}
 use Rattle.own_model.specs.NatMap.{NatMap}
 use Rattle.own_model.proofs.NatMapLemmas.{both_parts, is_less}
 
+-- a number is equal to itself
 eqb_same : (k : ℕ) → eqb k k ≡ true
 eqb_same k = grind (arith, nat_tests)
 
@@ -19,12 +20,15 @@ module _ {X : Type 0} where
   abbrev pub value_of : ℕ → List (ℕ × X) → Option X
   value_of q es = keyed.find nat_cmp q es
 
+  -- under a key is the first entry's value, if that has the key, or else what later entries have
   pub value_of-cons : (q : ℕ) (e : ℕ × X) (es : List (ℕ × X)) → value_of q (e ∷ es) ≡ cond (eqb q e.0) (Some e.1) (value_of q es)
   value_of-cons q e es = ap (λ b. cond b (Some e.1) (value_of q es)) (unsigned_tied q e.0)
 
+  -- under the first entry's key is its value
   pub value_of_first : (q : ℕ) (e : ℕ × X) (es : List (ℕ × X)) → eqb q e.0 ≡ true → value_of q (e ∷ es) ≡ Some e.1
   value_of_first q e es t = value_of-cons q e es ∙ ap (λ b. cond b (Some e.1) (value_of q es)) t
 
+  -- under another key is what later entries have
   pub value_of_later : (q : ℕ) (e : ℕ × X) (es : List (ℕ × X)) → eqb q e.0 ≡ false → value_of q (e ∷ es) ≡ value_of q es
   value_of_later q e es t = value_of-cons q e es ∙ ap (λ b. cond b (Some e.1) (value_of q es)) t
 
@@ -101,14 +105,17 @@ module _ {X : Type 0} where
 
     -- ---- the same of a map's entries
 
+    -- an entry that is found passes, and the map has it
     pub found_in_map : (m : NatMap X) (e : ℕ × X) → find test (entries m) ≡ Some e → (test e ≡ true) × (get m e.0 ≡ Some e.1)
     found_in_map m e is =
         let at = found (entries m) e (KeysDiffer-sorted (entries m) (entries_sorted m)) is in
         (at.0, get-entries m e.0 ∙ at.1)
 
+    -- where nothing is found, nothing that the map has passes
     pub not_found_in_map : (m : NatMap X) (k : ℕ) (v : X) → find test (entries m) ≡ None → get m k ≡ Some v → test (k, v) ≡ false
     not_found_in_map m k v is there = not_found (entries m) k v is (sym (get-entries m k) ∙ there)
 
+    -- where nothing that the map has passes, nothing is found
     pub finds_none_in_map : (m : NatMap X) → ((k : ℕ) (v : X) → get m k ≡ Some v → test (k, v) ≡ false) → find test (entries m) ≡ None
     finds_none_in_map m fails =
         finds_none (entries m) (KeysDiffer-sorted (entries m) (entries_sorted m)) (λ k v there. fails k v (get-entries m k ∙ there))

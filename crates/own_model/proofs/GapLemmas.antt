@@ -18,6 +18,7 @@ filled selector zero = empty
 filled selector (suc n) = insert (filled selector n) (user_low + n * 4096) (record { of = selector; pages = 1 })
 
 module _ (selector : ℕ) where
+  -- a region has one page, and ends no later than the first n pages of the window
   abbrev IsBelow : ℕ → ℕ → Region → Type 0
   IsBelow n start r = (r.pages ≡ 1) × (start + 4096 ≤ user_low + n * 4096)
 
@@ -42,12 +43,15 @@ module _ (selector : ℕ) where
   len-filled zero = len-empty nat_cmp Region
   len-filled (suc n) = omega (arith, len-insert_new (filled selector n) (user_low + n * 4096) (record { of = selector; pages = 1 }) (filled_next n), len-filled n)
 
+  -- the next one starts at a multiple of a page
   aligned_next : (n : ℕ) → (user_low + n * 4096) % 4096 ≡ 0
   aligned_next n = omega arith
 
+  -- a region of a page that ends at an address or before doesn't overlap a page there
   apart_next : (start pages address : ℕ) → pages ≡ 1 → start + 4096 ≤ address → overlap start pages address 1 ≡ false
   apart_next start pages address one end = grind (arith, nat_tests)
 
+  -- the page after them is a place, as long as the window has one
   place_next : (n : ℕ) → n < 65536 → IsPlace user_low user_high (filled selector n) 1 (user_low + n * 4096)
   place_next n few = record {
     aligned = aligned_next n;
@@ -56,6 +60,7 @@ module _ (selector : ℕ) where
     free = λ start r there. let below = filled_below n start r there in apart_next start r.pages (user_low + n * 4096) below.0 below.1;
   }
 
+  -- a page that starts within another overlaps it
   meets_last : (address b : ℕ) → address ≤ b → b < address + 4096 → overlap address 1 b 1 ≡ true
   meets_last address b from below = grind (arith, nat_tests)
 
@@ -83,6 +88,7 @@ module _ (selector : ℕ) where
   gap_next n few =
       first_gap_is user_low user_high (filled selector n) 1 (Some (user_low + n * 4096)) (place_next n few, none_before n)
 
+  -- a selector passes the test for itself
   same_selector : (o p : Option Region) → cond (selector == selector) o p ≡ o
   same_selector o p = grind (arith, nat_tests)
 

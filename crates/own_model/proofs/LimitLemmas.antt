@@ -31,6 +31,7 @@ capalloc_told : (why : Option Refusal) (s : OwnState) (refusal : Refusal) → (u
 capalloc_told (Some other) s refusal told = cc
 capalloc_told None s refusal told = absurd (cc)
 
+-- an account within its limits is refused an RPC object for want of capabilities alone
 pub capalloc_short : (s : OwnState) (refusal : Refusal) → WithinLimits s.account → (script_step Capalloc s).reply ≡ Refused refusal → refusal ≡ OutOfCaps
 capalloc_short s refusal within told = short_of_caps s.account 1 refusal within (capalloc_told (shortage s.account 0 1) s refusal told)
 
@@ -78,6 +79,7 @@ sum_changed f xs i y d same = elim (cases_lt i (length xs)) [
 abbrev SameLimits : OwnState → OwnState → Type 0
 SameLimits s t = (t.account.ram_limit ≡ s.account.ram_limit) × (t.account.caps_limit ≡ s.account.caps_limit)
 
+-- nothing that a call can do changes the limits
 effects_stay : (s : OwnState) → KeptByEffects (SameLimits s) s
 effects_stay s = record {
   allocates = λ n accepted. (refl, refl);

@@ -95,6 +95,7 @@ module _ {X : Type 0} where
   from_entries-entries m = same _ _ (λ q. map.get-from_entries nat_cmp_total (entries m) q ∙ sym (get-entries m q))
 
   module _ (P : NatMap X → Type 0) (none : P empty) (more : (m : NatMap X) (k : ℕ) (v : X) → get m k ≡ None → P m → P (insert m k v)) where
+    -- what holds of none and stays with each free key filled holds of the map of sorted entries
     along : (es : List (ℕ × X)) → T (is_sorted nat_cmp es) → P (from_entries es)
     along [] h = none
     along (e ∷ es) h =
@@ -107,21 +108,26 @@ module _ {X : Type 0} where
 
 -- ---- picked
 
+-- an entry with what f answers for its value, if f answers
 abbrev entry_of : {X Y : Type 0} → (X → Option Y) → ℕ × X → Option (ℕ × Y)
 entry_of f e = option_map (λ y. (e.0, y)) (f e.1)
 
+-- an option, or else nothing, is that option
 or_none : {Y : Type 0} (o p : Option Y) → p ≡ None → option_or o p ≡ o
 or_none None p e = e
 or_none (Some y) p e = refl
 
+-- an entry that may stand in front answers at its own key, and else the others answer
 find-cons_option : {Y : Type 0} (q k : ℕ) (o : Option Y) (es : List (ℕ × Y)) → find nat_cmp q (cons_option (option_map (λ y. (k, y)) o) es) ≡ cond (eq_by_cmp nat_cmp q k) (option_or o (find nat_cmp q es)) (find nat_cmp q es)
 find-cons_option q k (Some y) es = refl
 find-cons_option q k None es = elim (eq_by_cmp nat_cmp q k) as (λ b. find nat_cmp q es ≡ cond b (find nat_cmp q es) (find nat_cmp q es)) [ true ↦ refl | false ↦ refl ]
 
+-- entries whose keys are all above a key have nothing under it
 find_ended : {X : Type 0} (q k : ℕ) (es : List (ℕ × X)) → T (below_all nat_cmp k es) → eqb q k ≡ true → find nat_cmp q es ≡ None
 find_ended q k es h e = rw (eqb-true q k e) (find_below k es h)
 
 module _ {X Y : Type 0} where
+  -- what is picked of sorted entries has under each key f of what they have there
   find-filter_map : (f : X → Option Y) (q : ℕ) (es : List (ℕ × X)) → T (is_sorted nat_cmp es) → find nat_cmp q (filter_map (entry_of f) es) ≡ option_and_then f (find nat_cmp q es)
   find-filter_map f q [] h = refl
   find-filter_map f q (e ∷ es) h =
@@ -148,6 +154,7 @@ module _ {X Y : Type 0} where
   pub picked-empty : (f : X → Option Y) → picked f empty ≡ empty
   picked-empty f = same _ _ (λ q. get-picked f empty q ∙ ap (option_and_then f) (get-empty q) ∙ sym (get-empty q))
 
+  -- f of a choice of two is the choice of f of each
   and_then-cond : (f : X → Option Y) (b : Bool) (o p : Option X) → option_and_then f (cond b o p) ≡ cond b (option_and_then f o) (option_and_then f p)
   and_then-cond f true o p = refl
   and_then-cond f false o p = refl

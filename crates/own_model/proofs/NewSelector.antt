@@ -11,16 +11,20 @@ use Rattle.own_model.proofs.NatMapLemmas.{both_parts, is_less}
 
 -- ---- the least gap in rising numbers
 
+-- numbers that a test tells apart differ
 apart_from_test : (a b : ℕ) → eqb a b ≡ false → a ≢ b
 apart_from_test a b e = grind (arith, nat_tests)
 
+-- a number that the order puts below another is less
 below_from_test : (a b : ℕ) → T (is_lt (nat_cmp a b)) → a < b
 below_from_test a b h = ranked a b Less (sym (is_less _ h))
 
 module _ {X : Type 0} where
+  -- the keys of entries, in order
   abbrev keys_of : List (ℕ × X) → List ℕ
   keys_of es = map (λ e. e.0) es
 
+  -- under a key is the first entry's value, if that has the key, or else what later entries have
   find-cons : (q : ℕ) (e : ℕ × X) (es : List (ℕ × X)) → find nat_cmp q (e ∷ es) ≡ cond (eqb q e.0) (Some e.1) (find nat_cmp q es)
   find-cons q e es = ap (λ b. cond b (Some e.1) (find nat_cmp q es)) (unsigned_tied q e.0)
 
@@ -84,6 +88,7 @@ module _ {X : Type 0} where
             omega arith
       ] refl is
 
+  -- no sorted entry has it as its key
   least_gap_free : (n : ℕ) (es : List (ℕ × X)) → T (is_sorted nat_cmp es) → find nat_cmp (least_gap n (keys_of es)) es ≡ None
   least_gap_free n [] h = refl
   least_gap_free n (e ∷ es) h =

@@ -25,17 +25,26 @@ use Rattle.own_model.specs.Sound.{IsSound}
 
 -- a region, with its start, that holds a range
 pub record Holds (regions : NatMap Region) (address count : ℕ) (of offset : ℕ) : Type 0 where
+  -- where it starts
   pub start : ℕ
+  -- the region itself
   pub region : Region
+  -- it is one of the regions
   pub there : get regions start ≡ Some region
+  -- it is of this thing
   pub same : region.of ≡ of
+  -- the range starts within it
   pub from : start ≤ address
+  -- and ends within it
   pub to : address + count ≤ start + region.pages * 4096
+  -- the range starts so many bytes into it
   pub into : offset ≡ address - start
 
+-- a range that passes the test of a region starts and ends within it
 both_tests : (start address count pages : ℕ) → nat_le start address && nat_le (address + count) (start + pages * 4096) ≡ true → (start ≤ address) × (address + count ≤ start + pages * 4096)
 both_tests start address count pages h = grind (arith, nat_tests)
 
+-- an entry that is found is a region that holds the range, of the thing and from the offset that it gives
 found_region : (regions : NatMap Region) (address count of offset : ℕ) (o : Option (ℕ × Region)) → region_at regions address count ≡ o →
     option_map {U = ℕ × ℕ} (λ e. (e.1.of, address - e.0)) o ≡ Some (of, offset) → Holds regions address count of offset
 found_region regions address count of offset None at is = absurd (none-some (of, offset) is)
@@ -89,6 +98,7 @@ slice_range-with_part bytes offset part fits =
     ap (λ l. slice_range l offset (offset + length part)) (with_part-within bytes offset part fits)
     ∙ slice_range-with_bytes bytes offset part fits
 
+-- whether a reply says that the call is done
 abbrev is_done : Reply → Bool
 is_done (Selected selector) = false
 is_done (Attached address) = false
@@ -97,12 +107,15 @@ is_done Done = true
 is_done (Quotas account) = false
 is_done (Refused refusal) = false
 
+-- a refusal is no such reply
 not_done : (refusal : Refusal) → ¬ (Refused refusal ≡ Done)
 not_done refusal e = true≢false (sym (ap is_done e))
 
+-- a peek of as many bytes at the address tells these bytes
 abbrev ReadsBack : OwnState → ℕ → List ℕ → OwnState → Type 0
 ReadsBack s address bytes next = (script_step (Peek address (length bytes)) next).reply ≡ Bytes bytes
 
+-- what was poked is read back, where its size is accepted and its range lies in a region
 read_after : (s : OwnState) (address selector offset : ℕ) (bytes : List ℕ) → IsSound s → count_refusal (length bytes) ≡ None →
     resolved s.regions address (length bytes) ≡ Some (selector, offset) → ReadsBack s address bytes (script_step (Poke address bytes) s).next
 read_after s address selector offset bytes h some found =
@@ -114,6 +127,7 @@ read_after s address selector offset bytes h some found =
     (get-insert_same s.selectors selector (Dataspace (with_part old offset bytes)) selector refl))
     ∙ ap (λ read. Bytes read) (slice_range-with_part old offset bytes fits.2)
 
+-- what was poked is read back where the poke was done, whatever its tests gave
 read_by : (s : OwnState) (address : ℕ) (bytes : List ℕ) → IsSound s → (refusal : Option Refusal) (place : Option (ℕ × ℕ)) → count_refusal (length bytes) ≡ refusal →
     resolved s.regions address (length bytes) ≡ place → (unless refusal s (poked bytes place s)).reply ≡ Done → ReadsBack s address bytes (script_step (Poke address bytes) s).next
 read_by s address bytes h (Some refusal) place counted found done = absurd (not_done refusal done)

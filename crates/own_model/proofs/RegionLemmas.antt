@@ -16,15 +16,18 @@ use Rattle.own_model.specs.Region.{Region, user_low, user_high, overlap, meets, 
 use Rattle.own_model.proofs.NatMapLemmas.{same, get-picked, picked-insert_some, picked-remove}
 use Rattle.own_model.proofs.EntryLemmas.{value_of, list_any-find, found_in_map, not_found_in_map, finds_none_in_map}
 
+-- an option without a value is none
 none_found : {X : Type 0} (o : Option X) → is_some o ≡ false → o ≡ None
 none_found None h = refl
 none_found (Some x) h = absurd (true≢false h)
 
+-- equal numbers pass the test of equality
 same_test : (a b : ℕ) → a ≡ b → eqb a b ≡ true
 same_test a b e = grind (arith, nat_tests)
 
 -- ---- whether pages meet a region
 
+-- an entry's region overlaps so many pages at an address
 abbrev overlap_at : ℕ → ℕ → ℕ × Region → Bool
 overlap_at address pages e = overlap e.0 e.1.pages address pages
 
@@ -47,9 +50,11 @@ meets_one regions address pages start region there over = elim (meets regions ad
 
 -- ---- places
 
+-- what passes the tests of a place is aligned, lies within the window and meets no region
 parts_of_place : (low high pages address : ℕ) (m : Bool) → (eqb (address % 4096) 0 && (nat_le low address && nat_le (address + pages * 4096) high)) && not m ≡ true → (address % 4096 ≡ 0) × (low ≤ address) × (address + pages * 4096 ≤ high) × (m ≡ false)
 parts_of_place low high pages address m h = grind (arith, nat_tests)
 
+-- and what is all of these passes them
 tests_of_place : (low high pages address : ℕ) (m : Bool) → address % 4096 ≡ 0 → low ≤ address → address + pages * 4096 ≤ high → m ≡ false → (eqb (address % 4096) 0 && (nat_le low address && nat_le (address + pages * 4096) high)) && not m ≡ true
 tests_of_place low high pages address m aligned from to clear = grind (arith, nat_tests)
 
@@ -72,9 +77,11 @@ stands low high regions pages address at =
 -- ---- the first gap
 
 module _ (test : ℕ → Bool) where
+  -- if a number fails and all after it up to b do, all from it on up to b do
   earlier : (a b c : ℕ) → test a ≡ false → ((d : ℕ) → a + 1 ≤ d → d < b → test d ≡ false) → a ≤ c → c < b → test c ≡ false
   earlier a b c first rest from below = grind (arith, nat_tests, rest c)
 
+  -- the same of so many numbers after the first
   later_fails : (a n c : ℕ) → test a ≡ false → ((d : ℕ) → a + 1 ≤ d → d < a + 1 + n → test d ≡ false) → a ≤ c → c < a + suc n → test c ≡ false
   later_fails a n c first rest from below = grind (arith, nat_tests, rest c)
 
@@ -101,9 +108,11 @@ module _ (test : ℕ → Bool) where
       ] refl is
 
 module _ (low high : ℕ) (regions : NatMap Region) (pages : ℕ) where
+  -- a place is among the addresses that are searched
   in_range : (b : ℕ) → IsPlace low high regions pages b → b < low + (high + 1 - low)
   in_range b at = let from = at.from_low in let to = at.to_high in omega arith
 
+  -- where pages can't stand is no place
   fails_at : (b : ℕ) → can_stand low high regions pages b ≡ false → ¬ IsPlace low high regions pages b
   fails_at b fails at = true≢false (sym (stands low high regions pages b at) ∙ fails)
 
@@ -135,6 +144,7 @@ module _ (low high : ℕ) (regions : NatMap Region) (pages : ℕ) where
   pub first_gap_is : (o : Option ℕ) → IsFirstGap low high regions pages o → first_gap low high regions pages ≡ o
   first_gap_is o h = one_first_gap (first_gap low high regions pages) o first_gap_least h
 
+-- pages that overlap a region still do at any later address before its end
 skipped : (start others address pages b : ℕ) → overlap start others address pages ≡ true → address ≤ b → b < start + others * 4096 → overlap start others b pages ≡ false → ⊥
 skipped start others address pages b over from below free = grind (arith, nat_tests)
 
@@ -146,12 +156,16 @@ skip_region low high regions pages address start region there over b from below 
 
 -- ---- regions of the same starts and pages, of whatever things
 
+-- at each start both have a region of as many pages, or neither has one
 pub record AreAlike (xs ys : NatMap Region) : Type 0 where
+  -- each start has as many pages in either
   pub pages : (start : ℕ) → option_map (λ region. region.pages) (get xs start) ≡ option_map (λ region. region.pages) (get ys start)
 
+-- and so the other way round
 pub AreAlike-sym : (xs ys : NatMap Region) → AreAlike xs ys → AreAlike ys xs
 AreAlike-sym xs ys alike = record { pages = λ start. sym (alike.pages start) }
 
+-- where there are so many pages there is a region that has them
 pages_of_some : (o : Option Region) (n : ℕ) → option_map (λ region. region.pages) o ≡ Some n → (r : Region) × (o ≡ Some r) × (r.pages ≡ n)
 pages_of_some None n is = absurd (none-some n is)
 pages_of_some (Some r) n is = (r, refl, same_Some r.pages n is)
@@ -172,6 +186,7 @@ place_alike xs ys alike low high pages address at = record {
       subst (λ n. overlap start n address pages ≡ false) other.2 (at.free start other.0 other.1);
 }
 
+-- the first gap among the one is the first gap among the other
 first_gap_among : (xs ys : NatMap Region) → AreAlike xs ys → (low high pages : ℕ) (o : Option ℕ) → IsFirstGap low high xs pages o → IsFirstGap low high ys pages o
 first_gap_among xs ys alike low high pages None h = λ b at. h b (place_alike ys xs (AreAlike-sym xs ys alike) low high pages b at)
 first_gap_among xs ys alike low high pages (Some a) h =
@@ -186,14 +201,17 @@ first_gap_alike xs ys alike low high pages =
 abbrev pub shape : ℕ × Region → ℕ × ℕ
 shape e = (e.0, e.1.pages)
 
+-- a number is below all shapes where it is below all of their regions
 below_all-shape : (k : ℕ) (es : List (ℕ × Region)) → below_all nat_cmp k (map shape es) ≡ below_all nat_cmp k es
 below_all-shape k [] = refl
 below_all-shape k (e ∷ es) = ap (λ b. is_lt (nat_cmp k e.0) && b) (below_all-shape k es)
 
+-- shapes rise where their regions do
 is_sorted-shape : (es : List (ℕ × Region)) → is_sorted nat_cmp (map shape es) ≡ is_sorted nat_cmp es
 is_sorted-shape [] = refl
 is_sorted-shape (e ∷ es) = ap (λ b. b && is_sorted nat_cmp (map shape es)) (below_all-shape e.0 es) ∙ ap (λ b. below_all nat_cmp e.0 es && b) (is_sorted-shape es)
 
+-- shapes have under a start the pages of the region there
 value_of-shape : (q : ℕ) (es : List (ℕ × Region)) → value_of q (map shape es) ≡ option_map (λ region. region.pages) (value_of q es)
 value_of-shape q [] = refl
 value_of-shape q (e ∷ es) = elim (eq_by_cmp nat_cmp q e.0) as (λ b. cond b (Some e.1.pages) (value_of q (map shape es)) ≡ option_map (λ region. region.pages) (cond b (Some e.1) (value_of q es))) [ true ↦ refl | false ↦ value_of-shape q es ]
@@ -212,10 +230,12 @@ pub len_alike : (xs ys : NatMap Region) → AreAlike xs ys → len xs ≡ len ys
 len_alike xs ys alike =
     len-entries xs ∙ sym (length-map (entries xs) shape) ∙ ap length (shapes_alike xs ys alike) ∙ length-map (entries ys) shape ∙ sym (len-entries ys)
 
+-- some region's shape passes a test where one of the shapes does
 list_any-shape : (test : ℕ × ℕ → Bool) (es : List (ℕ × Region)) → list_any (λ e. test (shape e)) es ≡ list_any test (map shape es)
 list_any-shape test [] = refl
 list_any-shape test (e ∷ es) = ap (λ b. test (shape e) || b) (list_any-shape test es)
 
+-- the first region whose shape passes has the first shape that passes
 find-shape : (test : ℕ × ℕ → Bool) (es : List (ℕ × Region)) → option_map shape (find (λ e. test (shape e)) es) ≡ find test (map shape es)
 find-shape test [] = refl
 find-shape test (e ∷ es) = elim (test (shape e)) as (λ b. option_map shape (cond b (Some e) (find (λ x. test (shape x)) es)) ≡ cond b (Some (shape e)) (find test (map shape es))) [ true ↦ refl | false ↦ find-shape test es ]
@@ -234,29 +254,35 @@ region_at_alike xs ys alike address length =
 
 -- ---- refusals depend on starts and pages alone
 
+-- an attachment at the first gap is refused alike
 pub attach_refusal_alike : (xs ys : NatMap Region) → AreAlike xs ys → (most pages : ℕ) → attach_refusal most xs pages ≡ attach_refusal most ys pages
 attach_refusal_alike xs ys alike most pages =
     rw (len_alike xs ys alike, first_gap_alike xs ys alike user_low user_high pages)
 
+-- so is one at an address
 pub attach_at_refusal_alike : (xs ys : NatMap Region) → AreAlike xs ys → (most pages address : ℕ) → attach_at_refusal most xs pages address ≡ attach_at_refusal most ys pages address
 attach_at_refusal_alike xs ys alike most pages address =
     rw (len_alike xs ys alike, meets_alike xs ys alike address pages)
 
+-- of two options of as many pages both are regions or neither is
 some_alike : (o p : Option Region) → option_map (λ region. region.pages) o ≡ option_map (λ region. region.pages) p → is_some o ≡ is_some p
 some_alike None None e = refl
 some_alike None (Some r) e = absurd (none-some r.pages e)
 some_alike (Some r) None e = absurd (none-some r.pages (sym e))
 some_alike (Some r) (Some s) e = refl
 
+-- a detachment is refused alike
 pub detach_refusal_alike : (xs ys : NatMap Region) → AreAlike xs ys → (address : ℕ) → detach_refusal xs address ≡ detach_refusal ys address
 detach_refusal_alike xs ys alike address =
     ap (λ there. if there then None else Some PageFault) (some_alike (get xs address) (get ys address) (alike.pages address))
 
 -- ---- what a range of addresses finds
 
+-- a range that passes the test of a region starts and ends within it
 parts_of_held : (address bytes start pages : ℕ) → nat_le start address && nat_le (address + bytes) (start + pages * 4096) ≡ true → (start ≤ address) × (address + bytes ≤ start + pages * 4096)
 parts_of_held address bytes start pages h = grind (arith, nat_tests)
 
+-- a range that ends within a region ends within its pages, counted from its start
 within_pages : (start offset address bytes pages : ℕ) → start + offset ≡ address → address + bytes ≤ start + pages * 4096 → offset + bytes ≤ pages * 4096
 within_pages start offset address bytes pages e h = omega arith
 
@@ -288,6 +314,7 @@ abbrev pub renamed : (ℕ → Option ℕ) → NatMap Region → NatMap Region
 renamed name regions = picked (λ region. option_map (λ other. record region { of = other }) (name region.of)) regions
 
 module _ (name : ℕ → Option ℕ) where
+  -- a region that is renamed keeps its pages
   kept_pages : (o : Option Region) → ((region : Region) → o ≡ Some region → IsSome (name region.of)) → option_map (λ region. region.pages) o ≡ option_map (λ region. region.pages) (option_and_then (λ region. option_map (λ other. record region { of = other }) (name region.of)) o)
   kept_pages None all = refl
   kept_pages (Some r) all =
@@ -309,17 +336,21 @@ module _ (name : ℕ → Option ℕ) where
   renamed-insert regions start of pages other is =
       picked-insert_some _ regions start (record { of = of; pages = pages }) (record { of = other; pages = pages }) (ap (option_map (λ n. record { of = n; pages = pages })) is)
 
+  -- a region that is removed is removed under the other names too
   pub renamed-remove : (regions : NatMap Region) (start : ℕ) → renamed name (remove regions start) ≡ remove (renamed name regions) start
   renamed-remove regions start = picked-remove _ regions start
 
+  -- the name that a renamed region has is the one that it was given
   named : (n : Option ℕ) (r s : Region) → option_map (λ other. record r { of = other }) n ≡ Some s → n ≡ Some s.of
   named None r s is = absurd (none-some s is)
   named (Some other) r s is = ap (option_map (λ region. region.of)) is
 
+  -- a shape that is there is that of an entry
   found_shape : (o : Option (ℕ × Region)) (p : ℕ × ℕ) → Some p ≡ option_map shape o → (e : ℕ × Region) × (o ≡ Some e) × (p ≡ shape e)
   found_shape None p is = absurd (none-some p (sym is))
   found_shape (Some e) p is = (e, refl, same_Some p (shape e) is)
 
+  -- where no shape is there, no entry is
   none_shape : (o : Option (ℕ × Region)) → ◌≡◌ {A = Option (ℕ × ℕ)} None (option_map shape o) → o ≡ None
   none_shape None is = refl
   none_shape (Some e) is = absurd (none-some (shape e) is)
@@ -347,18 +378,22 @@ module _ (name : ℕ → Option ℕ) where
 
   -- the name of one thing alone, which goes with its regions
   module _ (of other : ℕ) (is : name of ≡ Some other) (alone : (thing : ℕ) → name thing ≡ Some other → thing ≡ of) where
+    -- a region under the other name of its thing, if that has one
     rename : Region → Option Region
     rename region = option_map (λ n. record region { of = n }) (name region.of)
 
+    -- a region, unless it is of one thing
     but : ℕ → Region → Option Region
     but thing region = cond (region.of == thing) None (Some region)
 
+    -- a region of another thing gets another name
     renamed_apart : (region : Region) (n : ℕ) → name region.of ≡ Some n → eqb region.of of ≡ false → eqb n other ≡ false
     renamed_apart region n there differs = elim (eqb n other) as (λ b. eqb n other ≡ b → b ≡ false) [
       | true ↦ λ t. absurd (true≢false (sym (same_test region.of of (alone region.of (there ∙ ap (λ m. Some m) (eqb-true n other t)))) ∙ differs))
       | false ↦ λ t. refl
     ] refl
 
+    -- a region is of the thing before it is renamed where it is of its name after that
     rename_but : (o : Option Region) → option_and_then rename (option_and_then (but of) o) ≡ option_and_then (but other) (option_and_then rename o)
     unfolding rename but
     rename_but None = refl
@@ -375,6 +410,7 @@ module _ (name : ℕ → Option ℕ) where
               ] refl
         ] refl
 
+    -- regions without those of a thing, renamed, are the renamed ones without those of its name
     pub renamed-without : (regions : NatMap Region) → renamed name (without of regions) ≡ without other (renamed name regions)
     unfolding rename but
     renamed-without regions =

@@ -66,18 +66,22 @@ module _ (selectors : NatMap Object) (ram caps selector : ℕ) (there : get sele
 abbrev pages_again : NatMap Object
 pages_again = insert (insert (one_dataspace 4096) 3 page) 2 page
 
+-- the second selector names its page
 second_there : get pages_again 2 ≡ Some page
 second_there = get-insert_same (insert (one_dataspace 4096) 3 page) 2 page 2 refl
 
+-- it is attached after the regions that there are
 second_attached : (n : ℕ) → n < 128 → own_step alice (Attach 2) (mapping 12288 3 pages_again (filled 2 n))
     ≡ record { reply = Attached (user_low + n * 4096); lines = []; next = mapping 12288 3 pages_again (filled 2 (suc n)) }
 second_attached n few = page_attached pages_again 12288 3 2 second_there n few
 
+-- freed, it takes both of its regions along
 second_gone : own_step alice (Free 2) (mapping 12288 3 pages_again (filled 2 2)) ≡ record { reply = Done; lines = []; next = mapping 8192 2 (remove pages_again 2) empty }
 second_gone =
     ap (λ o. freed 2 o (mapping 12288 3 pages_again (filled 2 2))) second_there
     ∙ rw (length-zeros 4096, without_filled 2 2)
 
+-- then a peek finds nothing at any address
 nothing_there : (address : ℕ) → own_step alice (Peek address 1) (mapping 8192 2 (remove pages_again 2) empty) ≡ refused (mapping 8192 2 (remove pages_again 2) empty) PageFault
 nothing_there address = peeks_none (mapping 8192 2 (remove pages_again 2) empty) address 1 refl (nowhere address 1)
 
@@ -109,13 +113,16 @@ detached_everywhere =
 
 -- ---- secrets
 
+-- 4096 bytes are a page under the first selector
 page_taken : own_step alice (Alloc 4096) (alice_with 0 0 empty) ≡ record { reply = Selected 1; lines = []; next = alice_with 4096 1 (one_dataspace 4096) }
 page_taken = rw first_selector
 
+-- it is attached at the start of the window
 first_attached : own_step alice (Attach 1) (mapping 4096 1 (one_dataspace 4096) (filled 1 0))
     ≡ record { reply = Attached 0x10000000; lines = []; next = mapping 4096 1 (one_dataspace 4096) (filled 1 1) }
 first_attached = page_attached (one_dataspace 4096) 4096 1 1 (found_first page) 0 (omega arith)
 
+-- the bytes that spell `secret`
 abbrev secret : List ℕ
 secret = 115 ∷ 101 ∷ 99 ∷ 114 ∷ 101 ∷ 116 ∷ []
 
@@ -127,6 +134,7 @@ with_secret = insert (one_dataspace 4096) 1 (Dataspace (with_part (zeros 4096) 0
 at_first : (count : ℕ) → nat_le (0x10000000 + count) 0x10001000 ≡ true → resolved (filled 1 1) 0x10000000 count ≡ Some (1, 0)
 at_first count within = rw (entries-insert nat_cmp_total (empty {X = Region} {R = nat_cmp}) 0x10000000 (record { of = 1; pages = 1 }), entries-empty, within)
 
+-- alice writes the secret into her page
 secret_poked : own_step alice (Poke 0x10000000 secret) (mapping 4096 1 (one_dataspace 4096) (filled 1 1))
     ≡ record { reply = Done; lines = []; next = mapping 4096 1 with_secret (filled 1 1) }
 secret_poked = pokes (mapping 4096 1 (one_dataspace 4096) (filled 1 1)) 0x10000000 1 0 secret page refl (at_first 6 refl) (found_first page)
@@ -135,6 +143,7 @@ secret_poked = pokes (mapping 4096 1 (one_dataspace 4096) (filled 1 1)) 0x100000
 abbrev secret_gone : OwnState
 secret_gone = mapping 0 0 (remove with_secret 1) empty
 
+-- she frees the page, and has nothing more
 secret_freed : own_step alice (Free 1) (mapping 4096 1 with_secret (filled 1 1)) ≡ record { reply = Done; lines = []; next = secret_gone }
 secret_freed =
     ap (λ o. freed 1 o (mapping 4096 1 with_secret (filled 1 1))) (get-insert_same (one_dataspace 4096) 1 (Dataspace (with_part (zeros 4096) 0 secret)) 1 refl)
@@ -144,10 +153,12 @@ secret_freed =
 abbrev with_bob : OwnState → List OwnState
 with_bob s = set (with_alice secret_gone) 3 s
 
+-- the first 8 of 4096 zeros
 eight_zeros : slice_range (zeros 4096) 0 8 ≡ replicate 8 0
 unfolding zeros
 eight_zeros = refl
 
+-- a page that nobody wrote to is read as zeros
 zeros_peeked : own_step alice (Peek 0x10000000 8) (mapping 4096 1 (one_dataspace 4096) (filled 1 1))
     ≡ record { reply = Bytes (replicate 8 0); lines = []; next = mapping 4096 1 (one_dataspace 4096) (filled 1 1) }
 zeros_peeked =
@@ -184,39 +195,51 @@ two_of regions = mapping 8192 1 (one_dataspace 8192) regions
 abbrev both_pages : Region
 both_pages = record { of = 1; pages = 2 }
 
+-- the region at the end of the window alone
 abbrev at_end : NatMap Region
 at_end = insert empty 0x1fffe000 both_pages
 
+-- and the one at its start beside it
 abbrev at_both : NatMap Region
 at_both = insert at_end 0x10000000 both_pages
 
+-- the only entry is the region at the end
 entries_end : entries at_end ≡ (0x1fffe000, both_pages) ∷ []
 entries_end = rw (entries-insert nat_cmp_total (empty {X = Region} {R = nat_cmp}) 0x1fffe000 both_pages, entries-empty)
 
+-- the entries are the region at the start and then the one at the end
 entries_both : entries at_both ≡ (0x10000000, both_pages) ∷ (0x1fffe000, both_pages) ∷ []
 entries_both = rw (entries-insert nat_cmp_total at_end 0x10000000 both_pages, entries_end)
 
+-- no regions leave room
 room_empty : nat_le most_regions (len (empty {X = Region} {R = nat_cmp})) ≡ false
 room_empty = room_for empty 0 (len-empty nat_cmp Region) (omega arith)
 
+-- one region leaves room
 room_end : nat_le most_regions (len at_end) ≡ false
 room_end = room_for at_end 1 (len-entries at_end ∙ ap length entries_end) (omega arith)
 
+-- the first selector names two pages of zeros
 two_there : get (one_dataspace 8192) 1 ≡ Some (Dataspace (zeros 8192))
 two_there = found_first (Dataspace (zeros 8192))
 
+-- 8192 bytes are two pages under the first selector
 pages_taken : own_step alice (Alloc 8192) (alice_with 0 0 empty) ≡ record { reply = Selected 1; lines = []; next = two_of empty }
 pages_taken = rw first_selector
 
+-- two pages that would end past the window are refused
 past_the_window : own_step alice (AttachAt 1 0x1ffff000) (two_of empty) ≡ refused (two_of empty) RegionConflict
 past_the_window = conflicts_at (two_of empty) 1 2 0x1ffff000 (zeros 8192) two_there (pages_of_zeros 8192) room_empty refl
 
+-- two pages that end with the window are attached
 at_the_end : own_step alice (AttachAt 1 0x1fffe000) (two_of empty) ≡ record { reply = Attached 0x1fffe000; lines = []; next = two_of at_end }
 at_the_end = attaches_at (two_of empty) 1 2 0x1fffe000 (zeros 8192) two_there (pages_of_zeros 8192) room_empty (rw entries-empty)
 
+-- two pages that would overlap those are refused
 over_the_end : own_step alice (AttachAt 1 0x1fffd000) (two_of at_end) ≡ refused (two_of at_end) RegionConflict
 over_the_end = conflicts_at (two_of at_end) 1 2 0x1fffd000 (zeros 8192) two_there (pages_of_zeros 8192) room_end (rw entries_end)
 
+-- an address that is no multiple of a page is refused
 within_a_page : own_step alice (AttachAt 1 0x10000800) (two_of at_end) ≡ refused (two_of at_end) RegionConflict
 within_a_page = conflicts_at (two_of at_end) 1 2 0x10000800 (zeros 8192) two_there (pages_of_zeros 8192) room_end refl
 
@@ -224,13 +247,16 @@ within_a_page = conflicts_at (two_of at_end) 1 2 0x10000800 (zeros 8192) two_the
 start_can : can_stand user_low user_high at_end 2 0x10000000 ≡ true
 start_can = rw entries_end
 
+-- so it is the first gap
 gap_at_start : first_gap user_low user_high at_end 2 ≡ Some 0x10000000
 gap_at_start = first_gap_is user_low user_high at_end 2 (Some 0x10000000)
     (place user_low user_high at_end 2 0x10000000 start_can, λ b below at. let from = at.from_low in omega arith)
 
+-- an attachment at no given address comes there
 at_the_start : own_step alice (Attach 1) (two_of at_end) ≡ record { reply = Attached 0x10000000; lines = []; next = two_of at_both }
 at_the_start = attaches (two_of at_end) 1 2 0x10000000 (zeros 8192) two_there (pages_of_zeros 8192) room_end gap_at_start
 
+-- a range that ends past its region is not found
 past_a_region : own_step alice (Peek 0x10001fff 2) (two_of at_both) ≡ refused (two_of at_both) PageFault
 past_a_region = peeks_none (two_of at_both) 0x10001fff 2 refl (rw entries_both)
 
@@ -238,22 +264,27 @@ past_a_region = peeks_none (two_of at_both) 0x10001fff 2 refl (rw entries_both)
 abbrev poked_of : NatMap Region → OwnState
 poked_of regions = mapping 8192 1 (insert (one_dataspace 8192) 1 (Dataspace (with_part (zeros 8192) 0 (171 ∷ [])))) regions
 
+-- a byte is written at the start of the later region
 byte_poked : own_step alice (Poke 0x1fffe000 (171 ∷ [])) (two_of at_both) ≡ record { reply = Done; lines = []; next = poked_of at_both }
 byte_poked = pokes (two_of at_both) 0x1fffe000 1 0 (171 ∷ []) (Dataspace (zeros 8192)) refl (rw entries_both) two_there
 
+-- the dataspace then starts with it
 byte_there : slice_range (with_part (zeros 8192) 0 (171 ∷ [])) 0 1 ≡ 171 ∷ []
 unfolding with_part with_bytes
 byte_there = rw (length-zeros 8192)
 
+-- it is read at the start of the other region
 byte_peeked : own_step alice (Peek 0x10000000 1) (poked_of at_both) ≡ record { reply = Bytes (171 ∷ []); lines = []; next = poked_of at_both }
 byte_peeked =
     peeks (poked_of at_both) 0x10000000 1 1 0 (with_part (zeros 8192) 0 (171 ∷ [])) refl (rw entries_both)
     (get-insert_same (one_dataspace 8192) 1 (Dataspace (with_part (zeros 8192) 0 (171 ∷ []))) 1 refl)
     ∙ ap (λ bytes. record { reply = Bytes bytes; lines = []; next = poked_of at_both }) byte_there
 
+-- no region is detached by an address within it
 no_start : own_step alice (Detach 0x10001000) (poked_of at_both) ≡ refused (poked_of at_both) PageFault
 no_start = detaches_none (poked_of at_both) 0x10001000 (grind (arith, nat_tests, gets))
 
+-- it is detached by its start
 start_detached : own_step alice (Detach 0x10000000) (poked_of at_both) ≡ record { reply = Done; lines = []; next = poked_of (remove at_both 0x10000000) }
 start_detached = detaches (poked_of at_both) 0x10000000 both_pages (get-insert_same at_end 0x10000000 both_pages 0x10000000 refl)
 
@@ -295,6 +326,7 @@ edges_told =
 abbrev attached_times : ℕ → OwnState
 attached_times n = mapping 4096 1 (one_dataspace 4096) (filled 1 n)
 
+-- so many attachments more add up with those before
 again : (n k m : ℕ) → n + k ≡ m → m ≤ 128 → own_run alice (replicate n (Attach 1)) (attached_times k) ≡ attached_times m
 again zero k m count few = ap attached_times (omega (arith, count))
 again (suc n) k m count few =
@@ -315,11 +347,14 @@ each_attached n few =
 pub answered_full : (call : Call) (outcome : Outcome) → own_step alice call (attached_times 128) ≡ outcome → alice_answered (Alloc 1 ∷ replicate 128 (Attach 1)) call ≡ outcome.reply
 answered_full call outcome e = ap (λ s. (own_step alice call s).reply) (attached_run 128 (omega arith)) ∙ ap (λ o. o.reply) e
 
+-- one attachment more is refused
 pub full_attach : own_step alice (Attach 1) (attached_times 128) ≡ refused (attached_times 128) TooManyRegions
 full_attach = (full_refuses (attached_times 128) 1 0x10000000 (zeros 4096) (found_first page) (len-filled 1 128)).0
 
+-- so is one at an address, even where a region stands
 pub full_attach_at : own_step alice (AttachAt 1 0x10000000) (attached_times 128) ≡ refused (attached_times 128) TooManyRegions
 full_attach_at = (full_refuses (attached_times 128) 1 0x10000000 (zeros 4096) (found_first page) (len-filled 1 128)).1
 
+-- a selector that names nothing is refused for that first
 pub full_unnamed : own_step alice (Attach 2) (attached_times 128) ≡ refused (attached_times 128) InvalidCap
 full_unnamed = (unnamed_refused (attached_times 128) 2 0 (grind (arith, nat_tests, gets))).0

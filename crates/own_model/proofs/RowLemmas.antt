@@ -113,9 +113,11 @@ exact_at_the_limit =
 abbrev pub page : Object
 page = Dataspace (zeros 4096)
 
+-- a page under each of the selectors 1 and 2
 abbrev pub two_pages : NatMap Object
 two_pages = insert (one_dataspace 4096) 2 page
 
+-- and one under 3
 abbrev pub three_pages : NatMap Object
 three_pages = insert two_pages 3 page
 

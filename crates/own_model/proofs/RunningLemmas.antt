@@ -29,6 +29,7 @@ refusal_stays true true a b c s accepted = refl
 refusal_stays true false a b c s accepted = refl
 refusal_stays false covered a b c s accepted = refl
 
+-- who has nothing has no regions
 no_regions : entries nothing.regions ≡ []
 no_regions = entries-empty
 
@@ -49,12 +50,15 @@ tested_stays None outcome same = same
 nowhere : (address count : ℕ) → resolved nothing.regions address count ≡ None
 nowhere address count = rw no_regions
 
+-- a peek leaves who has nothing as it is
 peek_stays : (address count : ℕ) → (peeked count (resolved nothing.regions address count) nothing).next ≡ nothing
 peek_stays address count = rw (nowhere address count)
 
+-- so does a poke
 poke_stays : (address : ℕ) (bytes : List ℕ) → (poked bytes (resolved nothing.regions address (length bytes)) nothing).next ≡ nothing
 poke_stays address bytes = rw (nowhere address (length bytes))
 
+-- so does any call of a script
 script_stays : (call : Call) → (script_step call nothing).next ≡ nothing
 script_stays (Alloc n) = alloc_refused n
 script_stays (Free selector) = free_refused selector
@@ -68,6 +72,7 @@ script_stays Capalloc = refl
 script_stays (Capfree selector) = rw (get-empty nat_cmp selector)
 script_stays Quota = refl
 
+-- and so does any call of a script or a server
 kind_stays : (kind : Kind) (call : Call) → (unless (turned_away kind nothing) nothing (script_step call nothing)).next ≡ nothing
 kind_stays Server call = refl
 kind_stays Script call = script_stays call
@@ -78,6 +83,7 @@ nothing_stays entry call = kind_stays entry.kind call
 
 -- a running state reads as own run of the component's own part
 pub record Tracks (entries : List Entry) (starts states : List OwnState) (earlier : List Made) : Type 0 where
+  -- each component has what its own run leaves
   pub at : (component : ℕ) → state_at states component ≡ state_after entries starts earlier component
 
 -- at the start nothing has run

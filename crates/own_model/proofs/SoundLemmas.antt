@@ -37,6 +37,7 @@ module _ {X : Type 0} (P : ℕ → X → Type 0) where
         | false ↦ λ other found. each q w found
       ] refl (sym (get-insert m k v q) ∙ is)
 
+-- numbers that a test tells apart differ
 apart_by : (a b : ℕ) → eqb a b ≡ false → a ≢ b
 apart_by a b e = grind (arith, nat_tests)
 
@@ -51,6 +52,7 @@ kept_region selector (Some r) region is =
           (found, subst (λ x. x.of ≢ selector) e (apart_by r.of selector other))
     ] refl is
 
+-- the same of the map
 pub left_without : (selector : ℕ) (regions : NatMap Region) (start : ℕ) (region : Region) → get (without selector regions) start ≡ Some region → (get regions start ≡ Some region) × (region.of ≢ selector)
 left_without selector regions start region is =
     kept_region selector (get regions start) region (sym (get-picked (λ r. if r.of == selector then None else Some r) regions start) ∙ is)
@@ -63,9 +65,11 @@ len-without selector regions =
 
 -- ---- places
 
+-- whether two ranges overlap is the same from either side
 overlap_sym : (a p b q : ℕ) → overlap a p b q ≡ overlap b q a p
 overlap_sym a p b q = grind (arith, nat_tests)
 
+-- two ranges with one start overlap, where each has a page
 overlap_self : (a p q : ℕ) → 1 ≤ p → 1 ≤ q → overlap a p a q ≡ true
 overlap_self a p q some more = grind (arith, nat_tests)
 
@@ -80,35 +84,44 @@ free_place regions pages address some each at =
 
 -- ---- dataspaces
 
+-- a size above 0 rounds up to whole pages, at least one
 page_count : (n : ℕ) → 0 < n → (1 ≤ page_of n / 4096) × (page_of n ≡ page_of n / 4096 * 4096)
 page_count n some = omega arith
 
+-- as many bytes as a size above 0 rounds up to are pages
 pages_of_length : (bytes : List ℕ) (n : ℕ) → length bytes ≡ page_of n → 0 < n → IsPages bytes
 pages_of_length bytes n e some =
     let count = page_count n some in
     record { some = subst (λ l. 1 ≤ l / 4096) (sym e) count.0; whole = subst (λ l. l ≡ l / 4096 * 4096) (sym e) count.1 }
 
+-- where two tests have to pass and nothing is refused, the first one passes
 valid_parts : (a b : Bool) (o : Option Refusal) (x : Refusal) → cond (a && b) o (Some x) ≡ None → a ≡ true
 valid_parts true b o x accepted = refl
 valid_parts false b o x accepted = absurd (none-some x (sym accepted))
 
+-- a number that passes the test is above 0
 positive : (n : ℕ) → nat_lt 0 n ≡ true → 0 < n
 positive n h = grind (arith, nat_tests)
 
+-- an allocation that is accepted is of some bytes
 valid_some : (n : ℕ) (a : Account) → alloc_refusal n a ≡ None → 0 < n
 valid_some n a accepted = positive n (valid_parts (nat_lt 0 n) (nat_lt (page_of n) (2 ^ 64)) (shortage a (page_of n) 1) InvalidSize accepted)
 
+-- each dataspace that a selector names is whole pages
 abbrev EachWhole : NatMap Object → Type 0
 EachWhole selectors = (selector : ℕ) (bytes : List ℕ) → get selectors selector ≡ Some (Dataspace bytes) → IsPages bytes
 
+-- an object is whole pages, if it is a dataspace
 abbrev ObjectWhole : Object → Type 0
 ObjectWhole (Dataspace bytes) = IsPages bytes
 ObjectWhole RpcObject = Unit {0}
 
+-- where each dataspace is whole pages, each object is
 whole_objects : (selectors : NatMap Object) → EachWhole selectors → (q : ℕ) (w : Object) → get selectors q ≡ Some w → ObjectWhole w
 whole_objects selectors each q (Dataspace bytes) is = each q bytes is
 whole_objects selectors each q RpcObject is = tt
 
+-- one more object that is leaves each dataspace whole pages
 whole_after : (selectors : NatMap Object) (k : ℕ) (object : Object) → EachWhole selectors → ObjectWhole object → EachWhole (insert selectors k object)
 whole_after selectors k object each here selector bytes is =
     after_insert (λ q w. ObjectWhole w) selectors k object (whole_objects selectors each) here selector (Dataspace bytes) is
@@ -129,6 +142,7 @@ named_new selectors k object region free h =
 named_left : (selectors : NatMap Object) (k : ℕ) (region : Region) → region.of ≢ k → NamesDataspace selectors region → NamesDataspace (remove selectors k) region
 named_left selectors k region other h = named_same selectors (remove selectors k) region h (get-remove_other selectors k region.of other)
 
+-- what is there is one object alone
 object_of : (o : Option Object) (a b : Object) → o ≡ Some a → o ≡ Some b → a ≡ b
 object_of o a b x y = same_Some a b (sym x ∙ y)
 
@@ -148,6 +162,7 @@ named_poked selectors k offset part object region there h =
       | false ↦ λ other. named_same selectors _ region h (get-insert_other selectors k (object_with object offset part) region.of (apart_by region.of k other))
     ] refl
 
+-- bytes put over others leave whole pages whole
 pages_poked : (object : Object) (offset : ℕ) (part : List ℕ) → ObjectWhole object → ObjectWhole (object_with object offset part)
 pages_poked (Dataspace bytes) offset part h =
     let e = length-with_part bytes offset part in
@@ -156,6 +171,7 @@ pages_poked RpcObject offset part h = tt
 
 -- ---- what each effect keeps
 
+-- a new dataspace keeps an own state sound
 sound_allocated : (n : ℕ) (s : OwnState) → IsSound s → alloc_refusal n s.account ≡ None → IsSound (allocated n s).next
 sound_allocated n s h accepted =
     let key = new_selector s.selectors in
@@ -169,6 +185,7 @@ sound_allocated n s h accepted =
       few = h.few;
     }
 
+-- so does a new RPC object
 sound_cap_allocated : (s : OwnState) → IsSound s → IsSound (cap_allocated s).next
 sound_cap_allocated s h =
     let key = new_selector s.selectors in
@@ -181,6 +198,7 @@ sound_cap_allocated s h =
       few = h.few;
     }
 
+-- so does a dataspace that is freed, whose regions go too
 sound_freed : (selector : ℕ) (bytes : List ℕ) (s : OwnState) → IsSound s → IsSound (freed selector (Some (Dataspace bytes)) s).next
 sound_freed selector bytes s h = record {
   whole = λ q b is. h.whole q b (before_remove s.selectors selector q (Dataspace b) is);
@@ -192,10 +210,12 @@ sound_freed selector bytes s h = record {
   few = omega (arith, h.few, len-without selector s.regions);
 }
 
+-- whether an object is an RPC object
 abbrev is_rpc : Object → Bool
 is_rpc (Dataspace bytes) = false
 is_rpc RpcObject = true
 
+-- an RPC object is no dataspace
 rpc_is_none : (bytes : List ℕ) → ¬ (RpcObject ≡ Dataspace bytes)
 rpc_is_none bytes e = true≢false (ap is_rpc e)
 
@@ -203,6 +223,7 @@ rpc_is_none bytes e = true≢false (ap is_rpc e)
 not_rpc : (selectors : NatMap Object) (k : ℕ) (region : Region) → get selectors k ≡ Some RpcObject → NamesDataspace selectors region → region.of ≢ k
 not_rpc selectors k region there h at = rpc_is_none h.bytes (object_of (get selectors k) RpcObject (Dataspace h.bytes) there (ap (get selectors) (sym at) ∙ h.there))
 
+-- an RPC object that is freed keeps an own state sound
 sound_cap_freed : (selector : ℕ) (s : OwnState) → get s.selectors selector ≡ Some RpcObject → IsSound s → IsSound (cap_freed selector (Some RpcObject) s).next
 sound_cap_freed selector s there h = record {
   whole = λ q b is. h.whole q b (before_remove s.selectors selector q (Dataspace b) is);
@@ -214,9 +235,11 @@ sound_cap_freed selector s there h = record {
   few = h.few;
 }
 
+-- after a removal there are no more
 len-remove_le : {X : Type 0} (m : NatMap X) (k : ℕ) → len (remove m k) ≤ len m
 len-remove_le m k = grind (arith, len-remove nat_cmp_total m k)
 
+-- a region that is detached keeps an own state sound
 sound_detached : (address : ℕ) (s : OwnState) → IsSound s → IsSound (region_detached address s).next
 sound_detached address s h = record {
   whole = h.whole;
@@ -226,6 +249,7 @@ sound_detached address s h = record {
   few = omega (arith, h.few, len-remove_le s.regions address);
 }
 
+-- so do bytes that are poked
 sound_poked : (selector offset : ℕ) (bytes : List ℕ) (object : Object) (s : OwnState) → get s.selectors selector ≡ Some object → IsSound s →
     IsSound (poked_at selector offset bytes (Some object) s).next
 sound_poked selector offset bytes object s there h = record {
@@ -244,6 +268,7 @@ some_pages s h start region there =
     let pages = h.whole region.of named.bytes named.there in
     subst (λ n. 1 ≤ n) (sym named.pages) pages.some
 
+-- below the most there is room for one more
 fewer : (most n : ℕ) → nat_le most n ≡ false → n + 1 ≤ most
 fewer most n h = grind (arith, nat_tests)
 
@@ -259,6 +284,7 @@ apart_after regions address region apart free a b r q x y =
     (λ b q y _. overlap_sym address region.pages b q.pages ∙ free b q y) (λ same. absurd (same refl)))
     a r x b q y
 
+-- a region more, where its pages can stand and there is room, keeps an own state sound
 sound_attached : (selector address : ℕ) (bytes : List ℕ) (s : OwnState) → get s.selectors selector ≡ Some (Dataspace bytes) →
     can_stand user_low user_high s.regions (pages_in bytes) address ≡ true → nat_le most_regions (len s.regions) ≡ false →
     IsSound s → IsSound (with_region selector (pages_in bytes) address s).next
@@ -275,6 +301,7 @@ sound_attached selector address bytes s there can room h =
       few = omega (arith, fewer most_regions (len s.regions) room, len-insert_new s.regions address region free);
     }
 
+-- so nothing that a call can do makes it unsound
 effects_sound : (s : OwnState) → IsSound s → KeptByEffects IsSound s
 effects_sound s h = record {
   allocates = λ n accepted. sound_allocated n s h accepted;
@@ -310,6 +337,7 @@ pub freed_has_none : (s : OwnState) (selector : ℕ) (bytes : List ℕ) → get 
 freed_has_none s selector bytes there start region is =
     (left_without selector s.regions start region (subst (λ o. get (freed selector o s).next.regions start ≡ Some region) there is)).1
 
+-- a number that is the most reaches it
 full : (most n : ℕ) → n ≡ most → nat_le most n ≡ true
 full most n e = grind (arith, nat_tests)
 

@@ -19,6 +19,7 @@ ram_kept init (start ∷ starts) covered unused =
     let rest = ram_kept (parted_with init start.ram start.caps) starts covered.1 unused in
     rw (sum_by-cons (λ s. s.account.ram_limit) (start_state start) (map start_state starts)) (omega (arith, rest, covered.0.ram_fits, unused))
 
+-- the same of capabilities
 caps_kept : (init : Account) (starts : List StartEntry) → AllCovered init starts → init.caps_used ≡ 0 →
     (init_keeps init starts).caps_limit + sum_by (λ s. s.account.caps_limit) (map start_state starts) ≡ init.caps_limit
 caps_kept init [] covered unused = omega arith

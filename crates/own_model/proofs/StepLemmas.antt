@@ -20,14 +20,21 @@ use Rattle.own_model.specs.StartList.{Entry}
 
 -- P holds of a state after each thing that a call can do to it
 pub record KeptByEffects (P : OwnState → Type 0) (s : OwnState) : Type 0 where
+  -- an allocation that is accepted
   pub allocates : (n : ℕ) → alloc_refusal n s.account ≡ None → P (allocated n s).next
+  -- a free of a dataspace
   pub frees : (selector : ℕ) (bytes : List ℕ) → get s.selectors selector ≡ Some (Dataspace bytes) → P (freed selector (Some (Dataspace bytes)) s).next
+  -- an attachment where the pages can stand and there is room
   pub attaches : (selector address : ℕ) (bytes : List ℕ) → get s.selectors selector ≡ Some (Dataspace bytes) →
       can_stand user_low user_high s.regions (pages_in bytes) address ≡ true → nat_le most_regions (len s.regions) ≡ false →
       P (with_region selector (pages_in bytes) address s).next
+  -- a detachment
   pub detaches : (address : ℕ) → P (region_detached address s).next
+  -- bytes put over those of what a selector names
   pub pokes : (selector offset : ℕ) (bytes : List ℕ) (object : Object) → get s.selectors selector ≡ Some object → P (poked_at selector offset bytes (Some object) s).next
+  -- a new RPC object that the account covers
   pub allocates_cap : shortage s.account 0 1 ≡ None → P (cap_allocated s).next
+  -- a free of an RPC object
   pub frees_cap : (selector : ℕ) → get s.selectors selector ≡ Some RpcObject → P (cap_freed selector (Some RpcObject) s).next
 
 -- two tests in order refuse nothing where neither refuses
@@ -36,6 +43,7 @@ neither true b x y accepted = absurd (none-some x (sym accepted))
 neither false true x y accepted = absurd (none-some y (sym accepted))
 neither false false x y accepted = (refl, refl)
 
+-- a number that isn't missing is the one that is read
 some_of : (o : Option ℕ) → is_none o ≡ false → o ≡ Some (unwrap_or o 0)
 some_of None h = absurd (true≢false h)
 some_of (Some a) h = refl
@@ -54,6 +62,7 @@ attach_place most regions pages accepted =
     let parts = neither (nat_le most (len regions)) (is_none (first_gap user_low user_high regions pages)) TooManyRegions RegionConflict accepted in
     (gap_stands regions pages parts.1, parts.0)
 
+-- the same where the second test refuses what fails it
 neither_then : (can full : Bool) (x y : Refusal) → cond full (Some x) (cond can None (Some y)) ≡ None → (can ≡ true) × (full ≡ false)
 neither_then can true x y accepted = absurd (none-some x (sym accepted))
 neither_then false false x y accepted = absurd (none-some y (sym accepted))
@@ -65,6 +74,7 @@ attach_at_place : (most : ℕ) (regions : NatMap Region) (pages address : ℕ) �
 attach_at_place most regions pages address accepted =
     neither_then (can_stand user_low user_high regions pages address) (nat_le most (len regions)) TooManyRegions RegionConflict accepted
 
+-- what isn't above a limit is within it
 within : (limit n : ℕ) → nat_lt limit n ≡ false → n ≤ limit
 within limit n h = grind (arith, nat_tests)
 
@@ -85,6 +95,7 @@ size_tested : (valid : Bool) (o : Option Refusal) (x : Refusal) → cond valid o
 size_tested true o x accepted = accepted
 size_tested false o x accepted = absurd (none-some x (sym accepted))
 
+-- an account lacks nothing for an allocation that is accepted
 pub accepted_size : (n : ℕ) (a : Account) → alloc_refusal n a ≡ None → shortage a (page_of n) 1 ≡ None
 accepted_size n a accepted = size_tested (is_valid_size n) (shortage a (page_of n) 1) InvalidSize accepted
 
@@ -95,11 +106,13 @@ module _ (P : OwnState → Type 0) (s : OwnState) (h : P s) where
   unless_keeps None accepted after = after refl
 
   module _ (k : KeptByEffects P s) where
+    -- a free keeps it, whatever the selector names
     frees_any : (selector : ℕ) (object : Option Object) → get s.selectors selector ≡ object → P (freed selector object s).next
     frees_any selector (Some (Dataspace bytes)) e = k.frees selector bytes e
     frees_any selector (Some RpcObject) e = h
     frees_any selector None e = h
 
+    -- so does an attachment at the first gap
     attaches_any : (selector : ℕ) (object : Option Object) → get s.selectors selector ≡ object → P (attached_first selector object s).next
     attaches_any selector (Some (Dataspace bytes)) e =
         unless_keeps (attach_refusal most_regions s.regions (pages_in bytes)) _ (λ accepted.
@@ -108,6 +121,7 @@ module _ (P : OwnState → Type 0) (s : OwnState) (h : P s) where
     attaches_any selector (Some RpcObject) e = h
     attaches_any selector None e = h
 
+    -- and one at an address
     attaches_any_at : (selector address : ℕ) (object : Option Object) → get s.selectors selector ≡ object → P (attached_at selector address object s).next
     attaches_any_at selector address (Some (Dataspace bytes)) e =
         unless_keeps (attach_at_refusal most_regions s.regions (pages_in bytes) address) _ (λ accepted.
@@ -116,23 +130,28 @@ module _ (P : OwnState → Type 0) (s : OwnState) (h : P s) where
     attaches_any_at selector address (Some RpcObject) e = h
     attaches_any_at selector address None e = h
 
+    -- a peek keeps it, whatever the range finds
     peeks_any : (count : ℕ) (place : Option (ℕ × ℕ)) → P (peeked count place s).next
     peeks_any count (Some (selector, offset)) = h
     peeks_any count None = h
 
+    -- bytes that are poked keep it, whatever the selector names
     pokes_object : (selector offset : ℕ) (bytes : List ℕ) (object : Option Object) → get s.selectors selector ≡ object → P (poked_at selector offset bytes object s).next
     pokes_object selector offset bytes (Some object) e = k.pokes selector offset bytes object e
     pokes_object selector offset bytes None e = h
 
+    -- a poke keeps it, whatever the range finds
     pokes_any : (bytes : List ℕ) (place : Option (ℕ × ℕ)) → P (poked bytes place s).next
     pokes_any bytes (Some (selector, offset)) = pokes_object selector offset bytes (get s.selectors selector) refl
     pokes_any bytes None = h
 
+    -- a free of an RPC object keeps it, whatever the selector names
     frees_any_cap : (selector : ℕ) (object : Option Object) → get s.selectors selector ≡ object → P (cap_freed selector object s).next
     frees_any_cap selector (Some (Dataspace bytes)) e = h
     frees_any_cap selector (Some RpcObject) e = k.frees_cap selector e
     frees_any_cap selector None e = h
 
+    -- any call of a script keeps it
     script_keeps : (call : Call) → P (script_step call s).next
     script_keeps (Alloc n) = unless_keeps (alloc_refusal n s.account) (allocated n s) (k.allocates n)
     script_keeps (Free selector) = frees_any selector (get s.selectors selector) refl

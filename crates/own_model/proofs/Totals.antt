@@ -13,13 +13,16 @@ use Rattle.own_model.proofs.NatMapLemmas.{natmaps, get-empty, get-insert, get-in
 
 -- ---- after a change
 
+-- a list of length 0 is empty
 no_entries : {X : Type 0} (es : List X) → length es ≡ 0 → es ≡ []
 no_entries [] e = refl
 no_entries (x ∷ es) e = absurd (omega arith)
 
+-- the first of three numbers may be added last
 swapped : (a b c : ℕ) → a + (b + c) ≡ (b + c) + a
 swapped a b c = omega arith
 
+-- what is added to a sum may be added to its first part
 inward : (a b c d : ℕ) → b ≡ c + d → a + b ≡ (a + c) + d
 inward a b c d e = omega arith
 
@@ -142,11 +145,13 @@ module _ {X : Type 0} where
 
 -- ---- over what is picked
 
+-- what an option counts is within n, where its value is
 within_by : {Y : Type 0} (g : Y → ℕ) (n : ℕ) (o : Option Y) → ((y : Y) → o ≡ Some y → g y ≤ n) → unwrap_or (option_map g o) 0 ≤ n
 within_by g n None each = omega arith
 within_by g n (Some y) each = each y refl
 
 module _ {X Y : Type 0} where
+  -- a value more adds to a picked map's sum what is picked of it
   picked_more : (g : Y → ℕ) (p : X → Option Y) (m : NatMap X) (k : ℕ) (v : X) → get m k ≡ None → (o : Option Y) → p v ≡ o → total g (picked p (insert m k v)) ≡ total g (picked p m) + unwrap_or (option_map g o) 0
   picked_more g p m k v free None e = ap (total g) (picked-insert_hidden p m k v e (get-picked_none p m k free)) ∙ sym (add-zero _)
   picked_more g p m k v free (Some y) e = ap (total g) (picked-insert_some p m k v y e) ∙ total-insert_new g (picked p m) k y (get-picked_none p m k free)
@@ -227,6 +232,7 @@ module _ {S : Type 0} (payer : S → ℕ) where
   abbrev Covered : {A : Type 0} → (S → ℕ) → NatMap S → NatMap A → Type 0
   Covered size m accounts = (d : ℕ) (s : S) → get m d ≡ Some s → get accounts (payer s) ≡ None → size s ≡ 0
 
+  -- what one account pays for left out, the other accounts cover the rest
   covered_by_others : {A : Type 0} (size : S → ℕ) (m : NatMap S) (accounts : NatMap A) (k : ℕ) (a : A) → Covered size m (insert accounts k a) → Covered (size_of_others size k) m accounts
   covered_by_others size m accounts k a covered d s there free =
       elim (eqb (payer s) k) as (λ b. eqb (payer s) k ≡ b → cond b 0 (size s) ≡ 0) [
@@ -234,16 +240,20 @@ module _ {S : Type 0} (payer : S → ℕ) where
         | false ↦ λ e. covered d s there (rw e at (get-insert accounts k a (payer s)) ∙ free)
       ] refl
 
+  -- where there are no accounts, all that is covered adds up to 0
   covered_by_none : {A : Type 0} (size : S → ℕ) (m : NatMap S) → Covered {A = A} size m empty → total size m ≡ 0
   covered_by_none size m covered = total_same size (λ s. 0) m (λ d s there. covered d s there (get-empty (payer s))) ∙ total-zero m
 
   module _ {A : Type 0} (spaces : NatMap S) (paid : A → ℕ) where
+    -- each account pays for at least what it owes
     abbrev Within : (S → ℕ) → NatMap A → Type 0
     Within size accounts = (k : ℕ) (a : A) → get accounts k ≡ Some a → owed size payer spaces k ≤ paid a
 
+    -- each account pays for no more than it owes
     abbrev Over : (S → ℕ) → NatMap A → Type 0
     Over size accounts = (k : ℕ) (a : A) → get accounts k ≡ Some a → paid a ≤ owed size payer spaces k
 
+    -- accounts that cover all and pay for at least what they owe pay for at least all sizes
     sized_within : (accounts : NatMap A) (size : S → ℕ) → Covered size spaces accounts → Within size accounts → total size spaces ≤ total paid accounts
     sized_within = by_insertions (λ accounts. (size : S → ℕ) → Covered size spaces accounts → Within size accounts → total size spaces ≤ total paid accounts)
         (λ size covered within. omega (arith, covered_by_none size spaces covered))
@@ -256,6 +266,7 @@ module _ {S : Type 0} (payer : S → ℕ) where
         omega (arith, owed-others size spaces k j apart)) in
         omega (arith, owed_and_others size payer spaces k, total-insert_new paid accounts k a free))
 
+    -- accounts that pay for no more than they owe pay for no more than all sizes
     paid_within : (accounts : NatMap A) (size : S → ℕ) → Over size accounts → total paid accounts ≤ total size spaces
     paid_within = by_insertions (λ accounts. (size : S → ℕ) → Over size accounts → total paid accounts ≤ total size spaces)
         (λ size over. omega (arith, total-empty paid))
@@ -270,6 +281,7 @@ module _ {S : Type 0} (payer : S → ℕ) where
 
 -- what all owe and what all pay
 module _ {S A : Type 0} (size payer : S → ℕ) (paid : A → ℕ) (spaces : NatMap S) (accounts : NatMap A) where
+  -- where each payer is there, all is covered
   all_covered : ((d : ℕ) (s : S) → get spaces d ≡ Some s → IsSome (get accounts (payer s))) → Covered payer size spaces accounts
   all_covered payers d s there free = absurd (true≢false (sym (payers d s there) ∙ ap is_some free))
 

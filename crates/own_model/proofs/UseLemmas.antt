@@ -43,6 +43,7 @@ freed_uses selector bytes s there h =
     let count = len-remove_at s.selectors selector (Dataspace bytes) there in
     record { ram = omega (arith, h.ram, left); caps = omega (arith, h.caps, count) }
 
+-- bytes put over others where they fit, and else left out, leave their number
 length_put : (fits : Bool) (bytes : List ℕ) (offset : ℕ) (part : List ℕ) → nat_le (offset + length part) (length bytes) ≡ fits →
     length (cond fits (with_bytes bytes offset part) bytes) ≡ length bytes
 length_put false bytes offset part e = refl
@@ -54,6 +55,7 @@ pub length-with_part : (bytes : List ℕ) (offset : ℕ) (part : List ℕ) → l
 unfolding with_part
 length-with_part bytes offset part = length_put (nat_le (offset + length part) (length bytes)) bytes offset part refl
 
+-- the same of what a selector names
 object_size-with : (object : Object) (offset : ℕ) (part : List ℕ) → object_size (object_with object offset part) ≡ object_size object
 object_size-with (Dataspace bytes) offset part = length-with_part bytes offset part
 object_size-with RpcObject offset part = refl
@@ -84,6 +86,7 @@ cap_freed_uses selector s there h =
     let count = len-remove_at s.selectors selector RpcObject there in
     record { ram = omega (arith, h.ram, left); caps = omega (arith, h.caps, count) }
 
+-- nothing that a call can do parts what is used from what is held
 effects_use : (s : OwnState) → UsesWhatItHolds s → KeptByEffects UsesWhatItHolds s
 effects_use s h = record {
   allocates = λ n accepted. allocated_uses n s h;

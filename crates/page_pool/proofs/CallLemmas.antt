@@ -17,10 +17,14 @@ use Rattle.page_pool.proofs.LayoutLemmas.{length-pages_of, get_or-pages_of, page
 
 -- what a new pool is
 pub record Booted (free bytes : List ℕ) (capacity size : ℕ) : Type 0 where
+  -- the pool is laid out
   pub layout : IsLaidOut free bytes capacity
+  -- each page is free
   pub fresh : pages_of free bytes ≡ fresh_pages size
+  -- so many pages are free
   pub count : free_count (pages_of free bytes) ≡ size
 
+-- a pool that lists all its pages is new
 pub boot_pages : (free bytes : List ℕ) (capacity count : ℕ) → count ≤ 4096 → AreNumbersBelow count free → length bytes ≡ count * 4096 → count ≤ capacity → Booted free bytes capacity count
 boot_pages free bytes capacity count few numbers long room =
     let counted : page_count bytes ≡ count = omega (arith, long) in
@@ -46,11 +50,16 @@ boot_pages free bytes capacity count few numbers long room =
 
 -- what a page handed out makes of the pool
 pub record Took (rest bytes' : List ℕ) (capacity : ℕ) (pages : List (Option (List ℕ))) (page : ℕ) : Type 0 where
+  -- the pool is still laid out
   pub layout : IsLaidOut rest bytes' capacity
+  -- the page was free
   pub was_free : slice_get pages page ≡ Some None
+  -- it is all zeros now, and the others stay
   pub cleared : pages_of rest bytes' ≡ slice_set pages page (Some zero_page)
+  -- one page less is free
   pub count : free_count (pages_of rest bytes') + 1 ≡ free_count pages
 
+-- the page that was listed last is handed out once it is cleared
 pub take_page : (free rest bytes bytes' : List ℕ) (capacity : ℕ) (pages : List (Option (List ℕ))) (page : ℕ) → IsLaidOut free bytes capacity → pages_of free bytes ≡ pages → free ≡ rest ++ page ∷ [] → bytes' ≡ with_bytes bytes (page * 4096) zero_page → Took rest bytes' capacity pages page
 take_page free rest bytes bytes' capacity pages page laid view last change =
     let listed : (other : ℕ) → is_listed free other ≡ (is_listed rest other || eqb other page) = λ other. rw last (is_listed-push rest page other) in
@@ -91,10 +100,14 @@ take_page free rest bytes bytes' capacity pages page laid view last change =
 
 -- what a page given back makes of the pool
 pub record Gave (free' bytes : List ℕ) (capacity : ℕ) (pages : List (Option (List ℕ))) (page : ℕ) : Type 0 where
+  -- the pool is still laid out
   pub layout : IsLaidOut free' bytes capacity
+  -- the page is free now, and the others stay
   pub freed : pages_of free' bytes ≡ slice_set pages page None
+  -- one page more is free
   pub count : free_count (pages_of free' bytes) ≡ free_count pages + 1
 
+-- a taken page is given back once it is listed
 pub give_page : (free free' bytes : List ℕ) (capacity : ℕ) (pages : List (Option (List ℕ))) (page : ℕ) → IsLaidOut free bytes capacity → pages_of free bytes ≡ pages → is_taken pages page ≡ true → free' ≡ free ++ page ∷ [] → Gave free' bytes capacity pages page
 give_page free free' bytes capacity pages page laid view taken change =
     let held = IsHeld-from_taken free bytes page (rw view taken) in
@@ -136,9 +149,12 @@ room_for_page free bytes capacity pages page laid view taken =
 
 -- what a read tells
 pub record Reads (bytes : List ℕ) (pages : List (Option (List ℕ))) (page offset count : ℕ) : Type 0 where
+  -- what is read is that part of the page
   pub part : slice_range bytes (page * 4096 + offset) (page * 4096 + offset + count) ≡ slice_range (page_bytes pages page) offset (offset + count)
+  -- the page has all its bytes
   pub size : length (page_bytes pages page) ≡ 4096
 
+-- any part of a taken page can be read at its place in the bytes
 pub read_part : (free bytes : List ℕ) (capacity : ℕ) (pages : List (Option (List ℕ))) (page offset count : ℕ) → IsLaidOut free bytes capacity → pages_of free bytes ≡ pages → is_taken pages page ≡ true → offset + count ≤ 4096 → Reads bytes pages page offset count
 read_part free bytes capacity pages page offset count laid view taken fits =
     let held = IsHeld-from_taken free bytes page (rw view taken) in
@@ -151,11 +167,16 @@ read_part free bytes capacity pages page offset count laid view taken fits =
 
 -- what a write makes of the pool
 pub record Wrote (free bytes' : List ℕ) (capacity : ℕ) (pages : List (Option (List ℕ))) (page offset : ℕ) (part : List ℕ) : Type 0 where
+  -- the pool is still laid out
   pub layout : IsLaidOut free bytes' capacity
+  -- the page has the part in it, and the others stay
   pub written : pages_of free bytes' ≡ slice_set pages page (Some (with_bytes (page_bytes pages page) offset part))
+  -- the page had all its bytes
   pub size : length (page_bytes pages page) ≡ 4096
+  -- as many pages are free as before
   pub count : free_count (pages_of free bytes') ≡ free_count pages
 
+-- a part put at a taken page's place in the bytes is written to that page alone
 pub write_part : (free bytes bytes' : List ℕ) (capacity : ℕ) (pages : List (Option (List ℕ))) (page offset : ℕ) (part : List ℕ) → IsLaidOut free bytes capacity → pages_of free bytes ≡ pages → is_taken pages page ≡ true → offset + length part ≤ 4096 → bytes' ≡ with_bytes bytes (page * 4096 + offset) part → Wrote free bytes' capacity pages page offset part
 write_part free bytes bytes' capacity pages page offset part laid view taken fits change =
     let held = IsHeld-from_taken free bytes page (rw view taken) in

@@ -13,6 +13,7 @@ free_count-take pages page bytes here free =
     let f : ◌≡◌ {A = ℕ} (cond (is_none (get_or pages page None)) 1 0) 1 = rw free in
     omega (arith, e, f)
 
+-- a page given back is one free page more
 pub free_count-give : (pages : List (Option (List ℕ))) (page : ℕ) → page < length pages → is_taken pages page ≡ true → free_count (slice_set pages page None) ≡ free_count pages + 1
 unfolding free_count is_taken
 free_count-give pages page here taken =
@@ -20,6 +21,7 @@ free_count-give pages page here taken =
     let f : ◌≡◌ {A = ℕ} (cond (is_none (get_or pages page None)) 1 0) 0 = rw taken in
     omega (arith, e, f)
 
+-- a write to a taken page leaves as many free
 pub free_count-write : (pages : List (Option (List ℕ))) (page : ℕ) (bytes : List ℕ) → page < length pages → is_taken pages page ≡ true → free_count (slice_set pages page (Some bytes)) ≡ free_count pages
 unfolding free_count is_taken
 free_count-write pages page bytes here taken =
@@ -27,10 +29,12 @@ free_count-write pages page bytes here taken =
     let f : ◌≡◌ {A = ℕ} (cond (is_none (get_or pages page None)) 1 0) 0 = rw taken in
     omega (arith, e, f)
 
+-- no more pages are free than there are
 pub free_count-le-length : (pages : List (Option (List ℕ))) → free_count pages ≤ length pages
 unfolding free_count
 free_count-le-length pages = count_by-le-length is_none pages
 
+-- of fresh pages all are free
 pub free_count-fresh_pages : (count : ℕ) → free_count (fresh_pages count) ≡ count
 unfolding free_count
 free_count-fresh_pages zero = refl

@@ -16,6 +16,7 @@ pub length-pages_of : (free bytes : List ℕ) → length (pages_of free bytes) �
 unfolding pages_of
 length-pages_of free bytes = length-map-range_with_len (page_at free bytes) 0 (page_count bytes)
 
+-- at its number each page is found
 pub get_or-pages_of : (free bytes : List ℕ) (page : ℕ) (d : Option (List ℕ)) → page < page_count bytes → get_or (pages_of free bytes) page d ≡ page_at free bytes page
 unfolding pages_of
 get_or-pages_of free bytes page d here = get_or-map-range_with_len (page_at free bytes) 0 (page_count bytes) page page d here (omega arith)
@@ -38,9 +39,12 @@ pages_of-set free free' bytes bytes' page value same here there others =
 
 -- a taken page is one of the pool's, and isn't listed
 pub record IsHeld (free bytes : List ℕ) (page : ℕ) : Type 0 where
+  -- the page is one of the pool's
   pub here : page < page_count bytes
+  -- and isn't listed as free
   pub unlisted : is_listed free page ≡ false
 
+-- a page that is taken is held
 pub IsHeld-from_taken : (free bytes : List ℕ) (page : ℕ) → is_taken (pages_of free bytes) page ≡ true → IsHeld free bytes page
 unfolding is_taken
 IsHeld-from_taken free bytes page taken =
@@ -57,6 +61,7 @@ page_bytes-pages_of free bytes page held =
     let u = held.unlisted in
     grind (arith, at, u)
 
+-- each page has 4096 bytes
 pub length-bytes_at : (bytes : List ℕ) (page : ℕ) → length bytes ≡ page_count bytes * 4096 → page < page_count bytes → length (bytes_at bytes page) ≡ 4096
 length-bytes_at bytes page whole here = length-range bytes (page * 4096) 4096 (omega arith)
 
@@ -69,9 +74,12 @@ bytes_at_other bytes part page other offset whole here fits apart = ⊎_elim
 
 -- where a page lies in the bytes
 pub record LiesIn (bytes : List ℕ) (page : ℕ) : Type 0 where
+  -- the page ends within the bytes
   pub inside : page * 4096 + 4096 ≤ length bytes
+  -- the bytes are those of 4096 pages at most
   pub small : length bytes ≤ 4096 * 4096
 
+-- the page that is listed last lies in the bytes
 pub LiesIn-from_listed : (free rest bytes : List ℕ) (capacity page : ℕ) → IsLaidOut free bytes capacity → free ≡ rest ++ page ∷ [] → LiesIn bytes page
 LiesIn-from_listed free rest bytes capacity page laid last =
     let whole = laid.whole in
@@ -81,6 +89,7 @@ LiesIn-from_listed free rest bytes capacity page laid last =
     let here = laid.in_range page listed in
     record { inside = omega arith; small = omega arith }
 
+-- so does a page that is taken
 pub LiesIn-from_taken : (free bytes : List ℕ) (capacity : ℕ) (pages : List (Option (List ℕ))) (page : ℕ) → IsLaidOut free bytes capacity → pages_of free bytes ≡ pages → is_taken pages page ≡ true → LiesIn bytes page
 LiesIn-from_taken free bytes capacity pages page laid view taken =
     let whole = laid.whole in

@@ -28,9 +28,11 @@ use Rattle.pd_core.proofs.OwnLemmas.{kept, written_own, rewritten}
 use Rattle.pd_core.proofs.PartLemmas.{space_of_part}
 
 module _ (p : Part) (tables : Tables) (sound : IsScriptAt p tables) (address count : ℕ) where
+  -- the own state before the call
   abbrev before : OwnState
   before = own_at p tables
 
+  -- the own state finds a range where the table does, by the selector instead of the key
   renamed_is : resolved before.regions address count ≡ option_and_then (λ (x : ℕ × ℕ). option_map (λ other. (other, x.1)) (selector_of tables.caps.caps x.0)) (resolved tables.regions.user address count)
   unfolding own_of regions_of
   renamed_is = resolved_renamed (selector_of tables.caps.caps) tables.regions.user sound.attached address count
@@ -40,35 +42,44 @@ module _ (p : Part) (tables : Tables) (sound : IsScriptAt p tables) (address cou
   found_none none = renamed_is ∙ ap (option_and_then (λ (x : ℕ × ℕ). option_map (λ other. (other, x.1)) (selector_of tables.caps.caps x.0))) (sym none)
 
   module _ (key offset : ℕ) (found : resolved tables.regions.user address count ≡ Some (key, offset)) where
+    -- a region in the table is of the dataspace that is found
     region : (e : ℕ × Region) × (get tables.regions.user e.0 ≡ Some e.1) × (e.1.of ≡ key)
     region = let facts = resolved_facts tables.regions.user address count key offset found in (facts.0, facts.2, facts.3)
 
+    -- a selector names that dataspace
     pub selector : (s : ℕ) × (selector_of tables.caps.caps key ≡ Some s)
     selector = some_of (selector_of tables.caps.caps key) (subst (λ k. IsSome (selector_of tables.caps.caps k)) region.2 (sound.attached region.0.0 region.0.1 region.1))
 
+    -- what the selector names is the dataspace under the key
     pub names : (ds : DsId) × (get tables.caps.caps selector.0 ≡ Some (Dataspace ds)) × (ds.0 ≡ key)
     names = is_named tables.caps.caps key selector.0 selector.1
 
+    -- the own state finds the range under that selector, at the same offset
     pub own_found : resolved before.regions address count ≡ Some (selector.0, offset)
     own_found =
         renamed_is ∙ ap (option_and_then (λ (x : ℕ × ℕ). option_map (λ other. (other, x.1)) (selector_of tables.caps.caps x.0))) found
         ∙ ap (option_map (λ other. (other, offset))) selector.1
 
+    -- the part has the bytes of the dataspace
     pub here : (bytes : List ℕ) × (get p.spaces names.0.0 ≡ Some bytes)
     here = held p tables sound selector.0 names.0 names.1
 
+    -- in the own state the selector names these bytes
     pub object_is : get before.selectors selector.0 ≡ Some (ADataspace here.0)
     unfolding here
     object_is = names_object p tables sound selector.0 names.0 names.1
 
+    -- equal dataspaces have equal bytes
     same_bytes : (a b : List ℕ) → Some (ADataspace a) ≡ Some (ADataspace b) → a ≡ b
     same_bytes a b e = cc
 
+    -- the range lies within the bytes
     pub fits : offset + count ≤ length here.0
     fits =
         let range = range_fits before address count selector.0 offset sound.sound own_found in
         subst (λ (l : List ℕ). offset + count ≤ length l) (same_bytes range.0 here.0 (sym range.1 ∙ object_is)) range.2
 
+    -- the part has the bytes under the key
     pub at_key : get p.spaces key ≡ Some here.0
     at_key = subst (λ k. get p.spaces k ≡ Some here.0) names.2 here.1
 
@@ -76,12 +87,15 @@ module _ (p : Part) (tables : Tables) (sound : IsScriptAt p tables) (address cou
 
 module _ (store : Store) (a : ℕ) (tables : Tables) (sound : IsScriptAt (part a store) tables) (address count key offset : ℕ)
     (found : resolved tables.regions.user address count ≡ Some (key, offset)) where
+  -- the dataspace is in the memory with these bytes, and the caller's account pays for it
   there : (Exists store key) × ((space_at store key).payer ≡ a) × ((space_at store key).bytes ≡ (here (part a store) tables sound address count key offset found).0)
   there = space_of_part store a key (here (part a store) tables sound address count key offset found).0 (at_key (part a store) tables sound address count key offset found)
 
+  -- the dataspace that is found is in the memory
   pub found_exists : Exists store key
   found_exists = there.0
 
+  -- the range lies within its bytes there
   pub found_fits : offset + count ≤ length (space_at store key).bytes
   found_fits = subst (λ (l : List ℕ). offset + count ≤ length l) (sym there.2) (fits (part a store) tables sound address count key offset found)
 
@@ -100,25 +114,31 @@ module _ (store : Store) (a : ℕ) (tables : Tables) (sound : IsScriptAt (part a
 -- a poke writes the bytes of the dataspace
 module _ (store : Store) (a : ℕ) (tables : Tables) (sound : IsScriptAt (part a store) tables) (address : ℕ) (bytes : List ℕ) (key offset : ℕ)
     (found : resolved tables.regions.user address (length bytes) ≡ Some (key, offset)) (some : count_refusal (length bytes) ≡ None) where
+  -- the selector of the dataspace
   s : ℕ
   s = (selector (part a store) tables sound address (length bytes) key offset found).0
 
+  -- its bytes before the poke
   old : List ℕ
   old = (here (part a store) tables sound address (length bytes) key offset found).0
 
+  -- the dataspace itself
   ds : DsId
   ds = (names (part a store) tables sound address (length bytes) key offset found).0
 
+  -- the model puts the bytes over the old ones as the memory does
   over_is : with_part old offset bytes ≡ with_bytes old offset bytes
   unfolding old
   over_is = with_part-within old offset bytes (fits (part a store) tables sound address (length bytes) key offset found)
 
+  -- the poke puts its bytes at the offset of what the selector names
   poke_is : outcome_of (part a store) tables (Poke address bytes) ≡ poked_at s offset bytes (Some (ADataspace old)) (own_at (part a store) tables)
   unfolding s old
   poke_is =
       pokes (own_at (part a store) tables) address s offset bytes (ADataspace old) some
       (own_found (part a store) tables sound address (length bytes) key offset found) (object_is (part a store) tables sound address (length bytes) key offset found)
 
+  -- the reply is ok
   pub poke_told : Done ≡ (outcome_of (part a store) tables (Poke address bytes)).reply
   poke_told = ap (λ (o : Outcome). o.reply) (sym poke_is)
 
@@ -127,6 +147,7 @@ module _ (store : Store) (a : ℕ) (tables : Tables) (sound : IsScriptAt (part a
         account = (part (space_at store key).payer store).account;
         spaces = insert (part (space_at store key).payer store).spaces key (with_bytes (space_at store key).bytes offset bytes);
       }) where
+    -- the part after the call has the new bytes, and all else as before
     is_written : part a store' ≡ record { account = (part a store).account; spaces = insert (part a store).spaces ds.0 (with_bytes old offset bytes) }
     unfolding ds old
     is_written =
@@ -135,6 +156,7 @@ module _ (store : Store) (a : ℕ) (tables : Tables) (sound : IsScriptAt (part a
         subst (λ k. family a k old) (sym (names (part a store) tables sound address (length bytes) key offset found).2)
         (subst (λ l. family a key l) at.2 (subst (λ b. family b key (space_at store key).bytes) at.1 written))
 
+    -- the own state of that part is the model's after the call
     own_written : own_of (record { account = (part a store).account; spaces = insert (part a store).spaces ds.0 (with_bytes old offset bytes) }) tables.caps.caps tables.regions.user ≡ (outcome_of (part a store) tables (Poke address bytes)).next
     unfolding s ds old
     own_written =
@@ -142,12 +164,15 @@ module _ (store : Store) (a : ℕ) (tables : Tables) (sound : IsScriptAt (part a
         ∙ ap (λ (l : List ℕ). record (own_at (part a store) tables) { selectors = insert (own_at (part a store) tables).selectors s (ADataspace l) }) (sym over_is)
         ∙ ap (λ (o : Outcome). o.next) (sym poke_is)
 
+    -- the own state after a poke is the model's
     pub next_poked : own_at (part a store') tables ≡ (outcome_of (part a store) tables (Poke address bytes)).next
     next_poked = ap (λ p. own_at p tables) is_written ∙ own_written
 
+    -- the dataspace has as many bytes as before
     same_length : length (with_bytes old offset bytes) ≡ length old
     same_length = ap length (sym over_is) ∙ length-with_part old offset bytes
 
+    -- a poke keeps the script sound
     pub sound_poked : IsScriptAt (part a store') tables
     unfolding s ds old
     sound_poked =
@@ -157,19 +182,23 @@ module _ (store : Store) (a : ℕ) (tables : Tables) (sound : IsScriptAt (part a
 
 -- where no region holds the range, nothing changes
 module _ (p : Part) (tables : Tables) (sound : IsScriptAt p tables) (address : ℕ) where
+  -- a peek is refused with Page_fault
   pub peek_refused : (count : ℕ) → ◌≡◌ {A = Option (ℕ × ℕ)} None (resolved tables.regions.user address count) → count_refusal count ≡ None →
       outcome_of p tables (Peek address count) ≡ refused (own_at p tables) PageFault
   peek_refused count none some = peeks_none (own_at p tables) address count some (found_none p tables sound address count none)
 
   module _ (bytes : List ℕ) (none : ◌≡◌ {A = Option (ℕ × ℕ)} None (resolved tables.regions.user address (length bytes))) (some : count_refusal (length bytes) ≡ None) where
+    -- a poke is refused with Page_fault
     poke_refused : outcome_of p tables (Poke address bytes) ≡ refused (own_at p tables) PageFault
     poke_refused =
         ap (λ r. unless r (own_at p tables) (poked bytes (resolved (own_at p tables).regions address (length bytes)) (own_at p tables))) some
         ∙ ap (λ o. poked bytes o (own_at p tables)) (found_none p tables sound address (length bytes) none)
 
+    -- the refusal is told
     pub poke_refused_told : Refused PageFault ≡ (outcome_of p tables (Poke address bytes)).reply
     poke_refused_told = ap (λ (o : Outcome). o.reply) (sym poke_refused)
 
+    -- the own state stays
     pub poke_refused_stays : own_at p tables ≡ (outcome_of p tables (Poke address bytes)).next
     poke_refused_stays = ap (λ (o : Outcome). o.next) (sym poke_refused)
 
@@ -178,5 +207,6 @@ no_refusal : (o : Option Refusal) → true ≡ is_none o → o ≡ None
 no_refusal None h = refl
 no_refusal (Some refusal) h = absurd (true≢false h)
 
+-- the same of the test of a count
 pub accepted : (count : ℕ) → true ≡ is_none (count_refusal count) → count_refusal count ≡ None
 accepted count h = no_refusal (count_refusal count) h

@@ -30,29 +30,36 @@ payers_differ components apart j k d g h differs = elim (cases_lt j k) [
 
 -- the whole core has the component's entry and own state in its place
 module _ (store : Store) (components : List Component) (i : ℕ) (caller : Component) (here : i < length components) (read : caller ≡ get_or components i caller) where
+  -- the caller is what stands at its place
   caller_is : (d : Component) → caller ≡ get_or components i d
   caller_is d = get_or_read components i caller here read d
 
+  -- its entry stands there in the world
   entry_is : entry_at (map entry_of components) i ≡ entry_of caller
   entry_is = get_or-map entry_of components i caller nobody here ∙ ap entry_of (sym (caller_is caller))
 
+  -- so does its own state
   state_is : state_at (map (own store) components) i ≡ own store caller
   state_is = get_or-map (own store) components i caller nothing here ∙ ap (own store) (sym (caller_is caller))
 
+  -- the outcome of its call in the world is that of its own step
   pub outcome_is : (call : Call) → outcome_at (world_of store components) i call ≡ own_step (entry_of caller) call (own store caller)
   outcome_is call = ap (λ e. own_step e call (state_at (map (own store) components) i)) entry_is ∙ ap (λ s. own_step (entry_of caller) call s) state_is
 
   module _ (core : IsCore store components) (store' : Store) (after : Component) (entry : entry_of after ≡ entry_of caller) (account : payer_of after ≡ payer_of caller)
       (root : store'.books.root ≡ store.books.root) (others : (other : ℕ) → other ≢ payer_of caller → part other store' ≡ part other store) where
+    -- the entries stay
     same_entries : map entry_of (set components i after) ≡ map entry_of components
     same_entries =
         map-set entry_of components i after
         ∙ ap (set (map entry_of components) i) (entry ∙ sym entry_is)
         ∙ set-get_or (map entry_of components) i nobody
 
+    -- the caller's account isn't init's
     init_apart : store.books.root ≢ payer_of caller
     init_apart e = core.not_init i caller here (ap payer_of (sym (caller_is caller)) ∙ sym e)
 
+    -- init's account stays
     same_init : account_in store' store'.books.root ≡ account_in store store.books.root
     unfolding part
     same_init = ap (account_in store') root ∙ ap (λ p. unwrap_or p.account (opened 0 0)) (others store.books.root init_apart)
@@ -69,6 +76,7 @@ module _ (store : Store) (components : List Component) (i : ℕ) (caller : Compo
         let other : Component = get_or components k caller in
         ap (λ p. own_of p (caps_of other.role) (user_of other.role)) (other_part k caller within differs)
 
+    -- each place has the own state from before, and the caller's place the new one
     states_at : (k : ℕ) → k < length components →
         get_or (set (map (own store') components) i (own store' after)) k nothing ≡ get_or (set (map (own store) components) i (own store' after)) k nothing
     states_at k within = elim (cases_eq k i) [
@@ -83,12 +91,15 @@ module _ (store : Store) (components : List Component) (i : ℕ) (caller : Compo
           ∙ sym (get_or-set_other (map (own store) components) i k (own store' after) nothing differs)
     ]
 
+    -- there are as many own states as components
     rows : (s : Store) → length (set (map (own s) components) i (own store' after)) ≡ length components
     rows s = length-set (map (own s) components) i (own store' after) ∙ length-map components (own s)
 
+    -- the own states are those from before, with the new one at the caller's place
     same_states : map (own store') (set components i after) ≡ set (map (own store) components) i (own store' after)
     same_states = map-set (own store') components i after ∙ ext_get_or nothing _ _ (rows store' ∙ sym (rows store)) (λ k h. states_at k (omega (arith, h, rows store')))
 
+    -- the world after the call is the one before, with the caller's new own state
     pub world_after : (call : Call) → own store' after ≡ (own_step (entry_of caller) call (own store caller)).next →
         world_of store' (set components i after) ≡ with_state (world_of store components) i (outcome_at (world_of store components) i call).next
     world_after call next =
@@ -96,9 +107,11 @@ module _ (store : Store) (components : List Component) (i : ℕ) (caller : Compo
         let states = same_states ∙ ap (set (map (own store) components) i) state in
         λ j. record { entries = same_entries j; init = same_init j; states = states j }
 
+    -- the changed component stands at the caller's place
     after_at : (k : ℕ) (d : Component) → k ≡ i → get_or (set components i after) k d ≡ after
     after_at k d at = get_or-set_at components i k after d at here
 
+    -- each component keeps its account
     payer_stays : (k : ℕ) (d : Component) → payer_at (set components i after) k d ≡ payer_at components k d
     payer_stays k d = elim (cases_eq k i) [
       | inl at ↦
@@ -106,6 +119,7 @@ module _ (store : Store) (components : List Component) (i : ℕ) (caller : Compo
       | inr differs ↦ ap payer_of (get_or-set_other components i k after d differs)
     ]
 
+    -- each component is sound after the call
     sound_at : IsSound store' after → (k : ℕ) (d : Component) → k < length components → IsSound store' (get_or (set components i after) k d)
     sound_at sound k d within = elim (cases_eq k i) [
       | inl at ↦ subst (IsSound store') (sym (after_at k d at)) sound
@@ -113,9 +127,11 @@ module _ (store : Store) (components : List Component) (i : ℕ) (caller : Compo
           (let other : Component = get_or components k d in subst (λ p. IsSoundRole p other.role) (sym (other_part k d within differs)) (core.sound k d within))
     ]
 
+    -- there are as many components as before
     as_many : length (set components i after) ≡ length components
     as_many = length-set components i after
 
+    -- the core stays sound
     pub core_after : IsSound store' after → IsCore store' (set components i after)
     core_after sound = record {
       sound = λ k d h. sound_at sound k d (omega (arith, h, as_many));
@@ -126,12 +142,15 @@ module _ (store : Store) (components : List Component) (i : ℕ) (caller : Compo
 -- the same where the world is told by another name, as the model's value is
 module _ (store : Store) (components : List Component) (world : World) (is : world_of store components ≡ world) (i : ℕ) (caller : Component)
     (inside : i < length world.entries) (read : caller ≡ get_or components i caller) (core : IsCore store components) where
+  -- the caller is one of the components
   pub caller_within : i < length components
   caller_within = omega (arith, inside, ap (λ w. length w.entries) is, length-map components entry_of)
 
+  -- its own step has the outcome of its call in that world
   pub told_outcome : (call : Call) → own_step (entry_of caller) call (own store caller) ≡ outcome_at world i call
   told_outcome call = sym (outcome_is store components i caller caller_within read call) ∙ ap (λ w. outcome_at w i call) is
 
+  -- the world after the call is that world, with the caller's new own state
   pub told_world : (store' : Store) (after : Component) → entry_of after ≡ entry_of caller → payer_of after ≡ payer_of caller → store'.books.root ≡ store.books.root →
       ((other : ℕ) → other ≢ payer_of caller → part other store' ≡ part other store) →
       (call : Call) → own store' after ≡ (own_step (entry_of caller) call (own store caller)).next →
@@ -140,6 +159,7 @@ module _ (store : Store) (components : List Component) (world : World) (is : wor
       world_after store components i caller caller_within read core store' after entry account root others call next
       ∙ ap (λ w. with_state w i (outcome_at w i call).next) is
 
+  -- the core stays sound
   pub told_core : (store' : Store) (after : Component) → entry_of after ≡ entry_of caller → payer_of after ≡ payer_of caller → store'.books.root ≡ store.books.root →
       ((other : ℕ) → other ≢ payer_of caller → part other store' ≡ part other store) → IsSound store' after → IsCore store' (set components i after)
   told_core store' after entry account root others sound =

@@ -41,6 +41,7 @@ own_opened ram caps =
     let regions = picked-empty (λ (region : Region). option_map (λ (other : ℕ). record region { of = other }) (selector_of empty region.of)) in
     λ j. record { account = (start_state (budget ram caps)).account; selectors = selectors j; regions = regions j; gone = (start_state (budget ram caps)).gone }
 
+-- the same where the capabilities and the regions are known to be empty
 own_unused : (ram caps : ℕ) (m : NatMap Cap) (n : NatMap Region) → m ≡ empty → n ≡ empty → own_of (opened_part ram caps) m n ≡ start_state (budget ram caps)
 own_unused ram caps m n no_caps no_regions =
     ap (λ (c : NatMap Cap). own_of (opened_part ram caps) c n) no_caps ∙ ap (own_of (opened_part ram caps) empty) no_regions ∙ own_opened ram caps
@@ -71,6 +72,7 @@ tables_sound ram caps tables fresh =
 abbrev IsEmptyRole : ℕ → ℕ → Role → Type 0
 IsEmptyRole ram caps role = IfSome (tables_in role) (λ tables. AreEmpty ram caps tables.0 tables.1)
 
+-- a role of nothing is sound where nothing is used
 role_sound : (ram caps : ℕ) (role : Role) → IsEmptyRole ram caps role → IsSoundRole (opened_part ram caps) role
 role_sound ram caps (Script tables) fresh = tables_sound ram caps tables fresh
 role_sound ram caps Server fresh = refl
@@ -80,21 +82,26 @@ caps_none : (ram caps : ℕ) (role : Role) → IsEmptyRole ram caps role → cap
 caps_none ram caps (Script tables) fresh = fresh.no_caps
 caps_none ram caps Server fresh = refl
 
+-- the same of its regions
 user_none : (ram caps : ℕ) (role : Role) → IsEmptyRole ram caps role → user_of role ≡ empty
 user_none ram caps (Script tables) fresh = fresh.no_regions
 user_none ram caps Server fresh = refl
 
 -- a fresh component is sound, and its own state is that of its start
 module _ (store : Store) (component : Component) (fresh : IsFresh store component) where
+  -- the RAM limit of its start
   abbrev ram : ℕ
   ram = (start_of store component).ram
 
+  -- the limit of capabilities of its start
   abbrev caps : ℕ
   caps = (start_of store component).caps
 
+  -- the component is sound
   fresh_sound : IsSound store component
   fresh_sound = subst (λ p. IsSoundRole p component.role) (sym fresh.unused) (role_sound ram caps component.role fresh.tables)
 
+  -- its own state is that of its start
   fresh_state : own store component ≡ start_state (start_of store component)
   fresh_state =
       ap (λ p. own_of p (caps_of component.role) (user_of component.role)) fresh.unused
@@ -105,6 +112,7 @@ fresh_entries : (store : Store) (components : List Component) → map entry_of c
 fresh_entries store [] = refl
 fresh_entries store (c ∷ rest) = ap (λ entries. entry_of c ∷ entries) (fresh_entries store rest)
 
+-- the same of the own states
 fresh_states : (store : Store) (components : List Component) → All (IsFresh store) components → map (own store) components ≡ map start_state (starts_of store components)
 fresh_states store [] fresh = refl
 fresh_states store (c ∷ rest) fresh =
@@ -113,6 +121,7 @@ fresh_states store (c ∷ rest) fresh =
     λ j. first j ∷ others j
 
 module _ (store : Store) (components : List Component) (fresh : AreFresh store components) where
+  -- fresh components are a sound core
   pub fresh_core : IsCore store components
   fresh_core = record {
     sound = λ k d h. fresh_sound store _ (fresh.each k d h);
@@ -120,6 +129,7 @@ module _ (store : Store) (components : List Component) (fresh : AreFresh store c
     apart = fresh.apart;
   }
 
+  -- their world is the one that starts with them
   pub fresh_world : world_of store components ≡ started_world store components
   fresh_world =
       let entries = fresh_entries store components in

@@ -17,6 +17,7 @@ use Rattle.hex.specs.Hex.{decode_pairs, decode_sized, hex_digit_value, digit_or_
 
 -- two digits and the rest
 record Parts (h l : Option ℕ) (r : Option (List ℕ)) (bytes : List ℕ) : Type 0 where
+  -- the values of the two digits, and the bytes of the rest
   high : ℕ
   low : ℕ
   rest : List ℕ
@@ -25,9 +26,11 @@ record Parts (h l : Option ℕ) (r : Option (List ℕ)) (bytes : List ℕ) : Typ
   is_rest : r ≡ Some rest
   all : bytes ≡ (high * 16 + low) ∷ rest
 
+-- lists that are there alike are equal
 same_list : (a b : List ℕ) → Some a ≡ Some b → b ≡ a
 same_list a b e = cc
 
+-- where two digits and the rest give bytes, each of them has a value
 parts : (h l : Option ℕ) (r : Option (List ℕ)) (bytes : List ℕ) →
     option_and_then (λ byte. option_map (λ (bytes : List ℕ). byte ∷ bytes) r) (option_and_then (λ h. option_map (λ l. h * 16 + l) l) h) ≡ Some bytes → Parts h l r bytes
 parts None l r bytes is = absurd (true≢false (sym (ap is_some is)))
@@ -35,6 +38,7 @@ parts (Some h) None r bytes is = absurd (true≢false (sym (ap is_some is)))
 parts (Some h) (Some l) None bytes is = absurd (true≢false (sym (ap is_some is)))
 parts (Some h) (Some l) (Some rest) bytes is = record { high = h; low = l; rest = rest; is_high = refl; is_low = refl; is_rest = refl; all = same_list ((h * 16 + l) ∷ rest) bytes is }
 
+-- what the model decodes is decoded to the same bytes, from two digits each
 pub pairs : (i : ℕ) (text bytes : List ℕ) → bytes_of_hex text ≡ Some bytes → (decode_pairs i text ≡ Ok bytes) × (length text ≡ length bytes * 2)
 unfolding decode_pairs
 pairs i [] bytes is = let e = same_list [] bytes is in (ap (λ l. Ok l) (sym e), sym (ap (λ (l : List ℕ). length l * 2) e))
@@ -53,6 +57,7 @@ pairs i (high ∷ low ∷ rest) bytes is =
 pub half : (text bytes : List ℕ) → bytes_of_hex text ≡ Some bytes → length text / 2 ≡ length bytes
 half text bytes is = omega (arith, (pairs 0 text bytes is).1)
 
+-- text of two digits for each byte of the room is neither odd nor of another length
 sized : (l n : ℕ) (r odd short : Result (List ℕ) FromHexError) → l ≡ n * 2 → cond (eqb (l % 2) 1) odd (cond (eqb (l / 2) n) r short) ≡ r
 sized l n r odd short even =
     let first : eqb (l % 2) 1 ≡ false = grind (arith, nat_tests) in
@@ -65,10 +70,12 @@ decode_is text bytes is n size =
     let p = pairs 0 text bytes is in
     sized (length text) n (decode_pairs 0 text) _ _ (p.1 ∙ ap (λ k. k * 2) (sym size)) ∙ p.0
 
+-- what is there is its value
 value_of : (o : Option (List ℕ)) → IsSome o → o ≡ Some (unwrap_or o [])
 value_of None h = absurd (true≢false (sym h))
 value_of (Some bytes) h = refl
 
+-- the same of the bytes that text stands for
 pub half_is : (text : List ℕ) → IsSome (bytes_of_hex text) → length text / 2 ≡ length (bytes_in text)
 half_is text some = half text (bytes_in text) (value_of (bytes_of_hex text) some)
 
@@ -77,6 +84,7 @@ counted : (b : Bool) → false ≡ is_none (cond b None (Some InvalidSize)) → 
 counted true h = absurd (true≢false (sym h))
 counted false h = refl
 
+-- a poke of too many bytes, or of none, is refused with Invalid_size
 pub poke_too_long : (p : Part) (tables : Tables) (address : ℕ) (text : List ℕ) → IsSome (bytes_of_hex text) → false ≡ is_none (count_refusal (length text / 2)) →
     outcome_of p tables (Poke address (bytes_in text)) ≡ refused (own_at p tables) InvalidSize
 poke_too_long p tables address text some h =

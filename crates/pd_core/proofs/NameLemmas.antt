@@ -18,6 +18,7 @@ pub at_value : {X Y : Type 0} (f g : X → Option Y) (o : Option X) → ((x : X)
 at_value f g None alike = refl
 at_value f g (Some x) alike = alike x refl
 
+-- the same of a whole map
 pub picked_alike : {X Y : Type 0} (f g : X → Option Y) (m : NatMap X) → ((q : ℕ) (x : X) → get m q ≡ Some x → f x ≡ g x) → picked f m ≡ picked g m
 picked_alike f g m alike = picked_same f g m m (λ q. at_value f g (get m q) (alike q))
 
@@ -32,9 +33,11 @@ is_of_some key (Dataspace ds) h = (ds, refl, eqb-true ds.0 key h)
 is_of_some key RpcObject h = absurd (true≢false (sym h))
 is_of_some key (Session server session) h = absurd (true≢false (sym h))
 
+-- a number equals itself by test
 eqb_same : (k : ℕ) → eqb k k ≡ true
 eqb_same k = grind (arith, nat_tests)
 
+-- the selector of an entry that is found names the dataspace under the key
 key_of_found : (caps : NatMap Cap) (key s : ℕ) (o : Option (ℕ × Cap)) → find (λ e. is_of key e.1) (entries caps) ≡ o → option_map (λ e. e.0) o ≡ Some s →
     (ds : DsId) × (get caps s ≡ Some (Dataspace ds)) × (ds.0 ≡ key)
 key_of_found caps key s None at is = absurd (true≢false (sym (ap is_some is)))

@@ -37,6 +37,7 @@ len-insert_new m k v free = map.len-insert nat_cmp_total m k v ∙ (rw free)
 len-remove_there : {X : Type 0} (m : NatMap X) (k : ℕ) (v : X) → get m k ≡ Some v → len (remove m k) ≡ len m - 1
 len-remove_there m k v there = map.len-remove nat_cmp_total m k ∙ (rw there)
 
+-- with one more it is as long as before
 pub len-remove_suc : {X : Type 0} (m : NatMap X) (k : ℕ) (v : X) → get m k ≡ Some v → len (remove m k) + 1 ≡ len m
 len-remove_suc m k v there = ap (λ n. n + 1) (len-total (remove m k)) ∙ total-remove (λ v. 1) m k v there ∙ sym (len-total m)
 
@@ -61,6 +62,7 @@ kept_region key (Some r) region is =
       | false ↦ λ t h. (h, (let e : r ≡ region = (let k : Some r ≡ Some region = h in cc) in sym (ap (λ (x : Region). eqb x.of key) e) ∙ t))
     ] refl is
 
+-- a region that stays was there before, and is of another thing
 pub stays : (key : ℕ) (user : NatMap Region) (start : ℕ) (region : Region) → get (without key user) start ≡ Some region → (get user start ≡ Some region) × (eqb region.of key ≡ false)
 stays key user start region there =
     kept_region key (get user start) region (sym (get-picked (λ region. if region.of == key then None else Some region) user start) ∙ there)
@@ -68,13 +70,16 @@ stays key user start region there =
 -- ---- what is named
 
 module _ (p : Part) (space : Space) (regions : Regions) (sound : IsScript p space regions) where
+  -- the own state before the change
   abbrev before : OwnState
   before = own_of p space.caps regions.user
 
+  -- there is an object where there is a capability, and nowhere else
   is_object : (o : Option Cap) → ((cap : Cap) → o ≡ Some cap → IsSome (object_of p cap)) → is_some (option_and_then (object_of p) o) ≡ is_some o
   is_object None there = refl
   is_object (Some cap) there = there cap refl
 
+  -- the own state has the selectors of the space
   selects : (q : ℕ) → is_some (get before.selectors q) ≡ is_some (get space.caps q)
   unfolding own_of
   selects q = ap is_some (get-picked (object_of p) space.caps q) ∙ is_object (get space.caps q) (sound.there q)
@@ -97,9 +102,11 @@ module _ (p : Part) (space : Space) (regions : Regions) (sound : IsScript p spac
       (still : (q : ℕ) (c : Cap) → get space.caps q ≡ Some c → object_of p' c ≡ object_of p c)
       (new_one : (ds : DsId) → cap ≡ Dataspace ds → (q : ℕ) (b : DsId) → get space.caps q ≡ Some (Dataspace b) → b.0 ≢ ds.0)
       (object : Object) (new_object : object_of p' cap ≡ Some object) where
+    -- the new selector named nothing before
     free_selector : get space.caps s ≡ None
     free_selector = rw least (new_selector_free space.caps)
 
+    -- a dataspace still has one selector at most
     grown_one : IsOne (insert space.caps s cap)
     grown_one q t a b first second same = elim (inserted space.caps s cap q (Dataspace a) first) [
       | inl here ↦ elim (inserted space.caps s cap t (Dataspace b) second) [
@@ -112,6 +119,7 @@ module _ (p : Part) (space : Space) (regions : Regions) (sound : IsScript p spac
       ]
     ]
 
+    -- the selector of a region's dataspace names what it did
     named_apart : (q start : ℕ) (region : Region) → get regions.user start ≡ Some region → selector_of space.caps region.of ≡ Some q → get (insert space.caps s cap) q ≡ get space.caps q
     named_apart q start region there names =
         get-insert_other space.caps s cap q (apart_from_free space.caps s q free_selector (ap is_some (is_named space.caps region.of q names).1))
@@ -126,12 +134,14 @@ module _ (p : Part) (space : Space) (regions : Regions) (sound : IsScript p spac
         let attached = regions_alike space.caps (insert space.caps s cap) regions.user grown_one sound.attached named_apart in
         λ i. record { account = account_of p'; selectors = (names ∙ ap (λ k. insert (picked (object_of p) space.caps) k object) selector) i; regions = attached i; gone = false }
 
+    -- each capability has an object, and so has the new one
     grown_there : (q : ℕ) (c : Cap) → get (insert space.caps s cap) q ≡ Some c → IsSome (object_of p' c)
     grown_there q c there = elim (inserted space.caps s cap q c there) [
       | inl here ↦ ap (λ x. is_some (object_of p' x)) here.1 ∙ ap is_some new_object
       | inr old ↦ ap is_some (still q c old.1) ∙ sound.there q c old.1
     ]
 
+    -- the script stays sound with a capability more
     pub grown : IsSome p'.account → len p'.spaces + rpc_weight cap ≡ len p.spaces + 1 → (account_of p').caps_used ≡ (account_of p).caps_used + 1 → (account_of p').caps_limit ≡ (account_of p).caps_limit →
         (account_of p').ram_limit ≡ (account_of p).ram_limit → (account_of p).caps_used + 1 ≤ (account_of p).caps_limit →
         ((key : ℕ) (bytes : List ℕ) → get p'.spaces key ≡ Some bytes → length bytes ≤ regions.pages * 4096) →
@@ -158,12 +168,15 @@ module _ (p : Part) (space : Space) (regions : Regions) (sound : IsScript p spac
       (still : (q : ℕ) (c : Cap) → get (remove space.caps s) q ≡ Some c → object_of p' c ≡ object_of p c)
       (kept_user : (start : ℕ) (region : Region) → get regions'.user start ≡ Some region → get regions.user start ≡ Some region)
       (apart : (q start : ℕ) (region : Region) → get regions'.user start ≡ Some region → selector_of space.caps region.of ≡ Some q → q ≢ s) where
+    -- a dataspace still has one selector at most
     shrunk_one : IsOne (remove space.caps s)
     shrunk_one q t a b first second same = sound.one q t a b (before_remove space.caps s q (Dataspace a) first) (before_remove space.caps s t (Dataspace b) second) same
 
+    -- the selector of a dataspace whose region is left names what it did
     left_apart : (q start : ℕ) (region : Region) → get regions'.user start ≡ Some region → selector_of space.caps region.of ≡ Some q → get (remove space.caps s) q ≡ get space.caps q
     left_apart q start region here names = get-remove_other space.caps s q (apart q start region here names)
 
+    -- each region that is left had a dataspace that a selector names
     left_attached : (start : ℕ) (region : Region) → get regions'.user start ≡ Some region → IsSome (selector_of space.caps region.of)
     left_attached start region here = sound.attached start region (kept_user start region here)
 
@@ -176,6 +189,7 @@ module _ (p : Part) (space : Space) (regions : Regions) (sound : IsScript p spac
         let attached = regions_alike space.caps (remove space.caps s) regions'.user shrunk_one left_attached left_apart in
         λ i. record { account = account_of p'; selectors = names i; regions = attached i; gone = false }
 
+    -- the script stays sound with a capability less
     pub shrunk : IsSome p'.account → len p'.spaces + 1 ≡ len p.spaces + rpc_weight cap → (account_of p').caps_used ≡ (account_of p).caps_used - 1 → (account_of p').caps_limit ≡ (account_of p).caps_limit →
         (account_of p').ram_limit ≡ (account_of p).ram_limit → regions'.most ≡ regions.most → regions'.pages ≡ regions.pages →
         ((key : ℕ) (bytes : List ℕ) → get p'.spaces key ≡ Some bytes → get p.spaces key ≡ Some bytes) →
@@ -200,6 +214,7 @@ module _ (p : Part) (space : Space) (regions : Regions) (sound : IsScript p spac
 
   module _ (regions' : Regions) (most : regions'.most ≡ regions.most) (pages : regions'.pages ≡ regions.pages)
       (attached : (start : ℕ) (region : Region) → get regions'.user start ≡ Some region → IsSome (selector_of space.caps region.of)) where
+    -- the script stays sound with other regions, if selectors name their dataspaces
     pub remapped : IsSound (own_of p space.caps regions'.user) → IsScript p space regions'
     remapped kept = record {
       is_open = sound.is_open;
@@ -219,14 +234,17 @@ module _ (p : Part) (space : Space) (regions : Regions) (sound : IsScript p spac
   -- ---- other bytes
 
   module _ (ds : DsId) (s : ℕ) (bytes over : List ℕ) (names : get space.caps s ≡ Some (Dataspace ds)) (has : get p.spaces ds.0 ≡ Some bytes) where
+    -- the part with other bytes of the dataspace
     abbrev written : Part
     written = record { account = p.account; spaces = insert p.spaces ds.0 over }
 
+    -- other selectors keep their objects
     other_object : (q : ℕ) (c : Cap) → q ≢ s → get space.caps q ≡ Some c → object_of written c ≡ object_of p c
     other_object q (Dataspace d) apart there = ap (option_map ADataspace) (get-insert_other p.spaces ds.0 over d.0 (λ e. apart (sound.one q s d ds there names e)))
     other_object q RpcObject apart there = refl
     other_object q (Session server session) apart there = refl
 
+    -- the dataspace's selector names the new bytes, and the others what they did
     written_at : (q : ℕ) → get (picked (object_of written) space.caps) q ≡ get (insert (picked (object_of p) space.caps) s (ADataspace over)) q
     written_at q = elim (cases_eq q s) [
       | inl at ↦
@@ -243,6 +261,7 @@ module _ (p : Part) (space : Space) (regions : Regions) (sound : IsScript p spac
     unfolding own_of
     written_own = let selectors = same _ _ written_at in λ i. record { account = account_of p; selectors = selectors i; regions = regions_of space.caps regions.user; gone = false }
 
+    -- a capability that had an object has one still
     written_there : (c : Cap) → IsSome (object_of p c) → IsSome (object_of written c)
     written_there (Dataspace d) h = elim (cases_eq d.0 ds.0) [
       | inl at ↦ ap (λ o. is_some (option_map ADataspace o)) (get-insert_same p.spaces ds.0 over d.0 at)
@@ -251,12 +270,14 @@ module _ (p : Part) (space : Space) (regions : Regions) (sound : IsScript p spac
     written_there RpcObject h = h
     written_there (Session server session) h = h
 
+    -- no dataspace is larger than the machine
     written_few : length over ≡ length bytes → (key : ℕ) (b : List ℕ) → get (insert p.spaces ds.0 over) key ≡ Some b → length b ≤ regions.pages * 4096
     written_few size key b there = elim (inserted p.spaces ds.0 over key b there) [
       | inl here ↦ omega (arith, ap length here.1, size, sound.few ds.0 bytes has)
       | inr old ↦ sound.few key b old.1
     ]
 
+    -- the script stays sound with as many other bytes
     pub rewritten : length over ≡ length bytes → IsSound (own_of written space.caps regions.user) → IsScript written space regions
     rewritten size kept = record {
       is_open = sound.is_open;

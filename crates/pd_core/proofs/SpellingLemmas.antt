@@ -4,6 +4,7 @@ use Rattle.std.specs.Fmt.{digit_glyph, digits_onto, digits}
 use Rattle.std.proofs.lemmas.Bool.Decides.{nat_tests}
 use Rattle.std.proofs.lemmas.List.{drop_all, drop-set}
 
+-- the digits onto nothing are all digits of the number
 whole : (n : ℕ) → digits_onto 64 16 false n [] ≡ digits 16 false n
 unfolding digits
 whole n = refl

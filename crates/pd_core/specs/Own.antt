@@ -72,7 +72,8 @@ IsOne caps = (s t : ℕ) (a b : DsId) → get caps s ≡ Some (Dataspace a) → 
 
 -- the account is open and within its limits; each selector names an RPC object, or a dataspace of its own that the
 -- account pays for, with a capability each; there is a place for as many as the account can pay for; each region is of a
--- dataspace that a selector names; and no dataspace is larger than the machine
+-- dataspace that a selector names; there is room for 128 user regions; neither the account's RAM limit nor a dataspace
+-- is larger than the machine; and the own state is sound
 pub record IsScript (part : Part) (space : Space) (regions : Regions) : Type 0 where
   pub is_open : IsSome part.account
   pub there : (selector : ℕ) (cap : Cap) → get space.caps selector ≡ Some cap → IsSome (object_of part cap)

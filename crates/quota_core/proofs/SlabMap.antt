@@ -136,6 +136,7 @@ module _ {T : Type 0} where
         | inr there ↦ ap is_some (updates.others other there) ∙ present
       ]
 
+  -- what is read as it is stays
   option_map-same : (o : Option T) → option_map (λ x. x) o ≡ o
   option_map-same None = refl
   option_map-same (Some x) = refl

@@ -20,23 +20,29 @@ use Rattle.region_map.specs.Table.{entry_of, regions_of, overlap_row, holds_row,
 
 -- ---- tests of numbers
 
+-- two numbers are tested alike either way round
 flipped : (a b : ℕ) → eqb a b ≡ eqb b a
 flipped a b = grind (arith, nat_tests)
 
+-- numbers that fail the test for equality differ
 apart_from_test : (a b : ℕ) → eqb a b ≡ false → a ≢ b
 apart_from_test a b h = grind (arith, nat_tests)
 
+-- a number that passes the test is below the other
 below_from : (a b : ℕ) → nat_lt a b ≡ true → a < b
 below_from a b h = grind (arith, nat_tests)
 
+-- and one that fails it is not
 from_below : (a b : ℕ) → nat_lt a b ≡ false → b ≤ a
 from_below a b h = grind (arith, nat_tests)
 
+-- a region that pages overlap ends after their address
 overlap_after : (start others address pages end : ℕ) → overlap start others address pages ≡ true → end ≡ start + others * 4096 → address < end
 overlap_after start others address pages end h e = grind (arith, nat_tests)
 
 -- ---- rows as entries
 
+-- a start has the region that the rows' entries have for it
 pub get-regions_of : (rows : List Row) (q : ℕ) → get (regions_of rows) q ≡ value_of q (map entry_of rows)
 unfolding regions_of
 get-regions_of rows q = get-from_entries nat_cmp_total (map entry_of rows) q
@@ -59,10 +65,12 @@ row_not_found test rows is start region there =
 
 -- ---- how many
 
+-- a new key counts one more
 len_new : (b : Bool) (n : ℕ) → b ≡ false → cond b n (n + 1) ≡ n + 1
 len_new true n e = absurd (true≢false e)
 len_new false n e = refl
 
+-- entries of different keys all count
 len-from_entries : (es : List (ℕ × Region)) → KeysDiffer es → len (from_entries {R = nat_cmp} es) ≡ length es
 len-from_entries [] differ = len-empty nat_cmp Region
 len-from_entries (e ∷ es) differ =
@@ -71,16 +79,19 @@ len-from_entries (e ∷ es) differ =
     let rest = len-from_entries es differ.1 in
     omega arith
 
+-- there are as many regions as rows
 pub len-regions_of : (rows : List Row) → KeysDiffer (map entry_of rows) → len (regions_of rows) ≡ length rows
 unfolding regions_of
 len-regions_of rows differ = len-from_entries (map entry_of rows) differ ∙ length-map rows entry_of
 
 -- ---- no rows
 
+-- without rows there are no regions
 pub regions_of-none : regions_of [] ≡ empty
 unfolding regions_of
 regions_of-none = refl
 
+-- no rows are a table
 pub IsTable-fresh : (pages : ℕ) → pages ≤ 4096 → IsTable [] pages
 IsTable-fresh pages few =
     let none : (q : ℕ) (region : Region) → get (regions_of []) q ≡ Some region → ⊥ = λ q region is. none-some region (sym (get-regions_of [] q) ∙ is) in
@@ -100,6 +111,7 @@ none_later q e es is =
       | false ↦ λ h. (refl, h)
     ] (sym (value_of-cons q e es) ∙ is)
 
+-- keys still differ with one more that no entry has
 KeysDiffer-push : (es : List (ℕ × Region)) (e : ℕ × Region) → KeysDiffer es → value_of e.0 es ≡ None → KeysDiffer (es ++ e ∷ [])
 KeysDiffer-push [] e differ free = (refl, tt)
 KeysDiffer-push (x ∷ es) e differ free =
@@ -109,17 +121,20 @@ KeysDiffer-push (x ∷ es) e differ free =
     ∙ ap (λ b. cond b (Some e.1) (value_of x.0 es)) (unsigned_tied x.0 e.0 ∙ flipped x.0 e.0 ∙ parts.0) ∙ differ.0 in
     (other, KeysDiffer-push es e differ.1 parts.1)
 
+-- a row more, at a free start, is its region inserted
 pub regions_of-push : (rows : List Row) (row : Row) → get (regions_of rows) row.start ≡ None → regions_of (rows ++ row ∷ []) ≡ insert (regions_of rows) row.start (entry_of row).1
 unfolding regions_of
 regions_of-push rows row free =
     ap (λ es. from_entries {R = nat_cmp} es) (map-append entry_of rows (row ∷ []))
     ∙ from_entries_push nat_cmp_total nat_cmp-IsAntisymmetric (map entry_of rows) row.start (entry_of row).1 (sym (get-regions_of rows row.start) ∙ free)
 
+-- starts still differ with a row at a free one
 differ_push : (rows : List Row) (row : Row) → KeysDiffer (map entry_of rows) → get (regions_of rows) row.start ≡ None → KeysDiffer (map entry_of (rows ++ row ∷ []))
 differ_push rows row differ free =
     subst (λ es. KeysDiffer es) (sym (map-append entry_of rows (row ∷ [])))
     (KeysDiffer-push (map entry_of rows) (entry_of row) differ (sym (get-regions_of rows row.start) ∙ free))
 
+-- what starts at the same address overlaps, if neither is empty
 same_start : (n m a : ℕ) → 1 ≤ n → 1 ≤ m → overlap a n a m ≡ false → ⊥
 same_start n m a x y h = grind (arith, nat_tests)
 
@@ -139,6 +154,7 @@ inserted_or_there regions address new start region is =
       | false ↦ λ t h. inr h
     ] refl (sym (get-insert regions address new start) ∙ is)
 
+-- what lies clear of another has that clear of it
 overlap-comm : (a pages b others : ℕ) → overlap a pages b others ≡ false → overlap b others a pages ≡ false
 overlap-comm a pages b others h = grind (arith, nat_tests)
 
@@ -178,9 +194,11 @@ IsTable-push rows row pages is at =
 -- ---- some rows gone
 
 module _ (keep : ℕ × Region → Bool) where
+  -- a region, if the test lets it stay
   abbrev pub kept : ℕ → Region → Option Region
   kept start region = cond (keep (start, region)) (Some region) None
 
+  -- a key has what it had, if the test lets that stay
   value_of-filter : (es : List (ℕ × Region)) (q : ℕ) → KeysDiffer es → value_of q (filter keep es) ≡ option_and_then (kept q) (value_of q es)
   value_of-filter [] q differ = refl
   value_of-filter (e ∷ es) q differ =
@@ -204,6 +222,7 @@ module _ (keep : ℕ × Region → Bool) where
             ∙ ap (option_and_then (kept q)) (sym (value_of-cons q e es))
       ] refl
 
+  -- the keys that stay still differ
   KeysDiffer-filter : (es : List (ℕ × Region)) → KeysDiffer es → KeysDiffer (filter keep es)
   KeysDiffer-filter [] differ = tt
   KeysDiffer-filter (e ∷ es) differ =
@@ -213,6 +232,7 @@ module _ (keep : ℕ × Region → Bool) where
         | false ↦ rest
       ]
 
+  -- the same rows stay, tested by their entries
   filter-entries : (rows : List Row) → map entry_of (filter (λ row. keep (entry_of row)) rows) ≡ filter keep (map entry_of rows)
   filter-entries [] = refl
   filter-entries (row ∷ rows) =
@@ -252,6 +272,7 @@ gone : (address q : ℕ) (o : Option Region) → option_and_then (kept (λ e. no
 gone address q None = elim (eqb q address) as (λ b. ◌≡◌ {A = Option Region} None (cond b None None)) [ true ↦ refl | false ↦ refl ]
 gone address q (Some r) = elim (eqb q address) as (λ b. cond (not b) (Some r) None ≡ cond b None (Some r)) [ true ↦ refl | false ↦ refl ]
 
+-- without the row of a start its region is gone
 pub regions_of-detached : (rows : List Row) (address : ℕ) → KeysDiffer (map entry_of rows) → regions_of (filter (λ row. not (row.start == address)) rows) ≡ remove (regions_of rows) address
 regions_of-detached rows address differ =
     same _ _ (λ q. get-filtered (λ e. not (e.0 == address)) rows q differ ∙ gone address q (get (regions_of rows) q) ∙ sym (get-remove (regions_of rows) address q))
@@ -261,12 +282,14 @@ others : (ds q : ℕ) (o : Option Region) → option_and_then (kept (λ e. not (
 others ds q None = refl
 others ds q (Some r) = elim (r.of == ds) as (λ b. cond (not b) (Some r) None ≡ cond b None (Some r)) [ true ↦ refl | false ↦ refl ]
 
+-- without the rows of a dataspace its regions are gone
 pub regions_of-all_detached : (rows : List Row) (ds : ℕ) → KeysDiffer (map entry_of rows) → regions_of (filter (λ row. not (row.ds.0 == ds)) rows) ≡ without ds (regions_of rows)
 regions_of-all_detached rows ds differ =
     same _ _ (λ q. get-filtered (λ e. not (e.1.of == ds)) rows q differ ∙ others ds q (get (regions_of rows) q) ∙ sym (get-picked _ (regions_of rows) q))
 
 -- ---- what is found at an address
 
+-- a row starts at the address where the entries have that key
 any_start : (rows : List Row) (address : ℕ) → list_any (λ row. row.start == address) rows ≡ is_some (value_of address (map entry_of rows))
 any_start [] address = refl
 any_start (row ∷ rows) address =
@@ -280,6 +303,7 @@ refused_unless_started rows items user address some view same is =
     ap (λ b. cond b None (Some PageFault))
     (is ∙ ap (list_any (λ row. row.start == address)) same ∙ any_start rows address ∙ ap is_some (sym (get-regions_of rows address) ∙ ap (λ m. get m address) view))
 
+-- two regions that hold the same range overlap
 both_hold : (a n b m address length : ℕ) → 1 ≤ length → nat_le a address && nat_le (address + length) (a + n * 4096) ≡ true → nat_le b address && nat_le (address + length) (b + m * 4096) ≡ true → overlap a n b m ≡ true
 both_hold a n b m address length more x y = grind (arith, nat_tests)
 
@@ -305,6 +329,7 @@ resolved_nothing rows address length is =
 
 -- ---- what pages overlap
 
+-- what starts at a page boundary ends at one
 end_aligned : (start pages : ℕ) → start % 4096 ≡ 0 → (start + pages * 4096) % 4096 ≡ 0
 end_aligned start pages h = omega arith
 
@@ -336,6 +361,7 @@ meets_where_found rows address pages (Some row) differ is =
 
 -- ---- the first gap, by skipping what is in the way
 
+-- below the address so many pages have no place
 abbrev pub NoneBefore : NatMap Region → ℕ → ℕ → Type 0
 NoneBefore regions pages address = (b : ℕ) → b < address → ¬ IsPlace user_low user_high regions pages b
 

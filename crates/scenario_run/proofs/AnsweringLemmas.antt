@@ -34,11 +34,13 @@ unless_lines : (refusal : Option Refusal) (s : OwnState) (accepted : Outcome) �
 unless_lines (Some refusal) s accepted none = refl
 unless_lines None s accepted none = none
 
+-- a free finishes no line
 freed_lines : (selector : ℕ) (found : Option Object) (s : OwnState) → (freed selector found s).lines ≡ []
 freed_lines selector (Some (Dataspace bytes)) s = refl
 freed_lines selector (Some RpcObject) s = refl
 freed_lines selector None s = refl
 
+-- nor does an attach at the first gap
 attached_lines : (selector : ℕ) (found : Option Object) (s : OwnState) → (attached_first selector found s).lines ≡ []
 attached_lines selector (Some (Dataspace bytes)) s =
     unless_lines (attach_refusal most_regions s.regions (pages_in bytes)) s
@@ -46,29 +48,35 @@ attached_lines selector (Some (Dataspace bytes)) s =
 attached_lines selector (Some RpcObject) s = refl
 attached_lines selector None s = refl
 
+-- nor one at a given address
 attached_at_lines : (selector address : ℕ) (found : Option Object) (s : OwnState) → (attached_at selector address found s).lines ≡ []
 attached_at_lines selector address (Some (Dataspace bytes)) s =
     unless_lines (attach_at_refusal most_regions s.regions (pages_in bytes) address) s (with_region selector (pages_in bytes) address s) refl
 attached_at_lines selector address (Some RpcObject) s = refl
 attached_at_lines selector address None s = refl
 
+-- a peek finishes no line
 peeked_lines : (count : ℕ) (found : Option (ℕ × ℕ)) (s : OwnState) → (peeked count found s).lines ≡ []
 peeked_lines count (Some place) s = refl
 peeked_lines count None s = refl
 
+-- a poke of a selector finishes no line, whatever it names
 poked_at_lines : (selector offset : ℕ) (bytes : List ℕ) (found : Option Object) (s : OwnState) → (poked_at selector offset bytes found s).lines ≡ []
 poked_at_lines selector offset bytes (Some object) s = refl
 poked_at_lines selector offset bytes None s = refl
 
+-- nor does one of a range that may lie in no region
 poked_lines : (bytes : List ℕ) (found : Option (ℕ × ℕ)) (s : OwnState) → (poked bytes found s).lines ≡ []
 poked_lines bytes (Some place) s = poked_at_lines place.0 place.1 bytes (get s.selectors place.0) s
 poked_lines bytes None s = refl
 
+-- nor does a capfree
 cap_freed_lines : (selector : ℕ) (found : Option Object) (s : OwnState) → (cap_freed selector found s).lines ≡ []
 cap_freed_lines selector (Some (Dataspace bytes)) s = refl
 cap_freed_lines selector (Some RpcObject) s = refl
 cap_freed_lines selector None s = refl
 
+-- no call of a script that runs finishes a line
 script_lines : (call : Call) (s : OwnState) → (script_step call s).lines ≡ []
 script_lines (Alloc n) s = unless_lines (alloc_refusal n s.account) s (allocated n s) refl
 script_lines (Free selector) s = freed_lines selector (get s.selectors selector) s
@@ -116,5 +124,6 @@ told_call world line name call component entries listed text short same says fou
 pub ok_told : {E : Type 0} (r : Result (Unit {0}) E) (old new : Option (List ℕ)) (a b : List ℕ) → a ≡ b → OnOk r (Appends old new a) → OnOk r (Appends old new b)
 ok_told r old new a b e h = subst (λ bytes. OnOk r (Appends old new bytes)) e h
 
+-- the same of one that fails, where a part of the text is told
 pub err_told : {E : Type 0} (r : Result (Unit {0}) E) (old new : Option (List ℕ)) (a b : List ℕ) → a ≡ b → OnErr r (AppendsPart old new a) → OnErr r (AppendsPart old new b)
 err_told r old new a b e h = subst (λ bytes. OnErr r (AppendsPart old new bytes)) e h

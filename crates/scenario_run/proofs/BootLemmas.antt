@@ -35,6 +35,7 @@ unfolding part
 start_by_part store store' component same =
     ap (λ (p : Part). let account = unwrap_or p.account (opened 0 0) in record { entry = entry_of component; ram = account.ram_limit; caps = account.caps_limit }) same
 
+-- a component whose account is new starts with the limits it was opened with
 start_of_opened : (store : Store) (component : Component) (ram caps : ℕ) → part (payer_of component) store ≡ opened_part ram caps →
     start_of store component ≡ record { entry = entry_of component; ram = ram; caps = caps }
 unfolding part
@@ -50,12 +51,15 @@ fresh_open store component fresh = subst IsSome (sym (ap (λ (p : Part). p.accou
 module _ (store store' : Store) (root child ram caps : ℕ) (is_root : root ≡ store.books.root) (is_open : IsOpenIn store root)
     (free : get store.books.accounts child ≡ None) (room : 0 < store.books.room)
     (parted : store' ≡ with_child_in store root child ram caps) where
+  -- the new account isn't init's
   root_apart : root ≢ child
   root_apart = apart_from_free store.books.accounts child root free is_open
 
+  -- init's account is the same one
   same_root : store'.books.root ≡ store.books.root
   same_root = ap (λ s. s.books.root) parted
 
+  -- there is room for one account less
   less_room : store'.books.room + 1 ≡ store.books.room
   less_room = omega (arith, ap (λ s. s.books.room) parted)
 
@@ -73,12 +77,15 @@ module _ (store store' : Store) (root child ram caps : ℕ) (is_root : root ≡ 
     child_apart : (c : Component) → IsFresh store c → payer_of c ≢ child
     child_apart c fresh = apart_from_free store.books.accounts child (payer_of c) free (fresh_open store c fresh)
 
+    -- the part of such a component stays
     part_stays : (c : Component) → IsFresh store c → part (payer_of c) store' ≡ part (payer_of c) store
     part_stays c fresh = others (payer_of c) (λ e. fresh.not_init (e ∙ is_root)) (child_apart c fresh)
 
+    -- so does what it starts with
     start_stays : (c : Component) → IsFresh store c → start_of store' c ≡ start_of store c
     start_stays c fresh = start_by_part store store' c (part_stays c fresh)
 
+    -- and it is still fresh
     fresh_stays : (c : Component) → IsFresh store c → IsFresh store' c
     fresh_stays c fresh = record {
       not_init = λ e. fresh.not_init (e ∙ same_root);
@@ -91,9 +98,11 @@ module _ (store store' : Store) (root child ram caps : ℕ) (is_root : root ≡ 
       part_after : part (payer_of after) store' ≡ opened_part ram caps
       part_after = ap (λ a. part a store') payer ∙ own
 
+      -- it starts with what its account was opened with
       start_after : start_of store' after ≡ record { entry = entry_of after; ram = ram; caps = caps }
       start_after = start_of_opened store' after ram caps part_after
 
+      -- its account is unused, and its tables are empty
       fresh_after : IsFresh store' after
       fresh_after = record {
         not_init = λ e. root_apart (is_root ∙ sym same_root ∙ sym e ∙ payer);
@@ -101,6 +110,7 @@ module _ (store store' : Store) (root child ram caps : ℕ) (is_root : root ≡ 
         tables = subst (λ (s : StartEntry). IfSome (tables_of after) (λ tables. AreEmpty s.ram s.caps tables.0 tables.1)) (sym start_after) tables;
       }
 
+      -- so one more component has started, and comes last
       has_started : (components : List Component) → AreFresh store components →
           HasStarted store components store' (components ++ after ∷ []) (record { entry = entry_of after; ram = ram; caps = caps })
       has_started components fresh = record {

@@ -36,11 +36,13 @@ bytes_of_some : (text : List ℕ) → 0 < length text → is_some (some_bytes_of
 bytes_of_some [] some = absurd (omega arith)
 bytes_of_some (digit ∷ rest) some = let test : nat_lt 0 (length (digit ∷ rest)) ≡ true = grind (arith, nat_tests) in rw test (bytes_of_even (digit ∷ rest))
 
+-- an even number of characters, and not none, has bytes where all are digits
 pub bytes_of_pairs : (text : List ℕ) → 0 < length text → length text % 2 ≡ 0 → is_some (some_bytes_of_hex text) ≡ list_all is_hex_digit text
 bytes_of_pairs text some even =
     let test : nat_eq (length text % 2) 0 ≡ true = grind (arith, nat_tests) in
     rw (bytes_of_some text some, test)
 
+-- an odd number of characters has no bytes
 pub bytes_of_odd : (text : List ℕ) → length text % 2 ≢ 0 → nat_eq (length text % 2) 0 ≡ is_some (some_bytes_of_hex text)
 bytes_of_odd [] odd = absurd (odd refl)
 bytes_of_odd (digit ∷ rest) odd =
@@ -48,6 +50,7 @@ bytes_of_odd (digit ∷ rest) odd =
     let test : nat_eq (length (digit ∷ rest) % 2) 0 ≡ false = grind (arith, nat_tests) in
     rw (bytes_of_some (digit ∷ rest) some, test)
 
+-- nor has an empty text
 pub bytes_of_none : (text : List ℕ) → length text ≡ 0 → is_some (some_bytes_of_hex text) ≡ false
 bytes_of_none [] none = refl
 bytes_of_none (digit ∷ rest) none = absurd (omega arith)
@@ -58,12 +61,15 @@ found true (Some bytes) some = refl
 found true None some = absurd (grind arith)
 found false bytes some = absurd (grind arith)
 
+-- where nothing is found it is none
 nothing : {A : Type 0} (found : Option A) → is_some found ≡ false → found ≡ None
 nothing None none = refl
 nothing (Some x) none = absurd (grind arith)
 
+-- a text that has bytes stands for them
 pub poked_bytes : (text : List ℕ) → is_some (some_bytes_of_hex text) ≡ true → some_bytes_of_hex text ≡ Some (bytes_in text)
 poked_bytes text some = found (nat_lt 0 (length text)) (bytes_of_hex text) some
 
+-- and one that has none stands for nothing
 pub no_bytes : (text : List ℕ) → is_some (some_bytes_of_hex text) ≡ false → some_bytes_of_hex text ≡ None
 no_bytes text none = nothing (some_bytes_of_hex text) none

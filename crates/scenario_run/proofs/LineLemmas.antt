@@ -10,6 +10,7 @@ use Rattle.std.specs.List.{slice_split, All}
 use Rattle.own_model.specs.Text.{lines_of, without_empty_end}
 use Rattle.scenario_run.specs.Lines.{is_newline, line_length, line_of, after_line}
 
+-- a line is no longer than all the bytes
 pub line_length-le : (bytes : List ℕ) → line_length bytes ≤ length bytes
 line_length-le bytes = prefix_len-le-length (λ b. not (is_newline b)) bytes
 
@@ -22,6 +23,7 @@ not-true false e = refl
 found_none : (n len : ℕ) → n ≤ len → cond (ltb n len) (Some n) None ≡ None → len ≡ n
 found_none n len le none = grind (arith, nat_tests)
 
+-- bytes without a newline are one line
 pub line_length-none : (bytes : List ℕ) → position is_newline bytes ≡ None → length bytes ≡ line_length bytes
 line_length-none bytes none = found_none (line_length bytes) (length bytes) (line_length-le bytes) none
 

@@ -14,9 +14,13 @@ use Rattle.scenario_run.specs.Boot.{CanStart, HasStarted}
 
 -- these have started so far: the parts are fresh, init has so much left, and there is room for so many accounts more
 pub record SoFar (store : Store) (components : List Component) (list : List StartEntry) (ram caps places : ℕ) : Type 0 where
+  -- the components are fresh
   pub fresh : AreFresh store components
+  -- they start with what the list says
   pub starts : starts_of store components ≡ list
+  -- init has so much left, and uses nothing
   pub init : account_in store store.books.root ≡ opened ram caps
+  -- there is room for so many accounts more
   pub room : store.books.room ≡ places
 
 -- nothing has started in a memory that has just booted

@@ -54,15 +54,19 @@ number_of-digits d ds = let some : nat_lt 0 (length (d ∷ ds)) ≡ true = grind
 pub from_place : (n : ℕ) (ds : List ℕ) (i : ℕ) → i < length ds → number_from n (drop i ds) ≡ number_from n (get_or ds i 0 ∷ drop (i + 1) ds)
 from_place n ds i here = at_drop_more (number_from n) ds i 0 here
 
+-- with another byte ahead there is no number
 pub stops_at_other : (n : ℕ) (ds : List ℕ) (i : ℕ) → i < length ds → is_ascii_digit (get_or ds i 0) ≡ false → number_from n (drop i ds) ≡ None
 stops_at_other n ds i here other = from_place n ds i here ∙ number_from-other n _ _ other
 
+-- with a digit ahead the number goes on by it
 pub goes_on : (n : ℕ) (ds : List ℕ) (i : ℕ) → i < length ds → is_ascii_digit (get_or ds i 0) ≡ true → number_from n (drop i ds) ≡ number_from (n * 10 + (get_or ds i 0 - 48)) (drop (i + 1) ds)
 goes_on n ds i here digit = from_place n ds i here ∙ number_from-digit n _ _ digit
 
+-- unless it is then past 64 bits
 pub stops_past : (n : ℕ) (ds : List ℕ) (i : ℕ) → i < length ds → is_ascii_digit (get_or ds i 0) ≡ true → 2 ^ 64 ≤ n * 10 + (get_or ds i 0 - 48) → number_from n (drop i ds) ≡ None
 stops_past n ds i here digit past = goes_on n ds i here digit ∙ number_from-past _ _ past
 
+-- at the end the number is what it is so far
 pub number_at_end : (n : ℕ) (ds : List ℕ) (i : ℕ) → n < 2 ^ 64 → length ds ≤ i → number_from n (drop i ds) ≡ Some n
 number_at_end n ds i small done = at_drop_all (number_from n) ds i done ∙ number_from-end n small
 
@@ -71,6 +75,7 @@ pub number_of_some : (ds : List ℕ) → 0 < length ds → number_of ds ≡ numb
 number_of_some [] some = absurd (omega arith)
 number_of_some (d ∷ ds) some = number_of-digits d ds
 
+-- without digits there is no number
 pub number_of_none : (ds : List ℕ) → length ds ≡ 0 → number_of ds ≡ None
 number_of_none [] none = refl
 number_of_none (d ∷ ds) none = absurd (omega arith)

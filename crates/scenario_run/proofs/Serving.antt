@@ -13,11 +13,16 @@ use Rattle.scenario_run.proofs.LineLemmas.{lines_of-cons}
 -- of all bytes some are still to come; with what is told of them the transcript is told, and after them each component's own state is that of its own run
 pub record Serves (first : World) (all : List ℕ) (old_told : Option (List ℕ))
     (world : World) (come : Option (List ℕ)) (new_told : Option (List ℕ)) (count : ℕ) : Type 0 where
+  -- the bytes that are still to come
   pub rest : List ℕ
+  -- they are known
   pub is_rest : come ≡ Some rest
+  -- their lines and those that were answered are all lines
   pub lines : count + length (lines_of rest) ≡ length (lines_of all)
+  -- after them each component's state is that of its own run
   pub leaves : (component : ℕ) → state_at (after_all world (lines_of rest)).states component
       ≡ state_after first.entries first.states (calls_of first.entries (lines_of all)) component
+  -- with what is told of them the transcript is told
   pub tells : (more : Option (List ℕ)) → Appends new_told more (told_of_all world (lines_of rest)) → Appends old_told more (transcript first.entries first.states all)
 
 -- at the start all is to come

@@ -8,10 +8,12 @@ use Rattle.scenario_run.specs.declared.lines.LineFault.{LineFault}
 use Rattle.scenario_run.specs.declared.lines.LineFault.TheVariants.{Read, Write, Endless}
 use Rattle.scenario_run.proofs.LineLemmas.{line_length-le, line_length-append_in, line_length-append-le, line_length-drop}
 
+-- what is known stays if nothing is done
 pub Keeps-refl : (known : Option (List ℕ)) → Keeps known known
 Keeps-refl None = tt
 Keeps-refl (Some xs) = refl
 
+-- what stays twice stays
 pub Keeps-trans : (a b c : Option (List ℕ)) → Keeps a b → Keeps b c → Keeps a c
 Keeps-trans None b c first second = tt
 Keeps-trans (Some xs) None c first second = absurd first

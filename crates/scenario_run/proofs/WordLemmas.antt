@@ -21,10 +21,12 @@ word-first_word (b ∷ bs) = word-next (nat_eq b 32) b bs (position_or_len is_sp
 unfoldable after : ℕ → List ℕ → Option (List ℕ)
 after n bs = cond (nat_lt n (length bs)) (Some (drop (n + 1) bs)) None
 
+-- with one more byte in front the place is one further, and the same stands after it
 after-next : (n : ℕ) (b : ℕ) (bs : List ℕ) → after n bs ≡ after (1 + n) (b ∷ bs)
 unfolding after
 after-next n b bs = grind (arith, nat_tests)
 
+-- the rest, where the byte in front is a space or isn't
 rest-next : (space : Bool) (b : ℕ) (bs : List ℕ) (n : ℕ) (next : FirstWord) → next.rest ≡ after n bs → (cond {A = FirstWord} space (record { word = []; rest = Some bs }) (record { word = b ∷ next.word; rest = next.rest })).rest ≡ after (cond (not space) (1 + n) 0) (b ∷ bs)
 unfolding after
 rest-next true b bs n next e = grind (arith, nat_tests)
@@ -40,13 +42,16 @@ rest-first_word (b ∷ bs) = rest-next (nat_eq b 32) b bs (position_or_len is_sp
 pub word_before : (text : List ℕ) (n : ℕ) → Some n ≡ position is_space text → (first_word text).word ≡ take n text
 word_before text n e = grind (arith, nat_tests, word-first_word text)
 
+-- where there is a space, the rest is what stands after it
 pub rest_after : (text : List ℕ) (n : ℕ) → Some n ≡ position is_space text → (first_word text).rest ≡ Some (drop (n + 1) text)
 unfolding after
 rest_after text n e = grind (arith, nat_tests, rest-first_word text)
 
+-- a text without a space is one word
 pub word_alone : (text : List ℕ) → None ≡ position is_space text → (first_word text).word ≡ text
 word_alone text e = grind (arith, nat_tests, word-first_word text, take_all)
 
+-- and has no rest
 pub rest_alone : (text : List ℕ) → None ≡ position is_space text → (first_word text).rest ≡ None
 unfolding after
 rest_alone text e = grind (arith, nat_tests, rest-first_word text)

@@ -1,3 +1,4 @@
+-- All places before this one are taken.
 use Rattle.std.proofs.Common.{◌-◌, length}
 use Rattle.cap_space.specs.Slots.{IsTakenBefore}
 use Rattle.cap_space.proofs.space.free_place.Given as goal

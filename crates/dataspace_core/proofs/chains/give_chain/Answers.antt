@@ -1,3 +1,4 @@
+-- Each page is still taken when its turn comes, and its link leads to the next.
 use Rattle.std.proofs.Common.{◌<◌, ◌≡◌, set, length, sym, ap, ◌∙◌, arith, None, get_or, subst}
 use Rattle.std.proofs.lemmas.List.{get_or_read}
 use Rattle.dataspace_core.specs.Layout.{page_at, IsGiven}

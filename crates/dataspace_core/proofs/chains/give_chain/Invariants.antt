@@ -1,3 +1,4 @@
+-- The pages before this index are given back, and the page is the one at it.
 use Rattle.std.proofs.Common.{◌≡◌}
 use Rattle.dataspace_core.specs.Layout.{IsGiven, page_at}
 use Rattle.dataspace_core.proofs.chains.give_chain.Given as goal

@@ -1,3 +1,4 @@
+-- Each page of the walk is in the table, and what is read there is the next.
 use Rattle.std.proofs.Common.{◌<◌, ◌≡◌, get_or, length, sym, ap, ◌∙◌, arith}
 use Rattle.std.proofs.lemmas.List.{get_or_read}
 use Rattle.dataspace_core.proofs.ChainLemmas.{page_at-zero, page_at-more}

@@ -1,3 +1,4 @@
+-- The page is the one at this index.
 use Rattle.std.proofs.Common.{◌≡◌}
 use Rattle.dataspace_core.specs.Layout.{page_at}
 use Rattle.dataspace_core.proofs.chains.nth_page.Given as goal

@@ -1,3 +1,4 @@
+-- Each step reads within one page of the chain, and the next goes on in the page after it.
 use Rattle.std.proofs.Common.{◌+◌, ◌/◌, length, sym, ap, ◌∙◌, arith}
 use Rattle.dataspace_core.specs.Layout.{page_at, chain_bytes}
 use Rattle.dataspace_core.proofs.ChainLemmas.{is_taken-held}

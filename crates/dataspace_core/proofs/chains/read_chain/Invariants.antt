@@ -1,3 +1,4 @@
+-- So much of the buffer is filled, and the page is the one where the rest goes on.
 use Rattle.std.proofs.Common.{◌≡◌, ◌+◌, ◌-◌, ◌/◌, ◌<◌, ◌≤◌, length, take, drop}
 use Rattle.dataspace_core.specs.Layout.{page_at, chain_bytes}
 use Rattle.dataspace_core.proofs.chains.read_chain.Given as goal

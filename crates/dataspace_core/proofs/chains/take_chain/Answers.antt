@@ -1,3 +1,4 @@
+-- A free page is left for each round, and put in front it makes a longer chain.
 use Rattle.std.proofs.Common.{◌≡◌, arith, subst}
 use Rattle.std.proofs.lemmas.Bool.Decides.{nat_tests}
 use Rattle.std.proofs.lemmas.Option.{slice_get_within}

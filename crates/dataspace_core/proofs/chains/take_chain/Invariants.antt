@@ -1,3 +1,4 @@
+-- What was taken so far is a new chain.
 use Rattle.dataspace_core.specs.Layout.{IsNewChain}
 use Rattle.dataspace_core.proofs.chains.take_chain.Given as goal
 

@@ -1,3 +1,4 @@
+-- Each step writes within one page of the chain, and the next goes on in the page after it.
 use Rattle.std.proofs.Common.{◌≡◌, ◌+◌, ◌/◌, length, take, sym, ap, subst, ◌∙◌, arith, add-zero}
 use Rattle.std.proofs.lemmas.List.{take_all}
 use Rattle.dataspace_core.specs.Layout.{page_at, IsWritten}

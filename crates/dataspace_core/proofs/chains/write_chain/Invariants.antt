@@ -1,3 +1,4 @@
+-- So much of the part is written, and the page is the one where the rest goes on.
 use Rattle.std.proofs.Common.{◌≡◌, ◌+◌, ◌-◌, ◌/◌, ◌<◌, ◌≤◌, length, take}
 use Rattle.dataspace_core.specs.Layout.{page_at, IsWritten}
 use Rattle.dataspace_core.proofs.chains.write_chain.Given as goal

@@ -1,3 +1,4 @@
+-- One line more is one step more, and no step changes how many states there are.
 use Rattle.own_model.proofs.RunningLemmas.{states_running-push, length-states_running}
 use Rattle.own_model.proofs.answers.states_over_a_line.Goals as goal
 

@@ -1,3 +1,4 @@
+-- A call leaves all limits as they are and overdraws no account.
 use Rattle.own_model.proofs.LimitLemmas.{step_balanced, lines_balanced}
 use Rattle.own_model.proofs.limits.calls_keep_balance.Goals as goal
 

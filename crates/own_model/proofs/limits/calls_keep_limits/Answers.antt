@@ -1,3 +1,4 @@
+-- Nothing that a call can do changes a limit or overdraws the account.
 use Rattle.own_model.proofs.LimitLemmas.{limits_stay, step_within, run_within}
 use Rattle.own_model.proofs.limits.calls_keep_limits.Goals as goal
 

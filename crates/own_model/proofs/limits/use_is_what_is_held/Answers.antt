@@ -1,3 +1,4 @@
+-- Nothing is held at the start, and a call changes what is used and what is held alike.
 use Rattle.own_model.proofs.UseLemmas.{start_uses, run_uses}
 use Rattle.own_model.proofs.limits.use_is_what_is_held.Goals as goal
 

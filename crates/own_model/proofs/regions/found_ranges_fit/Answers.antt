@@ -1,3 +1,4 @@
+-- A range that is found lies in a region, and that has as many pages as its dataspace.
 use Rattle.own_model.proofs.RangeLemmas.{range_fits}
 use Rattle.own_model.proofs.regions.found_ranges_fit.Goals as goal
 

@@ -1,3 +1,4 @@
+-- Each of these texts is read by computation.
 use Rattle.std.proofs.Common.{refl}
 use Rattle.own_model.proofs.rows.arguments_are_read.Goals as goal
 

@@ -1,3 +1,4 @@
+-- Each transcript is computed.
 use Rattle.std.proofs.Common.{refl}
 use Rattle.own_model.proofs.rows.lines_and_names_are_refused.Goals as goal
 

@@ -1,3 +1,4 @@
+-- Both transcripts are computed, with their long lines.
 use Rattle.std.proofs.Common.{refl}
 use Rattle.own_model.proofs.rows.longest_line_is_read.Goals as goal
 

@@ -1,3 +1,4 @@
+-- Each attachment comes after those before, until there are 128.
 use Rattle.std.proofs.Common.{arith, refl}
 use Rattle.std.specs.Fmt.{digits}
 use Rattle.own_model.proofs.RegionRows.{each_attached, answered_full, full_attach, full_attach_at, full_unnamed}

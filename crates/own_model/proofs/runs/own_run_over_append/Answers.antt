@@ -1,3 +1,4 @@
+-- A run goes on from the state that the calls before left.
 use Rattle.own_model.proofs.RunLemmas.{own_run-append}
 use Rattle.own_model.proofs.runs.own_run_over_append.Goals as goal
 

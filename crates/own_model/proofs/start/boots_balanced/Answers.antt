@@ -1,3 +1,4 @@
+-- What init keeps and what it hands out are the whole machine.
 use Rattle.own_model.proofs.StartLemmas.{start_balanced}
 use Rattle.own_model.proofs.start.boots_balanced.Goals as goal
 

@@ -1,3 +1,4 @@
+-- All numbers below this one are in the list, which has room for the others.
 use Rattle.std.proofs.Common.{◌≡◌, vec_len}
 use Rattle.std.specs.Prelude.{vec_capacity}
 use Rattle.page_pool.specs.Layout.{AreNumbersBelow}

@@ -1,3 +1,4 @@
+-- The number so far goes on to the same result, and has no more digits than were read.
 use Rattle.std.proofs.Common.{◌≡◌, ◌^◌, ◌<◌, drop}
 use Rattle.own_model.specs.Text.{hex_number_after}
 use Rattle.scenario_run.proofs.address.read_digits.Given as goal

@@ -1,3 +1,4 @@
+-- The number so far goes on to the same result, and is within 64 bits.
 use Rattle.std.proofs.Common.{◌≡◌, ◌^◌, ◌<◌, drop}
 use Rattle.scenario_run.proofs.NumberLemmas.{number_from}
 use Rattle.scenario_run.proofs.number.read_number.Given as goal

@@ -1,3 +1,4 @@
+-- What the account covers has pages and a place, and only the payer's part has the new dataspace.
 use Rattle.std.proofs.Common.{ℕ, cond, ◌≡◌, Some, refl, sym, ap, subst, ◌∙◌}
 use Rattle.std.proofs.lemmas.Option.{cond_some}
 use Rattle.std.specs.Prelude.{Option, None}

@@ -1,3 +1,4 @@
+-- The memory that boots is sound, and has no dataspace.
 use Rattle.dataspace_core.proofs.MemoryLemmas.{store-boot, IsSound-boot}
 use Rattle.dataspace_core.proofs.memory.Memory.boot.Goals as goal
 

@@ -1,3 +1,4 @@
+-- One account uses a capability more, and the parts of the others stay.
 use Rattle.std.proofs.Common.{◌≡◌, Some, sym, ap, subst, ◌∙◌}
 use Rattle.std.specs.Prelude.{OnOk}
 use Rattle.own_model.specs.Account.{charged}

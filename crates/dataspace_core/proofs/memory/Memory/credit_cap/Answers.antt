@@ -1,3 +1,4 @@
+-- One account uses a capability less, and the parts of the others stay.
 use Rattle.std.proofs.Common.{◌≡◌, ◌<◌, sym, ap, subst, ◌∙◌}
 use Rattle.std.specs.FinMap.{len}
 use Rattle.own_model.specs.Account.{credited}

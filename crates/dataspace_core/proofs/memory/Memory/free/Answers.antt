@@ -1,3 +1,4 @@
+-- The payer's use covers the dataspace, and only its part loses it.
 use Rattle.std.proofs.Common.{sym, ap, subst, ◌∙◌, arith}
 use Rattle.dataspace_core.specs.Store.{Store, Exists, space_at, without_space, part}
 use Rattle.dataspace_core.proofs.PartLemmas.{part-without_space, part-without_space_other}

@@ -1,3 +1,4 @@
+-- The new account pays for nothing, and the parts of the others stay.
 use Rattle.std.proofs.Common.{sym, ap, subst, ◌∙◌}
 use Rattle.std.proofs.lemmas.Result.{IfOk-weaker}
 use Rattle.quota_core.specs.Books.{IsOpen}

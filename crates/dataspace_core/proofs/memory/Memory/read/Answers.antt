@@ -1,3 +1,4 @@
+-- The range lies in the dataspace's chain, which has its bytes.
 use Rattle.std.proofs.Common.{◌+◌, length, sym, ap, subst, ◌∙◌, arith}
 use Rattle.std.specs.Prelude.{slice_range}
 use Rattle.dataspace_core.specs.Layout.{space_of}

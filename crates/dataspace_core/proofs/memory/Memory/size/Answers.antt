@@ -1,3 +1,4 @@
+-- The pages of a dataspace make its size.
 use Rattle.std.proofs.Common.{length, sym, ap, subst, ◌∙◌}
 use Rattle.dataspace_core.specs.Store.{Store, Exists, space_at}
 use Rattle.dataspace_core.proofs.MemoryLemmas.{key_there, size_small, size_is}

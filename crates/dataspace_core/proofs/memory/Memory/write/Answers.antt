@@ -1,3 +1,4 @@
+-- The range lies in the dataspace's chain, and only its payer's part has other bytes.
 use Rattle.std.proofs.Common.{◌+◌, ◌≤◌, length, sym, ap, subst, ◌∙◌, arith}
 use Rattle.own_model.proofs.NatMapLemmas.{value_at}
 use Rattle.dataspace_core.specs.Store.{Store, Exists, space_at, with_bytes_at, part}
