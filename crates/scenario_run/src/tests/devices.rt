@@ -28,6 +28,20 @@ impl Read for Unreadable {
     }
 }
 
+/// Takes nothing, with an error.
+#[derive(Drop)]
+pub struct Unwritable(pub ErrorKind);
+
+impl Write for Unwritable {
+    fn write(&mut self, _buffer: &[u8]) -> io::Result<usize> {
+        Err(Error::from(self.0))
+    }
+
+    fn flush(&mut self) -> io::Result<()> {
+        Ok(())
+    }
+}
+
 /// Takes a few bytes at a time, until it has all it takes. Then it takes nothing once, and after that all.
 #[derive(Drop)]
 pub struct Trickle {

@@ -1,6 +1,6 @@
 //! Runs over readers and writers that fail, or take and give little at a time.
 
-use super::devices::{Trickle, Unreadable};
+use super::devices::{Trickle, Unreadable, Unwritable};
 use super::*;
 use std::io::{ErrorKind, Read, repeat};
 
@@ -58,6 +58,18 @@ fn failing_reader_keeps_what_was_answered(rt: HostRuntime) -> Result<(), Fail> {
         assert_eq!(rt; ran, Err(RunFault::ReadFault));
         assert!(rt; source.failed());
         assert_eq!(rt; written.as_slice(), QUOTA);
+    }
+    Ok(())
+}
+
+#[test]
+fn failing_writer_is_a_write_fault(rt: HostRuntime) -> Result<(), Fail> {
+    for kind in [ErrorKind::Interrupted, ErrorKind::Other] {
+        let mut source = Input::new(b"alice quota\n".as_slice());
+        let mut sink = Output::new(Unwritable(kind));
+        let ran = run_over(rt.alloc(), &mut source, &mut sink, 10)?;
+        assert_eq!(rt; ran, Err(RunFault::WriteFault));
+        assert!(rt; sink.failed());
     }
     Ok(())
 }
