@@ -2,6 +2,7 @@ pub mod NatMapLemmas
 pub mod Totals
 pub mod NewSelector
 pub mod EntryLemmas
+pub mod MovedLemmas
 pub mod RegionLemmas
 pub mod StepLemmas
 pub mod RunLemmas

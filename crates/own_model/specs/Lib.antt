@@ -1,4 +1,5 @@
 pub mod NatMap
+pub mod Moved
 pub mod Account
 pub mod Text
 pub mod Call
