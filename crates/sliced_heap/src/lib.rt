@@ -1,10 +1,11 @@
-//! A heap whose every block is a dataspace of its own.
+//! A heap in which each block is a dataspace of its own, attached in the heap window. The blocks of one heap are linked
+//! both ways through their headers, so that a block is found, taken out and given back in a few words, however many
+//! there are.
 #![tactic(auto)]
 
-ghost use Rattle.std.specs.Prelude.{◌≡◌, ◌≢◌, ℕ, false, true, cond, List, ◌∷◌};
-ghost use Rattle.std.proofs.Common.{eqb};
-ghost use Rattle.sliced_heap.specs.Chain.{is_listed, IsChain, Linked, link_to, taken_out, has_no_repeat};
+mod header;
+mod heap;
+#[cfg(test)]
+mod tests;
 
-pub fn law()
-    ensures { (next previous new_next new_previous : ℕ → ℕ) (block : ℕ) (xs : List ℕ) (before link : ℕ) → is_listed xs block ≡ true → has_no_repeat xs ≡ true → ((b : ℕ) → is_listed xs b ≡ true → link_to b ≢ before) → ((b : ℕ) → is_listed (taken_out block xs) b ≡ true → new_next b ≡ cond (eqb (link_to b) (previous block)) (next block) (next b)) → ((b : ℕ) → is_listed (taken_out block xs) b ≡ true → new_previous b ≡ cond (eqb (link_to b) (next block)) (previous block) (previous b)) → Linked next previous before link xs → Linked new_next new_previous before (cond (eqb before (previous block)) (next block) link) (taken_out block xs) }
-{}
+pub use heap::SlicedHeap;
