@@ -1,5 +1,6 @@
 pub mod NatMap
 pub mod Moved
+pub mod Entries
 pub mod Account
 pub mod Text
 pub mod Call
