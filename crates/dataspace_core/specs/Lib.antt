@@ -1,3 +1,4 @@
 pub mod Store
 pub mod Layout
 pub mod Paid
+pub mod Share

@@ -1,3 +1,4 @@
 pub mod BytesLemmas
+pub mod ElsewhereLemmas
 pub mod PageLemmas
 pub mod WordLemmas

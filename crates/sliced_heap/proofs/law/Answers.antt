@@ -1,5 +1,5 @@
-use Rattle.sliced_heap.proofs.ChainLemmas.{linked_without}
+use Rattle.sliced_heap.proofs.HeaderLemmas.{length_kept, payload_kept, word_stored, word_elsewhere, word_of_other}
 use Rattle.sliced_heap.proofs.law.Goals as goal
 
 pub returns : goal.returns
-returns c = linked_without
+returns c = length_kept

@@ -1,0 +1,61 @@
+-- What a contract sees of a sliced heap: its blocks, as the account's share of the memory and of the heap window holds them.
+use Rattle.std.specs.Prelude.{◌≡◌, ℕ, ◌+◌, ◌*◌, ◌≤◌, ◌==◌, true, List, Option, Some, None, if◌then◌else◌, drop, length, slice_range}
+use Rattle.std.specs.FinMap.{get}
+use Rattle.std.specs.Option.{option_map}
+use Rattle.trade_base.specs.Word.{word_of}
+use Rattle.own_model.specs.NatMap.{NatMap, picked}
+use Rattle.own_model.specs.Moved.{moved_up}
+use Rattle.own_model.specs.HeapWindow.{Block}
+use Rattle.dataspace_core.specs.Store.{Part, bytes_of}
+use Rattle.dataspace_core.specs.Share.{Share}
+use Rattle.sliced_heap.specs.Chain.{is_listed, IsChain}
+
+-- the number that the region of a sliced block keeps
+abbrev pub sliced_tag : ℕ
+sliced_tag = 0xffffffffffffffff
+
+-- the bytes of a header
+abbrev pub header : ℕ
+header = 32
+
+-- the payload of a region of a sliced block: what its dataspace holds behind the header
+abbrev pub payload_of : NatMap (List ℕ) → Block → Option (List ℕ)
+payload_of spaces block = if block.tag == sliced_tag then option_map (drop header) (get spaces block.of) else None
+
+-- the sliced blocks of a share: the payload of each by the address where it starts
+unfoldable pub sliced_of : Share → NatMap (List ℕ)
+sliced_of share = moved_up header (picked (payload_of share.part.spaces) share.heap)
+
+-- ---- what the headers say
+
+-- a word of a dataspace
+unfoldable pub word_at : Part → ℕ → ℕ → ℕ
+word_at part offset ds = word_of (slice_range (bytes_of part ds) offset (offset + 8))
+
+-- the link to the block after
+abbrev pub next_in : Part → ℕ → ℕ
+next_in part ds = word_at part 0 ds
+
+-- the link to the block before
+abbrev pub previous_in : Part → ℕ → ℕ
+previous_in part ds = word_at part 8 ds
+
+-- where the block's region starts
+abbrev pub start_in : Part → ℕ → ℕ
+start_in part ds = word_at part 16 ds
+
+-- a dataspace is whole pages, all of which stand in the heap window where its header says
+pub record Stands (share : Share) (ds : ℕ) : Type 0 where
+  pub bytes : List ℕ
+  pub pages : ℕ
+  pub there : get share.part.spaces ds ≡ Some bytes
+  pub some : 1 ≤ pages
+  pub whole : length bytes ≡ pages * 4096
+  pub region : get share.heap (start_in share.part ds) ≡ Some (record { of = ds; pages = pages; tag = sliced_tag })
+
+-- the blocks that the first link leads to are those whose regions keep the number of a sliced block, and each stands
+pub record IsLinked (share : Share) (first : ℕ) : Type 0 where
+  pub blocks : List ℕ
+  pub chain : IsChain (next_in share.part) (previous_in share.part) first blocks
+  pub stands : (ds : ℕ) → is_listed blocks ds ≡ true → Stands share ds
+  pub all : (start : ℕ) (block : Block) → get share.heap start ≡ Some block → block.tag ≡ sliced_tag → (is_listed blocks block.of ≡ true) × (start_in share.part block.of ≡ start)
