@@ -2,7 +2,7 @@
 use Rattle.std.proofs.Common.{[], get_or, ◌≡◌, ◌≢◌, ℕ, ◌+◌, ◌*◌, ◌/◌, ◌^◌, ◌<◌, ◌≤◌, min, List, length, Some, Ok, Err, refl, sym, ap, subst, ◌∙◌, arith}
 use Rattle.std.specs.Prelude.{Option, None, Result, IfOk, OnErr}
 use Rattle.std.specs.Result.{result_err}
-use Rattle.std.specs.FinMap.{get, insert, remove, empty}
+use Rattle.std.specs.FinMap.{get, insert, remove}
 use Rattle.std.proofs.lemmas.List.{length-replicate}
 use Rattle.std.proofs.lemmas.Option.{none-some}
 use Rattle.page_pool.specs.Pages.{free_count, fresh_pages}
@@ -13,7 +13,7 @@ use Rattle.trade_base.specs.Page.{page_of}
 use Rattle.trade_base.proofs.BytesLemmas.{length-with_bytes}
 use Rattle.trade_base.specs.declared.id.AccountId.{AccountId}
 use Rattle.trade_base.specs.declared.refusal.Refusal.{Refusal}
-use Rattle.own_model.specs.Account.{Account, Fits, shortage, charged, credited, opened}
+use Rattle.own_model.specs.Account.{Account, Fits, shortage, charged, credited}
 use Rattle.own_model.specs.OwnState.{zeros}
 use Rattle.own_model.proofs.StepLemmas.{covers}
 use Rattle.own_model.proofs.NatMapLemmas.{apart_from_free}

@@ -5,7 +5,7 @@ use Rattle.std.specs.Option.{option_and_then}
 use Rattle.std.specs.FinMap.{get}
 use Rattle.own_model.proofs.NatMapLemmas.{get-picked, value_at}
 use Rattle.dataspace_core.specs.Store.{Store, Space, IsOpenIn, account_in, Exists, space_at, Part, part, bytes_paid_by, account_of, PartBecomes}
-use Rattle.dataspace_core.proofs.PartLemmas.{part-payer, space_at-some}
+use Rattle.dataspace_core.proofs.PartLemmas.{part-payer}
 
 -- ---- calls for one account
 

@@ -1,13 +1,11 @@
 //! Dataspaces over a pool of pages and the books of accounts.
-ghost use Rattle.std.specs.Prelude.{◌≡◌, ◌≢◌, ℕ, ◌+◌, ◌*◌, ◌<◌, ◌≤◌, length, if◌then◌else◌, Some, None, IfOk, IfErr, IfSome, OnOk, OnErr, slice_range};
+ghost use Rattle.std.specs.Prelude.{◌≡◌, ◌+◌, ◌%◌, ◌<◌, ◌≤◌, length, if◌then◌else◌, Some, None, IfOk, IfErr, IfSome, OnOk, OnErr, slice_range};
 ghost use Rattle.std.specs.Result.{result_err};
-ghost use Rattle.std.specs.FinMap.{get, insert, remove, len};
-ghost use Rattle.std.specs.FinMap as map;
-ghost use Rattle.trade_base.specs.Bytes.{with_bytes};
+ghost use Rattle.std.specs.FinMap.{get, len};
 ghost use Rattle.trade_base.specs.Page.{page_of};
+ghost use Rattle.trade_base.specs.Word.{word_of, word_bytes};
 ghost use Rattle.trade_base.specs.declared.refusal.Refusal.TheVariants.{OutOfCaps};
-ghost use Rattle.own_model.specs.Account.{shortage, charged, credited, opened, WithinLimits};
-ghost use Rattle.own_model.specs.OwnState.{zeros};
+ghost use Rattle.own_model.specs.Account.{shortage, charged, credited, WithinLimits};
 ghost use Rattle.own_model.specs.OwnStep.{alloc_refusal, is_valid_size};
 ghost use Rattle.dataspace_core.specs.Store.{fresh_store, accounts_in, root_in, room_in, places_in, IsOpenIn, account_in, with_account_in, with_child_in, ram_limits_in, caps_limits_in};
 ghost use Rattle.dataspace_core.specs.Store.{Exists, space_at, with_space, without_space, with_bytes_at};
@@ -158,6 +156,32 @@ impl Memory {
     {
         let chain = space_under(&self.spaces, ds).chain;
         write_chain(&mut self.pool, &self.next, chain, offset as usize, bytes);
+    }
+
+    /// The word of a dataspace that stands at `offset`, its lowest byte first.
+    #[tactic(auto, unfolding(trade_base::specs::Word::word_of))]
+    pub fn load_word(&self, ds: DsId, offset: u64) -> u64
+        requires exists { Exists self.now ds.0 }
+        requires aligned { offset % 8 ≡ 0 }
+        requires range { offset + 8 ≤ length (space_at self.now ds.0).bytes }
+        ensures { result ≡ word_of (slice_range (space_at self.now ds.0).bytes offset (offset + 8)) }
+    {
+        let mut bytes = [0; 8];
+        self.read(ds, offset, &mut bytes);
+        u64::from_le_bytes(bytes)
+    }
+
+    /// Puts `word` into a dataspace at `offset`, its lowest byte first. Nothing else changes.
+    #[tactic(auto, unfolding(trade_base::specs::Word::word_bytes))]
+    pub fn store_word(&mut self, ds: DsId, offset: u64, word: u64)
+        requires exists { Exists self.old ds.0 }
+        requires aligned { offset % 8 ≡ 0 }
+        requires range { offset + 8 ≤ length (space_at self.old ds.0).bytes }
+        ensures written { self.new ≡ with_bytes_at self.old ds.0 offset (word_bytes word) }
+        ensures part { let payer = (space_at self.old ds.0).payer in
+            PartBecomes payer (part_with_bytes (part payer self.old) ds.0 offset (word_bytes word)) self.old self.new }
+    {
+        self.write(ds, offset, &word.to_le_bytes());
     }
 
     /// Charges an account for one capability that is no dataspace's.
