@@ -1,5 +1,5 @@
 -- A word of a header that is stored: it reads back, and all else stays.
-use Rattle.std.proofs.Common.{◌≡◌, ◌≢◌, ◌<◌, ◌≤◌, ◌^◌, ◌+◌, ℕ, Bool, true, false, cond, eqb, ◌⊎◌, List, [], drop, length, refl, sym, ap, subst, ◌∙◌, ⊎_elim, unwrap_or, arith}
+use Rattle.std.proofs.Common.{◌≡◌, ◌≢◌, ◌<◌, ◌≤◌, ◌^◌, ◌+◌, ℕ, Bool, true, false, cond, eqb, ◌⊎◌, List, [], ◌∷◌, drop, length, refl, sym, ap, subst, ◌∙◌, ⊎_elim, unwrap_or, arith}
 use Rattle.std.proofs.lemmas.Bool.{cases_eq}
 use Rattle.std.proofs.lemmas.Bool.Decides.{nat_tests}
 use Rattle.std.specs.Prelude.{Option, None, Some, slice_range}
@@ -14,7 +14,8 @@ use Rattle.own_model.specs.NatMap.{NatMap}
 use Rattle.own_model.proofs.NatMapLemmas.{get-insert_same, get-insert_other}
 use Rattle.own_model.proofs.Totals.{len-insert_at}
 use Rattle.dataspace_core.specs.Store.{Part, bytes_of, part_with_bytes}
-use Rattle.sliced_heap.specs.Sliced.{word_at}
+use Rattle.sliced_heap.specs.Sliced.{word_at, HasHeader, HeadersChange, IsStored, PutFirst, TakenOut, start_in, next_in, previous_in}
+use Rattle.sliced_heap.specs.Chain.{link_to, is_listed}
 
 -- what is read of a dataspace that is there
 bytes_of-there : (p : Part) (ds : ℕ) (bytes : List ℕ) → get p.spaces ds ≡ Some bytes → bytes_of p ds ≡ bytes
@@ -80,3 +81,58 @@ module _ (p : Part) (ds offset word : ℕ) (bytes : List ℕ) (there : get p.spa
           ∙ ap (option_map length) (sym there) ∙ ap (λ k. option_map length (get p.spaces k)) (sym same))
       (λ (other : q ≢ ds). ap (option_map length) (get-insert_other p.spaces ds _ q other))
       (cases_eq q ds)
+
+  -- how many dataspaces there are stays
+  count_kept : len stored.spaces ≡ len p.spaces
+  count_kept = len-insert_at p.spaces ds _ bytes there
+
+  -- all of it
+  pub is_stored : IsStored ds offset word p stored
+  is_stored = record {
+    reads = word_stored;
+    elsewhere = word_elsewhere;
+    others = word_of_other;
+    headers = record {
+      account = refl;
+      payloads = payload_kept;
+      lengths = length_kept;
+      others = λ k none. get-insert_other p.spaces ds _ k (grind (arith, nat_tests));
+      count = count_kept;
+    };
+  }
+
+-- ---- one change of headers after another
+
+-- a change of headers of some blocks is one of more
+pub headers_wider : (few more : List ℕ) (p q : Part) → ((k : ℕ) → is_listed few k ≡ true → is_listed more k ≡ true) → HeadersChange few p q → HeadersChange more p q
+headers_wider few more p q wider h = record {
+  account = h.account;
+  payloads = h.payloads;
+  lengths = h.lengths;
+  others = λ k none. h.others k (grind (arith, nat_tests, wider k));
+  count = h.count;
+}
+
+-- two changes are one
+pub headers_then : (blocks : List ℕ) (p q r : Part) → HeadersChange blocks p q → HeadersChange blocks q r → HeadersChange blocks p r
+headers_then blocks p q r g h = record {
+  account = h.account ∙ g.account;
+  payloads = λ k. h.payloads k ∙ g.payloads k;
+  lengths = λ k. h.lengths k ∙ g.lengths k;
+  others = λ k none. h.others k none ∙ g.others k none;
+  count = h.count ∙ g.count;
+}
+
+-- a block of a list alone is listed in it
+pub one_listed : (b : ℕ) (blocks : List ℕ) → is_listed blocks b ≡ true → (k : ℕ) → is_listed (b ∷ []) k ≡ true → is_listed blocks k ≡ true
+one_listed b blocks there k h = let e : k ≡ b = grind (arith, nat_tests) in rw e there
+
+-- a dataspace with room for a header keeps it
+length_some : (o : Option (List ℕ)) (n : ℕ) → option_map length o ≡ Some n → (bytes : List ℕ) × (o ≡ Some bytes) × (length bytes ≡ n)
+length_some None n h = cc
+length_some (Some bytes) n h = (bytes, refl, cc)
+
+pub has_header_still : (blocks : List ℕ) (p q : Part) (ds : ℕ) → HeadersChange blocks p q → HasHeader p ds → HasHeader q ds
+has_header_still blocks p q ds h header =
+    let found = length_some (get q.spaces ds) (length header.bytes) (h.lengths ds ∙ ap (option_map length) header.there) in
+    record { bytes = found.0; there = found.1; long = let l = header.long in let e = found.2 in omega (arith, l, e) }

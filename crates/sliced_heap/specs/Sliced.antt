@@ -1,6 +1,6 @@
 -- What a contract sees of a sliced heap: its blocks, as the account's share of the memory and of the heap window holds them.
-use Rattle.std.specs.Prelude.{◌≡◌, ℕ, ◌+◌, ◌*◌, ◌≤◌, ◌==◌, true, List, Option, Some, None, if◌then◌else◌, drop, length, slice_range}
-use Rattle.std.specs.FinMap.{get}
+use Rattle.std.specs.Prelude.{◌≡◌, ◌≢◌, ℕ, ◌+◌, ◌*◌, ◌≤◌, ◌==◌, true, false, cond, ◌⊎◌, List, [], ◌∷◌, Option, Some, None, if◌then◌else◌, drop, length, slice_range}
+use Rattle.std.specs.FinMap.{get, len}
 use Rattle.std.specs.Option.{option_map}
 use Rattle.trade_base.specs.Word.{word_of}
 use Rattle.own_model.specs.NatMap.{NatMap, picked}
@@ -8,7 +8,7 @@ use Rattle.own_model.specs.Moved.{moved_up}
 use Rattle.own_model.specs.HeapWindow.{Block}
 use Rattle.dataspace_core.specs.Store.{Part, bytes_of}
 use Rattle.dataspace_core.specs.Share.{Share}
-use Rattle.sliced_heap.specs.Chain.{is_listed, IsChain}
+use Rattle.sliced_heap.specs.Chain.{link_to, is_listed, IsChain}
 
 -- the number that the region of a sliced block keeps
 abbrev pub sliced_tag : ℕ
@@ -59,3 +59,42 @@ pub record IsLinked (share : Share) (first : ℕ) : Type 0 where
   pub chain : IsChain (next_in share.part) (previous_in share.part) first blocks
   pub stands : (ds : ℕ) → is_listed blocks ds ≡ true → Stands share ds
   pub all : (start : ℕ) (block : Block) → get share.heap start ≡ Some block → block.tag ≡ sliced_tag → (is_listed blocks block.of ≡ true) × (start_in share.part block.of ≡ start)
+
+-- ---- what calls on headers leave
+
+-- a dataspace that is there has room for a header
+pub record HasHeader (part : Part) (ds : ℕ) : Type 0 where
+  pub bytes : List ℕ
+  pub there : get part.spaces ds ≡ Some bytes
+  pub long : header ≤ length bytes
+
+-- headers have changed, of these blocks alone, and nothing else: neither the account, nor which dataspaces there are, nor
+-- what they hold behind a header
+pub record HeadersChange (blocks : List ℕ) (old new : Part) : Type 0 where
+  pub account : new.account ≡ old.account
+  pub payloads : (ds : ℕ) → option_map (drop header) (get new.spaces ds) ≡ option_map (drop header) (get old.spaces ds)
+  pub lengths : (ds : ℕ) → option_map length (get new.spaces ds) ≡ option_map length (get old.spaces ds)
+  pub others : (ds : ℕ) → is_listed blocks ds ≡ false → get new.spaces ds ≡ get old.spaces ds
+  pub count : len new.spaces ≡ len old.spaces
+
+-- a word of a header is stored
+pub record IsStored (ds offset word : ℕ) (old new : Part) : Type 0 where
+  pub reads : word_at new offset ds ≡ word
+  pub elsewhere : (other : ℕ) → (other + 8 ≤ offset) ⊎ (offset + 8 ≤ other) → word_at new other ds ≡ word_at old other ds
+  pub others : (other b : ℕ) → b ≢ ds → word_at new other b ≡ word_at old other b
+  pub headers : HeadersChange (ds ∷ []) old new
+
+-- a block is put before the first one, and stands where its header says
+pub record PutFirst (first ds start : ℕ) (old new : Part) : Type 0 where
+  pub starts : start_in new ds ≡ start
+  pub leads : next_in new ds ≡ first
+  pub begins : previous_in new ds ≡ 0
+  pub others_start : (b : ℕ) → b ≢ ds → start_in new b ≡ start_in old b
+  pub others_next : (b : ℕ) → b ≢ ds → next_in new b ≡ next_in old b
+  pub others_previous : (b : ℕ) → b ≢ ds → previous_in new b ≡ cond (link_to b == first) (link_to ds) (previous_in old b)
+
+-- the blocks before and after a block are linked to each other in its place
+pub record TakenOut (ds : ℕ) (old new : Part) : Type 0 where
+  pub others_start : (b : ℕ) → start_in new b ≡ start_in old b
+  pub others_next : (b : ℕ) → b ≢ ds → next_in new b ≡ cond (link_to b == previous_in old ds) (next_in old ds) (next_in old b)
+  pub others_previous : (b : ℕ) → b ≢ ds → previous_in new b ≡ cond (link_to b == next_in old ds) (previous_in old ds) (previous_in old b)

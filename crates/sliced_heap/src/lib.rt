@@ -1,13 +1,6 @@
-//! A heap whose every block is a dataspace of its own.
+//! A heap in which each block is a dataspace of its own, attached in the heap window. The blocks of one heap are linked
+//! both ways through their headers, so that a block is found, taken out and given back in a few words, however many
+//! there are.
 #![tactic(auto)]
 
-ghost use Rattle.std.specs.Prelude.{◌≡◌, ◌≢◌, ◌≤◌, ◌<◌, ◌^◌, ◌+◌, ℕ, Some, List};
-ghost use Rattle.std.specs.FinMap.{get};
-ghost use Rattle.std.specs.Option.{option_map};
-ghost use Rattle.std.specs.Prelude.{length};
-ghost use Rattle.trade_base.specs.Word.{word_bytes};
-ghost use Rattle.dataspace_core.specs.Store.{Part, part_with_bytes};
-
-pub fn law()
-    ensures { (p : Part) (ds offset word : ℕ) (bytes : List ℕ) → get p.spaces ds ≡ Some bytes → word < 2 ^ 64 → offset + 8 ≤ 32 → 32 ≤ length bytes → (q : ℕ) → option_map length (get (part_with_bytes p ds offset (word_bytes word)).spaces q) ≡ option_map length (get p.spaces q) }
-{}
+mod header;
