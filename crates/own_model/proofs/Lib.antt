@@ -11,6 +11,7 @@ pub mod SoundLemmas
 pub mod RangeLemmas
 pub mod RowLemmas
 pub mod GapLemmas
+pub mod HeapGapLemmas
 pub mod CallLemmas
 pub mod CapRows
 pub mod RegionRows

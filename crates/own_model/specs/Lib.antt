@@ -3,6 +3,7 @@ pub mod Account
 pub mod Text
 pub mod Call
 pub mod Region
+pub mod HeapWindow
 pub mod OwnState
 pub mod Reply
 pub mod OwnStep

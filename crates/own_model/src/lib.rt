@@ -4,6 +4,7 @@
 #![tactic(auto)]
 
 mod answers;
+mod heap_window;
 mod limits;
 mod regions;
 mod rows;
@@ -14,6 +15,7 @@ pub use answers::{
     equal_parts_equal_answers, equal_parts_equal_states, states_are_own_runs, states_over_a_line,
     told_over_a_line, transcript_is_running,
 };
+pub use heap_window::heap_has_gap;
 pub use limits::{
     calls_keep_balance, calls_keep_limits, capalloc_lacks_caps_alone, servers_stay,
     use_is_what_is_held,
