@@ -10,6 +10,9 @@ pub mod RunningLemmas
 pub mod UseLemmas
 pub mod SoundLemmas
 pub mod RangeLemmas
+pub mod RowLemmas
+pub mod GapLemmas
+pub mod HeapGapLemmas
 pub mod CallLemmas
 pub mod LimitLemmas
 pub mod StartLemmas

@@ -5,6 +5,7 @@
 
 mod answers;
 mod calls;
+mod heap_window;
 mod limits;
 mod regions;
 mod rows;
@@ -16,6 +17,7 @@ pub use answers::{
     told_over_a_line, transcript_is_running,
 };
 pub use calls::{addresses_are_read_back, hex_is_read_back, new_selector_is_least_unused};
+pub use heap_window::heap_has_gap;
 pub use limits::{
     calls_keep_balance, calls_keep_limits, capalloc_lacks_caps_alone, servers_stay,
     use_is_what_is_held,

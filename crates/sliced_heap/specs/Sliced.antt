@@ -1,11 +1,11 @@
 -- What a contract sees of a sliced heap: its blocks, as the account's share of the memory and of the heap window holds them.
-use Rattle.std.specs.Prelude.{◌≡◌, ◌≢◌, ℕ, ◌+◌, ◌*◌, ◌≤◌, ◌==◌, true, false, cond, ◌⊎◌, List, [], ◌∷◌, Option, Some, None, if◌then◌else◌, drop, length, slice_range}
-use Rattle.std.specs.FinMap.{get, len}
+use Rattle.std.specs.Prelude.{◌≡◌, ◌≢◌, ℕ, ◌+◌, ◌*◌, ◌≤◌, ◌==◌, Bool, true, false, cond, ◌⊎◌, List, [], ◌∷◌, Option, Some, None, if◌then◌else◌, drop, length, slice_range}
+use Rattle.std.specs.FinMap.{get, len, retain_keys}
 use Rattle.std.specs.Option.{option_map}
 use Rattle.trade_base.specs.Word.{word_of}
 use Rattle.own_model.specs.NatMap.{NatMap, picked}
 use Rattle.own_model.specs.Moved.{moved_up}
-use Rattle.own_model.specs.HeapWindow.{Block}
+use Rattle.own_model.specs.Region.{Region}
 use Rattle.dataspace_core.specs.Store.{Part, bytes_of}
 use Rattle.dataspace_core.specs.Share.{Share}
 use Rattle.sliced_heap.specs.Chain.{link_to, is_listed, IsChain}
@@ -18,13 +18,22 @@ sliced_tag = 0xffffffffffffffff
 abbrev pub header : ℕ
 header = 32
 
--- the payload of a region of a sliced block: what its dataspace holds behind the header
-abbrev pub payload_of : NatMap (List ℕ) → Block → Option (List ℕ)
-payload_of spaces block = if block.tag == sliced_tag then option_map (drop header) (get spaces block.of) else None
+-- whether this is the number that a sliced block's region keeps
+abbrev pub is_sliced_tag : Option ℕ → Bool
+is_sliced_tag None = false
+is_sliced_tag (Some tag) = tag == sliced_tag
+
+-- the heap regions of sliced blocks
+abbrev pub sliced_regions : NatMap Region → NatMap ℕ → NatMap Region
+sliced_regions heap tags = retain_keys heap (λ start. is_sliced_tag (get tags start))
+
+-- what a region's dataspace holds behind the header
+abbrev pub payload_of : NatMap (List ℕ) → Region → Option (List ℕ)
+payload_of spaces region = option_map (drop header) (get spaces region.of)
 
 -- the sliced blocks of a share: the payload of each by the address where it starts
 unfoldable pub sliced_of : Share → NatMap (List ℕ)
-sliced_of share = moved_up header (picked (payload_of share.part.spaces) share.heap)
+sliced_of share = moved_up header (picked (payload_of share.part.spaces) (sliced_regions share.heap share.tags))
 
 -- ---- what the headers say
 
@@ -51,14 +60,15 @@ pub record Stands (share : Share) (ds : ℕ) : Type 0 where
   pub there : get share.part.spaces ds ≡ Some bytes
   pub some : 1 ≤ pages
   pub whole : length bytes ≡ pages * 4096
-  pub region : get share.heap (start_in share.part ds) ≡ Some (record { of = ds; pages = pages; tag = sliced_tag })
+  pub region : get share.heap (start_in share.part ds) ≡ Some (record { of = ds; pages = pages })
+  pub tag : get share.tags (start_in share.part ds) ≡ Some sliced_tag
 
 -- the blocks that the first link leads to are those whose regions keep the number of a sliced block, and each stands
 pub record IsLinked (share : Share) (first : ℕ) : Type 0 where
   pub blocks : List ℕ
   pub chain : IsChain (next_in share.part) (previous_in share.part) first blocks
   pub stands : (ds : ℕ) → is_listed blocks ds ≡ true → Stands share ds
-  pub all : (start : ℕ) (block : Block) → get share.heap start ≡ Some block → block.tag ≡ sliced_tag → (is_listed blocks block.of ≡ true) × (start_in share.part block.of ≡ start)
+  pub all : (start : ℕ) (region : Region) → get (sliced_regions share.heap share.tags) start ≡ Some region → (is_listed blocks region.of ≡ true) × (start_in share.part region.of ≡ start)
 
 -- ---- what calls on headers leave
 

@@ -1,0 +1,65 @@
+//! How the blocks of a heap are linked.
+ghost use Rattle.std.specs.Prelude.{◌≡◌, ◌≢◌, ◌+◌, ◌<◌, ◌^◌, ◌==◌, true, cond, ℕ};
+ghost use Rattle.dataspace_core.specs.Store.{part, PartBecomes};
+ghost use Rattle.sliced_heap.specs.Chain.{link_to, is_listed};
+ghost use Rattle.sliced_heap.specs.Sliced.{next_in, previous_in, HasHeader, HeadersChange, PutFirst, TakenOut};
+
+use crate::header::{NEXT, PREVIOUS, START, linked, load, store};
+use dataspace_core::Memory;
+use trade_base::{AccountId, DsId};
+
+/// Puts a block, whose region starts at an address, before the one to which `first` leads. It tells the link to it.
+pub fn put_first(
+    memory: &mut Memory,
+    account: AccountId,
+    first: u64,
+    ds: DsId,
+    start: u64,
+) -> u64
+    requires small { ds.0 + 1 < 2 ^ 64 }
+    requires header { HasHeader (part account.0 memory.old) ds.0 }
+    requires next { (b : ℕ) → first ≡ link_to b → HasHeader (part account.0 memory.old) b }
+    requires apart { first ≢ link_to ds.0 }
+    ensures link { result ≡ link_to ds.0 }
+    ensures becomes { PartBecomes account.0 (part account.0 memory.new) memory.old memory.new }
+    ensures put { PutFirst first ds.0 start (part account.0 memory.old) (part account.0 memory.new) }
+    ensures headers { (blocks : List ℕ) → is_listed blocks ds.0 ≡ true →
+        ((b : ℕ) → first ≡ link_to b → is_listed blocks b ≡ true) →
+        HeadersChange blocks (part account.0 memory.old) (part account.0 memory.new) }
+{
+    let link = ds.0 as u64 + 1;
+    store(memory, account, ds, START, start);
+    store(memory, account, ds, NEXT, first);
+    store(memory, account, ds, PREVIOUS, 0);
+    if let Some(next) = linked(first) {
+        store(memory, account, next, PREVIOUS, link);
+    }
+    link
+}
+
+/// Links the blocks before and after a block to each other. It tells the link to the first block that is left.
+pub fn take_out(memory: &mut Memory, account: AccountId, first: u64, ds: DsId) -> u64
+    requires header { HasHeader (part account.0 memory.old) ds.0 }
+    requires next { (b : ℕ) → next_in (part account.0 memory.old) ds.0 ≡ link_to b → HasHeader (part account.0 memory.old) b }
+    requires previous { (b : ℕ) → previous_in (part account.0 memory.old) ds.0 ≡ link_to b → HasHeader (part account.0 memory.old) b }
+    ensures link { let p = part account.0 memory.old in result ≡ cond (0 == previous_in p ds.0) (next_in p ds.0) first }
+    ensures becomes { PartBecomes account.0 (part account.0 memory.new) memory.old memory.new }
+    ensures out { TakenOut ds.0 (part account.0 memory.old) (part account.0 memory.new) }
+    ensures headers { (blocks : List ℕ) →
+        ((b : ℕ) → next_in (part account.0 memory.old) ds.0 ≡ link_to b → is_listed blocks b ≡ true) →
+        ((b : ℕ) → previous_in (part account.0 memory.old) ds.0 ≡ link_to b → is_listed blocks b ≡ true) →
+        HeadersChange blocks (part account.0 memory.old) (part account.0 memory.new) }
+{
+    let next = load(memory, account, ds, NEXT);
+    let previous = load(memory, account, ds, PREVIOUS);
+    if let Some(after) = linked(next) {
+        store(memory, account, after, PREVIOUS, previous);
+    }
+    match linked(previous) {
+        Some(before) => {
+            store(memory, account, before, NEXT, next);
+            first
+        }
+        None => next,
+    }
+}
