@@ -10,8 +10,6 @@ pub mod RunningLemmas
 pub mod UseLemmas
 pub mod SoundLemmas
 pub mod RangeLemmas
-pub mod RowLemmas
-pub mod GapLemmas
 pub mod HeapGapLemmas
 pub mod CallLemmas
 pub mod LimitLemmas

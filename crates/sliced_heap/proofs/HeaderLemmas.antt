@@ -136,3 +136,7 @@ pub has_header_still : (blocks : List ℕ) (p q : Part) (ds : ℕ) → HeadersCh
 has_header_still blocks p q ds h header =
     let found = length_some (get q.spaces ds) (length header.bytes) (h.lengths ds ∙ ap (option_map length) header.there) in
     record { bytes = found.0; there = found.1; long = let l = header.long in let e = found.2 in omega (arith, l, e) }
+
+-- a change of no headers
+pub headers_same : (blocks : List ℕ) (p : Part) → HeadersChange blocks p p
+headers_same blocks p = record { account = refl; payloads = λ k. refl; lengths = λ k. refl; others = λ k none. refl; count = refl }

@@ -94,6 +94,18 @@ pub record IsStored (ds offset word : ℕ) (old new : Part) : Type 0 where
   pub others : (other b : ℕ) → b ≢ ds → word_at new other b ≡ word_at old other b
   pub headers : HeadersChange (ds ∷ []) old new
 
+-- the block to which a link leads, if there is one, is linked back by another link
+pub record LinkedBack (link back : ℕ) (old new : Part) : Type 0 where
+  pub starts : (b : ℕ) → start_in new b ≡ start_in old b
+  pub nexts : (b : ℕ) → next_in new b ≡ next_in old b
+  pub previouses : (b : ℕ) → previous_in new b ≡ cond (link_to b == link) back (previous_in old b)
+
+-- the block to which a link leads, if there is one, is linked to the block after it by another link
+pub record LinkedAhead (link ahead : ℕ) (old new : Part) : Type 0 where
+  pub starts : (b : ℕ) → start_in new b ≡ start_in old b
+  pub nexts : (b : ℕ) → next_in new b ≡ cond (link_to b == link) ahead (next_in old b)
+  pub previouses : (b : ℕ) → previous_in new b ≡ previous_in old b
+
 -- a block is put before the first one, and stands where its header says
 pub record PutFirst (first ds start : ℕ) (old new : Part) : Type 0 where
   pub starts : start_in new ds ≡ start

@@ -1,8 +1,8 @@
 //! How the blocks of a heap are linked.
-ghost use Rattle.std.specs.Prelude.{◌≡◌, ◌≢◌, ◌+◌, ◌<◌, ◌^◌, ◌==◌, true, cond, ℕ};
+ghost use Rattle.std.specs.Prelude.{◌≡◌, ◌≢◌, ◌+◌, ◌<◌, ◌^◌, ◌==◌, true, cond, ℕ, List};
 ghost use Rattle.dataspace_core.specs.Store.{part, PartBecomes};
 ghost use Rattle.sliced_heap.specs.Chain.{link_to, is_listed};
-ghost use Rattle.sliced_heap.specs.Sliced.{next_in, previous_in, HasHeader, HeadersChange, PutFirst, TakenOut};
+ghost use Rattle.sliced_heap.specs.Sliced.{next_in, previous_in, HasHeader, HeadersChange, LinkedBack, LinkedAhead, PutFirst, TakenOut};
 
 use crate::header::{NEXT, PREVIOUS, START, linked, load, store};
 use dataspace_core::Memory;
@@ -31,9 +31,7 @@ pub fn put_first(
     store(memory, account, ds, START, start);
     store(memory, account, ds, NEXT, first);
     store(memory, account, ds, PREVIOUS, 0);
-    if let Some(next) = linked(first) {
-        store(memory, account, next, PREVIOUS, link);
-    }
+    link_back(memory, account, first, link);
     link
 }
 
@@ -52,14 +50,33 @@ pub fn take_out(memory: &mut Memory, account: AccountId, first: u64, ds: DsId) -
 {
     let next = load(memory, account, ds, NEXT);
     let previous = load(memory, account, ds, PREVIOUS);
-    if let Some(after) = linked(next) {
-        store(memory, account, after, PREVIOUS, previous);
+    link_back(memory, account, next, previous);
+    link_ahead(memory, account, previous, next);
+    if previous == 0 { next } else { first }
+}
+
+// Links the block to which `link` leads, if there is one, back by `back`.
+fn link_back(memory: &mut Memory, account: AccountId, link: u64, back: u64)
+    requires { (b : ℕ) → link ≡ link_to b → HasHeader (part account.0 memory.old) b }
+    ensures becomes { PartBecomes account.0 (part account.0 memory.new) memory.old memory.new }
+    ensures linked { LinkedBack link back (part account.0 memory.old) (part account.0 memory.new) }
+    ensures headers { (blocks : List ℕ) → ((b : ℕ) → link ≡ link_to b → is_listed blocks b ≡ true) →
+        HeadersChange blocks (part account.0 memory.old) (part account.0 memory.new) }
+{
+    if let Some(ds) = linked(link) {
+        store(memory, account, ds, PREVIOUS, back);
     }
-    match linked(previous) {
-        Some(before) => {
-            store(memory, account, before, NEXT, next);
-            first
-        }
-        None => next,
+}
+
+// Links the block to which `link` leads, if there is one, to the block after it by `ahead`.
+fn link_ahead(memory: &mut Memory, account: AccountId, link: u64, ahead: u64)
+    requires { (b : ℕ) → link ≡ link_to b → HasHeader (part account.0 memory.old) b }
+    ensures becomes { PartBecomes account.0 (part account.0 memory.new) memory.old memory.new }
+    ensures linked { LinkedAhead link ahead (part account.0 memory.old) (part account.0 memory.new) }
+    ensures headers { (blocks : List ℕ) → ((b : ℕ) → link ≡ link_to b → is_listed blocks b ≡ true) →
+        HeadersChange blocks (part account.0 memory.old) (part account.0 memory.new) }
+{
+    if let Some(ds) = linked(link) {
+        store(memory, account, ds, NEXT, ahead);
     }
 }
