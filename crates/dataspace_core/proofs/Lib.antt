@@ -10,3 +10,4 @@ pub mod WalkLemmas
 pub mod ReadLemmas
 pub mod TestLemmas
 pub mod PartLaws
+pub mod ShareLaws

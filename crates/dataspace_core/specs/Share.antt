@@ -1,5 +1,5 @@
 -- What one account has of a memory and of a heap window that several accounts use.
-use Rattle.std.specs.Prelude.{ℕ, ◌==◌, Bool, false, List, Option, Some, None, is_some, if◌then◌else◌}
+use Rattle.std.specs.Prelude.{ℕ, Bool, List, Option, Some, None, is_some, if◌then◌else◌}
 use Rattle.std.specs.FinMap.{get, retain_keys}
 use Rattle.own_model.specs.NatMap.{NatMap, picked}
 use Rattle.own_model.specs.Region.{Region}
@@ -9,14 +9,24 @@ use Rattle.dataspace_core.specs.Store.{Store, Part, part}
 abbrev pub shown : NatMap (List ℕ) → Region → Option Region
 shown spaces region = if is_some (get spaces region.of) then Some region else None
 
--- an account's part of the memory, the heap regions that show its dataspaces, and the numbers that are kept with heap regions
+-- an account's part of the memory, the heap regions that show its dataspaces, and the numbers that are kept with these
 pub record Share : Type 0 where
   pub part : Part
   pub heap : NatMap Region
   pub tags : NatMap ℕ
 
+-- the numbers that are kept with these regions
+unfoldable pub tags_of : NatMap Region → NatMap ℕ → NatMap ℕ
+tags_of heap tags = retain_keys tags (λ start. is_some (get heap start))
+
+-- the share of a part
+unfoldable pub share_in : Part → NatMap Region → NatMap ℕ → Share
+share_in part heap tags = record {
+  part = part;
+  heap = picked (shown part.spaces) heap;
+  tags = tags_of (picked (shown part.spaces) heap) tags;
+}
+
 -- the share of an account
-unfoldable pub share : ℕ → Store → NatMap Region → NatMap ℕ → Share
-share account store heap tags =
-    let own = picked (shown (part account store).spaces) heap in
-    record { part = part account store; heap = own; tags = retain_keys tags (λ start. is_some (get own start)) }
+abbrev pub share : ℕ → Store → NatMap Region → NatMap ℕ → Share
+share account store heap tags = share_in (part account store) heap tags
