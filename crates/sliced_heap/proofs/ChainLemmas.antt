@@ -132,3 +132,27 @@ module _ (next previous new_next new_previous : ℕ → ℕ) (block : ℕ) where
           let begins : new_previous x ≡ before = let b = back x first in let l = h.1.0 in grind (arith, nat_tests) in
           rw (u, out) (h.0, (begins, rw (ahead x first) rest)))
       (cases_eq x block)
+
+-- what is listed beside a block stays listed without it
+pub still_listed : (block b : ℕ) (xs : List ℕ) → b ≢ block → is_listed xs b ≡ true → is_listed (taken_out block xs) b ≡ true
+still_listed block b [] apart there = there
+still_listed block b (x ∷ xs) apart there = ⊎_elim
+    (λ (same : x ≡ block). let e : eqb x block ≡ true = grind (arith, nat_tests) in
+        ap (λ t. is_listed (cond t xs (x ∷ taken_out block xs)) b) e ∙ grind (arith, nat_tests))
+    (λ (other : x ≢ block). let e : eqb x block ≡ false = grind (arith, nat_tests) in
+        ap (λ t. is_listed (cond t xs (x ∷ taken_out block xs)) b) e ∙ ⊎_elim
+        (λ (here : b ≡ x). rw here (listed_first x (taken_out block xs)))
+        (λ (later : b ≢ x). listed_later x b (taken_out block xs) (still_listed block b xs apart (grind (arith, nat_tests))))
+        (cases_eq b x))
+    (cases_eq x block)
+
+-- a block that came once isn't listed without it
+pub gone_from : (block : ℕ) (xs : List ℕ) → has_no_repeat xs ≡ true → is_listed (taken_out block xs) block ≡ false
+gone_from block [] once = refl
+gone_from block (x ∷ xs) once = ⊎_elim
+    (λ (same : x ≡ block). let e : eqb x block ≡ true = grind (arith, nat_tests) in
+        ap (λ t. is_listed (cond t xs (x ∷ taken_out block xs)) block) e ∙ rw (← same) (once_first x xs once))
+    (λ (other : x ≢ block). let e : eqb x block ≡ false = grind (arith, nat_tests) in
+        let rest = gone_from block xs (once_later x xs once) in
+        ap (λ t. is_listed (cond t xs (x ∷ taken_out block xs)) block) e ∙ grind (arith, nat_tests))
+    (cases_eq x block)

@@ -128,7 +128,7 @@ pub one_listed : (b : ℕ) (blocks : List ℕ) → is_listed blocks b ≡ true �
 one_listed b blocks there k h = let e : k ≡ b = grind (arith, nat_tests) in rw e there
 
 -- a dataspace with room for a header keeps it
-length_some : (o : Option (List ℕ)) (n : ℕ) → option_map length o ≡ Some n → (bytes : List ℕ) × (o ≡ Some bytes) × (length bytes ≡ n)
+pub length_some : (o : Option (List ℕ)) (n : ℕ) → option_map length o ≡ Some n → (bytes : List ℕ) × (o ≡ Some bytes) × (length bytes ≡ n)
 length_some None n h = cc
 length_some (Some bytes) n h = (bytes, refl, cc)
 

@@ -1,3 +1,4 @@
 pub mod ChainLemmas
 pub mod HeaderLemmas
 pub mod LinkLemmas
+pub mod LinkedLemmas
