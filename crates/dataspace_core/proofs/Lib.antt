@@ -11,3 +11,4 @@ pub mod ReadLemmas
 pub mod TestLemmas
 pub mod PartLaws
 pub mod ShareLaws
+pub mod LimitLaws
