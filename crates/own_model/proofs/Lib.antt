@@ -9,11 +9,8 @@ pub mod RunningLemmas
 pub mod UseLemmas
 pub mod SoundLemmas
 pub mod RangeLemmas
-pub mod RowLemmas
-pub mod GapLemmas
 pub mod HeapGapLemmas
 pub mod CallLemmas
-pub mod CapRows
-pub mod RegionRows
 pub mod LimitLemmas
 pub mod StartLemmas
+pub mod ReadBackLemmas
