@@ -1,29 +1,28 @@
 -- Where regions can be attached, and what stays when they change.
-use Rattle.std.proofs.Common.{◌≡◌, ℕ, ◌+◌, ◌-◌, ◌*◌, ◌%◌, ◌<◌, ◌≤◌, ◌&&◌, ◌||◌, is_lt, Bool, true, false, cond, not, T, List, [], ◌∷◌, length, is_some, IsSome, Some, refl, sym, ap, subst, ◌∙◌, true≢false, eqb, eqb-true, ◌==◌, nat_le, nat_cmp, zero, suc, map, arith}
+use Rattle.std.proofs.Common.{◌≡◌, ℕ, ◌+◌, ◌-◌, ◌*◌, ◌%◌, ◌<◌, ◌≤◌, ◌&&◌, Bool, true, false, cond, not, length, is_some, IsSome, Some, refl, sym, ap, subst, ◌∙◌, true≢false, eqb, eqb-true, ◌==◌, nat_le, zero, suc, map, arith, ◌≢◌}
 use Rattle.std.proofs.lemmas.Bool.Decides.{nat_tests}
 use Rattle.std.proofs.lemmas.Option.{none-some, same_Some, some_pair_parts}
-use Rattle.std.proofs.lemmas.List.{length-map}
 use Rattle.std.specs.Prelude.{Option, None, if◌then◌else◌}
 use Rattle.std.specs.Option.{option_map, option_and_then}
-use Rattle.std.specs.Ordering.{eq_by_cmp}
-use Rattle.std.specs.Cmp.{nat_cmp_total}
 use Rattle.std.specs.List.{find, list_any, range_with_len}
-use Rattle.std.specs.FinMap.{get, insert, remove, entries, entries_sorted, get-entries, len, len-entries, is_sorted, nat_cmp-IsAntisymmetric}
-use Rattle.std.specs.FinMap.Entries.{below_all, same_entries}
+use Rattle.std.specs.FinMap.{get, insert, remove, entries, len}
 use Rattle.trade_base.specs.declared.refusal.Refusal.TheVariants.{PageFault}
 use Rattle.own_model.specs.NatMap.{NatMap, picked}
 use Rattle.own_model.specs.Region.{Region, user_low, user_high, overlap, meets, can_stand, first_gap, IsPlace, IsFirstGap, region_at, resolved, without, holds, attach_refusal, attach_at_refusal, detach_refusal}
-use Rattle.own_model.proofs.NatMapLemmas.{same, get-picked, picked-insert_some, picked-remove}
-use Rattle.own_model.proofs.EntryLemmas.{value_of, list_any-find, found_in_map, not_found_in_map, finds_none_in_map}
+use Rattle.own_model.proofs.NatMapLemmas.{same, get-picked, picked-insert_some, picked-remove, none_of}
+use Rattle.own_model.proofs.EntryLemmas.{sizes_alike, len-sizes, list_any-sized, find-sized, list_any-find, found_in_map, not_found_in_map, finds_none_in_map}
+use Rattle.own_model.proofs.Totals.{total-picked_le, len-total}
+use Rattle.std.proofs.lemmas.Bool.{eq-eqb, eqb-false}
 
--- an option without a value is none
-none_found : {X : Type 0} (o : Option X) → is_some o ≡ false → o ≡ None
-none_found None h = refl
-none_found (Some x) h = absurd (true≢false h)
+-- ---- ranges
 
--- equal numbers pass the test of equality
-same_test : (a b : ℕ) → a ≡ b → eqb a b ≡ true
-same_test a b e = grind (arith, nat_tests)
+-- whether two ranges overlap is the same from either side
+pub overlap_sym : (a p b q : ℕ) → overlap a p b q ≡ overlap b q a p
+overlap_sym a p b q = grind (arith, nat_tests)
+
+-- two ranges with one start overlap, where each has a page
+pub overlap_self : (a p q : ℕ) → 1 ≤ p → 1 ≤ q → overlap a p a q ≡ true
+overlap_self a p q some more = grind (arith, nat_tests)
 
 -- ---- whether pages meet a region
 
@@ -34,7 +33,7 @@ overlap_at address pages e = overlap e.0 e.1.pages address pages
 -- pages that meet no region overlap none
 pub meets_none : (regions : NatMap Region) (address pages start : ℕ) (region : Region) → meets regions address pages ≡ false → get regions start ≡ Some region → overlap start region.pages address pages ≡ false
 meets_none regions address pages start region clear there =
-    not_found_in_map (overlap_at address pages) regions start region (none_found _ (sym (list_any-find (overlap_at address pages) (entries regions)) ∙ clear)) there
+    not_found_in_map (overlap_at address pages) regions start region (none_of _ (sym (list_any-find (overlap_at address pages) (entries regions)) ∙ clear)) there
 
 -- pages that overlap no region meet none
 pub clear_of_all : (regions : NatMap Region) (address pages : ℕ) → ((start : ℕ) (region : Region) → get regions start ≡ Some region → overlap start region.pages address pages ≡ false) → meets regions address pages ≡ false
@@ -73,6 +72,15 @@ place low high regions pages address can =
 pub stands : (low high : ℕ) (regions : NatMap Region) (pages address : ℕ) → IsPlace low high regions pages address → can_stand low high regions pages address ≡ true
 stands low high regions pages address at =
     tests_of_place low high pages address (meets regions address pages) at.aligned at.from_low at.to_high (clear_of_all regions address pages at.free)
+
+-- no region starts where pages can stand
+pub free_place : (low high : ℕ) (regions : NatMap Region) (pages address : ℕ) → 1 ≤ pages → ((start : ℕ) (region : Region) → get regions start ≡ Some region → 1 ≤ region.pages) →
+    IsPlace low high regions pages address → get regions address ≡ None
+free_place low high regions pages address some each at =
+    elim (get regions address) as (λ o. get regions address ≡ o → o ≡ None) [
+      | None ↦ λ _. refl
+      | Some r ↦ λ there. absurd (true≢false (sym (overlap_self address r.pages pages (each address r there) some) ∙ at.free address r there))
+    ] refl
 
 -- ---- the first gap
 
@@ -154,6 +162,30 @@ skip_region low high regions pages address start region there over b from below 
     let free = at.free start region there in
     skipped start region.pages address pages b over from below free
 
+-- ---- regions without those of a thing
+
+-- what is left of the regions without those of a selector was there, and is of another
+kept_region : (selector : ℕ) (o : Option Region) (region : Region) → option_and_then (λ r. if r.of == selector then None else Some r) o ≡ Some region → (o ≡ Some region) × (region.of ≢ selector)
+kept_region selector None region is = absurd (none-some region is)
+kept_region selector (Some r) region is =
+    elim (eqb r.of selector) as (λ b. eqb r.of selector ≡ b → cond b None (Some r) ≡ Some region → (◌≡◌ {A = Option Region} (Some r) (Some region)) × (region.of ≢ selector)) [
+      | true ↦ λ same found. absurd (none-some region found)
+      | false ↦ λ other found.
+          let e = same_Some r region found in
+          (found, subst (λ x. x.of ≢ selector) e (eqb-false r.of selector other))
+    ] refl is
+
+-- the same of the map
+pub left_without : (selector : ℕ) (regions : NatMap Region) (start : ℕ) (region : Region) → get (without selector regions) start ≡ Some region → (get regions start ≡ Some region) × (region.of ≢ selector)
+left_without selector regions start region is =
+    kept_region selector (get regions start) region (sym (get-picked (λ r. if r.of == selector then None else Some r) regions start) ∙ is)
+
+-- they are no more
+pub len-without : (selector : ℕ) (regions : NatMap Region) → len (without selector regions) ≤ len regions
+len-without selector regions =
+    let fewer = total-picked_le (λ r. 1) (λ r. 1) (λ r. if r.of == selector then None else Some r) regions (λ v y e. omega arith) in
+    omega (arith, len-total (without selector regions), len-total regions, fewer)
+
 -- ---- regions of the same starts and pages, of whatever things
 
 -- at each start both have a region of as many pages, or neither has one
@@ -201,56 +233,27 @@ first_gap_alike xs ys alike low high pages =
 abbrev pub shape : ℕ × Region → ℕ × ℕ
 shape e = (e.0, e.1.pages)
 
--- a number is below all shapes where it is below all of their regions
-below_all-shape : (k : ℕ) (es : List (ℕ × Region)) → below_all nat_cmp k (map shape es) ≡ below_all nat_cmp k es
-below_all-shape k [] = refl
-below_all-shape k (e ∷ es) = ap (λ b. is_lt (nat_cmp k e.0) && b) (below_all-shape k es)
-
--- shapes rise where their regions do
-is_sorted-shape : (es : List (ℕ × Region)) → is_sorted nat_cmp (map shape es) ≡ is_sorted nat_cmp es
-is_sorted-shape [] = refl
-is_sorted-shape (e ∷ es) = ap (λ b. b && is_sorted nat_cmp (map shape es)) (below_all-shape e.0 es) ∙ ap (λ b. below_all nat_cmp e.0 es && b) (is_sorted-shape es)
-
--- shapes have under a start the pages of the region there
-value_of-shape : (q : ℕ) (es : List (ℕ × Region)) → value_of q (map shape es) ≡ option_map (λ region. region.pages) (value_of q es)
-value_of-shape q [] = refl
-value_of-shape q (e ∷ es) = elim (eq_by_cmp nat_cmp q e.0) as (λ b. cond b (Some e.1.pages) (value_of q (map shape es)) ≡ option_map (λ region. region.pages) (cond b (Some e.1) (value_of q es))) [ true ↦ refl | false ↦ value_of-shape q es ]
-
 -- the same shapes in the same order
 pub shapes_alike : (xs ys : NatMap Region) → AreAlike xs ys → map shape (entries xs) ≡ map shape (entries ys)
-shapes_alike xs ys alike =
-    same_entries nat_cmp nat_cmp_total nat_cmp-IsAntisymmetric (map shape (entries xs)) (map shape (entries ys))
-    (subst (λ b. T b) (sym (is_sorted-shape (entries xs))) (entries_sorted xs))
-    (subst (λ b. T b) (sym (is_sorted-shape (entries ys))) (entries_sorted ys))
-    (λ q. value_of-shape q (entries xs) ∙ ap (option_map (λ region. region.pages)) (sym (get-entries xs q)) ∙ alike.pages q
-    ∙ ap (option_map (λ region. region.pages)) (get-entries ys q) ∙ sym (value_of-shape q (entries ys)))
+shapes_alike xs ys alike = sizes_alike (λ region. region.pages) xs ys alike.pages
 
 -- there are as many of them
 pub len_alike : (xs ys : NatMap Region) → AreAlike xs ys → len xs ≡ len ys
-len_alike xs ys alike =
-    len-entries xs ∙ sym (length-map (entries xs) shape) ∙ ap length (shapes_alike xs ys alike) ∙ length-map (entries ys) shape ∙ sym (len-entries ys)
-
--- some region's shape passes a test where one of the shapes does
-list_any-shape : (test : ℕ × ℕ → Bool) (es : List (ℕ × Region)) → list_any (λ e. test (shape e)) es ≡ list_any test (map shape es)
-list_any-shape test [] = refl
-list_any-shape test (e ∷ es) = ap (λ b. test (shape e) || b) (list_any-shape test es)
-
--- the first region whose shape passes has the first shape that passes
-find-shape : (test : ℕ × ℕ → Bool) (es : List (ℕ × Region)) → option_map shape (find (λ e. test (shape e)) es) ≡ find test (map shape es)
-find-shape test [] = refl
-find-shape test (e ∷ es) = elim (test (shape e)) as (λ b. option_map shape (cond b (Some e) (find (λ x. test (shape x)) es)) ≡ cond b (Some (shape e)) (find test (map shape es))) [ true ↦ refl | false ↦ find-shape test es ]
+len_alike xs ys alike = len-sizes (λ region. region.pages) xs ys alike.pages
 
 -- pages meet a region of the one where they meet a region of the other
 pub meets_alike : (xs ys : NatMap Region) → AreAlike xs ys → (address pages : ℕ) → meets xs address pages ≡ meets ys address pages
 meets_alike xs ys alike address pages =
     let test : ℕ × ℕ → Bool = λ s. overlap s.0 s.1 address pages in
-    list_any-shape test (entries xs) ∙ ap (list_any test) (shapes_alike xs ys alike) ∙ sym (list_any-shape test (entries ys))
+    let pages : Region → ℕ = λ region. region.pages in
+    list_any-sized pages test (entries xs) ∙ ap (list_any test) (shapes_alike xs ys alike) ∙ sym (list_any-sized pages test (entries ys))
 
 -- regions of the same start and pages hold a range in either
 pub region_at_alike : (xs ys : NatMap Region) → AreAlike xs ys → (address length : ℕ) → option_map shape (region_at xs address length) ≡ option_map shape (region_at ys address length)
 region_at_alike xs ys alike address length =
     let test : ℕ × ℕ → Bool = λ s. nat_le s.0 address && nat_le (address + length) (s.0 + s.1 * 4096) in
-    find-shape test (entries xs) ∙ ap (find test) (shapes_alike xs ys alike) ∙ sym (find-shape test (entries ys))
+    let pages : Region → ℕ = λ region. region.pages in
+    find-sized pages test (entries xs) ∙ ap (find test) (shapes_alike xs ys alike) ∙ sym (find-sized pages test (entries ys))
 
 -- ---- refusals depend on starts and pages alone
 
@@ -389,7 +392,7 @@ module _ (name : ℕ → Option ℕ) where
     -- a region of another thing gets another name
     renamed_apart : (region : Region) (n : ℕ) → name region.of ≡ Some n → eqb region.of of ≡ false → eqb n other ≡ false
     renamed_apart region n there differs = elim (eqb n other) as (λ b. eqb n other ≡ b → b ≡ false) [
-      | true ↦ λ t. absurd (true≢false (sym (same_test region.of of (alone region.of (there ∙ ap (λ m. Some m) (eqb-true n other t)))) ∙ differs))
+      | true ↦ λ t. absurd (true≢false (sym (eq-eqb region.of of (alone region.of (there ∙ ap (λ m. Some m) (eqb-true n other t)))) ∙ differs))
       | false ↦ λ t. refl
     ] refl
 
@@ -402,7 +405,7 @@ module _ (name : ℕ → Option ℕ) where
           | true ↦ λ t.
               let named : name region.of ≡ Some other = ap name (eqb-true region.of of t) ∙ is in
               sym (ap (λ n. option_and_then (but other) (option_map (λ m. record region { of = m }) n)) named
-              ∙ ap (λ b. cond b None (Some (record region { of = other }))) (same_test other other refl))
+              ∙ ap (λ b. cond b None (Some (record region { of = other }))) (eq-eqb other other refl))
           | false ↦ λ t.
               elim (name region.of) as (λ n. name region.of ≡ n → option_map (λ m. record region { of = m }) n ≡ option_and_then (but other) (option_map (λ m. record region { of = m }) n)) [
                 | None ↦ λ there. refl

@@ -1,12 +1,12 @@
 -- Sums over what a map holds: after a change, compared, and by who pays.
-use Rattle.std.proofs.Common.{◌≡◌, ℕ, ◌+◌, ◌≤◌, ◌≢◌, true, false, cond, eqb, List, [], ◌∷◌, map, length, IsSome, is_some, Some, unwrap_or, refl, sym, ap, ◌∙◌, true≢false, nat_cmp, is_eq, Less, Equal, Greater, arith, add-zero}
+use Rattle.std.proofs.Common.{◌≡◌, ℕ, ◌+◌, ◌*◌, ◌≤◌, ◌≢◌, true, false, cond, eqb, List, [], ◌∷◌, map, length, IsSome, is_some, Some, unwrap_or, refl, sym, ap, ◌∙◌, true≢false, nat_cmp, is_eq, Less, Equal, Greater, arith, add-zero, add-mul}
 use Rattle.std.proofs.lemmas.Bool.Decides.{nat_tests}
 use Rattle.std.proofs.lemmas.List.Sums.{sum_by-cons}
 use Rattle.std.proofs.lemmas.Option.{none-some}
 use Rattle.std.specs.Prelude.{Option, None, sum_by}
 use Rattle.std.specs.Option.{option_map}
 use Rattle.std.specs.Cmp.{nat_cmp_total}
-use Rattle.std.specs.FinMap.{get, insert, remove, empty, entries, len, len-empty, len-entries, len-insert, get-entries, entries-insert, find}
+use Rattle.std.specs.FinMap.{get, insert, remove, empty, entries, len, len-empty, len-entries, len-insert, len-remove, get-entries, entries-insert, find}
 use Rattle.std.specs.FinMap.Entries.{put, by_order}
 use Rattle.own_model.specs.NatMap.{NatMap, total, picked, owed}
 use Rattle.own_model.proofs.NatMapLemmas.{natmaps, get-empty, get-insert, get-insert_same, get-insert_other, get-remove_same, insert-remove, insert_back, apart_from_free, before_remove, by_insertions, picked-empty, picked-insert_some, picked-insert_hidden, get-picked_none}
@@ -97,6 +97,10 @@ module _ {X : Type 0} where
   pub len-remove_at : (m : NatMap X) (k : ℕ) (w : X) → get m k ≡ Some w → len (remove m k) + 1 ≡ len m
   len-remove_at m k w there = sym (len-insert_new (remove m k) k w (get-remove_same m k k refl)) ∙ ap len (put_back m k w there)
 
+  -- after a removal there are no more
+  pub len-remove_le : (m : NatMap X) (k : ℕ) → len (remove m k) ≤ len m
+  len-remove_le m k = grind (arith, len-remove nat_cmp_total m k)
+
   -- a map has as many values as ones
   pub len-total : (m : NatMap X) → len m ≡ total (λ v. 1) m
   len-total m = by_insertions (λ n. len n ≡ total (λ v. 1) n)
@@ -119,6 +123,15 @@ module _ {X : Type 0} where
       let before = rest (before_insert (λ q w. f w ≤ g w) m k v free each) in
       let here = each k v (get-insert_same m k v k refl) in
       omega (arith, total-insert_new f m k v free, total-insert_new g m k v free))
+
+  -- where each size so many times is within another, so are the sums
+  pub total_times_le : (f g : X → ℕ) (n : ℕ) (m : NatMap X) → ((k : ℕ) (v : X) → get m k ≡ Some v → f v * n ≤ g v) → total f m * n ≤ total g m
+  total_times_le f g n = by_insertions (λ m. ((k : ℕ) (v : X) → get m k ≡ Some v → f v * n ≤ g v) → total f m * n ≤ total g m)
+      (λ _. rw (total-empty f) (omega arith))
+      (λ m k v free rest each.
+      let before = rest (before_insert (λ q w. f w * n ≤ g w) m k v free each) in
+      let here = each k v (get-insert_same m k v k refl) in
+      rw (total-insert_new f m k v free, total-insert_new g m k v free, add-mul) (omega arith))
 
   -- values of equal sizes have equal sums
   pub total_same : (f g : X → ℕ) (m : NatMap X) → ((k : ℕ) (v : X) → get m k ≡ Some v → f v ≡ g v) → total f m ≡ total g m

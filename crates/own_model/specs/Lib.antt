@@ -1,9 +1,13 @@
 pub mod NatMap
+pub mod Entries
 pub mod Account
 pub mod Text
 pub mod Call
 pub mod Region
+pub mod HeapWindow
+pub mod Sliced
 pub mod OwnState
+pub mod Place
 pub mod Reply
 pub mod OwnStep
 pub mod StartList
@@ -13,4 +17,5 @@ pub mod Running
 pub mod Use
 pub mod Sound
 pub mod Laws
+pub mod SlicedLaws
 pub mod Rows

@@ -4,16 +4,21 @@
 #![tactic(auto)]
 
 mod answers;
+mod calls;
+mod heap_window;
 mod limits;
 mod regions;
 mod rows;
 mod runs;
+mod sliced;
 mod start;
 
 pub use answers::{
     equal_parts_equal_answers, equal_parts_equal_states, states_are_own_runs, states_over_a_line,
     told_over_a_line, transcript_is_running,
 };
+pub use calls::{addresses_are_read_back, hex_is_read_back, new_selector_is_least_unused};
+pub use heap_window::heap_has_gap;
 pub use limits::{
     calls_keep_balance, calls_keep_limits, capalloc_lacks_caps_alone, servers_stay,
     use_is_what_is_held,
@@ -22,11 +27,11 @@ pub use regions::{
     found_ranges_fit, freed_has_no_regions, full_maps_refuse, pokes_are_read, regions_stay_sound,
 };
 pub use rows::{
-    arguments_are_read, empty_budget_is_told, free_detaches_every_region,
-    lines_and_names_are_refused, lines_end_and_overflow, long_lines_are_no_calls,
-    longest_line_is_read, new_bytes_are_zero, ram_is_exact_at_the_limit,
-    ram_is_refused_before_capabilities, regions_and_their_edges, regions_are_128_at_most,
-    selectors_are_ones_own, selectors_come_again, sizes_round_up_to_pages,
+    arguments_are_read, empty_budget_is_told, lines_and_names_are_refused, lines_end_and_overflow,
+    long_lines_are_no_calls, longest_line_is_read,
 };
 pub use runs::{own_part_over_append, own_run_over_append};
+pub use sliced::{
+    gaps_fit_the_machine, new_blocks_are_zero, payloads_are_found, payloads_lie_apart,
+};
 pub use start::{boots_balanced, machine_a_boots};
