@@ -1,4 +1,5 @@
 pub mod NatMap
+pub mod Slots
 pub mod Account
 pub mod Text
 pub mod Call
