@@ -6,7 +6,7 @@ use Rattle.std.proofs.lemmas.List.{take-append-le, drop-append-le, drop-drop}
 use Rattle.trade_base.specs.Bytes.{with_bytes}
 use Rattle.trade_base.proofs.BytesLemmas.{with_bytes-left, with_bytes-right}
 use Rattle.dataspace_core.specs.Layout.{joined}
-use Rattle.dataspace_core.proofs.ChainLemmas.{joined_same, length-joined}
+use Rattle.dataspace_core.proofs.RunLemmas.{joined_same, length-joined}
 
 -- ---- reading
 

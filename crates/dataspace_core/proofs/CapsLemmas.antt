@@ -5,6 +5,7 @@ use Rattle.std.specs.Option.{option_map}
 use Rattle.std.specs.Result.{result_err}
 use Rattle.std.specs.FinMap.{get, len}
 use Rattle.page_pool.specs.Pages.{free_count}
+use Rattle.page_pool.specs.declared.pool.PageNo.{PageNo}
 use Rattle.slab.specs.Slab.{Slab}
 use Rattle.trade_base.specs.declared.refusal.Refusal.{Refusal}
 use Rattle.trade_base.specs.declared.refusal.Refusal.TheVariants.{OutOfCaps}
@@ -69,10 +70,10 @@ module _ (store : Store) (account : ℕ) (b : Account) where
     few = paid.few;
   }
 
-module _ {books : Books} {pool : List (Option (List ℕ))} {next : List ℕ} {spaces : Slab Dataspace} (sound : IsSound books pool next spaces) where
+module _ {books : Books} {pool : List (Option (List ℕ))} {table : List PageNo} {room : ℕ} {spaces : Slab Dataspace} (sound : IsSound books pool table room spaces) where
   -- what contracts see
   abbrev store : Store
-  store = store_of books pool next spaces
+  store = store_of books pool table spaces
 
   -- an account uses a capability at least for each dataspace of its part, and one that is not open has none
   paid_for : (account : ℕ) (o : Option Account) → get books.accounts account ≡ o → len (part account store).spaces ≤ (unwrap_or o (opened 0 0)).caps_used
@@ -88,20 +89,22 @@ module _ {books : Books} {pool : List (Option (List ℕ))} {next : List ℕ} {sp
   module _ (account : ℕ) (opens : IsOpen books account) where
     module _ (new_books : Books) where
       -- the memory stays sound where the account has another use of capabilities
-      IsSound-capped : (b : Account) → new_books ≡ with_account books account b → b.ram_used ≡ (account_at books account).ram_used → b.ram_limit ≡ (account_at books account).ram_limit → b.caps_limit ≡ (account_at books account).caps_limit → caps_owed store account ≤ b.caps_used → b.caps_used ≤ b.caps_limit → IsSound new_books pool next spaces
+      IsSound-capped : (b : Account) → new_books ≡ with_account books account b → b.ram_used ≡ (account_at books account).ram_used → b.ram_limit ≡ (account_at books account).ram_limit → b.caps_limit ≡ (account_at books account).caps_limit → caps_owed store account ≤ b.caps_used → b.caps_used ≤ b.caps_limit → IsSound new_books pool table room spaces
       IsSound-capped b is used limit caps_limit covers within = record {
         laid_out = sound.laid_out;
-        paid = subst (λ (s : Store). IsPaid s (free_count pool) (length pool)) (sym (same_store new_books _ pool next spaces is))
+        paid = subst (λ (s : Store). IsPaid s (free_count pool) (length pool)) (sym (same_store new_books _ pool table spaces is))
             (IsPaid-capped store account b (free_count pool) (length pool) sound.paid (account_at books account) (account_there books account opens) used limit caps_limit covers within);
+        counted = sound.counted;
+        roomy = sound.roomy;
       }
 
       -- a charge of one capability
-      pub IsSound-charge_cap : (r : Result ⊤ Refusal) → result_err r ≡ shortage (account_at books account) 0 1 → OnOk r (new_books ≡ with_account books account (charged (account_at books account) 0 1)) → OnErr r (new_books ≡ books) → IsSound new_books pool next spaces
+      pub IsSound-charge_cap : (r : Result ⊤ Refusal) → result_err r ≡ shortage (account_at books account) 0 1 → OnOk r (new_books ≡ with_account books account (charged (account_at books account) 0 1)) → OnErr r (new_books ≡ books) → IsSound new_books pool table room spaces
       IsSound-charge_cap (Ok done) refusal ok err =
           let covered = covers (account_at books account) 0 1 (sym refusal) in
           let owes = sound.paid.caps account (account_at books account) (account_there books account opens) in
           IsSound-capped (charged (account_at books account) 0 1) ok (omega arith) refl refl (omega (arith, owes)) covered.caps_fit
-      IsSound-charge_cap (Err e) refusal ok err = subst (λ b. IsSound b pool next spaces) (sym err) sound
+      IsSound-charge_cap (Err e) refusal ok err = subst (λ b. IsSound b pool table room spaces) (sym err) sound
 
       -- it is refused for want of a capability alone
       pub only-charge_cap : (r : Result ⊤ Refusal) → result_err r ≡ shortage (account_at books account) 0 1 → IfErr r (λ refusal. refusal ≡ OutOfCaps)
@@ -109,14 +112,14 @@ module _ {books : Books} {pool : List (Option (List ℕ))} {next : List ℕ} {sp
       only-charge_cap (Err e) refusal = short_of_caps (account_at books account) 1 e (sound.paid.within account (account_at books account) (account_there books account opens)) refusal
 
       -- a credit of one that pays for no dataspace
-      pub IsSound-credit_cap : len (part account store).spaces < (account_at books account).caps_used → new_books ≡ with_account books account (credited (account_at books account) 0 1) → IsSound new_books pool next spaces
+      pub IsSound-credit_cap : len (part account store).spaces < (account_at books account).caps_used → new_books ≡ with_account books account (credited (account_at books account) 0 1) → IsSound new_books pool table room spaces
       IsSound-credit_cap spare is =
           let within = sound.paid.within account (account_at books account) (account_there books account opens) in
           IsSound-capped (credited (account_at books account) 0 1) is (omega arith) refl refl
           (omega (arith, caps_owed-len store account, spare)) (omega (arith, within.caps))
 
       -- its part is charged
-      pub becomes-charge_cap : (r : Result ⊤ Refusal) → OnOk r (new_books ≡ with_account books account (charged (account_at books account) 0 1)) → OnOk r (PartBecomes account (charged_part (part account store) 1) store (store_of new_books pool next spaces))
+      pub becomes-charge_cap : (r : Result ⊤ Refusal) → OnOk r (new_books ≡ with_account books account (charged (account_at books account) 0 1)) → OnOk r (PartBecomes account (charged_part (part account store) 1) store (store_of new_books pool table spaces))
       unfolding part
       becomes-charge_cap (Ok done) ok =
           rw ok (becomes-with_account store account (charged (account_at books account) 0 1))

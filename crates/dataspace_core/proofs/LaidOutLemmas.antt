@@ -1,22 +1,23 @@
 -- Dataspaces stay laid out while one comes, goes or is written, and the others keep their bytes.
-use Rattle.std.proofs.Common.{◌≡◌, ◌≢◌, ℕ, ◌*◌, ◌<◌, true, List, length, Option, Some, None, refl, sym, ap, subst, ◌∙◌, inl, inr, ◌⊎◌, arith, true≢false}
+use Rattle.std.proofs.Common.{◌≡◌, ◌≢◌, ℕ, ◌+◌, ◌*◌, ◌<◌, ◌≤◌, true, List, length, get_or, Option, Some, None, refl, sym, ap, subst, ◌∙◌, inl, inr, ◌⊎◌, arith, true≢false}
 use Rattle.std.specs.Option.{option_map}
 use Rattle.std.specs.FinMap.{insert, remove}
 use Rattle.std.proofs.lemmas.Bool.{cases_eq}
 use Rattle.std.proofs.lemmas.Option.{none-some, same_Some}
 use Rattle.trade_base.specs.Bytes.{with_bytes}
 use Rattle.page_pool.specs.Pages.{is_taken, page_bytes}
+use Rattle.page_pool.specs.declared.pool.PageNo.{PageNo}
 use Rattle.page_pool.proofs.PageLaws.{length-zero_page}
 use Rattle.slab.specs.Slab.{Slab, Updates}
 use Rattle.slab.specs.Slab as slab
 use Rattle.own_model.specs.OwnState.{zeros}
-use Rattle.own_model.proofs.NatMapLemmas.{same, get-insert_same, get-insert_other}
+use Rattle.own_model.proofs.NatMapLemmas.{same, get-insert_same, get-insert_other, get-remove_same, get-remove_other}
 use Rattle.quota_core.specs.SlabMap.{map_of}
-use Rattle.quota_core.proofs.SlabMap.{get-map_of, map_of-insert, map_of-remove}
-use Rattle.dataspace_core.specs.Store.{Space}
-use Rattle.dataspace_core.specs.Layout.{page_at, chain_bytes, IsOutside, IsChain, IsNewChain, IsGiven, IsWritten, IsLaidOut, space_of}
+use Rattle.quota_core.proofs.SlabMap.{get-map_of}
+use Rattle.dataspace_core.specs.Layout.{page_in, run_bytes, IsOutside, IsRun, IsNewRun, IsGiven, IsClosed, IsWritten, IsLaidOut, HasMovedDown, moved_down, space_of}
 use Rattle.dataspace_core.specs.declared.dataspace.Dataspace.{Dataspace}
-use Rattle.dataspace_core.proofs.ChainLemmas.{is_taken-held, page_bytes_same, page_at_same, joined_same, length-joined, joined-zero_page}
+use Rattle.dataspace_core.proofs.RunLemmas.{is_taken-held, page_bytes_same, joined_same, joined-zero_page, length-run_bytes}
+use Rattle.dataspace_core.proofs.GapLemmas.{before_gap-moved, moved_within}
 
 -- ---- a slab after a change
 
@@ -36,184 +37,257 @@ after_remove old new key updates q x there =
       | inr apart ↦ (apart, sym (updates.others q apart) ∙ there)
     ]
 
--- a slab's map, where it is read alike
-module _ (f g : Dataspace → Space) (s : Slab Dataspace) (alike : (ds : ℕ) (d : Dataspace) → slab.get s ds ≡ Some d → f d ≡ g d) where
-  -- a slot is read alike
-  read_alike : (q : ℕ) (o : Option Dataspace) → slab.get s q ≡ o → option_map f o ≡ option_map g o
-  read_alike q None there = refl
-  read_alike q (Some d) there = ap Some (alike q d there)
-
-  -- then so is the slab
-  map_of_same : map_of f s ≡ map_of g s
-  map_of_same = same _ _ (λ q. get-map_of f s q ∙ read_alike q (slab.get s q) refl ∙ sym (get-map_of g s q))
+-- what every value was changed to comes from one
+after_map : (g : Dataspace → Dataspace) (o : Option Dataspace) (y : Dataspace) → option_map g o ≡ Some y → (x : Dataspace) × (o ≡ Some x) × (g x ≡ y)
+after_map g None y there = absurd (none-some y there)
+after_map g (Some x) y there = (x, refl, same_Some (g x) y there)
 
 -- ---- one dataspace of those that are laid out
 
-module _ (pages : List (Option (List ℕ))) (next : List ℕ) (spaces : Slab Dataspace) (laid_out : IsLaidOut pages next spaces) (ds : ℕ) (d : Dataspace) (there : slab.get spaces ds ≡ Some d) where
-  -- its pages are a chain
-  pub IsChain-laid_out : IsChain pages next d.chain.first d.chain.count
-  IsChain-laid_out = record {
-    table = laid_out.table;
+module _ (pages : List (Option (List ℕ))) (table : List PageNo) (spaces : Slab Dataspace) (laid_out : IsLaidOut pages table spaces) (ds : ℕ) (d : Dataspace) (there : slab.get spaces ds ≡ Some d) where
+  -- its pages are a run
+  pub IsRun-laid_out : IsRun pages table d.run.start d.run.count
+  IsRun-laid_out = record {
+    within = laid_out.within ds d there;
     held = laid_out.held ds d there;
     apart = λ i j p q e. (laid_out.apart ds ds d d there there i j p q e).1;
   }
 
   -- its size
-  pub length-space_of : length (space_of pages next d).bytes ≡ d.chain.count * 4096
-  unfolding space_of chain_bytes
-  length-space_of = length-joined _ d.chain.count (laid_out.held ds d there)
+  pub length-space_of : length (space_of pages table d).bytes ≡ d.run.count * 4096
+  unfolding space_of
+  length-space_of = length-run_bytes pages table d.run.start d.run.count (laid_out.held ds d there)
 
   -- another dataspace has none of its pages
-  pub IsOutside-other : (other : ℕ) (x : Dataspace) → slab.get spaces other ≡ Some x → other ≢ ds → (i : ℕ) → i < x.chain.count → IsOutside next d.chain.first d.chain.count (page_at next x.chain.first i)
+  pub IsOutside-other : (other : ℕ) (x : Dataspace) → slab.get spaces other ≡ Some x → other ≢ ds → (i : ℕ) → i < x.run.count → IsOutside table d.run.start d.run.count (page_in table (x.run.start + i))
   IsOutside-other other x found apart i below = λ k within e. apart (laid_out.apart other ds x d found there i k below within e).0
+
+  -- nor a place in its run
+  no_place : (other : ℕ) (x : Dataspace) → slab.get spaces other ≡ Some x → other ≢ ds → (i k : ℕ) → i < x.run.count → k < d.run.count → x.run.start + i ≢ d.run.start + k
+  no_place other x found apart i k below within e = IsOutside-other other x found apart i below k within (ap (page_in table) e)
+
+-- ---- a dataspace that is kept
+
+-- a dataspace has the same payer and the same pages as before, with the same bytes, wherever they stand in the table now
+record IsKept (pages : List (Option (List ℕ))) (table : List PageNo) (new_pages : List (Option (List ℕ))) (new_table : List PageNo) (x y : Dataspace) : Type 0 where
+  payer : y.payer ≡ x.payer
+  count : y.run.count ≡ x.run.count
+  page : (i : ℕ) → i < y.run.count → page_in new_table (y.run.start + i) ≡ page_in table (x.run.start + i)
+  slot : (i : ℕ) → i < y.run.count → get_or new_pages (page_in table (x.run.start + i)) None ≡ get_or pages (page_in table (x.run.start + i)) None
+
+module _ (pages : List (Option (List ℕ))) (table : List PageNo) (new_pages : List (Option (List ℕ))) (new_table : List PageNo) (x y : Dataspace) (kept : IsKept pages table new_pages new_table x y) where
+  -- its pages have the bytes that they had
+  bytes_kept : (i : ℕ) → i < y.run.count → page_bytes new_pages (page_in new_table (y.run.start + i)) ≡ page_bytes pages (page_in table (x.run.start + i))
+  bytes_kept i below = ap (page_bytes new_pages) (kept.page i below) ∙ page_bytes_same pages new_pages _ (kept.slot i below)
+
+  -- so contracts see what they saw
+  space_kept : space_of new_pages new_table y ≡ space_of pages table x
+  unfolding space_of run_bytes
+  space_kept = λ i. record {
+    payer = (kept.payer i).0;
+    bytes = (joined_same _ _ y.run.count bytes_kept ∙ ap (λ n. run_bytes pages table x.run.start n) kept.count) i;
+  }
 
 -- ---- a dataspace comes
 
-module _ (pages : List (Option (List ℕ))) (next : List ℕ) (spaces : Slab Dataspace) (laid_out : IsLaidOut pages next spaces) (new_pages : List (Option (List ℕ))) (new_next : List ℕ) (d : Dataspace) (chain : IsNewChain pages next new_pages new_next d.chain.first d.chain.count) where
+module _ (pages : List (Option (List ℕ))) (table : List PageNo) (spaces : Slab Dataspace) (laid_out : IsLaidOut pages table spaces) (new_pages : List (Option (List ℕ))) (new_table : List PageNo) (d : Dataspace) (run : IsNewRun pages table new_pages new_table d.run.start d.run.count) where
   -- a page of an old dataspace was taken
-  taken : (a : ℕ) (x : Dataspace) → slab.get spaces a ≡ Some x → (i : ℕ) → i < x.chain.count → is_taken pages (page_at next x.chain.first i) ≡ true
-  taken a x there i below = is_taken-held pages (page_at next x.chain.first i) (laid_out.held a x there i below)
+  taken : (a : ℕ) (x : Dataspace) → slab.get spaces a ≡ Some x → (i : ℕ) → i < x.run.count → is_taken pages (page_in table (x.run.start + i)) ≡ true
+  taken a x there i below = is_taken-held pages (page_in table (x.run.start + i)) (laid_out.held a x there i below)
 
-  -- it is at the same index
-  page_at_kept : (a : ℕ) (x : Dataspace) → slab.get spaces a ≡ Some x → (i : ℕ) → i < x.chain.count → page_at new_next x.chain.first i ≡ page_at next x.chain.first i
-  page_at_kept a x there i below = page_at_same next new_next x.chain.first i (λ k before. chain.links _ (taken a x there k (omega arith)))
-
-  -- and has the same bytes
-  bytes_kept : (a : ℕ) (x : Dataspace) → slab.get spaces a ≡ Some x → (i : ℕ) → i < x.chain.count → page_bytes new_pages (page_at new_next x.chain.first i) ≡ page_bytes pages (page_at next x.chain.first i)
-  bytes_kept a x there i below =
-      ap (page_bytes new_pages) (page_at_kept a x there i below)
-      ∙ page_bytes_same pages new_pages (page_at next x.chain.first i) (chain.kept _ (taken a x there i below))
-
-  -- so an old dataspace is what it was
-  space_kept : (a : ℕ) (x : Dataspace) → slab.get spaces a ≡ Some x → space_of new_pages new_next x ≡ space_of pages next x
-  unfolding space_of chain_bytes
-  space_kept a x there = ap (λ bytes. record { payer = x.payer.0; bytes = bytes }) (joined_same _ _ x.chain.count (bytes_kept a x there))
+  -- an old dataspace is kept
+  old_kept : (a : ℕ) (x : Dataspace) → slab.get spaces a ≡ Some x → IsKept pages table new_pages new_table x x
+  old_kept a x there = record {
+    payer = refl;
+    count = refl;
+    page = λ i below. run.entries _ (omega (arith, laid_out.within a x there, below));
+    slot = λ i below. run.kept _ (taken a x there i below);
+  }
 
   -- the new dataspace is all zeros
-  new_space : space_of new_pages new_next d ≡ record { payer = d.payer.0; bytes = zeros (d.chain.count * 4096) }
-  unfolding space_of chain_bytes
-  new_space = ap (λ bytes. record { payer = d.payer.0; bytes = bytes }) (joined-zero_page _ d.chain.count chain.cleared)
+  new_space : space_of new_pages new_table d ≡ record { payer = d.payer.0; bytes = zeros (d.run.count * 4096) }
+  unfolding space_of run_bytes
+  new_space = ap (λ bytes. record { payer = d.payer.0; bytes = bytes }) (joined-zero_page _ d.run.count run.cleared)
 
-  -- a page of the new chain is no page of an old one
-  apart_from_old : (a : ℕ) (x : Dataspace) → slab.get spaces a ≡ Some x → (i j : ℕ) → i < x.chain.count → j < d.chain.count → page_at new_next x.chain.first i ≢ page_at new_next d.chain.first j
+  -- a page of the new run is no page of an old one
+  apart_from_old : (a : ℕ) (x : Dataspace) → slab.get spaces a ≡ Some x → (i j : ℕ) → i < x.run.count → j < d.run.count → page_in new_table (x.run.start + i) ≢ page_in new_table (d.run.start + j)
   apart_from_old a x there i j below within e =
-      true≢false (sym (taken a x there i below) ∙ ap (is_taken pages) (sym (page_at_kept a x there i below) ∙ e) ∙ chain.was_free j within)
+      true≢false (sym (taken a x there i below) ∙ ap (is_taken pages) (sym ((old_kept a x there).page i below) ∙ e) ∙ run.was_free j within)
 
   module _ (key : ℕ) (new_spaces : Slab Dataspace) (updates : Updates spaces new_spaces key (Some d)) where
     -- a dataspace is the new one, or an old one
     abbrev NewOrOld : ℕ → Dataspace → Type 0
     NewOrOld q x = ((q ≡ key) × (x ≡ d)) ⊎ ((q ≢ key) × (slab.get spaces q ≡ Some x))
 
+    -- each lies in the table
+    within_each : (a : ℕ) (x : Dataspace) → NewOrOld a x → x.run.start + x.run.count ≤ length new_table
+    within_each a x (inl new) = subst (λ (y : Dataspace). y.run.start + y.run.count ≤ length new_table) (sym new.1) (omega (arith, run.at_end, run.longer))
+    within_each a x (inr old) = omega (arith, laid_out.within a x old.1, run.longer)
+
     -- each page of either has all its bytes
-    held_each : (a : ℕ) (x : Dataspace) → NewOrOld a x → (i : ℕ) → i < x.chain.count → length (page_bytes new_pages (page_at new_next x.chain.first i)) ≡ 4096
+    held_each : (a : ℕ) (x : Dataspace) → NewOrOld a x → (i : ℕ) → i < x.run.count → length (page_bytes new_pages (page_in new_table (x.run.start + i))) ≡ 4096
     held_each a x (inl new) i below =
-        ap length (ap (λ (y : Dataspace). page_bytes new_pages (page_at new_next y.chain.first i)) new.1 ∙ chain.cleared i (subst (λ (y : Dataspace). i < y.chain.count) new.1 below))
+        ap length (ap (λ (y : Dataspace). page_bytes new_pages (page_in new_table (y.run.start + i))) new.1 ∙ run.cleared i (subst (λ (y : Dataspace). i < y.run.count) new.1 below))
         ∙ length-zero_page
-    held_each a x (inr old) i below = ap length (bytes_kept a x old.1 i below) ∙ laid_out.held a x old.1 i below
+    held_each a x (inr old) i below = ap length (bytes_kept pages table new_pages new_table x x (old_kept a x old.1) i below) ∙ laid_out.held a x old.1 i below
 
     -- each page is in one place of one of them
-    apart_each : (a b : ℕ) (x y : Dataspace) → NewOrOld a x → NewOrOld b y → (i j : ℕ) → i < x.chain.count → j < y.chain.count → page_at new_next x.chain.first i ≡ page_at new_next y.chain.first j → (a ≡ b) × (i ≡ j)
+    apart_each : (a b : ℕ) (x y : Dataspace) → NewOrOld a x → NewOrOld b y → (i j : ℕ) → i < x.run.count → j < y.run.count → page_in new_table (x.run.start + i) ≡ page_in new_table (y.run.start + j) → (a ≡ b) × (i ≡ j)
     apart_each a b x y (inl p) (inl q) i j m n e = (
       p.0 ∙ sym q.0,
-      chain.apart i j (subst (λ (z : Dataspace). i < z.chain.count) p.1 m) (subst (λ (z : Dataspace). j < z.chain.count) q.1 n)
-          (ap (λ (z : Dataspace). page_at new_next z.chain.first i) (sym p.1) ∙ e ∙ ap (λ (z : Dataspace). page_at new_next z.chain.first j) q.1),
+      run.apart i j (subst (λ (z : Dataspace). i < z.run.count) p.1 m) (subst (λ (z : Dataspace). j < z.run.count) q.1 n)
+          (ap (λ (z : Dataspace). page_in new_table (z.run.start + i)) (sym p.1) ∙ e ∙ ap (λ (z : Dataspace). page_in new_table (z.run.start + j)) q.1),
     )
     apart_each a b x y (inl p) (inr q) i j m n e =
-        absurd (apart_from_old b y q.1 j i n (subst (λ (z : Dataspace). i < z.chain.count) p.1 m) (sym e ∙ ap (λ (z : Dataspace). page_at new_next z.chain.first i) p.1))
+        absurd (apart_from_old b y q.1 j i n (subst (λ (z : Dataspace). i < z.run.count) p.1 m) (sym e ∙ ap (λ (z : Dataspace). page_in new_table (z.run.start + i)) p.1))
     apart_each a b x y (inr p) (inl q) i j m n e =
-        absurd (apart_from_old a x p.1 i j m (subst (λ (z : Dataspace). j < z.chain.count) q.1 n) (e ∙ ap (λ (z : Dataspace). page_at new_next z.chain.first j) q.1))
+        absurd (apart_from_old a x p.1 i j m (subst (λ (z : Dataspace). j < z.run.count) q.1 n) (e ∙ ap (λ (z : Dataspace). page_in new_table (z.run.start + j)) q.1))
     apart_each a b x y (inr p) (inr q) i j m n e =
-        laid_out.apart a b x y p.1 q.1 i j m n (sym (page_at_kept a x p.1 i m) ∙ e ∙ page_at_kept b y q.1 j n)
+        laid_out.apart a b x y p.1 q.1 i j m n (sym ((old_kept a x p.1).page i m) ∙ e ∙ (old_kept b y q.1).page j n)
 
     -- the dataspaces with the new one are laid out
-    pub IsLaidOut-insert : IsLaidOut new_pages new_next new_spaces
+    pub IsLaidOut-insert : IsLaidOut new_pages new_table new_spaces
     IsLaidOut-insert = record {
-      table = chain.table ∙ laid_out.table ∙ sym chain.size;
+      within = λ a x there. within_each a x (after_insert spaces new_spaces key d updates a x there);
       held = λ a x there. held_each a x (after_insert spaces new_spaces key d updates a x there);
       apart = λ a b x y p q. apart_each a b x y (after_insert spaces new_spaces key d updates a x p) (after_insert spaces new_spaces key d updates b y q);
     }
 
-    -- and are the old ones and the new one, all zero
-    pub map_of-insert_space : map_of (space_of new_pages new_next) new_spaces ≡ insert (map_of (space_of pages next) spaces) key (record { payer = d.payer.0; bytes = zeros (d.chain.count * 4096) })
-    map_of-insert_space =
-        map_of-insert (space_of new_pages new_next) spaces new_spaces key d updates
-        ∙ ap (λ m. insert m key (space_of new_pages new_next d)) (map_of_same (space_of new_pages new_next) (space_of pages next) spaces space_kept)
-        ∙ ap (insert (map_of (space_of pages next) spaces) key) new_space
+    -- an old slot is read as it was
+    read_old : (q : ℕ) (o : Option Dataspace) → slab.get spaces q ≡ o → option_map (space_of new_pages new_table) o ≡ option_map (space_of pages table) o
+    read_old q None found = refl
+    read_old q (Some x) found = ap Some (space_kept pages table new_pages new_table x x (old_kept q x found))
+
+    -- they are the old ones and the new one, all zero
+    pub map_of-insert_space : map_of (space_of new_pages new_table) new_spaces ≡ insert (map_of (space_of pages table) spaces) key (record { payer = d.payer.0; bytes = zeros (d.run.count * 4096) })
+    map_of-insert_space = same _ _ (λ q.
+        elim (cases_eq q key) [
+          | inl here ↦
+              get-map_of (space_of new_pages new_table) new_spaces q ∙ ap (option_map (space_of new_pages new_table)) (ap (slab.get new_spaces) here ∙ updates.changed)
+              ∙ ap Some new_space ∙ sym (get-insert_same (map_of (space_of pages table) spaces) key _ q here)
+          | inr apart ↦
+              get-map_of (space_of new_pages new_table) new_spaces q ∙ ap (option_map (space_of new_pages new_table)) (updates.others q apart)
+              ∙ read_old q (slab.get spaces q) refl ∙ sym (get-map_of (space_of pages table) spaces q)
+              ∙ sym (get-insert_other (map_of (space_of pages table) spaces) key _ q apart)
+        ])
 
 -- ---- a dataspace goes
 
-module _ (pages : List (Option (List ℕ))) (next : List ℕ) (spaces : Slab Dataspace) (laid_out : IsLaidOut pages next spaces) (ds : ℕ) (d : Dataspace) (there : slab.get spaces ds ≡ Some d) (new_pages : List (Option (List ℕ))) (given : IsGiven pages new_pages next d.chain.first d.chain.count) (new_spaces : Slab Dataspace) (updates : Updates spaces new_spaces ds None) where
-  -- a page of another dataspace has the bytes that it had
-  bytes_left : (a : ℕ) (x : Dataspace) → slab.get new_spaces a ≡ Some x → (i : ℕ) → i < x.chain.count → page_bytes new_pages (page_at next x.chain.first i) ≡ page_bytes pages (page_at next x.chain.first i)
-  bytes_left a x found i below =
-      let old = after_remove spaces new_spaces ds updates a x found in
-      page_bytes_same pages new_pages _ (given.others _ (IsOutside-other pages next spaces laid_out ds d there a x old.1 old.0 i below))
+module _ (pages : List (Option (List ℕ))) (table : List PageNo) (spaces : Slab Dataspace) (laid_out : IsLaidOut pages table spaces) (ds : ℕ) (d : Dataspace) (there : slab.get spaces ds ≡ Some d) (new_pages : List (Option (List ℕ))) (new_table : List PageNo) (given : IsGiven pages new_pages table d.run.start d.run.count) (closed : IsClosed table new_table d.run.start d.run.count) (left new_spaces : Slab Dataspace) (updates : Updates spaces left ds None) (moved : HasMovedDown d.run left new_spaces) where
+  -- a dataspace that is left was there, under the same key, and lies as far down as it moved
+  record WasThere (q : ℕ) (y : Dataspace) : Type 0 where
+    old : Dataspace
+    found : slab.get spaces q ≡ Some old
+    apart : q ≢ ds
+    is : moved_down d.run old ≡ y
+
+  was_there : (q : ℕ) (y : Dataspace) → slab.get new_spaces q ≡ Some y → WasThere q y
+  was_there q y found =
+      let origin = after_map (moved_down d.run) (slab.get left q) y (sym (moved.each q) ∙ found) in
+      let old = after_remove spaces left ds updates q origin.0 origin.1 in
+      record { old = origin.0; found = old.1; apart = old.0; is = origin.2 }
+
+  -- another dataspace is kept where it moves
+  moved_kept : (q : ℕ) (x : Dataspace) → slab.get spaces q ≡ Some x → q ≢ ds → IsKept pages table new_pages new_table x (moved_down d.run x)
+  moved_kept q x found apart =
+      let places = no_place pages table spaces laid_out ds d there q x found apart in
+      let within = moved_within d.run.start d.run.count x.run.start x.run.count places (length table) (length new_table) (laid_out.within q x found) (laid_out.within ds d there) closed.shorter in
+      record {
+        payer = refl;
+        count = refl;
+        page = λ i below.
+            closed.entries _ (omega (arith, within, below))
+            ∙ ap (page_in table) (before_gap-moved d.run.start d.run.count x.run.start x.run.count places i below);
+        slot = λ i below. given.others _ (IsOutside-other pages table spaces laid_out ds d there q x found apart i below);
+      }
+
+  -- so is each that is left
+  kept_left : (q : ℕ) (y : Dataspace) (was : WasThere q y) → IsKept pages table new_pages new_table was.old y
+  kept_left q y was = subst (IsKept pages table new_pages new_table was.old) was.is (moved_kept q was.old was.found was.apart)
 
   -- the dataspaces without this one are laid out
-  pub IsLaidOut-remove : IsLaidOut new_pages next new_spaces
+  pub IsLaidOut-remove : IsLaidOut new_pages new_table new_spaces
   IsLaidOut-remove = record {
-    table = laid_out.table ∙ sym given.size;
-    held = λ a x found i below. ap length (bytes_left a x found i below) ∙ laid_out.held a x (after_remove spaces new_spaces ds updates a x found).1 i below;
-    apart = λ a b x y p q. laid_out.apart a b x y (after_remove spaces new_spaces ds updates a x p).1 (after_remove spaces new_spaces ds updates b y q).1;
+    within = λ a y found.
+        let was = was_there a y found in
+        subst (λ (z : Dataspace). z.run.start + z.run.count ≤ length new_table) was.is
+        (moved_within d.run.start d.run.count was.old.run.start was.old.run.count (no_place pages table spaces laid_out ds d there a was.old was.found was.apart) (length table) (length new_table) (laid_out.within a was.old was.found) (laid_out.within ds d there) closed.shorter);
+    held = λ a y found i below.
+        let was = was_there a y found in
+        let kept = kept_left a y was in
+        ap length (bytes_kept pages table new_pages new_table was.old y kept i below) ∙ laid_out.held a was.old was.found i (omega (arith, below, kept.count));
+    apart = λ a b x y p q i j m n e.
+        let first = was_there a x p in
+        let second = was_there b y q in
+        let kept = kept_left a x first in
+        let keeps = kept_left b y second in
+        laid_out.apart a b first.old second.old first.found second.found i j (omega (arith, m, kept.count)) (omega (arith, n, keeps.count)) (sym (kept.page i m) ∙ e ∙ keeps.page j n);
   }
 
-  -- another dataspace is what it was
-  space_left : (a : ℕ) (x : Dataspace) → slab.get new_spaces a ≡ Some x → space_of new_pages next x ≡ space_of pages next x
-  unfolding space_of chain_bytes
-  space_left a x found = ap (λ bytes. record { payer = x.payer.0; bytes = bytes }) (joined_same _ _ x.chain.count (bytes_left a x found))
+  -- another slot is read as it was
+  read_left : (q : ℕ) → q ≢ ds → (o : Option Dataspace) → slab.get spaces q ≡ o → option_map (space_of new_pages new_table) (option_map (moved_down d.run) o) ≡ option_map (space_of pages table) o
+  read_left q apart None found = refl
+  read_left q apart (Some x) found = ap Some (space_kept pages table new_pages new_table x (moved_down d.run x) (moved_kept q x found apart))
 
-  -- and they are the old ones without this one
-  pub map_of-remove_space : map_of (space_of new_pages next) new_spaces ≡ remove (map_of (space_of pages next) spaces) ds
-  map_of-remove_space =
-      map_of_same (space_of new_pages next) (space_of pages next) new_spaces space_left
-      ∙ map_of-remove (space_of pages next) spaces new_spaces ds updates
+  -- they are the old ones without this one
+  pub map_of-remove_space : map_of (space_of new_pages new_table) new_spaces ≡ remove (map_of (space_of pages table) spaces) ds
+  map_of-remove_space = same _ _ (λ q.
+      get-map_of (space_of new_pages new_table) new_spaces q ∙ ap (option_map (space_of new_pages new_table)) (moved.each q)
+      ∙ elim (cases_eq q ds) [
+        | inl here ↦
+            ap (λ o. option_map (space_of new_pages new_table) (option_map (moved_down d.run) o)) (ap (slab.get left) here ∙ updates.changed)
+            ∙ sym (get-remove_same (map_of (space_of pages table) spaces) ds q here)
+        | inr apart ↦
+            ap (λ o. option_map (space_of new_pages new_table) (option_map (moved_down d.run) o)) (updates.others q apart)
+            ∙ read_left q apart (slab.get spaces q) refl ∙ sym (get-map_of (space_of pages table) spaces q)
+            ∙ sym (get-remove_other (map_of (space_of pages table) spaces) ds q apart)
+      ])
 
 -- ---- a dataspace is written
 
-module _ (pages : List (Option (List ℕ))) (next : List ℕ) (spaces : Slab Dataspace) (laid_out : IsLaidOut pages next spaces) (ds : ℕ) (d : Dataspace) (there : slab.get spaces ds ≡ Some d) (new_pages : List (Option (List ℕ))) (offset : ℕ) (bytes : List ℕ) (written : IsWritten pages new_pages next d.chain.first d.chain.count offset bytes) where
-  -- a page of another dataspace has the bytes that it had
-  bytes_of_other : (a : ℕ) (x : Dataspace) → slab.get spaces a ≡ Some x → a ≢ ds → (i : ℕ) → i < x.chain.count → page_bytes new_pages (page_at next x.chain.first i) ≡ page_bytes pages (page_at next x.chain.first i)
-  bytes_of_other a x found apart i below =
-      page_bytes_same pages new_pages _ (written.others _ (IsOutside-other pages next spaces laid_out ds d there a x found apart i below))
+module _ (pages : List (Option (List ℕ))) (table : List PageNo) (spaces : Slab Dataspace) (laid_out : IsLaidOut pages table spaces) (ds : ℕ) (d : Dataspace) (there : slab.get spaces ds ≡ Some d) (new_pages : List (Option (List ℕ))) (offset : ℕ) (bytes : List ℕ) (written : IsWritten pages new_pages table d.run.start d.run.count offset bytes) where
+  -- another dataspace is kept
+  other_kept : (a : ℕ) (x : Dataspace) → slab.get spaces a ≡ Some x → a ≢ ds → IsKept pages table new_pages table x x
+  other_kept a x found apart = record {
+    payer = refl;
+    count = refl;
+    page = λ i below. refl;
+    slot = λ i below. written.others _ (IsOutside-other pages table spaces laid_out ds d there a x found apart i below);
+  }
 
   -- each page still has all its bytes
-  still_held : (a : ℕ) (x : Dataspace) → slab.get spaces a ≡ Some x → (a ≡ ds) ⊎ (a ≢ ds) → (i : ℕ) → i < x.chain.count → length (page_bytes new_pages (page_at next x.chain.first i)) ≡ 4096
+  still_held : (a : ℕ) (x : Dataspace) → slab.get spaces a ≡ Some x → (a ≡ ds) ⊎ (a ≢ ds) → (i : ℕ) → i < x.run.count → length (page_bytes new_pages (page_in table (x.run.start + i))) ≡ 4096
   still_held a x found (inl here) i below =
       let e : x ≡ d = same_Some x d (sym found ∙ ap (slab.get spaces) here ∙ there) in
-      ap (λ (y : Dataspace). length (page_bytes new_pages (page_at next y.chain.first i))) e ∙ written.held i (subst (λ (y : Dataspace). i < y.chain.count) e below)
-  still_held a x found (inr apart) i below = ap length (bytes_of_other a x found apart i below) ∙ laid_out.held a x found i below
+      ap (λ (y : Dataspace). length (page_bytes new_pages (page_in table (y.run.start + i)))) e ∙ written.held i (subst (λ (y : Dataspace). i < y.run.count) e below)
+  still_held a x found (inr apart) i below = ap length (bytes_kept pages table new_pages table x x (other_kept a x found apart) i below) ∙ laid_out.held a x found i below
 
   -- the dataspaces stay laid out
-  pub IsLaidOut-written : IsLaidOut new_pages next spaces
+  pub IsLaidOut-written : IsLaidOut new_pages table spaces
   IsLaidOut-written = record {
-    table = laid_out.table ∙ sym written.size;
+    within = laid_out.within;
     held = λ a x found. still_held a x found (cases_eq a ds);
     apart = laid_out.apart;
   }
 
-  -- another dataspace is what it was
-  space_of_other : (a : ℕ) (x : Dataspace) → slab.get spaces a ≡ Some x → a ≢ ds → space_of new_pages next x ≡ space_of pages next x
-  unfolding space_of chain_bytes
-  space_of_other a x found apart = ap (λ bytes. record { payer = x.payer.0; bytes = bytes }) (joined_same _ _ x.chain.count (bytes_of_other a x found apart))
-
   -- the dataspace that is written has the part in its bytes
-  space_written : space_of new_pages next d ≡ record { payer = (space_of pages next d).payer; bytes = with_bytes (space_of pages next d).bytes offset bytes }
+  space_written : space_of new_pages table d ≡ record { payer = (space_of pages table d).payer; bytes = with_bytes (space_of pages table d).bytes offset bytes }
   unfolding space_of
   space_written = ap (λ all. record { payer = d.payer.0; bytes = all }) written.bytes
 
   -- a slot of another key is read as it was
-  read_written : (q : ℕ) (o : Option Dataspace) → slab.get spaces q ≡ o → q ≢ ds → option_map (space_of new_pages next) o ≡ option_map (space_of pages next) o
+  read_written : (q : ℕ) (o : Option Dataspace) → slab.get spaces q ≡ o → q ≢ ds → option_map (space_of new_pages table) o ≡ option_map (space_of pages table) o
   read_written q None found apart = refl
-  read_written q (Some x) found apart = ap Some (space_of_other q x found apart)
+  read_written q (Some x) found apart = ap Some (space_kept pages table new_pages table x x (other_kept q x found apart))
 
   -- and this one has the new bytes
-  pub map_of-written : map_of (space_of new_pages next) spaces ≡ insert (map_of (space_of pages next) spaces) ds (record { payer = (space_of pages next d).payer; bytes = with_bytes (space_of pages next d).bytes offset bytes })
+  pub map_of-written : map_of (space_of new_pages table) spaces ≡ insert (map_of (space_of pages table) spaces) ds (record { payer = (space_of pages table d).payer; bytes = with_bytes (space_of pages table d).bytes offset bytes })
   map_of-written = same _ _ (λ q.
       elim (cases_eq q ds) [
         | inl here ↦
-            get-map_of (space_of new_pages next) spaces q ∙ ap (option_map (space_of new_pages next)) (ap (slab.get spaces) here ∙ there)
-            ∙ ap Some space_written ∙ sym (get-insert_same (map_of (space_of pages next) spaces) ds _ q here)
+            get-map_of (space_of new_pages table) spaces q ∙ ap (option_map (space_of new_pages table)) (ap (slab.get spaces) here ∙ there)
+            ∙ ap Some space_written ∙ sym (get-insert_same (map_of (space_of pages table) spaces) ds _ q here)
         | inr apart ↦
-            get-map_of (space_of new_pages next) spaces q ∙ read_written q (slab.get spaces q) refl apart
-            ∙ sym (get-map_of (space_of pages next) spaces q) ∙ sym (get-insert_other (map_of (space_of pages next) spaces) ds _ q apart)
+            get-map_of (space_of new_pages table) spaces q ∙ read_written q (slab.get spaces q) refl apart
+            ∙ sym (get-map_of (space_of pages table) spaces q) ∙ sym (get-insert_other (map_of (space_of pages table) spaces) ds _ q apart)
       ])

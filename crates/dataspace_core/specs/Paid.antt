@@ -2,6 +2,7 @@
 use Rattle.std.specs.Prelude.{◌≡◌, ℕ, min, ◌+◌, ◌*◌, ◌≤◌, List, Option, Some, length}
 use Rattle.std.specs.FinMap.{get}
 use Rattle.page_pool.specs.Pages.{free_count}
+use Rattle.page_pool.specs.declared.pool.PageNo.{PageNo}
 use Rattle.slab.specs.Slab.{Slab}
 use Rattle.own_model.specs.NatMap.{total, owed}
 use Rattle.own_model.specs.Account.{Account, WithinLimits}
@@ -39,7 +40,9 @@ pub record IsPaid (store : Store) (free pages : ℕ) : Type 0 where
   pub backed : free * 4096 + total size_of store.spaces ≡ pages * 4096
   pub few : pages ≤ 4096
 
--- what is true of a memory between calls
-pub record IsSound (books : Books) (pool : List (Option (List ℕ))) (next : List ℕ) (spaces : Slab Dataspace) : Type 0 where
-  pub laid_out : IsLaidOut pool next spaces
-  pub paid : IsPaid (store_of books pool next spaces) (free_count pool) (length pool)
+-- what is true of a memory between calls: the table has an entry for each page that is taken, and room for one of each page
+pub record IsSound (books : Books) (pool : List (Option (List ℕ))) (table : List PageNo) (room : ℕ) (spaces : Slab Dataspace) : Type 0 where
+  pub laid_out : IsLaidOut pool table spaces
+  pub paid : IsPaid (store_of books pool table spaces) (free_count pool) (length pool)
+  pub counted : length table + free_count pool ≡ length pool
+  pub roomy : room ≡ length pool

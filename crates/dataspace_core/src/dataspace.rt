@@ -1,8 +1,9 @@
 //! What the memory keeps of a dataspace.
 ghost use Rattle.std.specs.Prelude.{◌≡◌, ◌^◌, ◌*◌, ◌<◌, ◌≤◌, [], Some, IfOk};
 ghost use Rattle.slab.specs.Slab.{ContainsKey, get};
+ghost use Rattle.dataspace_core.specs.Layout.{HasMovedDown};
 
-use crate::chains::Chain;
+use crate::runs::{Run, start_after};
 use slab::Slab;
 use std::alloc::Global;
 use trade_base::{AccountId, DsId, NoMemory, PAGE};
@@ -11,7 +12,7 @@ use trade_base::{AccountId, DsId, NoMemory, PAGE};
 #[derive(Clone, Copy)]
 pub(crate) struct Dataspace {
     pub(crate) payer: AccountId,
-    pub(crate) chain: Chain,
+    pub(crate) run: Run,
 }
 
 /// No dataspace, and places for so many.
@@ -30,10 +31,21 @@ pub(crate) fn space_under(spaces: &Slab<Dataspace>, ds: DsId) -> Dataspace
     *spaces.get(ds.0).unwrap()
 }
 
+/// Moves the starts of the runs that lie behind a gap in the table.
+pub(crate) fn move_down(spaces: &mut Slab<Dataspace>, gap: Run)
+    ensures moved { HasMovedDown gap spaces.old spaces.new }
+    ensures capacity { spaces.new.capacity ≡ spaces.old.capacity }
+{
+    spaces.retain(|_key, space| {
+        space.run.start = start_after(space.run.start, gap);
+        true
+    });
+}
+
 /// The size of a dataspace, in bytes.
 pub(crate) fn size_of(space: Dataspace) -> u64
-    requires { space.chain.count * 4096 < 2 ^ 64 }
-    ensures { result ≡ space.chain.count * 4096 }
+    requires { space.run.count * 4096 < 2 ^ 64 }
+    ensures { result ≡ space.run.count * 4096 }
 {
-    space.chain.count as u64 * PAGE
+    space.run.count as u64 * PAGE
 }

@@ -1,10 +1,11 @@
-//! Memory in dataspaces: each is a chain of pages that an account pays for.
+//! Memory in dataspaces: each has pages that an account pays for.
 #![tactic(auto)]
 
-mod chains;
 mod dataspace;
 mod memory;
+mod runs;
 #[cfg(test)]
+#[tactic(auto, using(crate::proofs::TestLemmas::store_laws))]
 mod tests;
 
 pub use memory::Memory;

@@ -11,9 +11,11 @@ ghost use Rattle.dataspace_core.specs.Store.{fresh_store, accounts_in, root_in, 
 ghost use Rattle.dataspace_core.specs.Store.{Exists, space_at, with_space, without_space, with_bytes_at};
 ghost use Rattle.dataspace_core.specs.Store.{part, PartBecomes, OpensPart, part_with_space, part_without_space, part_with_bytes, charged_part, credited_part};
 
-use crate::chains::{give_chain, no_links, read_chain, take_chain, write_chain};
-use crate::dataspace::{Dataspace, no_spaces, size_of, space_under};
-use page_pool::Pool;
+use crate::dataspace::{Dataspace, move_down, no_spaces, size_of, space_under};
+use crate::runs::{
+    close_gap, give_run, load_run, no_pages, read_run, store_run, take_run, write_run,
+};
+use page_pool::{PageNo, Pool};
 use quota_core::Books;
 use slab::Slab;
 use std::alloc::Global;
@@ -30,11 +32,12 @@ pub struct Memory {
     pool: Pool,
     books: Books,
     spaces: Slab<Dataspace>,
-    /// For each page the one that follows it in its dataspace.
-    next: Vec<usize>,
+    /// The pages of all dataspaces, those of each one after another.
+    table: Vec<PageNo>,
 }
 
 impl Model for Memory {
+    ghost use Rattle.std.specs.Prelude.{vec_capacity};
     ghost use Rattle.dataspace_core.specs.Store.{Store, coded_store};
     ghost use Rattle.dataspace_core.specs.Layout.{store_of};
     ghost use Rattle.dataspace_core.specs.Paid.{IsSound};
@@ -43,9 +46,9 @@ impl Model for Memory {
 
     ghost coded = { coded_store };
 
-    ghost view = { λ m. store_of m.books m.pool m.next.items m.spaces };
+    ghost view = { λ m. store_of m.books m.pool m.table.items m.spaces };
 
-    ghost invariant = { λ m. IsSound m.books m.pool m.next.items m.spaces };
+    ghost invariant = { λ m. IsSound m.books m.pool m.table.items (vec_capacity m.table) m.spaces };
 }
 
 impl Memory {
@@ -69,12 +72,12 @@ impl Memory {
         let books = Books::boot(alloc, Ram(pages as u64 * PAGE), caps, accounts)?;
         // Each dataspace has a page at least, and a capability.
         let spaces = no_spaces(alloc, pages.min(caps.0 as usize))?;
-        let next = no_links(alloc, pages)?;
+        let table = no_pages(alloc, pages)?;
         Ok(Memory {
             pool,
             books,
             spaces,
-            next,
+            table,
         })
     }
 
@@ -95,10 +98,10 @@ impl Memory {
     {
         let size = valid_size(bytes).ok_or(Refusal::InvalidSize)?;
         self.books.charge(account, Ram(size), Caps(1))?;
-        let chain = take_chain(&mut self.pool, &mut self.next, (size / PAGE) as usize);
+        let run = take_run(&mut self.pool, &mut self.table, (size / PAGE) as usize);
         let key = self.spaces.insert_reserved(Dataspace {
             payer: account,
-            chain,
+            run,
         });
         Ok(DsId(key))
     }
@@ -111,7 +114,9 @@ impl Memory {
             PartBecomes payer (part_without_space (part payer self.old) ds.0) self.old self.new }
     {
         let space = self.spaces.remove(ds.0);
-        give_chain(&mut self.pool, &self.next, space.chain);
+        give_run(&mut self.pool, &self.table, space.run);
+        close_gap(&mut self.table, space.run);
+        move_down(&mut self.spaces, space.run);
         self.books.credit(space.payer, Ram(size_of(space)), Caps(1));
     }
 
@@ -137,13 +142,8 @@ impl Memory {
         requires range { offset + length buffer.old ≤ length (space_at self.now ds.0).bytes }
         ensures { buffer.new ≡ slice_range (space_at self.now ds.0).bytes offset (offset + length buffer.old) }
     {
-        read_chain(
-            &self.pool,
-            &self.next,
-            space_under(&self.spaces, ds).chain,
-            offset as usize,
-            buffer,
-        );
+        let run = space_under(&self.spaces, ds).run;
+        read_run(&self.pool, &self.table, run, offset as usize, buffer);
     }
 
     /// Puts `bytes` into a dataspace from `offset` on. Nothing else changes.
@@ -154,25 +154,22 @@ impl Memory {
         ensures part { let payer = (space_at self.old ds.0).payer in
             PartBecomes payer (part_with_bytes (part payer self.old) ds.0 offset bytes.now) self.old self.new }
     {
-        let chain = space_under(&self.spaces, ds).chain;
-        write_chain(&mut self.pool, &self.next, chain, offset as usize, bytes);
+        let run = space_under(&self.spaces, ds).run;
+        write_run(&mut self.pool, &self.table, run, offset as usize, bytes);
     }
 
     /// The word of a dataspace that stands at `offset`, its lowest byte first.
-    #[tactic(auto, unfolding(trade_base::specs::Word::word_of))]
     pub fn load_word(&self, ds: DsId, offset: u64) -> u64
         requires exists { Exists self.now ds.0 }
         requires aligned { offset % 8 ≡ 0 }
         requires range { offset + 8 ≤ length (space_at self.now ds.0).bytes }
         ensures { result ≡ word_of (slice_range (space_at self.now ds.0).bytes offset (offset + 8)) }
     {
-        let mut bytes = [0; 8];
-        self.read(ds, offset, &mut bytes);
-        u64::from_le_bytes(bytes)
+        let run = space_under(&self.spaces, ds).run;
+        load_run(&self.pool, &self.table, run, offset as usize)
     }
 
     /// Puts `word` into a dataspace at `offset`, its lowest byte first. Nothing else changes.
-    #[tactic(auto, unfolding(trade_base::specs::Word::word_bytes))]
     pub fn store_word(&mut self, ds: DsId, offset: u64, word: u64)
         requires exists { Exists self.old ds.0 }
         requires aligned { offset % 8 ≡ 0 }
@@ -181,7 +178,8 @@ impl Memory {
         ensures part { let payer = (space_at self.old ds.0).payer in
             PartBecomes payer (part_with_bytes (part payer self.old) ds.0 offset (word_bytes word)) self.old self.new }
     {
-        self.write(ds, offset, &word.to_le_bytes());
+        let run = space_under(&self.spaces, ds).run;
+        store_run(&mut self.pool, &self.table, run, offset as usize, word);
     }
 
     /// Charges an account for one capability that is no dataspace's.

@@ -1,10 +1,11 @@
 //! What no contract says: that calls succeed where there is memory. And what a payer sees.
-ghost use Rattle.std.specs.Prelude.{◌≡◌};
-ghost use Rattle.dataspace_core.specs.Store.{IsOpenIn};
+ghost use Rattle.std.specs.Prelude.{◌≡◌, ◌≢◌, ℕ};
+ghost use Rattle.std.specs.FinMap.{get};
+ghost use Rattle.dataspace_core.specs.Store.{IsOpenIn, Exists};
 
 use super::Memory;
 use std::process::Abort;
-use trade_base::{AccountId, Caps, Refusal};
+use trade_base::{AccountId, Caps, DsId, Ram, Refusal};
 
 /// Why an allocation is refused that must not be granted.
 fn refusal_of(rt: &impl Abort, memory: &mut Memory, account: AccountId, bytes: u64) -> Refusal
@@ -17,15 +18,26 @@ fn refusal_of(rt: &impl Abort, memory: &mut Memory, account: AccountId, bytes: u
     }
 }
 
+/// Frees a dataspace that lies between two others.
+fn free_between(memory: &mut Memory, middle: DsId, first: DsId, last: DsId)
+    requires exists { Exists memory.old middle.0 }
+    requires not_first { first.0 ≢ middle.0 }
+    requires not_last { last.0 ≢ middle.0 }
+    ensures first { get memory.new.spaces first.0 ≡ get memory.old.spaces first.0 }
+    ensures last { get memory.new.spaces last.0 ≡ get memory.old.spaces last.0 }
+    ensures opens { (account : ℕ) → IsOpenIn memory.old account → IsOpenIn memory.new account }
+{
+    memory.free(middle);
+}
+
 #[test]
-#[tactic(auto, using(crate::proofs::TestLemmas::store_laws))]
 fn bytes_cross_a_page_border(rt: HostRuntime) {
     let mut memory = Memory::boot(rt.alloc(), 2, Caps(1), 1).expect(&rt, "memory for two pages");
     let root = memory.root();
     let ds = memory.alloc(root, 5000).expect(&rt, "the root has it");
     assert_eq!(rt; memory.size(ds), 8192);
+    assert_eq!(rt; memory.payer(ds), root);
     memory.write(ds, 4094, &[1, 2, 3, 4]);
-    assert_eq!(rt; memory.size(ds), 8192);
     let mut buffer = [9; 6];
     memory.read(ds, 4093, &mut buffer);
     assert_eq!(rt; buffer, [0, 1, 2, 3, 4, 0]);
@@ -38,7 +50,47 @@ fn bytes_cross_a_page_border(rt: HostRuntime) {
 }
 
 #[test]
-#[tactic(auto, using(crate::proofs::TestLemmas::store_laws))]
+fn words_stand_on_both_sides_of_a_page_border(rt: HostRuntime) {
+    let mut memory = Memory::boot(rt.alloc(), 2, Caps(1), 1).expect(&rt, "memory for two pages");
+    let root = memory.root();
+    let ds = memory.alloc(root, 8192).expect(&rt, "the root has it");
+    memory.store_word(ds, 4088, 0x0102_0304_0506_0708);
+    memory.store_word(ds, 4096, 0x1112_1314_1516_1718);
+    assert_eq!(rt; memory.load_word(ds, 4088), 0x0102_0304_0506_0708);
+    assert_eq!(rt; memory.load_word(ds, 4096), 0x1112_1314_1516_1718);
+    assert_eq!(rt; memory.load_word(ds, 4080), 0);
+    assert_eq!(rt; memory.load_word(ds, 4104), 0);
+    let mut buffer = [9; 4];
+    memory.read(ds, 4094, &mut buffer);
+    assert_eq!(rt; buffer, [2, 1, 0x18, 0x17]);
+}
+
+#[test]
+fn others_stay_when_the_middle_one_is_freed(rt: HostRuntime) {
+    let mut memory = Memory::boot(rt.alloc(), 6, Caps(3), 1).expect(&rt, "memory for six pages");
+    let root = memory.root();
+    let first = memory.alloc(root, 8192).expect(&rt, "six pages are free");
+    let middle = memory.alloc(root, 12288).expect(&rt, "four pages are free");
+    let last = memory.alloc(root, 4096).expect(&rt, "a page is free");
+    memory.write(first, 0, &[1; 8192]);
+    memory.write(middle, 0, &[2; 12288]);
+    memory.write(last, 0, &[3; 4096]);
+    free_between(&mut memory, middle, first, last);
+    let mut two_pages = [9; 8192];
+    let mut page = [9; 4096];
+    memory.read(first, 0, &mut two_pages);
+    memory.read(last, 0, &mut page);
+    assert!(rt; two_pages == [1; 8192]);
+    assert!(rt; page == [3; 4096]);
+    let again = memory
+        .alloc(root, 12288)
+        .expect(&rt, "three pages are free");
+    let mut three_pages = [9; 12288];
+    memory.read(again, 0, &mut three_pages);
+    assert!(rt; three_pages == [0; 12288]);
+}
+
+#[test]
 fn last_page_is_granted_and_no_more(rt: HostRuntime) {
     let mut memory = Memory::boot(rt.alloc(), 2, Caps(3), 1).expect(&rt, "memory for two pages");
     let root = memory.root();
@@ -52,7 +104,6 @@ fn last_page_is_granted_and_no_more(rt: HostRuntime) {
 }
 
 #[test]
-#[tactic(auto, using(crate::proofs::TestLemmas::store_laws))]
 fn last_capability_is_granted_and_no_more(rt: HostRuntime) {
     let mut memory = Memory::boot(rt.alloc(), 2, Caps(1), 1).expect(&rt, "memory for two pages");
     let root = memory.root();
@@ -61,4 +112,22 @@ fn last_capability_is_granted_and_no_more(rt: HostRuntime) {
     memory.free(first);
     memory.alloc(root, 1).expect(&rt, "the capability is back");
     assert_eq!(rt; refusal_of(&rt, &mut memory, root, 1), Refusal::OutOfCaps);
+}
+
+#[test]
+fn largest_memory_is_granted_page_by_page(rt: HostRuntime) {
+    let mut memory = Memory::boot(rt.alloc(), 4096, Caps(u32::MAX), 4096).expect(
+        &rt,
+        "memory for the largest machine",
+    );
+    let root = memory.root();
+    for _page in 0..4096 {
+        memory.alloc(root, 1).expect(&rt, "a page is free");
+    }
+    assert_eq!(rt; refusal_of(&rt, &mut memory, root, 1), Refusal::OutOfRam);
+    for _account in 1..4096 {
+        memory
+            .open(root, Ram(0), Caps(1))
+            .expect(&rt, "the root has a capability");
+    }
 }

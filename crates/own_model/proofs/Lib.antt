@@ -1,4 +1,5 @@
 pub mod NatMapLemmas
+pub mod SlotLemmas
 pub mod Totals
 pub mod NewSelector
 pub mod EntryLemmas

@@ -210,7 +210,7 @@ module _ (s : OwnState) (h : IsSound s) where
     | Some (of, offset) ↦ λ is.
         let holds = resolved_holds s.regions address count of offset is in
         let to = holds.to in
-        let window = (h.user.within holds.start holds.region holds.there).to_high in
+        let window = (h.mapped.lie.within holds.start holds.region holds.there).to_high in
         absurd (omega arith)
   ] refl
 

@@ -60,7 +60,7 @@ pub range_fits : (s : OwnState) (address count selector offset : ℕ) → IsSoun
     (bytes : List ℕ) × (get s.selectors selector ≡ Some (Dataspace bytes)) × (offset + count ≤ length bytes)
 range_fits s address count selector offset h is =
     let found = resolved_holds s.regions address count selector offset is in
-    let named = h.named found.start found.region found.there in
+    let named = h.mapped.named found.start found.region found.there in
     let pages = h.whole found.region.of named.bytes named.there in
     let from = found.from in
     let to = found.to in

@@ -1,5 +1,5 @@
 -- Calls keep an own state sound: each region is of a dataspace that a selector names, and lies apart from the others.
-use Rattle.std.proofs.Common.{◌≡◌, ◌≢◌, ℕ, ◌+◌, ◌-◌, ◌*◌, ◌/◌, ◌^◌, ◌<◌, ◌≤◌, ◌&&◌, Bool, true, false, cond, eqb, List, length, nat_lt, nat_le, Some, refl, sym, ap, subst, ◌∙◌, eqb-true, true≢false, nat_cmp, arith}
+use Rattle.std.proofs.Common.{◌≡◌, ◌≢◌, ℕ, ◌+◌, ◌-◌, ◌*◌, ◌/◌, ◌^◌, ◌<◌, ◌≤◌, ◌&&◌, Bool, true, false, cond, eqb, List, length, nat_lt, nat_le, Some, refl, sym, ap, subst, ◌∙◌, eqb-true, nat_cmp, arith}
 use Rattle.std.proofs.lemmas.Bool.Decides.{nat_tests}
 use Rattle.std.proofs.lemmas.Option.{none-some, same_Some}
 use Rattle.std.specs.Prelude.{Option, None, is_none}
@@ -22,7 +22,7 @@ use Rattle.own_model.specs.OwnState.{OwnState, Object, zeros, new_selector, page
 use Rattle.own_model.specs.OwnState.Object.{Dataspace, RpcObject}
 use Rattle.own_model.specs.OwnStep.{own_step, own_run, script_step, refused, unless, alloc_refusal, allocated, freed, with_region, attached_first, attached_at, region_detached, poked_at, payload_poked, sliced_at, sliced_freed, own_heap_gap, cap_allocated, cap_freed}
 use Rattle.own_model.specs.Region.{Region, user_low, user_high, most_regions, can_stand, first_gap, user_gap, IsPlace, without}
-use Rattle.own_model.specs.Sound.{IsPages, NamesDataspace, LieApart, IsBlock, IsSound}
+use Rattle.own_model.specs.Sound.{IsPages, NamesDataspace, LieApart, AreMapped, IsBlock, IsSound}
 use Rattle.own_model.specs.HeapWindow.{heap_low, heap_high, largest_machine}
 use Rattle.own_model.specs.Sliced.{sliced_header, sliced_size, block_pages, ranges_of_blocks}
 use Rattle.own_model.proofs.ApartLemmas.{LieApart-empty, LieApart-fewer, LieApart-insert}
@@ -115,17 +115,28 @@ pages_poked RpcObject offset part h = tt
 
 -- ---- what each effect keeps
 
+-- regions stay mapped where each dataspace that was named still is
+mapped_named : (xs ys : NatMap Object) (regions : NatMap Region) → ((region : Region) → NamesDataspace xs region → NamesDataspace ys region) → AreMapped xs regions → AreMapped ys regions
+mapped_named xs ys regions still h = record { named = λ start region is. still region (h.named start region is); lie = h.lie; few = h.few }
+
+-- and so do some of them
+mapped_fewer : (xs ys : NatMap Object) (all some : NatMap Region) →
+    ((start : ℕ) (region : Region) → get some start ≡ Some region → (get all start ≡ Some region) × (NamesDataspace xs region → NamesDataspace ys region)) →
+    len some ≤ len all → AreMapped xs all → AreMapped ys some
+mapped_fewer xs ys all some left fewer h = record {
+  named = λ start region is. let was = left start region is in was.1 (h.named start region was.0);
+  lie = LieApart-fewer user_low user_high all some (λ start region is. (left start region is).0) h.lie;
+  few = omega (arith, h.few, fewer);
+}
+
 -- a new dataspace keeps an own state sound
 sound_allocated : (n : ℕ) (s : OwnState) → IsSound s → alloc_refusal n s.account ≡ None → IsSound (allocated n s).next
 sound_allocated n s h accepted =
     let key = new_selector s.selectors in
-    let free = new_selector_free s.selectors in
     let space = Dataspace (zeros (page_of n)) in
     record {
       whole = whole_after s.selectors key space h.whole (pages_of_length (zeros (page_of n)) n (length-zeros (page_of n)) (valid_some n s.account accepted));
-      named = λ start region is. named_new s.selectors key space region free (h.named start region is);
-      few = h.few;
-      user = h.user;
+      mapped = mapped_named s.selectors (insert s.selectors key space) s.regions (λ region. named_new s.selectors key space region (new_selector_free s.selectors)) h.mapped;
       blocks = h.blocks;
       heap = h.heap;
     }
@@ -134,12 +145,9 @@ sound_allocated n s h accepted =
 sound_cap_allocated : (s : OwnState) → IsSound s → IsSound (cap_allocated s).next
 sound_cap_allocated s h =
     let key = new_selector s.selectors in
-    let free = new_selector_free s.selectors in
     record {
       whole = whole_after s.selectors key RpcObject h.whole tt;
-      named = λ start region is. named_new s.selectors key RpcObject region free (h.named start region is);
-      few = h.few;
-      user = h.user;
+      mapped = mapped_named s.selectors (insert s.selectors key RpcObject) s.regions (λ region. named_new s.selectors key RpcObject region (new_selector_free s.selectors)) h.mapped;
       blocks = h.blocks;
       heap = h.heap;
     }
@@ -148,23 +156,16 @@ sound_cap_allocated s h =
 sound_freed : (selector : ℕ) (bytes : List ℕ) (s : OwnState) → IsSound s → IsSound (freed selector (Some (Dataspace bytes)) s).next
 sound_freed selector bytes s h = record {
   whole = λ q b is. h.whole q b (before_remove s.selectors selector q (Dataspace b) is);
-  named = λ start region is.
-      let left = left_without selector s.regions start region is in
-      named_left s.selectors selector region left.1 (h.named start region left.0);
-  few = omega (arith, h.few, len-without selector s.regions);
-  user = LieApart-fewer user_low user_high s.regions (without selector s.regions) (λ start region is. (left_without selector s.regions start region is).0) h.user;
+  mapped = mapped_fewer s.selectors (remove s.selectors selector) s.regions (without selector s.regions)
+      (λ start region is. let left = left_without selector s.regions start region is in (left.0, named_left s.selectors selector region left.1))
+      (len-without selector s.regions) h.mapped;
   blocks = h.blocks;
   heap = h.heap;
 }
 
--- whether an object is an RPC object
-abbrev is_rpc : Object → Bool
-is_rpc (Dataspace bytes) = false
-is_rpc RpcObject = true
-
 -- an RPC object is no dataspace
 rpc_is_none : (bytes : List ℕ) → ¬ (RpcObject ≡ Dataspace bytes)
-rpc_is_none bytes e = true≢false (ap is_rpc e)
+rpc_is_none bytes e = cc
 
 -- who names an RPC object names no dataspace
 not_rpc : (selectors : NatMap Object) (k : ℕ) (region : Region) → get selectors k ≡ Some RpcObject → NamesDataspace selectors region → region.of ≢ k
@@ -174,11 +175,8 @@ not_rpc selectors k region there h at = rpc_is_none h.bytes (object_of (get sele
 sound_cap_freed : (selector : ℕ) (s : OwnState) → get s.selectors selector ≡ Some RpcObject → IsSound s → IsSound (cap_freed selector (Some RpcObject) s).next
 sound_cap_freed selector s there h = record {
   whole = λ q b is. h.whole q b (before_remove s.selectors selector q (Dataspace b) is);
-  named = λ start region is.
-      let before = h.named start region is in
-      named_left s.selectors selector region (not_rpc s.selectors selector region there before) before;
-  few = h.few;
-  user = h.user;
+  mapped = mapped_named s.selectors (remove s.selectors selector) s.regions
+      (λ region before. named_left s.selectors selector region (not_rpc s.selectors selector region there before) before) h.mapped;
   blocks = h.blocks;
   heap = h.heap;
 }
@@ -187,9 +185,8 @@ sound_cap_freed selector s there h = record {
 sound_detached : (address : ℕ) (s : OwnState) → IsSound s → IsSound (region_detached address s).next
 sound_detached address s h = record {
   whole = h.whole;
-  named = λ start region is. h.named start region (before_remove s.regions address start region is);
-  few = omega (arith, h.few, len-remove_le s.regions address);
-  user = LieApart-fewer user_low user_high s.regions (remove s.regions address) (before_remove s.regions address) h.user;
+  mapped = mapped_fewer s.selectors s.selectors s.regions (remove s.regions address)
+      (λ start region is. (before_remove s.regions address start region is, λ named. named)) (len-remove_le s.regions address) h.mapped;
   blocks = h.blocks;
   heap = h.heap;
 }
@@ -200,9 +197,8 @@ sound_poked : (selector offset : ℕ) (bytes : List ℕ) (object : Object) (s : 
 sound_poked selector offset bytes object s there h = record {
   whole = whole_after s.selectors selector (object_with object offset bytes) h.whole
       (pages_poked object offset bytes (whole_objects s.selectors h.whole selector object there));
-  named = λ start region is. named_poked s.selectors selector offset bytes object region there (h.named start region is);
-  few = h.few;
-  user = h.user;
+  mapped = mapped_named s.selectors (insert s.selectors selector (object_with object offset bytes)) s.regions
+      (λ region. named_poked s.selectors selector offset bytes object region there) h.mapped;
   blocks = h.blocks;
   heap = h.heap;
 }
@@ -219,12 +215,14 @@ sound_attached selector address bytes s there can room h =
     let at = place user_low user_high s.regions (pages_in bytes) address can in
     let region : Region = record { of = selector; pages = pages_in bytes } in
     let some = (h.whole selector bytes there).some in
-    let free = free_place user_low user_high s.regions (pages_in bytes) address some h.user.some at in
+    let free = free_place user_low user_high s.regions (pages_in bytes) address some h.mapped.lie.some at in
     record {
       whole = h.whole;
-      named = each_after_insert s.regions address region (λ start r. NamesDataspace s.selectors r) h.named (record { bytes = bytes; there = there; pages = refl });
-      few = omega (arith, fewer most_regions (len s.regions) room, len-insert_new s.regions address region free);
-      user = LieApart-insert user_low user_high s.regions address region some at h.user;
+      mapped = record {
+        named = each_after_insert s.regions address region (λ start r. NamesDataspace s.selectors r) h.mapped.named (record { bytes = bytes; there = there; pages = refl });
+        lie = LieApart-insert user_low user_high s.regions address region some at h.mapped.lie;
+        few = omega (arith, fewer most_regions (len s.regions) room, len-insert_new s.regions address region free);
+      };
       blocks = h.blocks;
       heap = h.heap;
     }
@@ -266,9 +264,7 @@ sound_sliced n start s gap h =
     let some = subst (λ p. 1 ≤ p) (sym pages) (new_page n) in
     record {
       whole = h.whole;
-      named = h.named;
-      few = h.few;
-      user = h.user;
+      mapped = h.mapped;
       blocks = each_after_insert s.sliced (start + sliced_header) payload IsBlock h.blocks (new_block n start);
       heap = subst (LieApart heap_low (heap_high largest_machine)) (sym (ranges-insert s.sliced start payload))
           (LieApart-insert heap_low (heap_high largest_machine) (heap_ranges s) start (range_of payload) some at h.heap);
@@ -278,9 +274,7 @@ sound_sliced n start s gap h =
 sound_unsliced : (address : ℕ) (payload : List ℕ) (s : OwnState) → IsSound s → IsSound (sliced_freed address (Some payload) s).next
 sound_unsliced address payload s h = record {
   whole = h.whole;
-  named = h.named;
-  few = h.few;
-  user = h.user;
+  mapped = h.mapped;
   blocks = λ q other is. h.blocks q other (before_remove s.sliced address q other is);
   heap = LieApart-fewer heap_low (heap_high largest_machine) (heap_ranges s) (ranges_of_blocks (remove s.sliced address)) (ranges-remove s.sliced address) h.heap;
 }
@@ -293,9 +287,7 @@ sound_payload_poked address offset bytes payload s there h =
     let size = length-with_part payload offset bytes in
     record {
       whole = h.whole;
-      named = h.named;
-      few = h.few;
-      user = h.user;
+      mapped = h.mapped;
       blocks = each_after_insert s.sliced address new IsBlock h.blocks (poked_block address payload new size (h.blocks address payload there));
       heap = subst (LieApart heap_low (heap_high largest_machine)) (sym (ranges-alike s.sliced address payload new there size)) h.heap;
     }
@@ -323,9 +315,11 @@ no_ranges q = get-ranges empty q ∙ ap (option_and_then (λ payload. Some (rang
 pub start_sound : (start : StartEntry) → IsSound (start_state start)
 start_sound start = record {
   whole = λ selector bytes is. absurd (none-some (Dataspace bytes) (sym (get-empty selector) ∙ is));
-  named = λ at region is. absurd (none-some region (sym (get-empty at) ∙ is));
-  few = omega (arith, len-empty nat_cmp Region);
-  user = LieApart-empty user_low user_high empty (λ q. refl);
+  mapped = record {
+    named = λ at region is. absurd (none-some region (sym (get-empty at) ∙ is));
+    lie = LieApart-empty user_low user_high empty (λ q. refl);
+    few = omega (arith, len-empty nat_cmp Region);
+  };
   blocks = λ at payload is. absurd (none-some payload (sym (get-empty at) ∙ is));
   heap = LieApart-empty heap_low (heap_high largest_machine) (ranges_of_blocks empty) no_ranges;
 }

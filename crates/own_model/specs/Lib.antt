@@ -1,6 +1,7 @@
 pub mod NatMap
 pub mod Moved
 pub mod Entries
+pub mod Slots
 pub mod Account
 pub mod Text
 pub mod Call

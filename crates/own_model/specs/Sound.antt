@@ -36,12 +36,15 @@ pub record IsBlock (address : ℕ) (payload : List ℕ) : Type 0 where
   pub header : sliced_header ≤ address
   pub whole : block_size payload ≡ block_pages payload * 4096
 
--- each dataspace is pages; each region is of a dataspace that a selector names, there are no more of them than the most,
--- and they lie apart in the user window; each sliced block is pages; and what stands in the heap window lies apart
+-- each region is of a dataspace that a selector names, they lie apart in the user window, and there are no more than the most
+pub record AreMapped (selectors : NatMap Object) (regions : NatMap Region) : Type 0 where
+  pub named : (start : ℕ) (region : Region) → get regions start ≡ Some region → NamesDataspace selectors region
+  pub lie : LieApart user_low user_high regions
+  pub few : len regions ≤ most_regions
+
+-- each dataspace is pages, regions are mapped, each sliced block is pages, and what stands in the heap window lies apart
 pub record IsSound (s : OwnState) : Type 0 where
   pub whole : (selector : ℕ) (bytes : List ℕ) → get s.selectors selector ≡ Some (Dataspace bytes) → IsPages bytes
-  pub named : (start : ℕ) (region : Region) → get s.regions start ≡ Some region → NamesDataspace s.selectors region
-  pub few : len s.regions ≤ most_regions
-  pub user : LieApart user_low user_high s.regions
+  pub mapped : AreMapped s.selectors s.regions
   pub blocks : (address : ℕ) (payload : List ℕ) → get s.sliced address ≡ Some payload → IsBlock address payload
   pub heap : LieApart heap_low (heap_high largest_machine) (heap_ranges s)

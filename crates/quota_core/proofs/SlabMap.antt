@@ -1,79 +1,45 @@
 -- What a slab's map answers, and what a change of the slab does to it.
-use Rattle.std.proofs.Common.{◌≡◌, ℕ, zero, suc, ◌+◌, ◌<◌, false, cond, eqb, List, [], ◌∷◌, map, get_or, Some, is_some, IsSome, count_by, refl, sym, ap, ◌∙◌, arith, zero-add, inl, inr}
+use Rattle.std.proofs.Common.{◌≡◌, ℕ, zero, suc, cond, List, [], ◌∷◌, map, get_or, Some, is_some, IsSome, count_by, refl, sym, ap, ◌∙◌, arith, zero-add, inl, inr}
 use Rattle.std.proofs.lemmas.Bool.{cases_eq}
-use Rattle.std.proofs.lemmas.Bool.Decides.{nat_tests}
 use Rattle.std.proofs.lemmas.List.Sums.{sum_by-cons, sum_by-set}
 use Rattle.std.proofs.lemmas.Option.{none-some}
 use Rattle.std.specs.Prelude.{Option, None}
 use Rattle.std.specs.Option.{option_map}
-use Rattle.std.specs.Ordering.{nat_cmp}
-use Rattle.std.specs.Cmp.{nat_cmp_total, unsigned_tied}
-use Rattle.std.specs.FinMap.{get, insert, remove, empty, len, from_entries, find, get-from_entries, len-insert, len-empty}
-use Rattle.slab.specs.Slab.{Slab, Updates, entries_from, entries, slab_len}
+use Rattle.std.specs.FinMap.{get, insert, remove, empty, len}
+use Rattle.slab.specs.Slab.{Slab, Updates, slab_len}
 use Rattle.slab.specs.Slab as slab
 use Rattle.slab.proofs.SlabLemmas.{ContainsKey-within, Updates-with_value}
-use Rattle.own_model.proofs.NatMapLemmas.{same, get-insert_same, get-insert_other, get-remove_same, get-remove_other}
+use Rattle.own_model.proofs.NatMapLemmas.{same, get-empty, get-insert_same, get-insert_other, get-remove_same, get-remove_other}
+use Rattle.own_model.proofs.SlotLemmas.{get-held_from, len-held_from}
 use Rattle.quota_core.specs.SlabMap.{map_of}
 
 module _ {T X : Type 0} (f : T → X) where
-  -- the entries of these slots, read by f
-  abbrev read_from : ℕ → List (Option T) → List (ℕ × X)
-  read_from key slots = map (λ e. (e.0, f e.1)) (entries_from key slots)
+  -- what is read of a slot
+  get_or-read : (slots : List (Option T)) (k : ℕ) → get_or (map (option_map f) slots) k None ≡ option_map f (get_or slots k None)
+  get_or-read [] k = refl
+  get_or-read (slot ∷ rest) zero = refl
+  get_or-read (slot ∷ rest) (suc k) = get_or-read rest k
 
-  -- the first entry's key answers its value, and another key what the rest answers
-  find-cons : (q key : ℕ) (x : X) (rest : List (ℕ × X)) → find nat_cmp q ((key, x) ∷ rest) ≡ cond (eqb q key) (Some x) (find nat_cmp q rest)
-  find-cons q key x rest = ap (λ b. cond b (Some x) (find nat_cmp q rest)) (unsigned_tied q key)
-
-  -- a key below the first slot's has no entry
-  find_below : (q key : ℕ) (slots : List (Option T)) → q < key → find nat_cmp q (read_from key slots) ≡ None
-  find_below q key [] below = refl
-  find_below q key (None ∷ rest) below = find_below q (key + 1) rest (omega arith)
-  find_below q key (Some value ∷ rest) below =
-      let later = find_below q (key + 1) rest (omega arith) in
-      let first = find-cons q key (f value) (read_from (key + 1) rest) in
-      grind (arith, nat_tests)
-
-  -- a slot's key answers what is in the slot
-  find_slot : (q key : ℕ) (slots : List (Option T)) → find nat_cmp (key + q) (read_from key slots) ≡ option_map f (get_or slots q None)
-  find_slot q key [] = refl
-  find_slot zero key (None ∷ rest) = find_below (key + 0) (key + 1) rest (omega arith)
-  find_slot zero key (Some value ∷ rest) =
-      let first = find-cons (key + 0) key (f value) (read_from (key + 1) rest) in
-      grind (arith, nat_tests)
-  find_slot (suc q) key (None ∷ rest) =
-      let shift : key + suc q ≡ key + 1 + q = omega arith in
-      rw shift (find_slot q (key + 1) rest)
-  find_slot (suc q) key (Some value ∷ rest) =
-      let shift : key + suc q ≡ key + 1 + q = omega arith in
-      let first = find-cons (key + suc q) key (f value) (read_from (key + 1) rest) in
-      let later : find nat_cmp (key + suc q) (read_from (key + 1) rest) ≡ option_map f (get_or rest q None) = rw shift (find_slot q (key + 1) rest) in
-      let apart : eqb (key + suc q) key ≡ false = grind (arith, nat_tests) in
-      first ∙ ap (λ b. cond b (Some (f value)) (find nat_cmp (key + suc q) (read_from (key + 1) rest))) apart ∙ later
+  -- as many slots have a value once they are read
+  count-read : (slots : List (Option T)) → count_by is_some (map (option_map f) slots) ≡ count_by is_some slots
+  count-read [] = refl
+  count-read (slot ∷ rest) =
+      let here : is_some (option_map f slot) ≡ is_some slot = elim slot as (λ o. is_some (option_map f o) ≡ is_some o) [ None ↦ refl | Some value ↦ refl ] in
+      omega (arith, count-read rest, ap {B = ℕ} (λ b. cond b 1 0) here, sum_by-cons (λ o. cond (is_some o) 1 0) (option_map f slot) (map (option_map f) rest), sum_by-cons (λ o. cond (is_some o) 1 0) slot rest)
 
   -- the map answers what the slab has, read by f
   pub get-map_of : (s : Slab T) (k : ℕ) → get (map_of f s) k ≡ option_map f (slab.get s k)
   unfolding map_of
-  get-map_of s k = get-from_entries nat_cmp_total (read_from 0 s.slots) k ∙ rw zero-add at (find_slot k 0 s.slots)
-
-  -- one key more for a slot with a value
-  len_read : (key : ℕ) (slots : List (Option T)) → len (from_entries {R = nat_cmp} (read_from key slots)) ≡ count_by is_some slots
-  len_read key [] = len-empty nat_cmp X
-  len_read key (None ∷ rest) = omega (arith, len_read (key + 1) rest, sum_by-cons (λ o. cond (is_some o) 1 0) None rest)
-  len_read key (Some value ∷ rest) =
-      let m = from_entries {R = nat_cmp} (read_from (key + 1) rest) in
-      let free : get m key ≡ None = get-from_entries nat_cmp_total (read_from (key + 1) rest) key ∙ find_below key (key + 1) rest (omega arith) in
-      let more : len (insert m key (f value)) ≡ len m + 1 = len-insert nat_cmp_total m key (f value) ∙ ap (λ o. cond (is_some o) (len m) (len m + 1)) free in
-      omega (arith, more, len_read (key + 1) rest, sum_by-cons (λ o. cond (is_some o) 1 0) (Some value) rest)
+  get-map_of s k = get-held_from 0 (map (option_map f) s.slots) k k (zero-add k) ∙ get_or-read s.slots k
 
   -- it has as many keys as the slab has values
   pub len-map_of : (s : Slab T) → len (map_of f s) ≡ slab_len s
   unfolding map_of
-  len-map_of s = len_read 0 s.slots
+  len-map_of s = len-held_from 0 (map (option_map f) s.slots) ∙ count-read s.slots
 
   -- a slab with no slots is the empty map
   pub map_of-empty : (s : Slab T) → s.slots ≡ [] → map_of f s ≡ empty
-  unfolding map_of
-  map_of-empty s none = ap (λ slots. from_entries (read_from 0 slots)) none
+  map_of-empty s none = same _ _ (λ q. get-map_of s q ∙ ap (λ slots. option_map f (get_or slots q None)) none ∙ sym (get-empty q))
 
   -- a value written at a key is inserted
   pub map_of-insert : (old new : Slab T) (key : ℕ) (value : T) → Updates old new key (Some value) → map_of f new ≡ insert (map_of f old) key (f value)

@@ -1,7 +1,7 @@
 //! One account of RAM and capabilities.
-ghost use Rattle.std.specs.Prelude.{◌≡◌, ◌≤◌};
+ghost use Rattle.std.specs.Prelude.{◌≡◌, ◌≤◌, IfOk, OnOk, OnErr};
 ghost use Rattle.std.specs.Result.{result_err};
-ghost use Rattle.own_model.specs.Account.{shortage, charged, credited, opened, parted_with, Fits, WithinLimits};
+ghost use Rattle.own_model.specs.Account.{shortage, charged, credited, opened, parted_with, WithinLimits};
 
 use std::marker::Model;
 use trade_base::{Caps, Ram, Refusal};
@@ -40,7 +40,7 @@ impl Account {
     }
 
     // Whether so much more is left, and what falls short first: RAM, then capabilities.
-    pub(crate) fn covers(&self, ram: Ram, caps: Caps) -> Result<(), Refusal>
+    fn covers(&self, ram: Ram, caps: Caps) -> Result<(), Refusal>
         ensures { result_err result ≡ shortage self.now ram.0 caps.0 }
     {
         if ram.0 > self.ram_limit - self.ram_used {
@@ -52,12 +52,15 @@ impl Account {
         Ok(())
     }
 
-    pub(crate) fn charge(&mut self, ram: Ram, caps: Caps)
-        requires { Fits self.old ram.0 caps.0 }
-        ensures { self.new ≡ charged self.old ram.0 caps.0 }
+    pub(crate) fn charge(&mut self, ram: Ram, caps: Caps) -> Result<(), Refusal>
+        ensures refusal { result_err result ≡ shortage self.old ram.0 caps.0 }
+        ensures ok { OnOk result (self.new ≡ charged self.old ram.0 caps.0) }
+        ensures err { OnErr result (self.new ≡ self.old) }
     {
+        self.covers(ram, caps)?;
         self.ram_used += ram.0;
         self.caps_used += caps.0;
+        Ok(())
     }
 
     pub(crate) fn credit(&mut self, ram: Ram, caps: Caps)
@@ -70,14 +73,16 @@ impl Account {
     }
 
     // Moves so much of the limits to a new account.
-    pub(crate) fn part_with(&mut self, ram: Ram, caps: Caps) -> Account
-        requires { Fits self.old ram.0 caps.0 }
-        ensures rest { self.new ≡ parted_with self.old ram.0 caps.0 }
-        ensures part { result ≡ opened ram.0 caps.0 }
+    pub(crate) fn part_with(&mut self, ram: Ram, caps: Caps) -> Result<Account, Refusal>
+        ensures refusal { result_err result ≡ shortage self.old ram.0 caps.0 }
+        ensures rest { OnOk result (self.new ≡ parted_with self.old ram.0 caps.0) }
+        ensures part { IfOk result (λ part. part ≡ opened ram.0 caps.0) }
+        ensures err { OnErr result (self.new ≡ self.old) }
     {
+        self.covers(ram, caps)?;
         self.ram_limit -= ram.0;
         self.caps_limit -= caps.0;
-        Account::opened(ram, caps)
+        Ok(Account::opened(ram, caps))
     }
 
     pub(crate) fn limits(&self) -> (Ram, Caps)

@@ -1,5 +1,5 @@
 //! The accounts, and what is done to them.
-ghost use Rattle.std.specs.Prelude.{◌≡◌, ◌<◌, ◌≤◌, None, IfOk, OnOk, OnErr};
+ghost use Rattle.std.specs.Prelude.{◌≡◌, ◌+◌, ◌<◌, ◌≤◌, None, IfOk, OnOk, OnErr};
 ghost use Rattle.std.specs.Result.{result_err};
 ghost use Rattle.std.specs.FinMap.{get};
 ghost use Rattle.own_model.specs.Account.{shortage, charged, credited, WithinLimits};
@@ -18,39 +18,39 @@ use trade_base::{AccountId, Caps, NoMemory, Ram, Refusal};
 pub struct Books {
     accounts: Slab<Account>,
     root: usize,
-    // How many accounts find a place in all.
-    places: usize,
 }
 
 impl Model for Books {
     ghost use Rattle.quota_core.specs.Books.{Books as Numbers, coded_books};
-    ghost use Rattle.quota_core.specs.Kept.{books_of, IsKept};
+    ghost use Rattle.quota_core.specs.Kept.{books_of};
+    ghost use Rattle.slab.specs.Slab.{ContainsKey};
 
     ghost Value = { Numbers };
 
     ghost coded = { coded_books };
 
-    ghost view = { λ b. books_of b.accounts b.root b.places };
+    ghost view = { λ b. books_of b.accounts b.root };
 
-    ghost invariant = { λ b. IsKept b.accounts b.root b.places };
+    ghost invariant = { λ b. ContainsKey b.accounts b.root };
 }
 
 #[tactic(auto, using(crate::proofs::SlabMap::slab_maps))]
 impl Books {
-    /// Books of one account, the root, which has all RAM (in bytes) and all capabilities. There is a place for so many accounts in all.
+    /// Books of one account, the root, which has all RAM (in bytes) and all capabilities. There is a place for so many
+    /// accounts in all, or more.
     ///
     /// It fails where the host has no memory for them.
     pub fn boot(alloc: Global, ram: Ram, caps: Caps, accounts: usize) -> Result<Books, NoMemory>
         requires some { 1 ≤ accounts }
         requires few { accounts ≤ 4096 }
-        ensures { IfOk result (λ b. b ≡ fresh_books b.root ram.0 caps.0 accounts) }
+        ensures fresh { IfOk result (λ b. b ≡ fresh_books b.root ram.0 caps.0 (b.room + 1)) }
+        ensures places { IfOk result (λ b. accounts ≤ b.room + 1) }
     {
         let mut slab = Slab::with_capacity(alloc, accounts).map_err(|_| NoMemory)?;
         let root = slab.insert_reserved(Account::opened(ram, caps));
         Ok(Books {
             accounts: slab,
             root,
-            places: accounts,
         })
     }
 
@@ -75,8 +75,7 @@ impl Books {
         ensures ram_moved { ram_limits self.new ≡ ram_limits self.old }
         ensures caps_moved { caps_limits self.new ≡ caps_limits self.old }
     {
-        self.accounts[parent.0].covers(ram, caps)?;
-        let child = self.accounts[parent.0].part_with(ram, caps);
+        let child = self.accounts[parent.0].part_with(ram, caps)?;
         Ok(AccountId(self.accounts.insert_reserved(child)))
     }
 
@@ -89,9 +88,7 @@ impl Books {
         ensures ok { OnOk result (self.new ≡ with_account self.old account.0 (charged (account_at self.old account.0) ram.0 caps.0)) }
         ensures err { OnErr result (self.new ≡ self.old) }
     {
-        self.accounts[account.0].covers(ram, caps)?;
-        self.accounts[account.0].charge(ram, caps);
-        Ok(())
+        self.accounts[account.0].charge(ram, caps)
     }
 
     /// Takes so much, RAM in bytes and capabilities, out of an account's use again.

@@ -22,7 +22,7 @@ returns-clause-only c =
 pub returns-clause-part : goal.returns-clause-part
 returns-clause-part c =
     subst
-    (λ (s : Store). OnOk c.charge.result (PartBecomes c.args.account.0 (charged_part (part c.args.account.0 s) 1) s (store_of c.charge.new.self c.self.inside.pool c.self.inside.next.items c.self.inside.spaces)))
+    (λ (s : Store). OnOk c.charge.result (PartBecomes c.args.account.0 (charged_part (part c.args.account.0 s) 1) s (store_of c.charge.new.self c.self.inside.pool c.self.inside.table.items c.self.inside.spaces)))
     c.self.view_is
     (becomes-charge_cap c.self.invariant c.args.account.0 (opens c) c.charge.new.self c.charge.result c.charge.ensures.ok)
 

@@ -18,9 +18,9 @@ invariant_of-self c =
     c.credit.ensures
 
 -- the memory with the account credited
-after : (c : goal.After-credit) → store_of c.credit.new.self c.self.inside.pool c.self.inside.next.items c.self.inside.spaces ≡ with_account_in c.args.self.now c.args.account.0 (credited (account_in c.args.self.now c.args.account.0) 0 1)
+after : (c : goal.After-credit) → store_of c.credit.new.self c.self.inside.pool c.self.inside.table.items c.self.inside.spaces ≡ with_account_in c.args.self.now c.args.account.0 (credited (account_in c.args.self.now c.args.account.0) 0 1)
 after c =
-    same_store c.credit.new.self _ c.self.inside.pool c.self.inside.next.items c.self.inside.spaces c.credit.ensures
+    same_store c.credit.new.self _ c.self.inside.pool c.self.inside.table.items c.self.inside.spaces c.credit.ensures
     ∙ ap (λ (s : Store). with_account_in s c.args.account.0 (credited (account_in s c.args.account.0) 0 1)) c.self.view_is
 
 pub returns-clause-credited : goal.returns-clause-credited

@@ -19,7 +19,7 @@ invariant_of-self c =
 pub returns-clause-part : goal.returns-clause-part
 returns-clause-part c =
     subst
-    (λ (s : Store). IfOk c.open.result (λ child. OpensPart c.args.parent.0 child.0 c.args.ram.0 c.args.caps.0 s (store_of c.open.new.self c.self.inside.pool c.self.inside.next.items c.self.inside.spaces)))
+    (λ (s : Store). IfOk c.open.result (λ child. OpensPart c.args.parent.0 child.0 c.args.ram.0 c.args.caps.0 s (store_of c.open.new.self c.self.inside.pool c.self.inside.table.items c.self.inside.spaces)))
     c.self.view_is
     (opens-part c.self.invariant c.args.parent.0 c.args.ram.0 c.args.caps.0 (parent_open c)
     c.open.new.self (rw (← c.self.view_is) at c.requires.room) c.open.result c.open.ensures.ok c.open.ensures.fresh)

@@ -3,8 +3,7 @@ use Rattle.std.proofs.Common.{◌≡◌, [], rules}
 use Rattle.quota_core.proofs.BooksLemmas.{booted}
 use Rattle.quota_core.proofs.books.Books.boot.Goals as goal
 
-pub returns : goal.returns
-returns c =
+pub returns-clause-fresh : goal.returns-clause-fresh
+returns-clause-fresh c =
     let none : c.in_ok-slab.slab.slots ≡ [] = search rules in
-    let inserted = c.insert_reserved-root.ensures in
-    booted _ _ _ _ _ _ _ none c.opened.ensures inserted.updates inserted.len
+    booted _ _ _ _ _ _ none c.opened.ensures c.insert_reserved-root.ensures.updates

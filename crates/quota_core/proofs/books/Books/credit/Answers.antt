@@ -5,4 +5,4 @@ use Rattle.quota_core.proofs.books.Books.credit.Goals as goal
 
 pub returns : goal.returns
 returns c =
-    account_changed _ _ _ _ c.self.view_is (λ a. credited a c.args.ram.0 c.args.caps.0) _ _ _ c.index_mut.ensures.value c.credit.ensures
+    account_changed _ _ _ c.self.view_is (λ a. credited a c.args.ram.0 c.args.caps.0) _ _ _ c.index_mut.ensures.value c.credit.ensures

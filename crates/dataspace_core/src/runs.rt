@@ -1,0 +1,129 @@
+//! Runs of pages: one table has the page numbers of all dataspaces, those of each one after another.
+ghost use Rattle.std.specs.Prelude.{◌≡◌, ◌+◌, ◌-◌, ◌*◌, ◌%◌, ◌^◌, ◌<◌, ◌≤◌, nat_le, [], length, slice_range, vec_len, vec_capacity, IfOk, if◌then◌else◌};
+ghost use Rattle.page_pool.specs.Pages.{free_count};
+ghost use Rattle.trade_base.specs.Word.{word_of, word_bytes};
+ghost use Rattle.dataspace_core.specs.Layout.{IsRun, IsNewRun, IsGiven, IsClosed, IsWritten, run_bytes};
+
+use page_pool::{PageNo, Pool};
+use std::alloc::Global;
+use trade_base::{NoMemory, PAGE};
+
+/// The bytes of a page, as a length.
+const PAGE_BYTES: usize = PAGE as usize;
+
+/// The pages of a dataspace: where they start in the table, and how many they are.
+#[derive(Clone, Copy)]
+pub(crate) struct Run {
+    pub(crate) start: usize,
+    pub(crate) count: usize,
+}
+
+/// A table with room for `pages` pages.
+pub(crate) fn no_pages(alloc: Global, pages: usize) -> Result<Vec<PageNo>, NoMemory>
+    ensures none { IfOk result (λ table. table.items ≡ []) }
+    ensures room { IfOk result (λ table. vec_capacity table ≡ pages) }
+{
+    Vec::with_capacity(alloc, pages).map_err(|_| NoMemory)
+}
+
+/// Takes `count` pages, all zero, to the end of the table.
+pub(crate) fn take_run(pool: &mut Pool, table: &mut Vec<PageNo>, count: usize) -> Run
+    requires free { count ≤ free_count pool.old }
+    requires room { vec_len table.old + count ≤ vec_capacity table.old }
+    ensures run { IsNewRun pool.old table.old.items pool.new table.new.items result.start count }
+    ensures count { result.count ≡ count }
+    ensures capacity { vec_capacity table.new ≡ vec_capacity table.old }
+{
+    let start = table.len();
+    for _index in 0..count {
+        table.push_reserved(pool.take().unwrap());
+    }
+    Run { start, count }
+}
+
+/// Gives the pages of a run back.
+pub(crate) fn give_run(pool: &mut Pool, table: &Vec<PageNo>, run: Run)
+    requires { IsRun pool.old table.now.items run.start run.count }
+    ensures { IsGiven pool.old pool.new table.now.items run.start run.count }
+{
+    for index in 0..run.count {
+        pool.give(table[run.start + index]);
+    }
+}
+
+/// Takes a run out of the table. What lies behind moves down.
+pub(crate) fn close_gap(table: &mut Vec<PageNo>, gap: Run)
+    requires { gap.start + gap.count ≤ vec_len table.old }
+    ensures closed { IsClosed table.old.items table.new.items gap.start gap.count }
+    ensures capacity { vec_capacity table.new ≡ vec_capacity table.old }
+{
+    table.copy_within(gap.start + gap.count.., gap.start);
+    table.truncate(table.len() - gap.count);
+}
+
+/// Where a run starts once the gap is closed.
+pub(crate) fn start_after(start: usize, gap: Run) -> usize
+    ensures { result ≡ (if nat_le start gap.start then start else start - gap.count) }
+{
+    if start <= gap.start {
+        start
+    } else {
+        start.saturating_sub(gap.count)
+    }
+}
+
+/// Fills `buffer` with the bytes at `offset` of a run.
+pub(crate) fn read_run(pool: &Pool, table: &Vec<PageNo>, run: Run, offset: usize, buffer: &mut [u8])
+    requires run { IsRun pool.now table.now.items run.start run.count }
+    requires small { run.count * 4096 < 2 ^ 64 }
+    requires range { offset + length buffer.old ≤ run.count * 4096 }
+    ensures { buffer.new ≡ slice_range (run_bytes pool.now table.now.items run.start run.count) offset (offset + length buffer.old) }
+{
+    let mut done = 0;
+    while done < buffer.len() {
+        let at = offset + done;
+        let count = (PAGE_BYTES - at % PAGE_BYTES).min(buffer.len() - done);
+        let page = table[run.start + at / PAGE_BYTES];
+        pool.read(page, at % PAGE_BYTES, &mut buffer[done..done + count]);
+        done += count;
+    }
+}
+
+/// Puts `part` at `offset` into a run.
+pub(crate) fn write_run(pool: &mut Pool, table: &Vec<PageNo>, run: Run, offset: usize, part: &[u8])
+    requires run { IsRun pool.old table.now.items run.start run.count }
+    requires small { run.count * 4096 < 2 ^ 64 }
+    requires range { offset + length part.now ≤ run.count * 4096 }
+    ensures { IsWritten pool.old pool.new table.now.items run.start run.count offset part.now }
+{
+    let mut done = 0;
+    while done < part.len() {
+        let at = offset + done;
+        let count = (PAGE_BYTES - at % PAGE_BYTES).min(part.len() - done);
+        let page = table[run.start + at / PAGE_BYTES];
+        pool.write(page, at % PAGE_BYTES, &part[done..done + count]);
+        done += count;
+    }
+}
+
+/// The word at `offset` of a run.
+pub(crate) fn load_run(pool: &Pool, table: &Vec<PageNo>, run: Run, offset: usize) -> u64
+    requires run { IsRun pool.now table.now.items run.start run.count }
+    requires aligned { offset % 8 ≡ 0 }
+    requires range { offset + 8 ≤ run.count * 4096 }
+    ensures { result ≡ word_of (slice_range (run_bytes pool.now table.now.items run.start run.count) offset (offset + 8)) }
+{
+    let page = table[run.start + offset / PAGE_BYTES];
+    pool.load(page, offset % PAGE_BYTES)
+}
+
+/// Puts `word` at `offset` into a run.
+pub(crate) fn store_run(pool: &mut Pool, table: &Vec<PageNo>, run: Run, offset: usize, word: u64)
+    requires run { IsRun pool.old table.now.items run.start run.count }
+    requires aligned { offset % 8 ≡ 0 }
+    requires range { offset + 8 ≤ run.count * 4096 }
+    ensures { IsWritten pool.old pool.new table.now.items run.start run.count offset (word_bytes word) }
+{
+    let page = table[run.start + offset / PAGE_BYTES];
+    pool.store(page, offset % PAGE_BYTES, word);
+}
