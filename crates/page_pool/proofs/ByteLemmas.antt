@@ -1,10 +1,9 @@
 -- A part put into bytes, seen by ranges of them.
-use Rattle.std.proofs.Common.{◌≡◌, ℕ, ◌+◌, ◌≤◌, List, [], ◌++◌, length, take, drop, sym, arith, rules}
+use Rattle.std.proofs.Common.{◌≡◌, ℕ, ◌+◌, ◌≤◌, List, length, take, drop, sym, arith, rules}
 use Rattle.std.specs.Prelude.{slice_range, replicate}
-use Rattle.std.proofs.lemmas.List.{same_lists, places, drop-drop, take_all, drop_all, append-nil, append_assoc, length-take-le, length-drop}
-use borrow.Rule.Slice.PartMut.{post_of}
+use Rattle.std.proofs.lemmas.List.{same_lists, places, drop-drop, append_assoc, length-take-le, length-drop}
+use borrow.Rule.Slice.PartMut.{put_mid}
 use Rattle.trade_base.specs.Bytes.{with_bytes}
-use Rattle.trade_base.proofs.BytesLemmas.{length-with_bytes}
 use Rattle.page_pool.specs.Pages.{zero_page}
 
 -- a range that has the part in it
@@ -22,14 +21,10 @@ pub range_after_part : (bytes part : List ℕ) (at from size : ℕ) → at + len
 unfolding with_bytes
 range_after_part bytes part at from size after fits = same_lists _ _ (search (rules, places)) (λ k d h. grind (arith, places))
 
--- what a vector holds once a part of it has been written through its slice
-pub part_written : (items now part : List ℕ) (len start size : ℕ) → length items ≡ len → now ≡ items → size ≡ length part → start + length part ≤ length items → take len (take start now ++ (part ++ post_of start size now) ++ drop (length (take start now ++ (part ++ post_of start size now))) items) ≡ with_bytes items start part
+-- what is written through a range of them is put over the bytes
+pub put_part : (bytes now part : List ℕ) (start size : ℕ) → now ≡ bytes → size ≡ length part → put_mid start size now part ≡ with_bytes bytes start part
 unfolding with_bytes
-part_written items now part len start size long same sized fits =
-    let e : take start now ++ (part ++ post_of start size now) ≡ with_bytes items start part = rw (same, sized, drop-drop) (sym (append_assoc (take start items) part (drop (start + length part) items))) in
-    let l = length-with_bytes items start part fits in
-    let rest : drop (length (with_bytes items start part)) items ≡ [] = drop_all (length (with_bytes items start part)) items (omega (arith, l)) in
-    rw e (rw (rest, append-nil (with_bytes items start part)) (take_all len (with_bytes items start part) (omega (arith, l))))
+put_part bytes now part start size same sized = rw (same, sized, drop-drop) (sym (append_assoc (take start bytes) part (drop (start + length part) bytes)))
 
 -- the length of a range that is inside
 pub length-range : (bytes : List ℕ) (from size : ℕ) → from + size ≤ length bytes → length (slice_range bytes from (from + size)) ≡ size

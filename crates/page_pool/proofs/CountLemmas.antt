@@ -1,9 +1,10 @@
 -- How many pages are free, after one page has changed.
-use Rattle.std.proofs.Common.{◌≡◌, ℕ, ◌+◌, ◌<◌, ◌≤◌, true, List, length, get_or, Option, Some, None, zero, suc, cond, refl, arith, ◌∙◌}
-use Rattle.std.specs.Prelude.{slice_set, replicate}
+use Rattle.std.proofs.Common.{◌≡◌, ℕ, ◌+◌, ◌<◌, ◌≤◌, true, List, [], ◌∷◌, length, map, get_or, Option, Some, None, cond, refl, arith, ◌∙◌}
+use Rattle.std.specs.Prelude.{slice_set}
 use Rattle.std.specs.Option.{is_none}
 use Rattle.std.proofs.lemmas.List.Sums.{sum_by-set, sum_by-cons, count_by-le-length}
-use Rattle.page_pool.specs.Pages.{fresh_pages, free_count, is_taken}
+use Rattle.page_pool.specs.Pages.{free_count, is_taken}
+use Rattle.page_pool.specs.Layout.{page_at}
 
 -- a free page is taken
 pub free_count-take : (pages : List (Option (List ℕ))) (page : ℕ) (bytes : List ℕ) → page < length pages → get_or pages page None ≡ None → free_count (slice_set pages page (Some bytes)) + 1 ≡ free_count pages
@@ -34,8 +35,10 @@ pub free_count-le-length : (pages : List (Option (List ℕ))) → free_count pag
 unfolding free_count
 free_count-le-length pages = count_by-le-length is_none pages
 
--- of fresh pages all are free
-pub free_count-fresh_pages : (count : ℕ) → free_count (fresh_pages count) ≡ count
+-- where no page is listed none is free
+pub free_count-unlisted : (bytes numbers : List ℕ) → free_count (map (page_at [] bytes) numbers) ≡ 0
 unfolding free_count
-free_count-fresh_pages zero = refl
-free_count-fresh_pages (suc count) = let e = free_count-fresh_pages count in sum_by-cons (λ (o : Option (List ℕ)). cond (is_none o) 1 0) None (replicate count None) ∙ omega (arith, e)
+free_count-unlisted bytes [] = refl
+free_count-unlisted bytes (page ∷ rest) =
+    let e = free_count-unlisted bytes rest in
+    sum_by-cons (λ (o : Option (List ℕ)). cond (is_none o) 1 0) (page_at [] bytes page) (map (page_at [] bytes) rest) ∙ omega (arith, e)

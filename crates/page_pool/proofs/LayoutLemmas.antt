@@ -80,8 +80,8 @@ pub record LiesIn (bytes : List ℕ) (page : ℕ) : Type 0 where
   pub small : length bytes ≤ 4096 * 4096
 
 -- the page that is listed last lies in the bytes
-pub LiesIn-from_listed : (free rest bytes : List ℕ) (capacity page : ℕ) → IsLaidOut free bytes capacity → free ≡ rest ++ page ∷ [] → LiesIn bytes page
-LiesIn-from_listed free rest bytes capacity page laid last =
+pub LiesIn-from_listed : (free rest bytes : List ℕ) (page : ℕ) → IsLaidOut free bytes → free ≡ rest ++ page ∷ [] → LiesIn bytes page
+LiesIn-from_listed free rest bytes page laid last =
     let whole = laid.whole in
     let few = laid.few in
     let l = is_listed-push rest page page in
@@ -90,8 +90,8 @@ LiesIn-from_listed free rest bytes capacity page laid last =
     record { inside = omega arith; small = omega arith }
 
 -- so does a page that is taken
-pub LiesIn-from_taken : (free bytes : List ℕ) (capacity : ℕ) (pages : List (Option (List ℕ))) (page : ℕ) → IsLaidOut free bytes capacity → pages_of free bytes ≡ pages → is_taken pages page ≡ true → LiesIn bytes page
-LiesIn-from_taken free bytes capacity pages page laid view taken =
+pub LiesIn-from_taken : (free bytes : List ℕ) (pages : List (Option (List ℕ))) (page : ℕ) → IsLaidOut free bytes → pages_of free bytes ≡ pages → is_taken pages page ≡ true → LiesIn bytes page
+LiesIn-from_taken free bytes pages page laid view taken =
     let whole = laid.whole in
     let few = laid.few in
     let held = IsHeld-from_taken free bytes page (rw view taken) in

@@ -1,8 +1,7 @@
 -- Lists of page numbers, as numbers are put at their end.
-use Rattle.std.proofs.Common.{◌≡◌, ℕ, ◌+◌, ap, ◌∙◌, ◌||◌, ◌&&◌, not, eqb, List, [], ◌∷◌, ◌++◌, arith}
-use Rattle.std.proofs.lemmas.List.{length_push}
+use Rattle.std.proofs.Common.{◌≡◌, ℕ, ◌||◌, ◌&&◌, not, eqb, List, [], ◌∷◌, ◌++◌, arith}
 use Rattle.std.proofs.lemmas.Bool.Decides.{nat_tests}
-use Rattle.page_pool.specs.Layout.{is_listed, has_no_repeat, AreNumbersBelow}
+use Rattle.page_pool.specs.Layout.{is_listed, has_no_repeat}
 
 -- with one more number, that one is listed and those before
 pub is_listed-push : (numbers : List ℕ) (last page : ℕ) → is_listed (numbers ++ last ∷ []) page ≡ (is_listed numbers page || eqb page last)
@@ -13,11 +12,3 @@ is_listed-push (first ∷ rest) last page = let e = is_listed-push rest last pag
 pub has_no_repeat-push : (numbers : List ℕ) (last : ℕ) → has_no_repeat (numbers ++ last ∷ []) ≡ (has_no_repeat numbers && not (is_listed numbers last))
 has_no_repeat-push [] last = grind (arith, nat_tests)
 has_no_repeat-push (first ∷ rest) last = let e = has_no_repeat-push rest last in let l = is_listed-push rest last first in grind (arith, nat_tests, e, l)
-
--- one more number
-pub AreNumbersBelow-more : (count : ℕ) (numbers : List ℕ) → AreNumbersBelow count numbers → AreNumbersBelow (count + 1) (numbers ++ count ∷ [])
-AreNumbersBelow-more count numbers h = record {
-  listed = λ page. let l = is_listed-push numbers count page in let e = h.listed page in grind (arith, nat_tests, l, e);
-  once = let p = has_no_repeat-push numbers count in let e = h.listed count in let o = h.once in grind (arith, nat_tests, p, e, o);
-  counted = length_push numbers count ∙ ap (λ n. n + 1) h.counted;
-}

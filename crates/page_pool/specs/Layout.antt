@@ -1,6 +1,7 @@
--- How the pages lie in the pool: the bytes page after page, and the numbers of the free pages.
-use Rattle.std.specs.Prelude.{◌≡◌, ℕ, ◌+◌, ◌*◌, ◌/◌, ◌<◌, ◌≤◌, ◌==◌, nat_lt, Bool, true, false, ◌||◌, ◌&&◌, not, if◌then◌else◌, List, [], ◌∷◌, length, map, Option, Some, None, slice_range}
+-- How the pages lie in the pool: page after page, and in the free pages the links of their list.
+use Rattle.std.specs.Prelude.{◌≡◌, ℕ, zero, suc, ◌+◌, ◌*◌, ◌/◌, ◌<◌, ◌≤◌, ◌==◌, Bool, true, false, ◌||◌, ◌&&◌, not, if◌then◌else◌, List, [], ◌∷◌, ◌++◌, length, map, Option, Some, None, slice_range}
 use Rattle.std.specs.List.{range_with_len}
+use Rattle.trade_base.specs.Word.{word_of}
 use Rattle.page_pool.specs.Pages.{free_count}
 
 -- whether a number stands in the list
@@ -13,11 +14,14 @@ abbrev pub has_no_repeat : List ℕ → Bool
 has_no_repeat [] = true
 has_no_repeat (first ∷ rest) = not (is_listed rest first) && has_no_repeat rest
 
--- the numbers below a count, each once
-pub record AreNumbersBelow (count : ℕ) (numbers : List ℕ) : Type 0 where
-  pub listed : (page : ℕ) → is_listed numbers page ≡ nat_lt page count
-  pub once : has_no_repeat numbers ≡ true
-  pub counted : length numbers ≡ count
+-- the word at a place
+unfoldable pub word_at : List ℕ → ℕ → ℕ
+word_at bytes start = word_of (slice_range bytes start (start + 8))
+
+-- the free pages in the bytes, of which there are so many: the head is the last of the list, and each begins with the number of the one before it
+abbrev pub linked : List ℕ → ℕ → ℕ → List ℕ
+linked bytes zero head = []
+linked bytes (suc count) head = linked bytes count (word_at bytes (head * 4096)) ++ head ∷ []
 
 -- how many pages the bytes are
 abbrev pub page_count : List ℕ → ℕ
@@ -36,7 +40,7 @@ unfoldable pub pages_of : List ℕ → List ℕ → List (Option (List ℕ))
 pages_of free bytes = map (page_at free bytes) (range_with_len 0 (page_count bytes))
 
 -- what is true of a pool between calls
-pub record IsLaidOut (free bytes : List ℕ) (capacity : ℕ) : Type 0 where
+pub record IsLaidOut (free bytes : List ℕ) : Type 0 where
   -- the bytes are those of whole pages, at most 4096 of them
   pub whole : length bytes ≡ page_count bytes * 4096
   pub few : page_count bytes ≤ 4096
@@ -45,5 +49,3 @@ pub record IsLaidOut (free bytes : List ℕ) (capacity : ℕ) : Type 0 where
   pub once : has_no_repeat free ≡ true
   -- as many are listed as are free
   pub counted : free_count (pages_of free bytes) ≡ length free
-  -- the list has room for every page
-  pub room : page_count bytes ≤ capacity

@@ -2,6 +2,8 @@
 //! writes it until it is given back.
 #![tactic(auto)]
 
+mod bytes;
+mod memory;
 mod pool;
 #[cfg(test)]
 mod tests;

@@ -1,16 +1,13 @@
-//! The pool over one vector of bytes, with the numbers of the free pages in another.
-ghost use Rattle.std.specs.Prelude.{◌≡◌, ◌+◌, ◌%◌, ◌≤◌, length, IsTrue, IfOk, IfSome, IfNone, Some, None, is_some, nat_lt, slice_get, slice_set, slice_range, vec_len, vec_capacity};
-ghost use Rattle.page_pool.specs.Layout.{AreNumbersBelow};
+//! The pool over one block of host memory. Each free page begins with the number of the next.
+ghost use Rattle.std.specs.Prelude.{◌≡◌, ◌+◌, ◌%◌, ◌≤◌, length, IsTrue, IfOk, IfSome, IfNone, Some, None, is_some, nat_lt, slice_get, slice_set, slice_range};
 ghost use Rattle.trade_base.specs.Bytes.{with_bytes};
 ghost use Rattle.trade_base.specs.Word.{word_bytes, word_of};
 ghost use Rattle.page_pool.specs.Pages.{fresh_pages, free_count, is_taken, page_bytes, zero_page};
 
+use crate::bytes::{Bytes, PAGE_BYTES};
 use std::alloc::Global;
 use std::marker::Model;
-use trade_base::{NoMemory, PAGE};
-
-/// The bytes of a page, as a length.
-const PAGE_BYTES: usize = PAGE as usize;
+use trade_base::NoMemory;
 
 /// A page's number.
 #[derive(Clone, Copy, Debug, PartialEq, Eq, PartialOrd, Ord, Hash)]
@@ -20,21 +17,23 @@ pub struct PageNo(pub usize);
 /// where it is free, and its 4096 bytes where it is taken.
 #[derive(Drop)]
 pub struct Pool {
-    /// Page after page.
-    bytes: Vec<u8>,
-    /// The numbers of the free pages. It has room for all, so giving a page back takes no memory.
-    free: Vec<usize>,
+    /// Page after page. The first word of a free page is the number of the next free one.
+    bytes: Bytes,
+    /// The free page that is taken next, where there is one.
+    head: usize,
+    /// How many pages are free.
+    free: usize,
 }
 
 impl Model for Pool {
-    ghost use Rattle.std.specs.Prelude.{List, Option, ℕ, vec_capacity};
-    ghost use Rattle.page_pool.specs.Layout.{pages_of, IsLaidOut};
+    ghost use Rattle.std.specs.Prelude.{List, Option, ℕ};
+    ghost use Rattle.page_pool.specs.Layout.{linked, pages_of, IsLaidOut};
 
     ghost Value = { List (Option (List ℕ)) };
 
-    ghost view = { λ p. pages_of p.free.items p.bytes.items };
+    ghost view = { λ p. pages_of (linked p.bytes p.free p.head) p.bytes };
 
-    ghost invariant = { λ p. IsLaidOut p.free.items p.bytes.items (vec_capacity p.free) };
+    ghost invariant = { λ p. IsLaidOut (linked p.bytes p.free p.head) p.bytes };
 }
 
 impl Pool {
@@ -44,9 +43,16 @@ impl Pool {
         ensures fresh { IfOk result (λ pool. pool ≡ fresh_pages pages) }
         ensures count { IfOk result (λ pool. free_count pool ≡ pages) }
     {
-        let bytes = vec![in alloc; 0u8; pages * PAGE_BYTES].map_err(|_| NoMemory)?;
-        let free = numbers_below(alloc, pages)?;
-        Ok(Pool { bytes, free })
+        let bytes = Bytes::zeroed(alloc, pages * PAGE_BYTES)?;
+        let mut pool = Pool {
+            bytes,
+            head: 0,
+            free: 0,
+        };
+        for page in 0..pages {
+            pool.give(PageNo(page));
+        }
+        Ok(pool)
     }
 
     /// Any free page, all zero from now on, or `None` where no page is free.
@@ -58,8 +64,14 @@ impl Pool {
         ensures count { IfSome result (λ _. free_count self.new + 1 ≡ free_count self.old) }
         ensures none { IfNone result (self.new ≡ self.old) }
     {
-        let page = self.free.pop()?;
-        clear(&mut self.bytes, page * PAGE_BYTES);
+        if self.free == 0 {
+            return None;
+        }
+        let page = self.head;
+        let start = page * PAGE_BYTES;
+        self.head = self.bytes.load(start) as usize;
+        self.free -= 1;
+        self.bytes.clear_page(start);
         Some(PageNo(page))
     }
 
@@ -69,7 +81,9 @@ impl Pool {
         ensures freed { self.new ≡ slice_set self.old page.0 None }
         ensures count { free_count self.new ≡ free_count self.old + 1 }
     {
-        self.free.push_reserved(page.0);
+        self.bytes.store(page.0 * PAGE_BYTES, self.head as u64);
+        self.head = page.0;
+        self.free += 1;
     }
 
     /// Fills `buffer` with the bytes of a taken page that stand at `offset`.
@@ -80,9 +94,7 @@ impl Pool {
             buffer.new ≡ slice_range (page_bytes self.now page.0) offset end }
         ensures size { length (page_bytes self.now page.0) ≡ 4096 }
     {
-        let bytes = self.bytes.as_slice();
-        let start = page.0 * PAGE_BYTES + offset;
-        buffer.copy_from_slice(&bytes[start..start + buffer.len()]);
+        self.bytes.read(page.0 * PAGE_BYTES + offset, buffer);
     }
 
     /// Puts `part` at `offset` into a taken page. Nothing else changes.
@@ -94,8 +106,7 @@ impl Pool {
         ensures size { length (page_bytes self.old page.0) ≡ 4096 }
         ensures count { free_count self.new ≡ free_count self.old }
     {
-        let bytes = &mut self.bytes;
-        put(bytes, page.0 * PAGE_BYTES + offset, part);
+        self.bytes.write(page.0 * PAGE_BYTES + offset, part);
     }
 
     /// The word of a taken page that stands at `offset`, its lowest byte first.
@@ -131,34 +142,6 @@ impl Pool {
     pub fn free_pages(&self) -> usize
         ensures { result ≡ free_count self.now }
     {
-        self.free.len()
+        self.free
     }
-}
-
-/// The numbers below `count`, in a vector that has room for them.
-fn numbers_below(alloc: Global, count: usize) -> Result<Vec<usize>, NoMemory>
-    ensures numbers { IfOk result (λ numbers. AreNumbersBelow count numbers.items) }
-    ensures room { IfOk result (λ numbers. vec_capacity numbers ≡ count) }
-{
-    let mut numbers = Vec::with_capacity(alloc, count).map_err(|_| NoMemory)?;
-    for number in 0..count {
-        numbers.push_reserved(number);
-    }
-    Ok(numbers)
-}
-
-/// Makes the page that starts at `start` all zero.
-fn clear(bytes: &mut Vec<u8>, start: usize)
-    requires { start + 4096 ≤ vec_len bytes.old }
-    ensures { bytes.new.items ≡ with_bytes bytes.old.items start zero_page }
-{
-    bytes[start..start + PAGE_BYTES].fill(0);
-}
-
-/// Puts `part` at `start`.
-fn put(bytes: &mut Vec<u8>, start: usize, part: &[u8])
-    requires { start + length part.now ≤ vec_len bytes.old }
-    ensures { bytes.new.items ≡ with_bytes bytes.old.items start part.now }
-{
-    bytes[start..start + part.len()].copy_from_slice(part);
 }

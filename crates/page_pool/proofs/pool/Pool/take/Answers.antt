@@ -1,24 +1,24 @@
--- The last page of the list is handed out.
-use Rattle.std.proofs.Common.{vec_capacity, arith}
-use Rattle.page_pool.proofs.LayoutLemmas.{LiesIn-from_listed}
-use Rattle.page_pool.proofs.CallLemmas.{Took, take_page}
+-- The head is handed out, and its link is the new head.
+use Rattle.std.proofs.Common.{◌-◌, arith}
+use Rattle.page_pool.specs.Layout.{linked}
+use Rattle.page_pool.proofs.CallLemmas.{Took, LiesIn-from_head, take_page}
 use Rattle.page_pool.proofs.pool.Pool.take.Goals as goal
 
-pub overflow_mul-page : goal.overflow_mul-page
-overflow_mul-page c =
-    let i = LiesIn-from_listed _ c.pop.new.self.items _ _ c.in_ok-page.page c.self.invariant c.in_ok-page.ensures.items in
-    omega arith
+pub overflow_mul-start : goal.overflow_mul-start
+overflow_mul-start c = let i = LiesIn-from_head _ c.self.inside.free _ c.self.invariant c.if-self-eq0.false in omega arith
 
-pub clear-requires : goal.clear-requires
-clear-requires c =
-    let i = LiesIn-from_listed _ c.pop.new.self.items _ _ c.in_ok-page.page c.self.invariant c.in_ok-page.ensures.items in
-    omega (arith, c.self.inside.bytes.ok.0)
+pub load-requires : goal.load-requires
+load-requires c = let i = LiesIn-from_head _ c.self.inside.free _ c.self.invariant c.if-self-eq0.false in omega arith
 
-took : (c : goal.After-clear) → Took c.pop.new.self.items c.clear.new.bytes.items (vec_capacity c.self.inside.free) c.args.self.now c.in_ok-page.page
-took c = take_page _ c.pop.new.self.items _ _ _ _ c.in_ok-page.page c.self.invariant c.self.view_is c.in_ok-page.ensures.items c.clear.ensures
+pub clear_page-requires : goal.clear_page-requires
+clear_page-requires c = let i = LiesIn-from_head _ c.self.inside.free _ c.self.invariant c.if-self-eq0.false in omega arith
 
-pub invariant_of-self-2 : goal.invariant_of-self-2
-invariant_of-self-2 c = rw c.in_ok-page.ensures.capacity (took c).layout
+took : (c : goal.After-clear_page) → Took (linked c.clear_page.new.self (c.self.inside.free - 1) c.load.result) c.clear_page.new.self c.args.self.now c.self.inside.head
+took c =
+    rw c.load.ensures (take_page _ _ c.self.inside.free _ _ c.self.invariant c.self.view_is c.if-self-eq0.false c.clear_page.ensures)
+
+pub invariant_of-self : goal.invariant_of-self
+invariant_of-self c = (took c).layout
 
 pub returns-clause-was_free : goal.returns-clause-was_free
 returns-clause-was_free c = (took c).was_free
