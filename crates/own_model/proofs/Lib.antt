@@ -16,6 +16,7 @@ pub mod RangeLemmas
 pub mod HeapGapLemmas
 pub mod PayloadLemmas
 pub mod MachineLemmas
+pub mod TableLemmas
 pub mod CallLemmas
 pub mod LimitLemmas
 pub mod StartLemmas

@@ -120,7 +120,7 @@ not_done : (refusal : Refusal) → ¬ (Refused refusal ≡ Done)
 not_done refusal e = true≢false (sym (ap is_done e))
 
 -- a range that is found in a dataspace lies in a region
-region_parts : (o p : Option (ℕ × ℕ)) (selector offset : ℕ) → option_or (option_map in_dataspace o) (option_map in_payload p) ≡ Some (InDataspace selector offset) → o ≡ Some (selector, offset)
+pub region_parts : (o p : Option (ℕ × ℕ)) (selector offset : ℕ) → option_or (option_map in_dataspace o) (option_map in_payload p) ≡ Some (InDataspace selector offset) → o ≡ Some (selector, offset)
 region_parts (Some d) p selector offset is =
     let place : InDataspace d.0 d.1 ≡ InDataspace selector offset = same_Some (InDataspace d.0 d.1) (InDataspace selector offset) is in
     let first : d.0 ≡ selector = cc in

@@ -20,6 +20,7 @@ use Rattle.own_model.specs.Text.{lines_of, address_of, bytes_of_hex}
 use Rattle.own_model.specs.Transcript.{Made, heard, own_part, state_at, state_after, answer, transcript, calls_of, longest_line}
 use Rattle.own_model.specs.Transcript.Heard.{NoCall}
 use Rattle.own_model.specs.Sound.{IsSound}
+use Rattle.own_model.specs.Table.{first_failed, whole_line, refusal_in}
 use Rattle.own_model.specs.Use.{UsesWhatItHolds}
 use Rattle.own_model.specs.World.{World, IsBalanced, with_state, outcome_at, start_world}
 
@@ -191,6 +192,18 @@ LinesKeepBalance =
 -- a start list that boots starts balanced
 abbrev pub BootsBalanced : Type 0
 BootsBalanced = (list : StartList) → Boots list → IsBalanced list.pages list.caps (start_world list)
+
+-- a call of an account within its limits, and of a sound state, is refused for the first reason on the call's line, and for nothing else
+abbrev pub RefusedInOrder : Type 0
+RefusedInOrder =
+    (entry : Entry) (call : Call) (s : OwnState) → WithinLimits s.account → IsSound s →
+    refusal_in (own_step entry call s).reply ≡ first_failed (whole_line entry.kind call s)
+
+-- a refused call tells its refusal, finishes no lines and leaves the state
+abbrev pub RefusedLeaves : Type 0
+RefusedLeaves =
+    (entry : Entry) (call : Call) (s : OwnState) (refusal : Refusal) → (own_step entry call s).reply ≡ Refused refusal →
+    own_step entry call s ≡ refused s refusal
 
 -- the selector of what is new is the least positive number that is not in use
 abbrev pub NewSelectorIsLeastUnused : Type 0

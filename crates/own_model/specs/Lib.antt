@@ -18,6 +18,7 @@ pub mod World
 pub mod Running
 pub mod Use
 pub mod Sound
+pub mod Table
 pub mod Laws
 pub mod SlicedLaws
 pub mod Rows

@@ -1,5 +1,12 @@
-//! Laws of single calls: the new selector, and what is read back.
-ghost use Rattle.own_model.specs.Laws.{NewSelectorIsLeastUnused, AddressesAreReadBack, HexIsReadBack};
+//! Laws of single calls: what is refused, the new selector, and what is read back.
+ghost use Rattle.own_model.specs.Laws.{RefusedInOrder, RefusedLeaves, NewSelectorIsLeastUnused, AddressesAreReadBack, HexIsReadBack};
+
+/// A call is refused for the first reason on its line of the table of calls, and for nothing else; a refused call leaves the
+/// own state, whatever that is.
+pub fn calls_are_refused_in_order()
+    ensures order { RefusedInOrder }
+    ensures leaves { RefusedLeaves }
+{}
 
 /// The selector of what is new is the least positive number that is not in use.
 pub fn new_selector_is_least_unused()

@@ -17,7 +17,10 @@ pub use answers::{
     equal_parts_equal_answers, equal_parts_equal_states, states_are_own_runs, states_over_a_line,
     told_over_a_line, transcript_is_running,
 };
-pub use calls::{addresses_are_read_back, hex_is_read_back, new_selector_is_least_unused};
+pub use calls::{
+    addresses_are_read_back, calls_are_refused_in_order, hex_is_read_back,
+    new_selector_is_least_unused,
+};
 pub use heap_window::heap_has_gap;
 pub use limits::{
     calls_keep_balance, calls_keep_limits, capalloc_lacks_caps_alone, servers_stay,
