@@ -1,5 +1,6 @@
 pub mod NatMap
 pub mod Slots
+pub mod Entries
 pub mod Account
 pub mod Text
 pub mod Call
