@@ -13,3 +13,4 @@ pub mod RangeLemmas
 pub mod CallLemmas
 pub mod LimitLemmas
 pub mod StartLemmas
+pub mod ReadBackLemmas

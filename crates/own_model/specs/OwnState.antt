@@ -1,6 +1,6 @@
 -- What a component has: its own state.
-use Rattle.std.specs.Prelude.{ℕ, ◌+◌, ◌/◌, List, [], length, Bool, nat_le, if◌then◌else◌, Option, Some, None, replicate}
-use Rattle.std.specs.FinMap.{keys}
+use Rattle.std.specs.Prelude.{◌≡◌, ℕ, ◌+◌, ◌/◌, ◌<◌, List, [], length, Bool, nat_le, if◌then◌else◌, Option, Some, None, IsSome, replicate}
+use Rattle.std.specs.FinMap.{get, keys}
 use Rattle.trade_base.specs.Bytes.{with_bytes}
 use Rattle.own_model.specs.NatMap.{NatMap, least_gap}
 use Rattle.own_model.specs.Account.{Account}
@@ -43,6 +43,12 @@ abbrev pub object_with : Object → ℕ → List ℕ → Object
 object_with (Dataspace bytes) offset part = Dataspace (with_part bytes offset part)
 object_with RpcObject offset part = RpcObject
 
--- the new selector: the least positive number that is not in use
+-- a selector is the least positive number that is not in use
+pub record IsLeastUnused {X : Type 0} (selectors : NatMap X) (selector : ℕ) : Type 0 where
+  pub positive : 0 < selector
+  pub free : get selectors selector ≡ None
+  pub least : (other : ℕ) → 0 < other → other < selector → IsSome (get selectors other)
+
+-- the new selector, as it is computed: the least number from 1 on that none of the rising keys is
 unfoldable pub new_selector : {X : Type 0} → NatMap X → ℕ
 new_selector selectors = least_gap 1 (keys selectors)

@@ -4,6 +4,7 @@
 #![tactic(auto)]
 
 mod answers;
+mod calls;
 mod limits;
 mod regions;
 mod rows;
@@ -14,6 +15,7 @@ pub use answers::{
     equal_parts_equal_answers, equal_parts_equal_states, states_are_own_runs, states_over_a_line,
     told_over_a_line, transcript_is_running,
 };
+pub use calls::{addresses_are_read_back, hex_is_read_back, new_selector_is_least_unused};
 pub use limits::{
     calls_keep_balance, calls_keep_limits, capalloc_lacks_caps_alone, servers_stay,
     use_is_what_is_held,
