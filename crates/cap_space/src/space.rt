@@ -1,7 +1,7 @@
 //! The capability space: a table with a place for each selector.
 ghost use Rattle.std.specs.Prelude.{◌≡◌, ◌<◌, ◌≤◌, ◌↔◌, None, IsTrue, IfOk, IfSome, IfNone, count_by, is_some, length, slice_index_or};
 ghost use Rattle.std.specs.FinMap.{get, len};
-ghost use Rattle.own_model.specs.OwnState.{new_selector};
+ghost use Rattle.own_model.specs.OwnState.{new_selector, IsLeastUnused};
 ghost use Rattle.cap_space.specs.Space.{fresh_space, with_cap, without_cap};
 ghost use Rattle.cap_space.specs.Slots.{IsTakenBefore};
 
@@ -62,6 +62,7 @@ impl CapSpace {
     pub fn insert(&mut self, cap: Cap) -> Selector
         requires room { len self.old.caps < self.old.places }
         ensures least { result.0 ≡ new_selector self.old.caps }
+        ensures least_unused { IsLeastUnused self.old.caps result.0 }
         ensures fresh { get self.old.caps result.0 ≡ None }
         ensures taken { self.new ≡ with_cap self.old result.0 cap }
     {
