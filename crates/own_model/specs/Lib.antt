@@ -16,3 +16,5 @@ pub mod Use
 pub mod Sound
 pub mod Laws
 pub mod Rows
+pub mod SessionArgs
+pub mod LogText
