@@ -18,3 +18,4 @@ pub mod Laws
 pub mod Rows
 pub mod SessionArgs
 pub mod LogText
+pub mod FileText

@@ -2,9 +2,13 @@
 #![tactic(auto)]
 
 mod args;
+mod buffer;
+mod log;
 mod pair;
 #[cfg(test)]
 mod tests;
 mod text;
+mod words;
 
 pub use args::SessionArgs;
+pub use log::{LogReply, LogRequest};
