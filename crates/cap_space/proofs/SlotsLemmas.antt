@@ -1,5 +1,5 @@
 -- What the slots hold, and what a change of one slot does to it.
-use Rattle.std.proofs.Common.{◌≡◌, ◌≢◌, ℕ, zero, suc, ◌+◌, ◌-◌, ◌<◌, ◌≤◌, min, true, false, true≢false, cond, eqb, List, [], ◌∷◌, length, replicate, get_or, ◌⊎◌, set, Some, is_some, count_by, refl, sym, ap, ◌∙◌, arith, inl, inr}
+use Rattle.std.proofs.Common.{◌≡◌, ℕ, zero, suc, ◌+◌, ◌-◌, ◌<◌, ◌≤◌, true, true≢false, cond, eqb, List, [], ◌∷◌, length, replicate, get_or, ◌⊎◌, set, Some, is_some, count_by, refl, sym, ap, ◌∙◌, arith, inl, inr}
 use Rattle.std.proofs.lemmas.Bool.{cases_eq, cases_lt}
 use Rattle.std.proofs.lemmas.Bool.Decides.{nat_tests}
 use Rattle.std.proofs.lemmas.List.{get_or-set_same, get_or-set_other, get_or-replicate, get_or_past, length-replicate, length-set}
@@ -7,73 +7,28 @@ use Rattle.std.proofs.lemmas.Option.{none-some}
 use Rattle.std.proofs.lemmas.List.Sums.{sum_by-cons, sum_by-set, get_or-le-sum_by, count_by-le-length}
 use Rattle.std.specs.Prelude.{Option, None}
 use Rattle.std.specs.Ordering.{nat_cmp}
-use Rattle.std.specs.Cmp.{nat_cmp_total, unsigned_tied}
-use Rattle.std.specs.FinMap.{get, insert, remove, empty, len, from_entries, find, get-from_entries, len-insert, len-empty}
+use Rattle.std.specs.FinMap.{get, insert, remove, empty, len}
 use Rattle.own_model.specs.NatMap.{NatMap}
 use Rattle.own_model.specs.OwnState.{new_selector}
 use Rattle.own_model.proofs.NatMapLemmas.{same, get-insert, get-remove, get-empty, remove_free}
 use Rattle.own_model.proofs.NewSelector.{new_selector_is}
-use Rattle.cap_space.specs.Slots.{taken_from, held, space_of, IsTakenBefore, IsKept}
-use Rattle.cap_space.specs.Space.{Space, with_cap, without_cap}
+use Rattle.own_model.proofs.SlotLemmas.{get-held_from, get-held_from_below, len-held_from}
+use Rattle.cap_space.specs.Slots.{held, space_of, IsTakenBefore}
+use Rattle.cap_space.specs.Space.{Space, fresh_space, with_cap, without_cap}
 use Rattle.cap_space.specs.declared.cap.Cap.{Cap}
 
 module _ {X : Type 0} where
-  -- the first entry's selector answers its value, and another selector what the rest answers
-  find-cons : (q selector : ℕ) (x : X) (rest : List (ℕ × X)) → find nat_cmp q ((selector, x) ∷ rest) ≡ cond (eqb q selector) (Some x) (find nat_cmp q rest)
-  find-cons q selector x rest = ap (λ b. cond b (Some x) (find nat_cmp q rest)) (unsigned_tied q selector)
-
-  -- a selector below the first slot's has no entry
-  find_below : (q selector : ℕ) (slots : List (Option X)) → q < selector → find nat_cmp q (taken_from selector slots) ≡ None
-  find_below q selector [] below = refl
-  find_below q selector (None ∷ rest) below = find_below q (selector + 1) rest (omega arith)
-  find_below q selector (Some x ∷ rest) below =
-      let later = find_below q (selector + 1) rest (omega arith) in
-      let first = find-cons q selector x (taken_from (selector + 1) rest) in
-      grind (arith, nat_tests)
-
-  -- a slot's selector answers what is in the slot
-  find_slot : (place selector : ℕ) (slots : List (Option X)) → find nat_cmp (selector + place) (taken_from selector slots) ≡ get_or slots place None
-  find_slot place selector [] = refl
-  find_slot zero selector (None ∷ rest) = find_below (selector + 0) (selector + 1) rest (omega arith)
-  find_slot zero selector (Some x ∷ rest) =
-      let first = find-cons (selector + 0) selector x (taken_from (selector + 1) rest) in
-      grind (arith, nat_tests)
-  find_slot (suc place) selector (None ∷ rest) =
-      let shift : selector + suc place ≡ selector + 1 + place = omega arith in
-      rw shift (find_slot place (selector + 1) rest)
-  find_slot (suc place) selector (Some x ∷ rest) =
-      let shift : selector + suc place ≡ selector + 1 + place = omega arith in
-      let first = find-cons (selector + suc place) selector x (taken_from (selector + 1) rest) in
-      let later : find nat_cmp (selector + suc place) (taken_from (selector + 1) rest) ≡ get_or rest place None = rw shift (find_slot place (selector + 1) rest) in
-      let apart : eqb (selector + suc place) selector ≡ false = grind (arith, nat_tests) in
-      first ∙ ap (λ b. cond b (Some x) (find nat_cmp (selector + suc place) (taken_from (selector + 1) rest))) apart ∙ later
-
   -- nothing has the selector 0
   pub get-held_zero : (slots : List (Option X)) (selector : ℕ) → selector ≡ 0 → get (held slots) selector ≡ None
-  unfolding held
-  get-held_zero slots selector e = get-from_entries nat_cmp_total (taken_from 1 slots) selector ∙ find_below selector 1 slots (omega arith)
+  get-held_zero slots selector e = get-held_from_below 1 slots selector (omega arith)
 
   -- a positive selector has what its slot holds
   pub get-held : (slots : List (Option X)) (selector : ℕ) → 0 < selector → get (held slots) selector ≡ get_or slots (selector - 1) None
-  unfolding held
-  get-held slots selector positive =
-      let back : 1 + (selector - 1) ≡ selector = omega arith in
-      get-from_entries nat_cmp_total (taken_from 1 slots) selector ∙ rw back at (find_slot (selector - 1) 1 slots)
-
-  -- one entry more for a slot that is taken
-  len_taken : (selector : ℕ) (slots : List (Option X)) → len (from_entries {R = nat_cmp} (taken_from selector slots)) ≡ count_by is_some slots
-  len_taken selector [] = len-empty nat_cmp X
-  len_taken selector (None ∷ rest) = omega (arith, len_taken (selector + 1) rest, sum_by-cons (λ o. cond (is_some o) 1 0) None rest)
-  len_taken selector (Some x ∷ rest) =
-      let m = from_entries {R = nat_cmp} (taken_from (selector + 1) rest) in
-      let free : get m selector ≡ None = get-from_entries nat_cmp_total (taken_from (selector + 1) rest) selector ∙ find_below selector (selector + 1) rest (omega arith) in
-      let more : len (insert m selector x) ≡ len m + 1 = len-insert nat_cmp_total m selector x ∙ ap (λ o. cond (is_some o) (len m) (len m + 1)) free in
-      omega (arith, more, len_taken (selector + 1) rest, sum_by-cons (λ o. cond (is_some o) 1 0) (Some x) rest)
+  get-held slots selector positive = get-held_from 1 slots (selector - 1) selector (omega arith)
 
   -- as much is held as slots are taken
   pub len-held : (slots : List (Option X)) → len (held slots) ≡ count_by is_some slots
-  unfolding held
-  len-held slots = len_taken 1 slots
+  len-held slots = len-held_from 1 slots
 
   -- where none of so many places is free, at least so many are taken
   pub taken_le : (slots : List (Option X)) (end : ℕ) → IsTakenBefore slots end → end ≤ count_by is_some slots
@@ -158,6 +113,10 @@ pub ruleset slots = (nat_tests, get-held_zero, get-held, len-held, new_selector-
 same_space : {m n : NatMap Cap} {places more : ℕ} → m ≡ n → places ≡ more → ◌≡◌ {A = Space} (record { caps = m; places = places }) (record { caps = n; places = more })
 same_space caps places i = record { caps = caps i; places = places i }
 
+-- free slots are an empty space
+pub space_fresh : (slots : List (Option Cap)) (places : ℕ) → slots ≡ replicate places None → space_of slots ≡ fresh_space places
+space_fresh slots places free = same_space (ap held free ∙ held-replicate places) (ap length free ∙ length-replicate places None)
+
 -- nothing changes where nothing is
 pub without_free : (space : Space) (selector : ℕ) → get space.caps selector ≡ None → space ≡ without_cap space selector
 without_free space selector free = same_space (sym (remove_free space.caps selector free)) refl
@@ -168,27 +127,7 @@ module _ (slots : List (Option Cap)) (space : Space) (keeps : space_of slots ≡
   space_filled place cap within =
       same_space (held-set_some slots place cap within ∙ ap (λ s. insert s.caps (place + 1) cap) keeps) (length-set slots place (Some cap) ∙ ap (λ s. s.places) keeps)
 
-  -- a slot that is emptied
-  pub space_emptied : (selector : ℕ) (cap : Cap) → get space.caps selector ≡ Some cap → space_of (set slots (selector - 1) None) ≡ without_cap space selector
-  space_emptied selector cap there =
-      let held_there : get (held slots) selector ≡ Some cap = ap (λ s. get s.caps selector) keeps ∙ there in
-      let cases = held_cases slots selector in
-      let within : selector - 1 < length slots = grind arith in
-      let back : selector - 1 + 1 ≡ selector = grind arith in
-      same_space (held-set_none slots (selector - 1) within ∙ ap (remove (held slots)) back ∙ ap (λ s. remove s.caps selector) keeps) (length-set slots (selector - 1) None ∙ ap (λ s. s.places) keeps)
-
-  -- and the hint goes back to it, where it was past it
-  pub kept_emptied : (first_free used hint selector : ℕ) (cap : Cap) → IsKept slots first_free used → hint ≡ min first_free (selector - 1) → get space.caps selector ≡ Some cap → IsKept (set slots (selector - 1) None) hint (used - 1)
-  kept_emptied first_free used hint selector cap kept lowered there =
-      let held_there : get (held slots) selector ≡ Some cap = ap (λ s. get s.caps selector) keeps ∙ there in
-      let cases = held_cases slots selector in
-      let positive : 0 < selector = grind arith in
-      let within : selector - 1 < length slots = grind arith in
-      let slot : get_or slots (selector - 1) None ≡ Some cap = sym (get-held slots selector positive) ∙ held_there in
-      record {
-        few = omega (arith, length-set slots (selector - 1) None, kept.few);
-        before = λ place below.
-            let other : place ≢ selector - 1 = omega arith in
-            ap is_some (get_or-set_other slots (selector - 1) place None None other) ∙ kept.before place (omega arith);
-        counted = omega (arith, count-set_none slots (selector - 1) cap within slot, kept.counted);
-      }
+  -- a slot that is emptied, if it wasn't empty
+  pub space_emptied : (place selector : ℕ) (slot : Option Cap) → slot ≡ None → place < length slots → place + 1 ≡ selector → space_of (set slots place slot) ≡ without_cap space selector
+  space_emptied place selector slot free within number =
+      same_space (ap (λ s. held (set slots place s)) free ∙ held-set_none slots place within ∙ ap (remove (held slots)) number ∙ ap (λ s. remove s.caps selector) keeps) (length-set slots place slot ∙ ap (λ s. s.places) keeps)

@@ -1,7 +1,7 @@
 //! The capability space: a table with a place for each selector.
 ghost use Rattle.std.specs.Prelude.{◌≡◌, ◌<◌, ◌≤◌, ◌↔◌, None, IsTrue, IfOk, IfSome, IfNone, count_by, is_some, length, slice_index_or};
 ghost use Rattle.std.specs.FinMap.{get, len};
-ghost use Rattle.own_model.specs.OwnState.{new_selector};
+ghost use Rattle.own_model.specs.OwnState.{new_selector, IsLeastUnused};
 ghost use Rattle.cap_space.specs.Space.{fresh_space, with_cap, without_cap};
 ghost use Rattle.cap_space.specs.Slots.{IsTakenBefore};
 
@@ -30,11 +30,12 @@ impl Model for CapSpace {
 
     ghost coded = { coded_space };
 
+    ghost use Rattle.std.specs.Prelude.{vec_capacity};
     ghost use Rattle.cap_space.specs.Slots.{space_of, IsKept};
 
     ghost view = { λ s. space_of s.slots.items };
 
-    ghost invariant = { λ s. IsKept s.slots.items s.first_free s.used };
+    ghost invariant = { λ s. IsKept s.slots.items (vec_capacity s.slots) s.first_free s.used };
 }
 
 #[tactic(auto, using(crate::proofs::SlotsLemmas::slots))]
@@ -46,7 +47,10 @@ impl CapSpace {
         requires { places ≤ 4096 }
         ensures { IfOk result (λ space. space ≡ fresh_space places) }
     {
-        let slots = vec![in alloc; None; places].map_err(|_| NoMemory)?;
+        let mut slots = Vec::with_capacity(alloc, places).map_err(|_| NoMemory)?;
+        for _place in 0..places {
+            slots.push_reserved(None);
+        }
         Ok(CapSpace {
             slots,
             first_free: 0,
@@ -58,6 +62,7 @@ impl CapSpace {
     pub fn insert(&mut self, cap: Cap) -> Selector
         requires room { len self.old.caps < self.old.places }
         ensures least { result.0 ≡ new_selector self.old.caps }
+        ensures least_unused { IsLeastUnused self.old.caps result.0 }
         ensures fresh { get self.old.caps result.0 ≡ None }
         ensures taken { self.new ≡ with_cap self.old result.0 cap }
     {
@@ -87,9 +92,9 @@ impl CapSpace {
         ensures gone { self.new ≡ without_cap self.old selector }
         ensures none { IfNone result (self.new ≡ self.old) }
     {
-        let cap = self.get(selector)?;
-        let place = selector as usize - 1;
-        self.slots[place] = None;
+        let slots = &mut self.slots;
+        let place = selector.checked_sub(1)? as usize;
+        let cap = slots.get_mut(place)?.take()?;
         self.first_free = self.first_free.min(place);
         self.used -= 1;
         Some(cap)

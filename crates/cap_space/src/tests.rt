@@ -30,3 +30,14 @@ fn numbers_not_in_use_name_nothing(rt: HostRuntime) {
     }
     assert_eq!(rt; space.get(1), Some(Cap::RpcObject));
 }
+
+#[test]
+fn as_many_capabilities_as_places(rt: HostRuntime) {
+    let mut space = CapSpace::boot(rt.alloc(), 4096).expect(&rt, "memory for 4096 places");
+    for selector in 1..4097 {
+        assert!(rt; !space.is_full());
+        assert_eq!(rt; space.insert(Cap::RpcObject), Selector(selector));
+    }
+    assert!(rt; space.is_full());
+    assert_eq!(rt; space.get(4096), Some(Cap::RpcObject));
+}

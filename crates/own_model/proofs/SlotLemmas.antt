@@ -1,43 +1,36 @@
 -- What a list of slots holds by their numbers.
-use Rattle.std.proofs.Common.{◌≡◌, ℕ, zero, suc, ◌+◌, ◌<◌, false, cond, eqb, List, [], ◌∷◌, get_or, Some, is_some, count_by, refl, sym, ap, ◌∙◌, arith}
+use Rattle.std.proofs.Common.{◌≡◌, ℕ, zero, suc, ◌+◌, ◌<◌, cond, List, [], ◌∷◌, get_or, Some, is_some, count_by, refl, sym, ap, ◌∙◌, arith}
 use Rattle.std.proofs.lemmas.Bool.Decides.{nat_tests}
 use Rattle.std.proofs.lemmas.List.Sums.{sum_by-cons}
 use Rattle.std.specs.Prelude.{Option, None}
 use Rattle.std.specs.Ordering.{nat_cmp}
-use Rattle.std.specs.Cmp.{nat_cmp_total, unsigned_tied}
-use Rattle.std.specs.FinMap.{get, insert, len, from_entries, find, get-from_entries, len-insert, len-empty}
+use Rattle.std.specs.Cmp.{nat_cmp_total}
+use Rattle.std.specs.FinMap.{get, insert, len, from_entries, get-from_entries, len-insert, len-empty}
+use Rattle.own_model.specs.Entries.{value_of}
+use Rattle.own_model.proofs.EntryLemmas.{value_of-cons, value_of_first, value_of_later}
 use Rattle.own_model.specs.Slots.{taken_from, held_from}
 
 module _ {X : Type 0} where
-  -- the first entry's number answers its value, and another number what the rest answers
-  find-cons : (q first : ℕ) (x : X) (rest : List (ℕ × X)) → find nat_cmp q ((first, x) ∷ rest) ≡ cond (eqb q first) (Some x) (find nat_cmp q rest)
-  find-cons q first x rest = ap (λ b. cond b (Some x) (find nat_cmp q rest)) (unsigned_tied q first)
-
   -- a number below the first slot's has no entry
-  find_below : (q first : ℕ) (slots : List (Option X)) → q < first → find nat_cmp q (taken_from first slots) ≡ None
+  find_below : (q first : ℕ) (slots : List (Option X)) → q < first → value_of q (taken_from first slots) ≡ None
   find_below q first [] below = refl
   find_below q first (None ∷ rest) below = find_below q (first + 1) rest (omega arith)
   find_below q first (Some x ∷ rest) below =
       let later = find_below q (first + 1) rest (omega arith) in
-      let head = find-cons q first x (taken_from (first + 1) rest) in
+      let head = value_of-cons q (first, x) (taken_from (first + 1) rest) in
       grind (arith, nat_tests)
 
   -- a slot's number answers what is in the slot
-  find_slot : (place first : ℕ) (slots : List (Option X)) → find nat_cmp (first + place) (taken_from first slots) ≡ get_or slots place None
+  find_slot : (place first : ℕ) (slots : List (Option X)) → value_of (first + place) (taken_from first slots) ≡ get_or slots place None
   find_slot place first [] = refl
   find_slot zero first (None ∷ rest) = find_below (first + 0) (first + 1) rest (omega arith)
-  find_slot zero first (Some x ∷ rest) =
-      let head = find-cons (first + 0) first x (taken_from (first + 1) rest) in
-      grind (arith, nat_tests)
+  find_slot zero first (Some x ∷ rest) = value_of_first (first + 0) (first, x) (taken_from (first + 1) rest) (grind (arith, nat_tests))
   find_slot (suc place) first (None ∷ rest) =
       let shift : first + suc place ≡ first + 1 + place = omega arith in
       rw shift (find_slot place (first + 1) rest)
   find_slot (suc place) first (Some x ∷ rest) =
       let shift : first + suc place ≡ first + 1 + place = omega arith in
-      let head = find-cons (first + suc place) first x (taken_from (first + 1) rest) in
-      let later : find nat_cmp (first + suc place) (taken_from (first + 1) rest) ≡ get_or rest place None = rw shift (find_slot place (first + 1) rest) in
-      let apart : eqb (first + suc place) first ≡ false = grind (arith, nat_tests) in
-      head ∙ ap (λ b. cond b (Some x) (find nat_cmp (first + suc place) (taken_from (first + 1) rest))) apart ∙ later
+      value_of_later (first + suc place) (first, x) (taken_from (first + 1) rest) (grind (arith, nat_tests)) ∙ rw shift (find_slot place (first + 1) rest)
 
   -- nothing has a number below the first
   pub get-held_from_below : (first : ℕ) (slots : List (Option X)) (q : ℕ) → q < first → get (held_from first slots) q ≡ None

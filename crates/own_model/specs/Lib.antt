@@ -22,3 +22,6 @@ pub mod Table
 pub mod Laws
 pub mod SlicedLaws
 pub mod Rows
+pub mod SessionArgs
+pub mod LogText
+pub mod FileText

@@ -1,19 +1,23 @@
 -- The slot of the selector is emptied, if the selector has one.
-use Rattle.std.proofs.Common.{◌≡◌, Some, None, arith}
+use Rattle.std.proofs.Common.{◌≡◌, ◌<◌, None, length, ◌∙◌, arith}
 use Rattle.std.specs.FinMap.{get}
-use Rattle.cap_space.proofs.SlotsLemmas.{without_free, space_emptied, kept_emptied}
+use Rattle.cap_space.proofs.SlotsLemmas.{slots, without_free, space_emptied}
 use Rattle.cap_space.proofs.space.CapSpace.remove.Goals as goal
+
+pub returns-in_err-place-clause-gone : goal.returns-in_err-place-clause-gone
+returns-in_err-place-clause-gone c =
+    let free : get c.args.self.now.caps c.args.selector ≡ None = grind (arith, slots) in c.self.view_is ∙ without_free _ _ free
+
+pub returns-in_err-get_mut-clause-gone : goal.returns-in_err-get_mut-clause-gone
+returns-in_err-get_mut-clause-gone c =
+    let free : get c.args.self.now.caps c.args.selector ≡ None = grind (arith, slots) in c.self.view_is ∙ without_free _ _ free
 
 pub returns-in_err-cap-clause-gone : goal.returns-in_err-cap-clause-gone
 returns-in_err-cap-clause-gone c =
-    let free : get c.args.self.now.caps c.args.selector ≡ None = grind arith in without_free _ _ free
-
-pub invariant_of-self : goal.invariant_of-self
-invariant_of-self c =
-    let there : get c.args.self.now.caps c.args.selector ≡ Some c.in_ok-cap.cap = grind arith in
-    kept_emptied _ _ c.self.view_is _ _ _ _ _ c.self.invariant c.min-self-inside.ensures there
+    let within : c.in_ok-place.place < length c.self.inside.slots.items = grind arith in
+    space_emptied _ _ c.self.view_is _ _ _ c.take.ensures.after within (grind arith)
 
 pub returns-clause-gone : goal.returns-clause-gone
 returns-clause-gone c =
-    let there : get c.args.self.now.caps c.args.selector ≡ Some c.in_ok-cap.cap = grind arith in
-    space_emptied _ _ c.self.view_is _ _ there
+    let within : c.in_ok-place.place < length c.self.inside.slots.items = grind arith in
+    space_emptied _ _ c.self.view_is _ _ _ c.take.ensures.after within (grind arith)

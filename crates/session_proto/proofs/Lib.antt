@@ -1,0 +1,5 @@
+pub mod PieceLemmas
+pub mod ArgsLemmas
+pub mod WordLemmas
+pub mod HexLemmas
+pub mod SearchLemmas

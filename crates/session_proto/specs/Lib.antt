@@ -1,0 +1,5 @@
+pub mod View
+pub mod Found
+pub mod Pieces
+pub mod Words
+pub mod LogReply

@@ -1,0 +1,15 @@
+-- The first piece of a text, and the pieces after it.
+use Rattle.std.specs.Prelude.{ℕ, ◌+◌, ◌==◌, ◌&&◌, not, Bool, false, List, [], ◌∷◌, if◌then◌else◌, Option, Some, None}
+use Rattle.own_model.specs.SessionArgs.{is_quote, pieces_of}
+
+-- how long the first piece is
+abbrev pub first_len : Bool → List ℕ → ℕ
+first_len quoted [] = 0
+first_len quoted (b ∷ bs) =
+    if b == 44 && not quoted then 0
+    else 1 + first_len (if is_quote b then not quoted else quoted) bs
+
+-- the pieces of what stands after a comma, if there is a comma
+abbrev pub pieces_after : Option (List ℕ) → List (List ℕ)
+pieces_after None = []
+pieces_after (Some text) = pieces_of false text

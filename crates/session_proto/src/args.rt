@@ -1,0 +1,183 @@
+//! The arguments of a session.
+ghost use Rattle.std.specs.Prelude.{◌≡◌, None, Some, codes, IfOk, IfErr, OnErr};
+ghost use Rattle.std.specs.Str.{bytes_eq};
+ghost use Rattle.std.specs.Option.{option_map, option_copied};
+ghost use Rattle.trade_base.specs.declared.refusal.Refusal.TheVariants.{BadArgs};
+ghost use Rattle.own_model.specs.SessionArgs.{arguments_of, ram_of, caps_of, label_of};
+ghost use Rattle.session_proto.specs.View.{model_pair, model_value};
+ghost use Rattle.session_proto.specs.Found.{ram_in, caps_in, known, known_with, with_pair, told};
+
+use crate::pair::{Pair, Value, read_pair};
+use crate::text::{is_blank, split_piece};
+use std::marker::Model;
+use trade_base::{Caps, Ram, Refusal, read_amount, read_number};
+
+/// The most bytes of a label.
+const LONGEST_LABEL: usize = 64;
+
+/// What a session is given, and the label that it is asked for with.
+#[derive(Drop)]
+pub struct SessionArgs<'a> {
+    ram: Ram,
+    caps: Caps,
+    label: &'a [u8],
+}
+
+impl<'a> Model for SessionArgs<'a> {
+    ghost use Rattle.own_model.specs.SessionArgs.{Arguments};
+
+    ghost Value = { Arguments };
+
+    ghost view = { λ a. record { ram = a.ram.0; caps = a.caps.0; label = a.label.now } };
+}
+
+impl<'a> SessionArgs<'a> {
+    /// The arguments of a text, or `Refusal::BadArgs` where it isn't in the grammar.
+    pub fn read(text: &'a [u8]) -> Result<SessionArgs<'a>, Refusal>
+        ensures value { IfOk result (λ args. arguments_of text.now ≡ Some args) }
+        ensures refused { IfErr result (λ refusal. refusal ≡ BadArgs) }
+        ensures none { OnErr result (arguments_of text.now ≡ None) }
+    {
+        match read_arguments(text) {
+            Some(args) => Ok(args),
+            None => Err(Refusal::BadArgs),
+        }
+    }
+
+    /// How much RAM the session is given, in bytes.
+    pub fn ram(&self) -> Ram
+        ensures { result.0 ≡ self.now.ram }
+    {
+        self.ram
+    }
+
+    /// How many capabilities the session is given.
+    pub fn caps(&self) -> Caps
+        ensures { result.0 ≡ self.now.caps }
+    {
+        self.caps
+    }
+
+    /// The label, without its quotes.
+    pub fn label(&self) -> &'a [u8]
+        ensures { result.now ≡ self.now.label }
+    {
+        self.label
+    }
+}
+
+/// The arguments of a text, if it is in the grammar.
+fn read_arguments(text: &[u8]) -> Option<SessionArgs<'_>>
+    ensures { result ≡ arguments_of text.now }
+{
+    let mut found = Found {
+        ram: None,
+        caps: None,
+        label: None,
+    };
+    if is_blank(text) {
+        return Some(found.arguments());
+    }
+    let mut rest = Some(text);
+    while let Some(pairs) = rest {
+        let (piece, more) = split_piece(pairs);
+        found = found.with(read_pair(piece)?)?;
+        rest = more;
+    }
+    Some(found.arguments())
+}
+
+/// What the pairs so far have told: for each key the value of its first pair.
+#[derive(Clone, Copy)]
+struct Found<'a> {
+    ram: Option<Ram>,
+    caps: Option<Caps>,
+    label: Option<&'a [u8]>,
+}
+
+impl<'a> Found<'a> {
+    /// With one pair more. It is `None` where that is the first with its key, and has no value for it.
+    fn with(self, pair: Pair<'a>) -> Option<Found<'a>>
+        ensures { option_map known result ≡ with_pair (known self.entry) (model_pair pair.entry) }
+    {
+        Some(Found {
+            ram: ram_with(self.ram, pair)?,
+            caps: caps_with(self.caps, pair)?,
+            label: label_with(self.label, pair)?,
+        })
+    }
+
+    /// The arguments, of which those that were not told are nothing.
+    fn arguments(self) -> SessionArgs<'a>
+        ensures { result ≡ told (known self.entry) }
+    {
+        SessionArgs {
+            ram: self.ram.unwrap_or(Ram(0)),
+            caps: self.caps.unwrap_or(Caps(0)),
+            label: self.label.unwrap_or(&[]),
+        }
+    }
+}
+
+/// The RAM that is known after a pair, of which the first with its key tells it.
+fn ram_with(known: Option<Ram>, pair: Pair<'_>) -> Option<Option<Ram>>
+    ensures { option_map ram_in result ≡ known_with (ram_in known) (bytes_eq pair.entry.key.now (codes "ram_quota")) ram_of (model_value pair.entry.value) }
+{
+    if known.is_none() && pair.key == b"ram_quota".as_slice() {
+        Some(Some(read_ram(pair.value)?))
+    } else {
+        Some(known)
+    }
+}
+
+/// The capabilities that are known after a pair, of which the first with their key tells them.
+fn caps_with(known: Option<Caps>, pair: Pair<'_>) -> Option<Option<Caps>>
+    ensures { option_map caps_in result ≡ known_with (caps_in known) (bytes_eq pair.entry.key.now (codes "cap_quota")) caps_of (model_value pair.entry.value) }
+{
+    if known.is_none() && pair.key == b"cap_quota".as_slice() {
+        Some(Some(read_caps(pair.value)?))
+    } else {
+        Some(known)
+    }
+}
+
+/// The label that is known after a pair, of which the first with its key tells it.
+fn label_with<'a>(known: Option<&'a [u8]>, pair: Pair<'a>) -> Option<Option<&'a [u8]>>
+    ensures { option_map option_copied result ≡ known_with (option_copied known.entry) (bytes_eq pair.entry.key.now (codes "label")) label_of (model_value pair.entry.value) }
+{
+    if known.is_none() && pair.key == b"label".as_slice() {
+        Some(Some(read_label(pair.value)?))
+    } else {
+        Some(known)
+    }
+}
+
+/// RAM is an amount, as it stands.
+fn read_ram(value: Value<'_>) -> Option<Ram>
+    ensures { option_map (λ ram. ram.0) result ≡ ram_of (Some (model_value value.entry)) }
+{
+    match value {
+        Value::Bare(text) => Some(Ram(read_amount(text)?)),
+        Value::Quoted(_) => None,
+    }
+}
+
+/// Capabilities are a number below 2^32, as it stands.
+fn read_caps(value: Value<'_>) -> Option<Caps>
+    ensures { option_map (λ caps. caps.0) result ≡ caps_of (Some (model_value value.entry)) }
+{
+    match value {
+        Value::Bare(text) => Some(Caps(u32::try_from(read_number(text)?).ok()?)),
+        Value::Quoted(_) => None,
+    }
+}
+
+/// A label is quoted, and has at most 64 bytes.
+fn read_label(value: Value<'_>) -> Option<&[u8]>
+    ensures { option_copied result ≡ label_of (Some (model_value value.entry)) }
+{
+    match value {
+        Value::Quoted(text) if text.len() <= LONGEST_LABEL => Some(text),
+        _ => None,
+    }
+}

@@ -1,0 +1,14 @@
+//! The texts of sessions: the arguments with which one is asked for, and the requests and replies of the services.
+#![tactic(auto)]
+
+mod args;
+mod buffer;
+mod log;
+mod pair;
+#[cfg(test)]
+mod tests;
+mod text;
+mod words;
+
+pub use args::SessionArgs;
+pub use log::{LogReply, LogRequest};

@@ -1,0 +1,66 @@
+//! The log service's requests and replies.
+ghost use Rattle.std.specs.Prelude.{◌≡◌, ◌+◌, ◌≤◌, ◌++◌, length, None, Some, IfSome, IfNone};
+ghost use Rattle.arrayvec.specs.ArrayVec.{array_vec_len};
+ghost use Rattle.own_model.specs.Text.{bytes_of_hex};
+ghost use Rattle.own_model.specs.LogText.{log_request};
+ghost use Rattle.session_proto.specs.Words.{bytes_in};
+ghost use Rattle.session_proto.specs.LogReply.{log_reply_text};
+
+use crate::buffer::{add, add_number};
+use crate::words::{hex_or_nothing, split_first_word};
+use arrayvec::ArrayVec;
+
+/// The most bytes of a request.
+pub(crate) const LONGEST_REQUEST: usize = 8192;
+
+/// A request: bytes that are to be written, as hexadecimal digits of either case, two a byte.
+#[derive(Clone, Copy)]
+pub struct LogRequest<'a> {
+    pub hex: &'a [u8],
+}
+
+impl<'a> LogRequest<'a> {
+    /// The request that a text is, or `None` where it is none.
+    pub fn read(text: &'a [u8]) -> Option<LogRequest<'a>>
+        ensures bytes { IfSome result (λ request. log_request text.now ≡ Some (bytes_in request.hex.now)) }
+        ensures hex { IfSome result (λ request. bytes_of_hex request.hex.now ≡ Some (bytes_in request.hex.now)) }
+        ensures none { IfNone result (log_request text.now ≡ None) }
+    {
+        if text.len() > LONGEST_REQUEST {
+            return None;
+        }
+        let (form, hex) = split_first_word(text);
+        if form == b"WRITE".as_slice() {
+            Some(LogRequest {
+                hex: hex_or_nothing(hex)?,
+            })
+        } else {
+            None
+        }
+    }
+}
+
+/// The reply to a request.
+#[derive(Clone, Copy)]
+pub enum LogReply {
+    /// So many bytes were written.
+    Wrote(u64),
+    /// The text wasn't a request.
+    BadRequest,
+}
+
+impl LogReply {
+    /// Appends the text of a reply.
+    pub fn write<const N: usize>(self, text: &mut ArrayVec<u8, N>)
+        requires { array_vec_len text.old + 24 ≤ N }
+        ensures { text.new.items ≡ text.old.items ++ log_reply_text self }
+    {
+        match self {
+            LogReply::Wrote(count) => {
+                add(text, b"OK ");
+                add_number(text, count);
+            }
+            LogReply::BadRequest => add(text, b"ERR BAD_REQUEST"),
+        }
+    }
+}
