@@ -10,6 +10,7 @@ use Rattle.own_model.specs.Region.{Region}
 use Rattle.own_model.specs.HeapWindow.{pages_of_all}
 use Rattle.own_model.proofs.NatMapLemmas.{same, natmaps, by_insertions, get-insert_same, get-insert_other, get-remove_other, value_at}
 use Rattle.own_model.proofs.Totals.{total-empty, total-insert_new, total-insert_same, total-remove, total_le, len-total}
+use Rattle.dataspace_core.specs.Share.{IsShown}
 use Rattle.dataspace_core.specs.Store.{Store, Space, Part, part, account_in, accounts_in, IsOpenIn, PartBecomes, ram_limits_in}
 
 -- the accounts after a call are those before, with the one that it is for as its part has it
@@ -31,13 +32,6 @@ limits_after account after old new a becomes is opens limit =
     ∙ total-insert_same (λ x. x.ram_limit) (accounts_in old) account a was.0 was.1 (limit ∙ ap (λ (x : Account). x.ram_limit) before)
 
 -- ---- a heap window shows no more than there is
-
--- a region shows the whole of a dataspace, which has a page at least
-pub record IsShown (spaces : NatMap Space) (region : Region) : Type 0 where
-  pub space : Space
-  pub there : get spaces region.of ≡ Some space
-  pub some : 1 ≤ region.pages
-  pub whole : length space.bytes ≡ region.pages * 4096
 
 -- regions that each show a dataspace of their own have no more pages than all dataspaces
 Held : NatMap Region → Type 0

@@ -1,9 +1,9 @@
 -- What one account has of a memory and of a heap window that several accounts use.
-use Rattle.std.specs.Prelude.{ℕ, Bool, List, Option, Some, None, is_some, if◌then◌else◌}
+use Rattle.std.specs.Prelude.{◌≡◌, ℕ, ◌*◌, ◌≤◌, List, length, Option, Some, None, is_some, if◌then◌else◌}
 use Rattle.std.specs.FinMap.{get, retain_keys}
 use Rattle.own_model.specs.NatMap.{NatMap, picked}
 use Rattle.own_model.specs.Region.{Region}
-use Rattle.dataspace_core.specs.Store.{Store, Part, part}
+use Rattle.dataspace_core.specs.Store.{Store, Space, Part, part}
 
 -- a region that shows one of these dataspaces
 abbrev pub shown : NatMap (List ℕ) → Region → Option Region
@@ -30,3 +30,10 @@ share_in part heap tags = record {
 -- the share of an account
 abbrev pub share : ℕ → Store → NatMap Region → NatMap ℕ → Share
 share account store heap tags = share_in (part account store) heap tags
+
+-- a region shows the whole of a dataspace, which has a page at least
+pub record IsShown (spaces : NatMap Space) (region : Region) : Type 0 where
+  pub space : Space
+  pub there : get spaces region.of ≡ Some space
+  pub some : 1 ≤ region.pages
+  pub whole : length space.bytes ≡ region.pages * 4096

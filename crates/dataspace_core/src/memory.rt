@@ -1,10 +1,11 @@
 //! Dataspaces over a pool of pages and the books of accounts.
-ghost use Rattle.std.specs.Prelude.{◌≡◌, ◌+◌, ◌%◌, ◌<◌, ◌≤◌, length, if◌then◌else◌, Some, None, IfOk, IfErr, IfSome, OnOk, OnErr, slice_range};
+ghost use Rattle.std.specs.Prelude.{◌≡◌, ◌+◌, ◌%◌, ◌^◌, ◌<◌, ◌≤◌, length, if◌then◌else◌, Some, None, IfOk, IfErr, IfSome, OnOk, OnErr, slice_range};
 ghost use Rattle.std.specs.Result.{result_err};
 ghost use Rattle.std.specs.FinMap.{get, len};
 ghost use Rattle.trade_base.specs.Page.{page_of};
 ghost use Rattle.trade_base.specs.Word.{word_of, word_bytes};
 ghost use Rattle.trade_base.specs.declared.refusal.Refusal.TheVariants.{OutOfCaps};
+ghost use Rattle.own_model.specs.NatMap.{total};
 ghost use Rattle.own_model.specs.Account.{shortage, charged, credited, WithinLimits};
 ghost use Rattle.own_model.specs.OwnStep.{alloc_refusal, is_valid_size};
 ghost use Rattle.dataspace_core.specs.Store.{fresh_store, accounts_in, root_in, room_in, places_in, IsOpenIn, account_in, with_account_in, with_child_in, ram_limits_in, caps_limits_in};
@@ -95,10 +96,14 @@ impl Memory {
             PartBecomes account.0 (part_with_space (part account.0 self.old) ds.0 bytes) self.old self.new) }
         ensures err { OnErr result (self.new ≡ self.old) }
         ensures paid { IfOk result (λ _. len (part account.0 self.new).spaces ≤ (account_in self.new account.0).caps_used) }
+        ensures key { IfOk result (λ ds. ds.0 + 1 < 2 ^ 64) }
+        ensures within { IfOk result (λ _. total (λ space. length space.bytes) self.new.spaces ≤ ram_limits_in self.new) }
     {
         let size = valid_size(bytes).ok_or(Refusal::InvalidSize)?;
         self.books.charge(account, Ram(size), Caps(1))?;
         let run = take_run(&mut self.pool, &mut self.table, (size / PAGE) as usize);
+        // Keys are below the capacity, so each has a number after it.
+        let _capacity = self.spaces.capacity();
         let key = self.spaces.insert_reserved(Dataspace {
             payer: account,
             run,

@@ -10,13 +10,14 @@ use Rattle.std.specs.FinMap.{get, insert, remove, get-retain_keys, nat_cmp-IsAnt
 use Rattle.own_model.specs.NatMap.{NatMap, picked}
 use Rattle.own_model.specs.Region.{Region}
 use Rattle.own_model.specs.Moved.{moved_up}
+use Rattle.own_model.specs.Sliced.{sliced_header as header}
 use Rattle.own_model.proofs.NatMapLemmas.{same, natmaps, get-picked, get-insert_same, get-insert_other, get-remove_same, get-remove_other}
 use Rattle.own_model.proofs.MovedLemmas.{moved_up-insert, moved_up-remove}
 use Rattle.dataspace_core.specs.Store.{Part, bytes_of}
 use Rattle.dataspace_core.specs.Share.{Share}
 use Rattle.sliced_heap.specs.Chain.{link_to, is_listed, taken_out, IsChain}
-use Rattle.sliced_heap.specs.Sliced.{sliced_tag, header, is_sliced_tag, sliced_regions, payload_of, sliced_of, word_at, next_in, previous_in, start_in, Stands, IsLinked, HeadersChange, PutFirst, TakenOut}
-use Rattle.sliced_heap.proofs.ChainLemmas.{chain_pushed, linked_without, once_without, listed_before, still_listed, gone_from}
+use Rattle.sliced_heap.specs.Sliced.{sliced_tag, is_sliced_tag, sliced_regions, payload_of, sliced_of, word_at, next_in, previous_in, start_in, HasHeader, Stands, IsLinked, HeadersChange, PutFirst, TakenOut}
+use Rattle.sliced_heap.proofs.ChainLemmas.{linked_kept, chain_pushed, linked_without, once_without, listed_before, still_listed, gone_from}
 use Rattle.sliced_heap.proofs.HeaderLemmas.{length_some}
 
 -- a region of a sliced block
@@ -50,13 +51,71 @@ pub sliced_alike : (heap kept : NatMap Region) (tags numbers : NatMap ℕ) (s : 
 sliced_alike heap kept tags numbers s e t =
     get-sliced_regions heap tags s ∙ ap (λ o. cond (is_sliced_tag o) (get heap s) None) t ∙ ap (λ o. cond (is_sliced_tag (get numbers s)) o None) e ∙ sym (get-sliced_regions kept numbers s)
 
+-- a share whose part has another dataspace, which no block is, has the same blocks
+module _ (S : Share) (first ds : ℕ) (new : Part) (linked : IsLinked S first) (fresh : get S.part.spaces ds ≡ None) (others : (k : ℕ) → k ≢ ds → get new.spaces k ≡ get S.part.spaces k) where
+  -- the share then
+  abbrev pub grown : Share
+  grown = record { part = new; heap = S.heap; tags = S.tags }
+
+  -- a block is another dataspace
+  other_than : (b : ℕ) → is_listed linked.blocks b ≡ true → b ≢ ds
+  other_than b t e = true≢false (sym t ∙ ap (is_listed linked.blocks) e ∙ not_listed_free S first ds linked fresh)
+
+  pub grown_linked : IsLinked grown first
+  grown_linked = record {
+    blocks = linked.blocks;
+    chain = record {
+      linked = linked_kept (next_in S.part) (previous_in S.part) (next_in new) (previous_in new) linked.blocks 0 first
+        (λ b t. word_same S.part new 0 b (others b (other_than b t))) (λ b t. word_same S.part new 8 b (others b (other_than b t))) linked.chain.linked;
+      once = linked.chain.once;
+    };
+    stands = λ b t.
+        let s = linked.stands b t in
+        let at = word_same S.part new 16 b (others b (other_than b t)) in
+        record {
+          bytes = s.bytes; pages = s.pages; there = others b (other_than b t) ∙ s.there; some = s.some; whole = s.whole;
+          region = ap (get S.heap) at ∙ s.region; tag = ap (get S.tags) at ∙ s.tag;
+        };
+    all = λ s r h. let was = linked.all s r h in (was.0, word_same S.part new 16 r.of (others r.of (other_than r.of was.0)) ∙ was.1);
+  }
+
+  -- and the same payloads
+  grown_payload : (o : Option Region) → ((r : Region) → o ≡ Some r → r.of ≢ ds) → option_and_then (payload_of new.spaces) o ≡ option_and_then (payload_of S.part.spaces) o
+  grown_payload None beside = refl
+  grown_payload (Some r) beside = ap (option_map (drop header)) (others r.of (beside r refl))
+
+  pub grown_payloads : sliced_of grown ≡ sliced_of S
+  unfolding sliced_of
+  grown_payloads = ap (moved_up header) (same _ _ (λ s.
+      get-picked (payload_of new.spaces) _ s
+      ∙ grown_payload (get (sliced_regions S.heap S.tags) s) (λ r h. other_than r.of (linked.all s r h).0)
+      ∙ sym (get-picked (payload_of S.part.spaces) _ s)))
+
+-- the block to which the first link leads is listed
+pub first_is_listed : (next previous : ℕ → ℕ) (first b : ℕ) (blocks : List ℕ) → IsChain next previous first blocks → first ≡ link_to b → is_listed blocks b ≡ true
+first_is_listed next previous first b [] chain is = let none = chain.linked in absurd (true≢false (grind (arith, nat_tests)))
+first_is_listed next previous first b (x ∷ xs) chain is = let leads = chain.linked.0 in grind (arith, nat_tests)
+
+-- a block that stands has room for a header
+pub stands_header : (S : Share) (ds : ℕ) → Stands S ds → HasHeader S.part ds
+stands_header S ds s = record { bytes = s.bytes; there = s.there; long = let w = s.whole in let n = s.some in omega (arith, w, n) }
+
+-- a block is a listed one where a region of a sliced block is of it
+pub no_block_unlisted : (S : Share) (first : ℕ) (linked : IsLinked S first) (k : ℕ) → ((s : ℕ) (r : Region) → get (sliced_regions S.heap S.tags) s ≡ Some r → r.of ≢ k) → is_listed linked.blocks k ≡ false
+no_block_unlisted S first linked k none =
+    elim (is_listed linked.blocks k) as (λ b. is_listed linked.blocks k ≡ b → b ≡ false) [
+      | true ↦ λ t.
+          let s = linked.stands k t in
+          absurd (none (start_in S.part k) (record { of = k; pages = s.pages }) (get-sliced_regions S.heap S.tags _ ∙ ap (λ o. cond (is_sliced_tag o) (get S.heap (start_in S.part k)) None) s.tag ∙ s.region) refl)
+      | false ↦ λ t. refl
+    ] refl
+
 -- ---- a block is put first
 
-module _ (S : Share) (first ds start pages : ℕ) (new q : Part) (bytes : List ℕ) (linked : IsLinked S first)
-    (fresh : get S.part.spaces ds ≡ None) (free : get S.heap start ≡ None)
-    (there : get new.spaces ds ≡ Some bytes) (others : (k : ℕ) → k ≢ ds → get new.spaces k ≡ get S.part.spaces k)
+module _ (S : Share) (first ds start pages : ℕ) (q : Part) (bytes : List ℕ) (linked : IsLinked S first)
+    (unlisted : is_listed linked.blocks ds ≡ false) (free : get S.heap start ≡ None) (there : get S.part.spaces ds ≡ Some bytes)
     (some : 1 ≤ pages) (whole : length bytes ≡ pages * 4096)
-    (blocks : List ℕ) (headers : HeadersChange blocks new q) (put : PutFirst first ds start new q) where
+    (blocks : List ℕ) (headers : HeadersChange blocks S.part q) (put : PutFirst first ds start S.part q) where
   -- the share then
   abbrev pub after_put : Share
   after_put = record { part = q; heap = insert S.heap start (record { of = ds; pages = pages }); tags = insert S.tags start sliced_tag }
@@ -67,7 +126,7 @@ module _ (S : Share) (first ds start pages : ℕ) (new q : Part) (bytes : List �
 
   -- listed blocks are others
   apart : (b : ℕ) → is_listed linked.blocks b ≡ true → b ≢ ds
-  apart b t e = true≢false (sym t ∙ ap (is_listed linked.blocks) e ∙ not_listed_free S first ds linked fresh)
+  apart b t e = true≢false (sym t ∙ ap (is_listed linked.blocks) e ∙ unlisted)
 
   -- the new block stands
   first_stands : Stands after_put ds
@@ -88,9 +147,9 @@ module _ (S : Share) (first ds start pages : ℕ) (new q : Part) (bytes : List �
   others_stand b t =
       let s = linked.stands b t in
       let other = apart b t in
-      let at : start_in q b ≡ start_in S.part b = put.others_start b other ∙ word_same S.part new 16 b (others b other) in
+      let at : start_in q b ≡ start_in S.part b = put.others_start b other in
       let place : start_in q b ≢ start = λ e. elsewhere _ _ s.region (sym at ∙ e) in
-      let found = length_some (get q.spaces b) (length s.bytes) (headers.lengths b ∙ ap (option_map length) (others b other ∙ s.there)) in
+      let found = length_some (get q.spaces b) (length s.bytes) (headers.lengths b ∙ ap (option_map length) s.there) in
       record {
         bytes = found.0;
         pages = s.pages;
@@ -106,9 +165,9 @@ module _ (S : Share) (first ds start pages : ℕ) (new q : Part) (bytes : List �
   put_linked = record {
     blocks = ds ∷ linked.blocks;
     chain = chain_pushed (next_in S.part) (previous_in S.part) (next_in q) (previous_in q) first ds linked.blocks
-      (not_listed_free S first ds linked fresh) put.leads put.begins
-      (λ b t. put.others_next b (apart b t) ∙ word_same S.part new 0 b (others b (apart b t)))
-      (λ b t. put.others_previous b (apart b t) ∙ ap (cond (eqb (link_to b) first) (link_to ds)) (word_same S.part new 8 b (others b (apart b t))))
+      unlisted put.leads put.begins
+      (λ b t. put.others_next b (apart b t))
+      (λ b t. put.others_previous b (apart b t))
       linked.chain;
     stands = λ b t. ⊎_elim
       (λ (same_block : b ≡ ds). subst (Stands after_put) (sym same_block) first_stands)
@@ -122,14 +181,14 @@ module _ (S : Share) (first ds start pages : ℕ) (new q : Part) (bytes : List �
       (λ (other : s ≢ start).
           let was = linked.all s r (sym (sliced_alike _ S.heap _ S.tags s (get-insert_other S.heap start _ s other) (get-insert_other S.tags start _ s other)) ∙ h) in
           let beside = apart r.of was.0 in
-          (let t = was.0 in grind (arith, nat_tests), put.others_start r.of beside ∙ word_same S.part new 16 r.of (others r.of beside) ∙ was.1))
+          (let t = was.0 in grind (arith, nat_tests), put.others_start r.of beside ∙ was.1))
       (cases_eq s start);
   }
 
   -- the payload of a region is what it was
-  each_payload : (o : Option Region) → ((r : Region) → o ≡ Some r → r.of ≢ ds) → option_and_then (payload_of q.spaces) o ≡ option_and_then (payload_of S.part.spaces) o
-  each_payload None beside = refl
-  each_payload (Some r) beside = headers.payloads r.of ∙ ap (option_map (drop header)) (others r.of (beside r refl))
+  each_payload : (o : Option Region) → option_and_then (payload_of q.spaces) o ≡ option_and_then (payload_of S.part.spaces) o
+  each_payload None = refl
+  each_payload (Some r) = headers.payloads r.of
 
   -- each payload is what it was, but for the new one
   payload_at : (s : ℕ) → get (picked (payload_of q.spaces) (sliced_regions (insert S.heap start (record { of = ds; pages = pages })) (insert S.tags start sliced_tag))) s ≡ get (insert (picked (payload_of S.part.spaces) (sliced_regions S.heap S.tags)) start (drop header bytes)) s
@@ -142,7 +201,7 @@ module _ (S : Share) (first ds start pages : ℕ) (new q : Part) (bytes : List �
       (λ (other : s ≢ start).
           get-picked (payload_of q.spaces) _ s
           ∙ ap (option_and_then (payload_of q.spaces)) (sliced_alike _ S.heap _ S.tags s (get-insert_other S.heap start _ s other) (get-insert_other S.tags start _ s other))
-          ∙ each_payload (get (sliced_regions S.heap S.tags) s) (λ r h. apart r.of (linked.all s r h).0)
+          ∙ each_payload (get (sliced_regions S.heap S.tags) s)
           ∙ sym (get-picked (payload_of S.part.spaces) _ s)
           ∙ sym (get-insert_other _ start (drop header bytes) s other))
       (cases_eq s start)

@@ -6,6 +6,7 @@ use Rattle.trade_base.specs.Word.{word_of}
 use Rattle.own_model.specs.NatMap.{NatMap, picked}
 use Rattle.own_model.specs.Moved.{moved_up}
 use Rattle.own_model.specs.Region.{Region}
+use Rattle.own_model.specs.Sliced.{sliced_header as header}
 use Rattle.dataspace_core.specs.Store.{Part, bytes_of}
 use Rattle.dataspace_core.specs.Share.{Share}
 use Rattle.sliced_heap.specs.Chain.{link_to, is_listed, IsChain}
@@ -13,10 +14,6 @@ use Rattle.sliced_heap.specs.Chain.{link_to, is_listed, IsChain}
 -- the number that the region of a sliced block keeps
 abbrev pub sliced_tag : ℕ
 sliced_tag = 0xffffffffffffffff
-
--- the bytes of a header
-abbrev pub header : ℕ
-header = 32
 
 -- whether this is the number that a sliced block's region keeps
 abbrev pub is_sliced_tag : Option ℕ → Bool

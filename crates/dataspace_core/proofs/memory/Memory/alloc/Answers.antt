@@ -61,3 +61,17 @@ returns-clause-part c =
 
 pub returns-clause-paid : goal.returns-clause-paid
 returns-clause-paid c = spaces_paid (invariant_of-self-2 c) c.args.account.0
+
+pub returns-clause-key : goal.returns-clause-key
+returns-clause-key c =
+    let range = c.insert_reserved-key.ensures.key_in_range in
+    let same = c.insert_reserved-key.ensures.capacity in
+    let capacity = c.capacity-capacity.ensures.value in
+    omega (arith, range, same, capacity)
+
+pub returns-clause-within : goal.returns-clause-within
+returns-clause-within c =
+    let paid = (invariant_of-self-2 c).paid in
+    let backed = paid.backed in
+    let limits = paid.ram_limits in
+    omega (arith, backed, limits)
