@@ -10,7 +10,7 @@ use Rattle.slab.specs.Slab.{Slab}
 use Rattle.trade_base.specs.declared.refusal.Refusal.{Refusal}
 use Rattle.trade_base.specs.declared.refusal.Refusal.TheVariants.{OutOfCaps}
 use Rattle.own_model.specs.Account.{Account, shortage, charged, credited, opened}
-use Rattle.own_model.proofs.NatMapLemmas.{IsSome-insert}
+use Rattle.own_model.proofs.NatMapLemmas.{IsSome-insert, after_insert}
 use Rattle.own_model.proofs.Totals.{len-total, total_same, total-picked, total-insert_same, owed-total, owed_nothing}
 use Rattle.own_model.proofs.StepLemmas.{covers, short_of_caps}
 use Rattle.quota_core.specs.Books.{Books, IsOpen, account_at, with_account}
@@ -19,7 +19,7 @@ use Rattle.dataspace_core.specs.Store.{Store, part, bytes_paid_by, with_account_
 use Rattle.dataspace_core.specs.Layout.{store_of}
 use Rattle.dataspace_core.specs.Paid.{IsPaid, IsSound, payer_of, caps_owed}
 use Rattle.dataspace_core.specs.declared.dataspace.Dataspace.{Dataspace}
-use Rattle.dataspace_core.proofs.PaidLemmas.{after_insert, payer_apart}
+use Rattle.dataspace_core.proofs.PaidLemmas.{payer_apart}
 use Rattle.dataspace_core.proofs.PartLemmas.{becomes-with_account}
 use Rattle.dataspace_core.proofs.MemoryLemmas.{same_store}
 

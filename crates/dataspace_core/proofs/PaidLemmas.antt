@@ -9,23 +9,14 @@ use Rattle.std.specs.FinMap.{get, insert, remove, empty, len, len-empty}
 use Rattle.own_model.specs.NatMap.{NatMap, total, owed}
 use Rattle.own_model.specs.Account.{Account, Fits, charged, credited, opened, parted_with}
 use Rattle.own_model.specs.OwnState.{zeros}
-use Rattle.own_model.proofs.NatMapLemmas.{get-empty, get-insert_same, get-insert_other, IsSome-insert_same, IsSome-insert, apart_from_free, before_remove, by_insertions}
+use Rattle.own_model.proofs.NatMapLemmas.{get-empty, get-insert_same, get-insert_other, IsSome-insert_same, IsSome-insert, after_insert, apart_from_free, before_remove, by_insertions}
 use Rattle.own_model.proofs.UseLemmas.{length-zeros}
 use Rattle.own_model.proofs.Totals.{total-empty, total-insert_new, total-insert_same, total-remove, total_spare, total_le, len-insert_new, len-total, owed-empty, owed-insert_new, owed-insert_same, owed-remove, owed_nothing, owed_at_le, total_owed_le, total-owed, total_at_le}
 use Rattle.quota_core.specs.Books.{Books, account_at, with_child, ram_limits, caps_limits}
 use Rattle.dataspace_core.specs.Store.{Store, Space, fresh_store, IsOpenIn, account_in, places_in, ram_limits_in, caps_limits_in}
 use Rattle.dataspace_core.specs.Paid.{IsPaid, size_of, payer_of, ram_owed, caps_owed}
 
--- ---- a map after a change
-
-module _ {X : Type 0} where
-  -- what a map has after an insertion is the new value, or was there before
-  pub after_insert : (m : NatMap X) (k : ℕ) (v : X) (q : ℕ) (w : X) → get (insert m k v) q ≡ Some w → ((q ≡ k) × (w ≡ v)) ⊎ ((q ≢ k) × (get m q ≡ Some w))
-  after_insert m k v q w there =
-      elim (cases_eq q k) [
-        | inl here ↦ inl (here, same_Some w v (sym there ∙ get-insert_same m k v q here))
-        | inr apart ↦ inr (apart, sym (get-insert_other m k v q apart) ∙ there)
-      ]
+-- ---- how many pages there are dataspaces for
 
 -- a page for each value
 total-page : {X : Type 0} (m : NatMap X) → total (λ _. 4096) m ≡ len m * 4096

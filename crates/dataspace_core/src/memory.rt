@@ -2,12 +2,11 @@
 ghost use Rattle.std.specs.Prelude.{◌≡◌, ◌+◌, ◌%◌, ◌^◌, ◌<◌, ◌≤◌, length, if◌then◌else◌, Some, None, IfOk, IfErr, IfSome, OnOk, OnErr, slice_range};
 ghost use Rattle.std.specs.Result.{result_err};
 ghost use Rattle.std.specs.FinMap.{get, len};
-ghost use Rattle.trade_base.specs.Page.{page_of};
+ghost use Rattle.trade_base.specs.Page.{is_valid_size, page_of};
 ghost use Rattle.trade_base.specs.Word.{word_of, word_bytes};
 ghost use Rattle.trade_base.specs.declared.refusal.Refusal.TheVariants.{OutOfCaps};
 ghost use Rattle.own_model.specs.NatMap.{total};
-ghost use Rattle.own_model.specs.Account.{shortage, charged, credited, WithinLimits};
-ghost use Rattle.own_model.specs.OwnStep.{alloc_refusal, is_valid_size};
+ghost use Rattle.own_model.specs.Account.{alloc_refusal, shortage, charged, credited, WithinLimits};
 ghost use Rattle.dataspace_core.specs.Store.{fresh_store, accounts_in, root_in, room_in, places_in, IsOpenIn, account_in, with_account_in, with_child_in, ram_limits_in, caps_limits_in};
 ghost use Rattle.dataspace_core.specs.Store.{Exists, space_at, with_space, without_space, with_bytes_at};
 ghost use Rattle.dataspace_core.specs.Store.{part, PartBecomes, OpensPart, part_with_space, part_without_space, part_with_bytes, charged_part, credited_part};
@@ -54,7 +53,7 @@ impl Model for Memory {
 
 impl Memory {
     /// A memory of so many pages with one account, the root, which has all RAM and all capabilities, and places for
-    /// `accounts` accounts in all. All tables are made here: no later call takes memory of the host.
+    /// `accounts` accounts in all, or more. All tables are made here: no later call takes memory of the host.
     ///
     /// It fails where the host has no memory for them.
     pub fn boot(
@@ -66,8 +65,9 @@ impl Memory {
         requires pages { pages ≤ 4096 }
         requires some { 1 ≤ accounts }
         requires few { accounts ≤ 4096 }
-        ensures { IfOk result (λ memory.
-            memory ≡ fresh_store (root_in memory) pages caps.0 accounts (places_in memory)) }
+        ensures fresh { IfOk result (λ memory.
+            memory ≡ fresh_store (root_in memory) pages caps.0 (room_in memory + 1) (places_in memory)) }
+        ensures places { IfOk result (λ memory. accounts ≤ room_in memory + 1) }
     {
         let pool = Pool::boot(alloc, pages)?;
         let books = Books::boot(alloc, Ram(pages as u64 * PAGE), caps, accounts)?;

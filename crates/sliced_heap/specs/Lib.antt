@@ -1,3 +1,2 @@
 pub mod Chain
 pub mod Sliced
-pub mod Heap
