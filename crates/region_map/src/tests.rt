@@ -1,5 +1,7 @@
 //! Worked examples at the largest sizes, and that calls succeed where there is memory.
-ghost use Rattle.std.specs.Prelude.{◌≡◌, ◌≤◌};
+ghost use Rattle.std.specs.Prelude.{◌≡◌, ℕ, ◌+◌, ◌<◌, ◌≤◌, IsSome};
+ghost use Rattle.std.specs.FinMap.{get, len};
+ghost use Rattle.own_model.specs.HeapWindow.{pages_of_all};
 
 use super::RegionMap;
 use std::alloc::Global;
@@ -28,9 +30,38 @@ fn attach_at(map: &mut RegionMap, ds: DsId, pages: u64, address: u64) -> Result<
     map.attach_at(ds, pages, address)
 }
 
+/// A block attached, after which it is known how many there are and of how many pages, so another may follow.
+fn attach_block(map: &mut RegionMap, ds: DsId, pages: u64, tag: u64) -> u64
+    requires some { 1 ≤ pages }
+    requires room { len map.old.heap < map.old.heap_most }
+    requires fits { pages_of_all map.old.heap + pages ≤ map.old.pages }
+    ensures count { len map.new.heap ≡ len map.old.heap + 1 }
+    ensures used { pages_of_all map.new.heap ≡ pages_of_all map.old.heap + pages }
+    ensures most { map.new.heap_most ≡ map.old.heap_most }
+    ensures pages { map.new.pages ≡ map.old.pages }
+    ensures there { IsSome (get map.new.heap result) }
+    ensures kept { (start : ℕ) → IsSome (get map.old.heap start) → IsSome (get map.new.heap start) }
+{
+    map.attach_block(ds, pages, tag)
+}
+
+/// A block detached, after which there are no more than before.
+fn detach_block(map: &mut RegionMap, address: u64)
+    requires { IsSome (get map.old.heap address) }
+    ensures count { len map.new.heap ≤ len map.old.heap }
+    ensures used { pages_of_all map.new.heap ≤ pages_of_all map.old.heap }
+    ensures most { map.new.heap_most ≡ map.old.heap_most }
+    ensures pages { map.new.pages ≡ map.old.pages }
+{
+    map.detach_heap(address);
+}
+
 /// A map of 128 regions on a machine of 64 pages.
 fn booted(rt: &impl Abort, alloc: Global) -> RegionMap
-    ensures { result.pages ≡ 64 }
+    ensures pages { result.pages ≡ 64 }
+    ensures count { len result.heap ≡ 0 }
+    ensures used { pages_of_all result.heap ≡ 0 }
+    ensures most { result.heap_most ≡ 64 }
 {
     RegionMap::boot(alloc, 128, 64, 64).expect(rt, "memory for 128 regions")
 }
@@ -100,37 +131,32 @@ fn boots_at_the_largest_sizes(rt: HostRuntime) {
         &rt,
         "memory for 8192 regions",
     );
-    assert_eq!(rt; map.attach_block(FIRST, 4096, 7), 0x1_0000_0000);
-    assert_eq!(rt;
-        map.heap_region(0x1_00ff_ffff),
-        Some((0x1_0000_0000, FIRST, 7))
-    );
-    assert_eq!(rt; map.heap_region(0x1_0100_0000), None);
+    assert_eq!(rt; attach(&mut map, FIRST, 4096), Ok(0x1000_0000));
+    assert_eq!(rt; map.heap_region(0x1_0000_0000), None);
 }
 
 #[test]
 fn lowest_heap_gap_is_taken_again(rt: HostRuntime) {
     let mut map = booted(&rt, rt.alloc());
-    let one = map.attach_block(FIRST, 1, 10);
-    let two = map.attach_block(SECOND, 2, 20);
-    let three = map.attach_heap(FIRST, 1);
-    assert_eq!(rt;
-        (one, two, three),
-        (0x1_0000_0000, 0x1_0000_1000, 0x1_0000_3000)
-    );
-    map.detach_heap(two);
+    let one = attach_block(&mut map, FIRST, 1, 10);
+    let two = attach_block(&mut map, SECOND, 2, 20);
+    let three = attach_block(&mut map, FIRST, 1, 30);
+    assert_eq!(rt; one, 0x1_0000_0000);
+    assert_eq!(rt; three, 0x1_0000_3000);
+    detach_block(&mut map, two);
     assert_eq!(rt; map.heap_region(0x1_0000_1000), None);
-    assert_eq!(rt; map.attach_block(SECOND, 3, 30), 0x1_0000_4000);
-    assert_eq!(rt; map.attach_block(SECOND, 1, 40), 0x1_0000_1000);
+    assert_eq!(rt; attach_block(&mut map, SECOND, 3, 40), 0x1_0000_4000);
+    assert_eq!(rt; attach_block(&mut map, SECOND, 1, 50), 0x1_0000_1000);
     assert_eq!(rt;
         map.heap_region(0x1_0000_1fff),
-        Some((0x1_0000_1000, SECOND, 40))
+        Some((0x1_0000_1000, SECOND, 50))
     );
     assert_eq!(rt;
         map.heap_region(0x1_0000_3000),
-        Some((0x1_0000_3000, FIRST, 0))
+        Some((0x1_0000_3000, FIRST, 30))
     );
     assert_eq!(rt; map.resolve(0x1_0000_4010, 0x2ff0), Some((SECOND, 0x10)));
     assert_eq!(rt; map.resolve(0x1_0000_4010, 0x2ff1), None);
     assert_eq!(rt; map.resolve_user(0x1_0000_4010, 1), None);
+    assert_eq!(rt; map.attach_heap(FIRST, 2), 0x1_0000_7000);
 }
