@@ -182,10 +182,6 @@ module _ {X Y : Type 0} where
       map.get-from_entries nat_cmp_total (filter_map (entry_of f) (entries m)) q
       ∙ find-filter_map f q (entries m) (entries_sorted m) ∙ ap (option_and_then f) (sym (get-entries m q))
 
-  -- what is picked is f of what the map has
-  pub picked_from : (f : X → Option Y) (m : NatMap X) (q : ℕ) (y : Y) → get (picked f m) q ≡ Some y → (v : X) × (get m q ≡ Some v) × (f v ≡ Some y)
-  picked_from f m q y there = and_then_from f (get m q) y (sym (get-picked f m q) ∙ there)
-
   -- functions that agree on what an option has answer alike for it
   pub and_then_alike : (f g : X → Option Y) (o : Option X) → ((x : X) → o ≡ Some x → f x ≡ g x) → option_and_then f o ≡ option_and_then g o
   and_then_alike f g None alike = refl

@@ -80,12 +80,6 @@ with_part-within bytes offset part fits =
     let test : nat_le (offset + length part) (length bytes) ≡ true = grind (arith, nat_tests) in
     rw test
 
--- a byte is two hex digits
-pub length-hex_text : (bytes : List ℕ) → length (hex_text bytes) ≡ length bytes * 2
-unfolding hex_text
-length-hex_text [] = refl
-length-hex_text (b ∷ bs) = omega (arith, length-hex_text bs)
-
 -- ---- what was put is read back
 
 -- a part that fits within bytes stands where it was put

@@ -229,10 +229,6 @@ sound_attached selector address bytes s there can room h =
 
 -- ---- sliced blocks
 
--- a block of whole pages is as many as its bytes
-whole_block : (size pages : ℕ) → size ≡ pages * 4096 → size ≡ page_of size / 4096 * 4096
-whole_block size pages e = omega arith
-
 -- as many bytes as page rounding gives are whole pages
 whole_new : (n : ℕ) → sliced_size n ≡ page_of (sliced_size n) / 4096 * 4096
 whole_new n = omega arith

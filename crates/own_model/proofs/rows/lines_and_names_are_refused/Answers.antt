@@ -10,3 +10,6 @@ returns-clause-forms c = refl
 
 pub returns-clause-sizes : goal.returns-clause-sizes
 returns-clause-sizes c = refl
+
+pub returns-clause-blocks : goal.returns-clause-blocks
+returns-clause-blocks c = refl
