@@ -1,5 +1,4 @@
 -- A store in the block after, and one in the block before, change headers alone.
-use Rattle.sliced_heap.proofs.LinkedLemmas.{put_linked, put_payloads, out_linked, out_payloads, grown_linked, grown_payloads, first_is_listed, stands_header, no_block_unlisted}
 use Rattle.std.proofs.Common.{◌≡◌, ℕ, List, []}
 use Rattle.sliced_heap.proofs.HeaderLemmas.{headers_then, has_header_still}
 use Rattle.sliced_heap.proofs.LinkLemmas.{of_link}
