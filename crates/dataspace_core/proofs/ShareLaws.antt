@@ -34,7 +34,7 @@ pub shown_alike : (p q : NatMap (List ℕ)) (heap : NatMap Region) → ((k : ℕ
 shown_alike p q heap alike = same _ _ (λ s. get-picked (shown q) heap s ∙ each_shown p q (get heap s) (λ r there. alike r.of) ∙ sym (get-picked (shown p) heap s))
 
 -- what is shown at a place where nothing is
-nothing_shown : (spaces : NatMap (List ℕ)) (heap : NatMap Region) (start : ℕ) → get heap start ≡ None → get (picked (shown spaces) heap) start ≡ None
+pub nothing_shown : (spaces : NatMap (List ℕ)) (heap : NatMap Region) (start : ℕ) → get heap start ≡ None → get (picked (shown spaces) heap) start ≡ None
 nothing_shown spaces heap start free = get-picked (shown spaces) heap start ∙ ap (option_and_then (shown spaces)) free
 
 module _ (heap : NatMap Region) (tags : NatMap ℕ) (start : ℕ) (region : Region) (tag : ℕ) (free : get heap start ≡ None) where

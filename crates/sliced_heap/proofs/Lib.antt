@@ -2,3 +2,5 @@ pub mod ChainLemmas
 pub mod HeaderLemmas
 pub mod LinkLemmas
 pub mod LinkedLemmas
+pub mod WindowLemmas
+pub mod EnterLemmas

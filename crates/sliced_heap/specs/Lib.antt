@@ -1,2 +1,3 @@
 pub mod Chain
 pub mod Sliced
+pub mod Heap

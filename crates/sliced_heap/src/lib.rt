@@ -4,4 +4,7 @@
 #![tactic(auto)]
 
 mod header;
+mod heap;
 mod links;
+
+pub use heap::SlicedHeap;

@@ -1,0 +1,97 @@
+-- What the calls of a sliced heap take, give back and keep.
+use Rattle.std.specs.Prelude.{◌≡◌, ◌≢◌, ℕ, ◌+◌, ◌-◌, ◌*◌, ◌/◌, ◌≤◌, ◌<◌, List, Some, None, length, drop}
+use Rattle.std.specs.FinMap.{get, insert, remove, len}
+use Rattle.own_model.specs.Account.{charged, credited}
+use Rattle.own_model.specs.HeapWindow.{heap_gap, pages_of_all}
+use Rattle.own_model.specs.NatMap.{NatMap}
+use Rattle.own_model.specs.OwnState.{zeros}
+use Rattle.own_model.specs.Region.{Region}
+use Rattle.own_model.specs.Sliced.{sliced_header as header, sliced_size, block_size, block_pages}
+use Rattle.region_map.specs.Regions.{Regions, heap_attached, heap_detached}
+use Rattle.dataspace_core.specs.Store.{Store, Part, part, bytes_of, account_in, root_in, IsOpenIn, ram_limits_in}
+use Rattle.dataspace_core.specs.Share.{Share, share, IsShown}
+use Rattle.sliced_heap.specs.declared.heap.SlicedHeap.{SlicedHeap}
+use Rattle.sliced_heap.specs.Sliced.{sliced_tag, sliced_regions, sliced_of, IsLinked}
+
+-- the key of the account for which a heap takes its blocks
+abbrev pub payer_of : SlicedHeap → ℕ
+payer_of heap = heap.account.0
+
+-- the share of an account in a memory and a map
+abbrev pub share_at : ℕ → Store → Regions → Share
+share_at account store regions = share account store regions.heap regions.tags
+
+-- the blocks of an account: their payloads by the addresses where these start
+abbrev pub blocks_at : ℕ → Store → Regions → NatMap (List ℕ)
+blocks_at account store regions = sliced_of (share_at account store regions)
+
+-- the map is as large as the machine, and each heap region in it shows the whole of a dataspace of its own
+pub record MapsMemory (store : Store) (regions : Regions) : Type 0 where
+  pub pages : regions.pages * 4096 ≡ ram_limits_in store
+  pub most : regions.heap_most ≡ regions.pages
+  pub shown : (s : ℕ) (r : Region) → get regions.heap s ≡ Some r → IsShown store.spaces r
+  pub once : (s t : ℕ) (r q : Region) → get regions.heap s ≡ Some r → get regions.heap t ≡ Some q → r.of ≡ q.of → s ≡ t
+
+-- what is true of a heap between calls: its account is open, the map is one of the memory, and its blocks are linked
+pub record IsSound (heap : SlicedHeap) (store : Store) (regions : Regions) : Type 0 where
+  pub opens : IsOpenIn store (payer_of heap)
+  pub maps : MapsMemory store regions
+  pub linked : IsLinked (share_at (payer_of heap) store regions) heap.first
+
+-- a dataspace is none of an account's blocks
+abbrev pub IsNoBlock : Share → ℕ → Type 0
+IsNoBlock share ds = (s : ℕ) (r : Region) → get (sliced_regions share.heap share.tags) s ≡ Some r → r.of ≢ ds
+
+-- what a call for an account leaves as it was: every other account's share, the root's key, and what of the map is no heap region
+pub record KeepsOthers (account : ℕ) (old new : Store) (regions after : Regions) : Type 0 where
+  pub shares : (other : ℕ) → other ≢ account → share_at other new after ≡ share_at other old regions
+  pub root : root_in new ≡ root_in old
+  pub rest : after ≡ record regions { heap = after.heap; tags = after.tags }
+
+-- a dataspace is entered as the first block, at the first gap of the heap window
+pub record Enters (account ds pages address : ℕ) (old new : Store) (regions after : Regions) : Type 0 where
+  pub start : ℕ
+  pub at : address ≡ start + header
+  pub gap : heap_gap regions.pages regions.heap pages ≡ Some start
+  pub attached : after ≡ heap_attached regions ds pages sliced_tag start
+  pub charge : (part account new).account ≡ (part account old).account
+  pub blocks : blocks_at account new after ≡ insert (blocks_at account old regions) address (drop header (bytes_of (part account old) ds))
+  pub dataspaces : (k : ℕ) → k ≢ ds → IsNoBlock (share_at account old regions) k → get (part account new).spaces k ≡ get (part account old).spaces k
+  pub count : len (part account new).spaces ≡ len (part account old).spaces
+
+-- a dataspace of the account that can be entered: no region shows it, and there is room for one of as many pages
+pub record CanEnter (account ds pages : ℕ) (store : Store) (regions : Regions) : Type 0 where
+  pub bytes : List ℕ
+  pub there : get (part account store).spaces ds ≡ Some bytes
+  pub some : 1 ≤ pages
+  pub whole : length bytes ≡ pages * 4096
+  pub unshown : (s : ℕ) (r : Region) → get regions.heap s ≡ Some r → r.of ≢ ds
+  pub room : len regions.heap < regions.heap_most
+  pub fits : pages_of_all regions.heap + pages ≤ regions.pages
+
+-- a block of n bytes is taken: in a new dataspace, at the first gap of the heap window
+pub record TakesBlock (account n address : ℕ) (old new : Store) (regions after : Regions) : Type 0 where
+  pub ds : ℕ
+  pub start : ℕ
+  pub at : address ≡ start + header
+  pub gap : heap_gap regions.pages regions.heap (sliced_size n / 4096) ≡ Some start
+  pub fresh : get old.spaces ds ≡ None
+  pub attached : after ≡ heap_attached regions ds (sliced_size n / 4096) sliced_tag start
+  pub charge : (part account new).account ≡ Some (charged (account_in old account) (sliced_size n) 1)
+  pub blocks : blocks_at account new after ≡ insert (blocks_at account old regions) address (zeros (sliced_size n - header))
+  pub dataspaces : (k : ℕ) → k ≢ ds → IsNoBlock (share_at account old regions) k → get (part account new).spaces k ≡ get (part account old).spaces k
+  pub count : len (part account new).spaces ≡ len (part account old).spaces + 1
+
+-- the block whose payload starts at an address is given back
+pub record GivesBlock (account address : ℕ) (old new : Store) (regions after : Regions) : Type 0 where
+  pub ds : ℕ
+  pub start : ℕ
+  pub at : address ≡ start + header
+  pub payload : List ℕ
+  pub was : get (blocks_at account old regions) address ≡ Some payload
+  pub region : get regions.heap start ≡ Some (record { of = ds; pages = block_pages payload })
+  pub detached : after ≡ heap_detached regions start
+  pub charge : (part account new).account ≡ Some (credited (account_in old account) (block_size payload) 1)
+  pub blocks : blocks_at account new after ≡ remove (blocks_at account old regions) address
+  pub dataspaces : (k : ℕ) → IsNoBlock (share_at account old regions) k → get (part account new).spaces k ≡ get (part account old).spaces k
+  pub count : len (part account new).spaces + 1 ≡ len (part account old).spaces
