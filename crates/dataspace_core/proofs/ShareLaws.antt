@@ -33,6 +33,13 @@ each_shown p q (Some r) alike = shown_same p q r (alike r refl)
 pub shown_alike : (p q : NatMap (List ℕ)) (heap : NatMap Region) → ((k : ℕ) → is_some (get q k) ≡ is_some (get p k)) → picked (shown q) heap ≡ picked (shown p) heap
 shown_alike p q heap alike = same _ _ (λ s. get-picked (shown q) heap s ∙ each_shown p q (get heap s) (λ r there. alike r.of) ∙ sym (get-picked (shown p) heap s))
 
+-- parts that both have the dataspace of each region, or neither, show the same of a map
+pub share_alike : (p q : Part) (heap : NatMap Region) (tags : NatMap ℕ) → ((s : ℕ) (r : Region) → get heap s ≡ Some r → is_some (get q.spaces r.of) ≡ is_some (get p.spaces r.of)) → share_in q heap tags ≡ record { part = q; heap = (share_in p heap tags).heap; tags = (share_in p heap tags).tags }
+unfolding share_in
+share_alike p q heap tags alike =
+    let regions : picked (shown q.spaces) heap ≡ picked (shown p.spaces) heap = same _ _ (λ s. get-picked (shown q.spaces) heap s ∙ each_shown p.spaces q.spaces (get heap s) (λ r there. alike s r there) ∙ sym (get-picked (shown p.spaces) heap s)) in
+    same_share q _ _ _ _ regions (ap (λ m. tags_of m tags) regions)
+
 -- what is shown at a place where nothing is
 pub nothing_shown : (spaces : NatMap (List ℕ)) (heap : NatMap Region) (start : ℕ) → get heap start ≡ None → get (picked (shown spaces) heap) start ≡ None
 nothing_shown spaces heap start free = get-picked (shown spaces) heap start ∙ ap (option_and_then (shown spaces)) free

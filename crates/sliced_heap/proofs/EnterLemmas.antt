@@ -43,7 +43,7 @@ some_alike (Some x) None e = absurd (none-some (length x) (sym e))
 some_alike (Some x) (Some y) e = refl
 
 -- what a share shows the map has
-shown_in_map : (p : Part) (heap : NatMap Region) (tags : NatMap ℕ) (s : ℕ) (r : Region) → get (share_in p heap tags).heap s ≡ Some r → get heap s ≡ Some r
+pub shown_in_map : (p : Part) (heap : NatMap Region) (tags : NatMap ℕ) (s : ℕ) (r : Region) → get (share_in p heap tags).heap s ≡ Some r → get heap s ≡ Some r
 unfolding share_in
 shown_in_map p heap tags s r h = seen p.spaces (get heap s) r (sym (get-picked (shown p.spaces) heap s) ∙ h)
 

@@ -4,3 +4,5 @@ pub mod LinkLemmas
 pub mod LinkedLemmas
 pub mod WindowLemmas
 pub mod EnterLemmas
+pub mod AllocLemmas
+pub mod LookLemmas

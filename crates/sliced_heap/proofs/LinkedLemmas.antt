@@ -51,44 +51,44 @@ pub sliced_alike : (heap kept : NatMap Region) (tags numbers : NatMap ℕ) (s : 
 sliced_alike heap kept tags numbers s e t =
     get-sliced_regions heap tags s ∙ ap (λ o. cond (is_sliced_tag o) (get heap s) None) t ∙ ap (λ o. cond (is_sliced_tag (get numbers s)) o None) e ∙ sym (get-sliced_regions kept numbers s)
 
--- a share whose part has another dataspace, which no block is, has the same blocks
-module _ (S : Share) (first ds : ℕ) (new : Part) (linked : IsLinked S first) (fresh : get S.part.spaces ds ≡ None) (others : (k : ℕ) → k ≢ ds → get new.spaces k ≡ get S.part.spaces k) where
+-- a share whose part has the same bytes in the dataspace of each region has the same blocks
+module _ (S : Share) (first : ℕ) (new : Part) (linked : IsLinked S first) (alike : (s : ℕ) (r : Region) → get S.heap s ≡ Some r → get new.spaces r.of ≡ get S.part.spaces r.of) where
   -- the share then
-  abbrev pub grown : Share
-  grown = record { part = new; heap = S.heap; tags = S.tags }
+  abbrev pub with_part : Share
+  with_part = record { part = new; heap = S.heap; tags = S.tags }
 
-  -- a block is another dataspace
-  other_than : (b : ℕ) → is_listed linked.blocks b ≡ true → b ≢ ds
-  other_than b t e = true≢false (sym t ∙ ap (is_listed linked.blocks) e ∙ not_listed_free S first ds linked fresh)
+  -- a block's dataspace has the same bytes
+  block_alike : (b : ℕ) → is_listed linked.blocks b ≡ true → get new.spaces b ≡ get S.part.spaces b
+  block_alike b t = let s = linked.stands b t in alike _ _ s.region
 
-  pub grown_linked : IsLinked grown first
-  grown_linked = record {
+  pub alike_linked : IsLinked with_part first
+  alike_linked = record {
     blocks = linked.blocks;
     chain = record {
       linked = linked_kept (next_in S.part) (previous_in S.part) (next_in new) (previous_in new) linked.blocks 0 first
-        (λ b t. word_same S.part new 0 b (others b (other_than b t))) (λ b t. word_same S.part new 8 b (others b (other_than b t))) linked.chain.linked;
+        (λ b t. word_same S.part new 0 b (block_alike b t)) (λ b t. word_same S.part new 8 b (block_alike b t)) linked.chain.linked;
       once = linked.chain.once;
     };
     stands = λ b t.
         let s = linked.stands b t in
-        let at = word_same S.part new 16 b (others b (other_than b t)) in
+        let at = word_same S.part new 16 b (block_alike b t) in
         record {
-          bytes = s.bytes; pages = s.pages; there = others b (other_than b t) ∙ s.there; some = s.some; whole = s.whole;
+          bytes = s.bytes; pages = s.pages; there = block_alike b t ∙ s.there; some = s.some; whole = s.whole;
           region = ap (get S.heap) at ∙ s.region; tag = ap (get S.tags) at ∙ s.tag;
         };
-    all = λ s r h. let was = linked.all s r h in (was.0, word_same S.part new 16 r.of (others r.of (other_than r.of was.0)) ∙ was.1);
+    all = λ s r h. let was = linked.all s r h in (was.0, word_same S.part new 16 r.of (block_alike r.of was.0) ∙ was.1);
   }
 
   -- and the same payloads
-  grown_payload : (o : Option Region) → ((r : Region) → o ≡ Some r → r.of ≢ ds) → option_and_then (payload_of new.spaces) o ≡ option_and_then (payload_of S.part.spaces) o
-  grown_payload None beside = refl
-  grown_payload (Some r) beside = ap (option_map (drop header)) (others r.of (beside r refl))
+  alike_payload : (o : Option Region) → ((r : Region) → o ≡ Some r → get new.spaces r.of ≡ get S.part.spaces r.of) → option_and_then (payload_of new.spaces) o ≡ option_and_then (payload_of S.part.spaces) o
+  alike_payload None same_bytes = refl
+  alike_payload (Some r) same_bytes = ap (option_map (drop header)) (same_bytes r refl)
 
-  pub grown_payloads : sliced_of grown ≡ sliced_of S
+  pub alike_payloads : sliced_of with_part ≡ sliced_of S
   unfolding sliced_of
-  grown_payloads = ap (moved_up header) (same _ _ (λ s.
+  alike_payloads = ap (moved_up header) (same _ _ (λ s.
       get-picked (payload_of new.spaces) _ s
-      ∙ grown_payload (get (sliced_regions S.heap S.tags) s) (λ r h. other_than r.of (linked.all s r h).0)
+      ∙ alike_payload (get (sliced_regions S.heap S.tags) s) (λ r h. alike s r (sliced_is_region S.heap S.tags s r h))
       ∙ sym (get-picked (payload_of S.part.spaces) _ s)))
 
 -- the block to which the first link leads is listed

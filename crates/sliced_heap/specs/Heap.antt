@@ -6,7 +6,7 @@ use Rattle.own_model.specs.HeapWindow.{heap_gap, pages_of_all}
 use Rattle.own_model.specs.NatMap.{NatMap}
 use Rattle.own_model.specs.OwnState.{zeros}
 use Rattle.own_model.specs.Region.{Region}
-use Rattle.own_model.specs.Sliced.{sliced_header as header, sliced_size, block_size, block_pages}
+use Rattle.own_model.specs.Sliced.{sliced_header as header, sliced_size, block_size, block_pages, block_found}
 use Rattle.region_map.specs.Regions.{Regions, heap_attached, heap_detached}
 use Rattle.dataspace_core.specs.Store.{Store, Part, part, bytes_of, account_in, root_in, IsOpenIn, ram_limits_in}
 use Rattle.dataspace_core.specs.Share.{Share, share, IsShown}
@@ -95,3 +95,27 @@ pub record GivesBlock (account address : ℕ) (old new : Store) (regions after :
   pub blocks : blocks_at account new after ≡ remove (blocks_at account old regions) address
   pub dataspaces : (k : ℕ) → IsNoBlock (share_at account old regions) k → get (part account new).spaces k ≡ get (part account old).spaces k
   pub count : len (part account new).spaces + 1 ≡ len (part account old).spaces
+
+-- ---- which block holds an address
+
+-- the block whose region starts here holds the address, in its header or in its payload, and no other block does
+pub record HoldsAddress (share : Share) (start ds address : ℕ) : Type 0 where
+  pub pages : ℕ
+  pub region : get (sliced_regions share.heap share.tags) start ≡ Some (record { of = ds; pages = pages })
+  pub low : start ≤ address
+  pub high : address < start + pages * 4096
+  pub only : (s : ℕ) (r : Region) → get (sliced_regions share.heap share.tags) s ≡ Some r → s ≤ address → address < s + r.pages * 4096 → s ≡ start
+
+-- no block does
+abbrev pub NoneHolds : Share → ℕ → Type 0
+NoneHolds share address = (s : ℕ) (r : Region) → get (sliced_regions share.heap share.tags) s ≡ Some r → s ≤ address → ¬ (address < s + r.pages * 4096)
+
+-- a range of addresses lies in the payload of a block, so far into its dataspace
+pub record HoldsRange (share : Share) (ds offset address count : ℕ) : Type 0 where
+  pub start : ℕ
+  pub pages : ℕ
+  pub region : get (sliced_regions share.heap share.tags) start ≡ Some (record { of = ds; pages = pages })
+  pub at : start + offset ≡ address
+  pub behind : header ≤ offset
+  pub within : offset + count ≤ pages * 4096
+  pub found : block_found (sliced_of share) address count ≡ Some (start + header, offset - header)
