@@ -35,6 +35,8 @@ record Explained (P : OwnState → Type 0) (s : OwnState) (o : Outcome) (line : 
   accepted : Outcome
   -- which tells no refusal
   told : refusal_in accepted.reply ≡ None
+  -- and finishes no lines
+  quiet : accepted.lines ≡ []
   -- the outcome is one of the two
   is : o ≡ unless why s accepted
   -- and the refusal is the line's
@@ -62,27 +64,27 @@ module _ (s : OwnState) where
 module _ (P : OwnState → Type 0) (s : OwnState) (h : P s) (k : KeptByEffects P s) where
   -- a refusal for which nothing else has to be looked at
   refused_for : (refusal : Refusal) (line : List Test) → Some refusal ≡ first_failed line → Explained P s (refused s refusal) line
-  refused_for refusal line first = record { why = Some refusal; accepted = told_quota s; told = refl; is = refl; right = λ _ _. first; kept = λ _. h }
+  refused_for refusal line first = record { why = Some refusal; accepted = told_quota s; told = refl; quiet = refl; is = refl; right = λ _ _. first; kept = λ _. h }
 
   -- what is done with no test left
-  does : (accepted : Outcome) (line : List Test) → refusal_in accepted.reply ≡ None → None ≡ first_failed line → P accepted.next → Explained P s accepted line
-  does accepted line told none after = record { why = None; accepted = accepted; told = told; is = refl; right = λ _ _. none; kept = λ _. after }
+  does : (accepted : Outcome) (line : List Test) → refusal_in accepted.reply ≡ None → accepted.lines ≡ [] → None ≡ first_failed line → P accepted.next → Explained P s accepted line
+  does accepted line told quiet none after = record { why = None; accepted = accepted; told = told; quiet = quiet; is = refl; right = λ _ _. none; kept = λ _. after }
 
   -- a free
   frees : (selector : ℕ) (object : Option Object) → get s.selectors selector ≡ object → Explained P s (freed selector object s) (when (not (is_dataspace object)) InvalidCap ∷ [])
-  frees selector (Some (Dataspace bytes)) e = does (freed selector (Some (Dataspace bytes)) s) _ refl refl (k.frees selector bytes e)
+  frees selector (Some (Dataspace bytes)) e = does (freed selector (Some (Dataspace bytes)) s) _ refl refl refl (k.frees selector bytes e)
   frees selector (Some RpcObject) e = refused_for InvalidCap _ refl
   frees selector None e = refused_for InvalidCap _ refl
 
   -- a free of an RPC object
   frees_cap : (selector : ℕ) (object : Option Object) → get s.selectors selector ≡ object → Explained P s (cap_freed selector object s) (when (not (is_rpc_object object)) InvalidCap ∷ [])
   frees_cap selector (Some (Dataspace bytes)) e = refused_for InvalidCap _ refl
-  frees_cap selector (Some RpcObject) e = does (cap_freed selector (Some RpcObject) s) _ refl refl (k.frees_cap selector e)
+  frees_cap selector (Some RpcObject) e = does (cap_freed selector (Some RpcObject) s) _ refl refl refl (k.frees_cap selector e)
   frees_cap selector None e = refused_for InvalidCap _ refl
 
   -- a free of a sliced block
   frees_block : (address : ℕ) (payload : Option (List ℕ)) → get s.sliced address ≡ payload → Explained P s (sliced_freed address payload s) (when (is_none payload) PageFault ∷ [])
-  frees_block address (Some payload) e = does (sliced_freed address (Some payload) s) _ refl refl (k.unslices address payload e)
+  frees_block address (Some payload) e = does (sliced_freed address (Some payload) s) _ refl refl refl (k.unslices address payload e)
   frees_block address None e = refused_for PageFault _ refl
 
   -- an attachment at the first gap
@@ -93,6 +95,7 @@ module _ (P : OwnState → Type 0) (s : OwnState) (h : P s) (k : KeptByEffects P
     why = attach_refusal most_regions s.regions (pages_in bytes);
     accepted = with_region selector (pages_in bytes) (user_gap s.regions (pages_in bytes)) s;
     told = refl;
+    quiet = refl;
     is = refl;
     right = λ _ _. refl;
     kept = λ accepted. let at = attach_place most_regions s.regions (pages_in bytes) accepted in k.attaches selector (user_gap s.regions (pages_in bytes)) bytes e at.0 at.1;
@@ -108,6 +111,7 @@ module _ (P : OwnState → Type 0) (s : OwnState) (h : P s) (k : KeptByEffects P
     why = attach_at_refusal most_regions s.regions (pages_in bytes) address;
     accepted = with_region selector (pages_in bytes) address s;
     told = refl;
+    quiet = refl;
     is = refl;
     right = λ _ _. ap (cond (nat_le most_regions (len s.regions)) (Some TooManyRegions)) (flip (can_stand user_low user_high s.regions (pages_in bytes) address) None (Some RegionConflict));
     kept = λ accepted. let at = attach_at_place most_regions s.regions (pages_in bytes) address accepted in k.attaches selector address bytes e at.0 at.1;
@@ -118,7 +122,7 @@ module _ (P : OwnState → Type 0) (s : OwnState) (h : P s) (k : KeptByEffects P
   -- a detachment
   detaches : (address : ℕ) (region : Option Region) →
       Explained P s (unless (cond (is_some region) None (Some PageFault)) s (region_detached address s)) (when (is_none region) PageFault ∷ [])
-  detaches address (Some region) = does (region_detached address s) _ refl refl (k.detaches address)
+  detaches address (Some region) = does (region_detached address s) _ refl refl refl (k.detaches address)
   detaches address None = refused_for PageFault _ refl
 
   -- a size that is tested, and then a page fault
@@ -130,14 +134,15 @@ module _ (P : OwnState → Type 0) (s : OwnState) (h : P s) (k : KeptByEffects P
   no_place : (count : ℕ) → Explained P s (unless (count_refusal count) s (refused s PageFault)) (when (is_bad_count count) InvalidSize ∷ when true PageFault ∷ [])
   no_place count =
       let counts = nat_lt 0 count && nat_le count most_bytes in
-      record { why = cond counts (Some PageFault) (Some InvalidSize); accepted = told_quota s; told = refl; is = faults counts; right = λ _ _. flip counts (Some PageFault) (Some InvalidSize); kept = λ _. h }
+      record { why = cond counts (Some PageFault) (Some InvalidSize); accepted = told_quota s; told = refl; quiet = refl; is = faults counts; right = λ _ _. flip counts (Some PageFault) (Some InvalidSize); kept = λ _. h }
 
   -- where one is
-  at_place : (count : ℕ) (accepted : Outcome) → refusal_in accepted.reply ≡ None → P accepted.next → Explained P s (unless (count_refusal count) s accepted) (when (is_bad_count count) InvalidSize ∷ when false PageFault ∷ [])
-  at_place count accepted told after = record {
+  at_place : (count : ℕ) (accepted : Outcome) → refusal_in accepted.reply ≡ None → accepted.lines ≡ [] → P accepted.next → Explained P s (unless (count_refusal count) s accepted) (when (is_bad_count count) InvalidSize ∷ when false PageFault ∷ [])
+  at_place count accepted told quiet after = record {
     why = count_refusal count;
     accepted = accepted;
     told = told;
+    quiet = quiet;
     is = refl;
     right = λ _ _. flip (nat_lt 0 count && nat_le count most_bytes) None (Some InvalidSize);
     kept = λ _. after;
@@ -145,18 +150,18 @@ module _ (P : OwnState → Type 0) (s : OwnState) (h : P s) (k : KeptByEffects P
 
   -- where one is found that names nothing, which doesn't happen to a sound state
   never : (count : ℕ) → (IsSound s → ⊥) → Explained P s (unless (count_refusal count) s (refused s PageFault)) (when (is_bad_count count) InvalidSize ∷ when false PageFault ∷ [])
-  never count unsound = let fault = no_place count in record { why = fault.why; accepted = fault.accepted; told = fault.told; is = fault.is; right = λ _ sound. absurd (unsound sound); kept = fault.kept }
+  never count unsound = let fault = no_place count in record { why = fault.why; accepted = fault.accepted; told = fault.told; quiet = fault.quiet; is = fault.is; right = λ _ sound. absurd (unsound sound); kept = fault.kept }
 
   -- a peek
   peeks : (count : ℕ) (place : Option Place) → Explained P s (unless (count_refusal count) s (peeked count place s)) (when (is_bad_count count) InvalidSize ∷ when (is_none place) PageFault ∷ [])
-  peeks count (Some place) = at_place count (peeked count (Some place) s) refl h
+  peeks count (Some place) = at_place count (peeked count (Some place) s) refl refl h
   peeks count None = no_place count
 
   module _ (address : ℕ) (bytes : List ℕ) where
     -- a poke in a dataspace
     pokes_object : (selector offset : ℕ) → found s address (length bytes) ≡ Some (InDataspace selector offset) → (object : Option Object) → get s.selectors selector ≡ object →
         Explained P s (unless (count_refusal (length bytes)) s (poked_at selector offset bytes object s)) (when (is_bad_count (length bytes)) InvalidSize ∷ when false PageFault ∷ [])
-    pokes_object selector offset at (Some object) there = at_place (length bytes) (poked_at selector offset bytes (Some object) s) refl (k.pokes selector offset bytes object there)
+    pokes_object selector offset at (Some object) there = at_place (length bytes) (poked_at selector offset bytes (Some object) s) refl refl (k.pokes selector offset bytes object there)
     pokes_object selector offset at None free = never (length bytes) (λ sound.
         let region = region_parts (resolved s.regions address (length bytes)) (block_found s.sliced address (length bytes)) selector offset at in
         let named = range_fits s address (length bytes) selector offset sound region in
@@ -165,7 +170,7 @@ module _ (P : OwnState → Type 0) (s : OwnState) (h : P s) (k : KeptByEffects P
     -- and one in a payload
     pokes_payload : (block offset : ℕ) → found s address (length bytes) ≡ Some (InPayload block offset) → (payload : Option (List ℕ)) → get s.sliced block ≡ payload →
         Explained P s (unless (count_refusal (length bytes)) s (payload_poked block offset bytes payload s)) (when (is_bad_count (length bytes)) InvalidSize ∷ when false PageFault ∷ [])
-    pokes_payload block offset at (Some payload) there = at_place (length bytes) (payload_poked block offset bytes (Some payload) s) refl (k.pokes_payload block offset bytes payload there)
+    pokes_payload block offset at (Some payload) there = at_place (length bytes) (payload_poked block offset bytes (Some payload) s) refl refl (k.pokes_payload block offset bytes payload there)
     pokes_payload block offset at None free = never (length bytes) (λ _. let fits = payload_fits s address (length bytes) block offset at in none-some fits.0 (sym free ∙ fits.1))
 
     -- a poke, wherever it is found
@@ -192,6 +197,7 @@ module _ (P : OwnState → Type 0) (s : OwnState) (h : P s) (k : KeptByEffects P
     why = sliced_refusal n s.account;
     accepted = sliced_at n start s;
     told = refl;
+    quiet = refl;
     is = refl;
     right = λ _ _. flip (nat_lt 0 n && is_valid_size (sliced_header + n)) (shortage s.account (sliced_size n) 1) (Some InvalidSize);
     kept = λ accepted. k.slices n start accepted e;
@@ -201,7 +207,7 @@ module _ (P : OwnState → Type 0) (s : OwnState) (h : P s) (k : KeptByEffects P
       let ram = lacks_ram s.account (sliced_size n) in
       let caps = lacks_caps s.account 1 in
       let short = cond ram (Some OutOfRam) (cond caps (Some OutOfCaps) (Some OutOfRam)) in
-      record { why = cond valid short (Some InvalidSize); accepted = told_quota s; told = refl; is = gapless valid ram caps; right = λ _ _. flip valid short (Some InvalidSize); kept = λ _. h }
+      record { why = cond valid short (Some InvalidSize); accepted = told_quota s; told = refl; quiet = refl; is = gapless valid ram caps; right = λ _ _. flip valid short (Some InvalidSize); kept = λ _. h }
 
   -- an account within its limits lacks no RAM for nothing
   no_ram : WithinLimits s.account → lacks_ram s.account 0 ≡ false
@@ -213,6 +219,7 @@ module _ (P : OwnState → Type 0) (s : OwnState) (h : P s) (k : KeptByEffects P
     why = alloc_refusal n s.account;
     accepted = allocated n s;
     told = refl;
+    quiet = refl;
     is = refl;
     right = λ _ _. flip (is_valid_size n) (shortage s.account (page_of n) 1) (Some InvalidSize);
     kept = k.allocates n;
@@ -227,6 +234,7 @@ module _ (P : OwnState → Type 0) (s : OwnState) (h : P s) (k : KeptByEffects P
     why = shortage s.account 0 1;
     accepted = cap_allocated s;
     told = refl;
+    quiet = refl;
     is = refl;
     right = λ within _. ap (λ b. cond b (Some OutOfRam) (cond (lacks_caps s.account 1) (Some OutOfCaps) None)) (no_ram within);
     kept = k.allocates_cap;
@@ -234,12 +242,12 @@ module _ (P : OwnState → Type 0) (s : OwnState) (h : P s) (k : KeptByEffects P
   explained (Capfree selector) = frees_cap selector (get s.selectors selector) refl
   explained (Snew n) = slices n (own_heap_gap (sliced_size n) s) refl
   explained (Sdel address) = frees_block address (get s.sliced address) refl
-  explained Quota = does (told_quota s) _ refl refl h
+  explained Quota = does (told_quota s) _ refl refl refl h
 
   -- one that has exited does no call
   by_gone : (gone : Bool) (o : Outcome) (line : List Test) → Explained P s o line → Explained P s (unless (cond gone (Some Gone) None) s o) (when gone Gone ∷ line)
   by_gone true o line e = refused_for Gone _ refl
-  by_gone false o line e = record { why = e.why; accepted = e.accepted; told = e.told; is = e.is; right = e.right; kept = e.kept }
+  by_gone false o line e = record { why = e.why; accepted = e.accepted; told = e.told; quiet = e.quiet; is = e.is; right = e.right; kept = e.kept }
 
   -- any call of a component
   by_kind : (kind : Kind) (call : Call) → Explained P s (unless (turned_away kind s) s (script_step call s)) (whole_line kind call s)
@@ -276,6 +284,17 @@ anything s = record {
   allocates_cap = λ accepted. tt;
   frees_cap = λ selector there. tt;
 }
+
+-- what is refused finishes no lines, nor does what is accepted where it finishes none
+unless_quiet : (why : Option Refusal) (s : OwnState) (accepted : Outcome) → accepted.lines ≡ [] → (unless why s accepted).lines ≡ []
+unless_quiet (Some refusal) s accepted quiet = refl
+unless_quiet None s accepted quiet = quiet
+
+-- no call finishes lines yet
+pub no_lines : (entry : Entry) (call : Call) (s : OwnState) → (own_step entry call s).lines ≡ []
+no_lines entry call s =
+    let e = by_kind (λ _. Unit {0}) s tt (anything s) entry.kind call in
+    ap (λ o. o.lines) e.is ∙ unless_quiet e.why s e.accepted e.quiet
 
 -- a call is refused as its line says
 pub refused_in_order : (entry : Entry) (call : Call) (s : OwnState) → WithinLimits s.account → IsSound s →
