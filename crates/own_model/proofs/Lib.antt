@@ -18,6 +18,7 @@ pub mod PayloadLemmas
 pub mod MachineLemmas
 pub mod TableLemmas
 pub mod CallLemmas
+pub mod ByteLemmas
 pub mod LimitLemmas
 pub mod StartLemmas
 pub mod ReadBackLemmas

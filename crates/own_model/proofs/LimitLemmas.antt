@@ -7,7 +7,7 @@ use Rattle.std.specs.List.{AllByRecursion}
 use Rattle.trade_base.specs.Page.{page_of}
 use Rattle.trade_base.specs.declared.refusal.Refusal.{Refusal}
 use Rattle.trade_base.specs.declared.refusal.Refusal.TheVariants.{OutOfCaps}
-use Rattle.own_model.proofs.StepLemmas.{KeptByEffects, step_keeps, covers, short_of_caps, accepted_size, accepted_block}
+use Rattle.own_model.proofs.StepLemmas.{KeptByEffects, covers, short_of_caps, accepted_size, accepted_block}
 use Rattle.own_model.specs.Sliced.{sliced_size}
 use Rattle.own_model.specs.Account.{WithinLimits, shortage}
 use Rattle.own_model.specs.Call.{Call}
@@ -21,6 +21,7 @@ use Rattle.own_model.specs.Transcript.{Heard, heard, entry_at, state_at, nothing
 use Rattle.own_model.specs.Running.{states_after_heard, states_running}
 use Rattle.own_model.specs.Transcript.Heard.{NoCall, Stranger, Caller}
 use Rattle.own_model.specs.World.{World, IsBalanced, with_state, outcome_at}
+use Rattle.own_model.proofs.TableLemmas.{step_keeps}
 
 -- every call leaves a server
 pub server_stays : (name : List ℕ) (calls : List Call) (s : OwnState) → own_run (record { name = name; kind = Server }) calls s ≡ s

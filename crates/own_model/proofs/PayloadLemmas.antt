@@ -14,7 +14,7 @@ use Rattle.own_model.proofs.EntryLemmas.{sizes_alike, find-sized, sized, found_i
 use Rattle.own_model.proofs.HeapRangeLemmas.{range_of, range_at}
 use Rattle.own_model.proofs.NatMapLemmas.{natmaps, get-insert_same, before_remove, get-remove_same}
 use Rattle.own_model.proofs.RangeLemmas.{slice_range-with_part, resolved_holds, ReadsBack, read_after}
-use Rattle.own_model.proofs.UseLemmas.{length-with_part}
+use Rattle.own_model.proofs.ByteLemmas.{length-with_part}
 use Rattle.own_model.specs.HeapWindow.{heap_low, heap_high, largest_machine}
 use Rattle.own_model.specs.NatMap.{NatMap}
 use Rattle.own_model.specs.OwnState.{OwnState, with_part, heap_ranges}

@@ -1,12 +1,11 @@
 -- The range of addresses that a region holds, and the bytes that are read and written there.
-use Rattle.std.proofs.Common.{◌≡◌, ℕ, ◌+◌, ◌-◌, ◌*◌, ◌≤◌, ◌&&◌, true, List, [], ◌∷◌, Some, length, nat_le, refl, sym, ap, subst, ◌∙◌, arith, slice_range}
+use Rattle.std.proofs.Common.{◌≡◌, ℕ, ◌+◌, ◌-◌, ◌*◌, ◌≤◌, ◌&&◌, true, List, Some, length, nat_le, refl, sym, ap, subst, ◌∙◌, arith}
 use Rattle.std.proofs.lemmas.Bool.Decides.{nat_tests}
 use Rattle.std.proofs.lemmas.Option.{none-some, same_Some}
 use Rattle.std.specs.Prelude.{Option, None}
 use Rattle.std.specs.Option.{option_map}
 use Rattle.std.specs.FinMap.{get}
-use Rattle.trade_base.specs.Bytes.{with_bytes}
-use Rattle.trade_base.proofs.BytesLemmas.{slice_range-with_bytes}
+pub use Rattle.own_model.proofs.ByteLemmas.{with_part-within, slice_range-with_part}
 use Rattle.own_model.proofs.CallLemmas.{peeks, pokes}
 use Rattle.own_model.proofs.NatMapLemmas.{get-insert_same}
 use Rattle.own_model.proofs.EntryLemmas.{found_in_map}
@@ -17,7 +16,6 @@ use Rattle.own_model.specs.Call.Call.{Peek, Poke}
 use Rattle.own_model.specs.OwnStep.{count_refusal, poked_at, script_step}
 use Rattle.own_model.specs.Reply.Reply.{Bytes}
 use Rattle.own_model.specs.Region.{Region, holds, region_at, resolved}
-use Rattle.own_model.specs.Reply.{hex_text}
 use Rattle.own_model.specs.Sound.{IsSound}
 
 -- a region, with its start, that holds a range
@@ -72,22 +70,7 @@ range_fits s address count selector offset h is =
       subst (λ n. address + count ≤ found.start + n * 4096 → offset + count ≤ length named.bytes) (sym size) (λ end. omega arith) to,
     )
 
--- a part that fits within bytes is put over them
-pub with_part-within : (bytes : List ℕ) (offset : ℕ) (part : List ℕ) → offset + length part ≤ length bytes →
-    with_part bytes offset part ≡ with_bytes bytes offset part
-unfolding with_part
-with_part-within bytes offset part fits =
-    let test : nat_le (offset + length part) (length bytes) ≡ true = grind (arith, nat_tests) in
-    rw test
-
 -- ---- what was put is read back
-
--- a part that fits within bytes stands where it was put
-pub slice_range-with_part : (bytes : List ℕ) (offset : ℕ) (part : List ℕ) → offset + length part ≤ length bytes →
-    slice_range (with_part bytes offset part) offset (offset + length part) ≡ part
-slice_range-with_part bytes offset part fits =
-    ap (λ l. slice_range l offset (offset + length part)) (with_part-within bytes offset part fits)
-    ∙ slice_range-with_bytes bytes offset part fits
 
 -- a peek of as many bytes at the address tells these bytes
 abbrev pub ReadsBack : OwnState → ℕ → List ℕ → OwnState → Type 0

@@ -1,96 +1,53 @@
 -- The running states are own runs, so what is told from them is what is told from the history.
-use Rattle.std.proofs.Common.{◌≡◌, ◌≢◌, ℕ, ◌+◌, ◌≤◌, ◌++◌, ◌==◌, ◌&&◌, Bool, true, false, List, [], ◌∷◌, Option, Some, None, length, nat_lt, refl, ap, sym, ◌∙◌, cond, subst, inl, inr, arith, append_assoc, slice_set, nat_cmp}
+use Rattle.std.proofs.Common.{◌≡◌, ◌≢◌, ℕ, ◌+◌, ◌≤◌, ◌++◌, ◌==◌, Bool, true, false, List, [], ◌∷◌, Option, Some, None, length, refl, ap, sym, ◌∙◌, cond, subst, inl, inr, arith, append_assoc, slice_set, nat_cmp}
 use Rattle.std.proofs.lemmas.List.{get_or-set_same, get_or-set_other, get_or_past, length-set, set_past, append-nil}
 use Rattle.std.proofs.lemmas.Bool.{cases_lt}
 use Rattle.std.proofs.lemmas.Bool.Decides.{nat_tests}
-use Rattle.std.specs.FinMap.{get, get-empty, entries}
-use Rattle.trade_base.specs.declared.refusal.Refusal.{Refusal}
-use Rattle.trade_base.specs.declared.refusal.Refusal.TheVariants.{OutOfRam, OutOfCaps, InvalidSize}
+use Rattle.std.proofs.lemmas.Option.{none-some}
+use Rattle.std.specs.FinMap.{get, empty}
 use Rattle.trade_base.specs.Page.{page_of}
-use Rattle.own_model.specs.Account.{opened}
-use Rattle.own_model.proofs.NatMapLemmas.{entries-empty}
+use Rattle.own_model.proofs.NatMapLemmas.{get-empty, remove_free}
 use Rattle.own_model.proofs.RunLemmas.{own_run-append, own_part-append}
+use Rattle.own_model.proofs.StepLemmas.{KeptByEffects, covers, accepted_size, accepted_block}
+use Rattle.own_model.proofs.TableLemmas.{step_keeps}
+use Rattle.own_model.specs.Account.{opened, shortage}
 use Rattle.own_model.specs.Call.{Call}
-use Rattle.own_model.specs.Call.Call.{Alloc, Free, Attach, AttachAt, Detach, Peek, Poke, Capalloc, Capfree, Snew, Sdel, Quota}
 use Rattle.own_model.specs.OwnState.{OwnState}
-use Rattle.own_model.specs.Place.{found}
-use Rattle.own_model.specs.Sliced.{sliced_header, sliced_size}
-use Rattle.own_model.specs.OwnStep.{Outcome, own_run, own_step, unless, alloc_refusal, allocated, freed, count_refusal, peeked, poked, sliced_in, own_heap_gap, script_step, turned_away, is_valid_size}
+use Rattle.own_model.specs.OwnState.Object.{Dataspace, RpcObject}
+use Rattle.own_model.specs.OwnStep.{own_run, own_step}
 use Rattle.own_model.specs.Running.{running_step, states_after_call, states_after_heard, told_now, states_running, told_running}
-use Rattle.own_model.specs.StartList.{Entry, Kind}
-use Rattle.own_model.specs.StartList.Kind.{Script, Server}
+use Rattle.own_model.specs.Sliced.{sliced_size}
+use Rattle.own_model.specs.StartList.{Entry}
 use Rattle.own_model.specs.Text.{lines_of}
 use Rattle.own_model.specs.Transcript.{Made, Heard, own_part, nothing, entry_at, state_at, state_after, heard, calls_in, calls_of, told, told_after, transcript}
 use Rattle.own_model.specs.Transcript.Heard.{NoCall, Stranger, Caller}
 
--- what is refused leaves the state
-refusal_stays : (valid covered : Bool) (a b c : Refusal) (s : OwnState) (accepted : Outcome) →
-    (unless (cond valid (cond covered (Some a) (Some b)) (Some c)) s accepted).next ≡ s
-refusal_stays true true a b c s accepted = refl
-refusal_stays true false a b c s accepted = refl
-refusal_stays false covered a b c s accepted = refl
+-- nothing is under any key
+none_there : {X : Type 0} (q : ℕ) (x : X) → get (empty {R = nat_cmp}) q ≡ Some x → ⊥
+none_there q x there = none-some x (sym (get-empty q) ∙ there)
 
--- who has nothing has no regions
-no_regions : entries nothing.regions ≡ []
-no_regions = entries-empty
+-- no capability is covered
+none_covered : (ram : ℕ) → shortage (opened 0 0) ram 1 ≡ None → ⊥
+none_covered ram accepted = let fits = covers (opened 0 0) ram 1 accepted in let caps = fits.caps_fit in omega arith
 
--- nor sliced blocks
-no_blocks : entries nothing.sliced ≡ []
-no_blocks = entries-empty
-
--- no bytes at all cover no allocation
-alloc_refused : (n : ℕ) → (unless (alloc_refusal n (opened 0 0)) nothing (allocated n nothing)).next ≡ nothing
-alloc_refused n = refusal_stays (is_valid_size n) (nat_lt 0 (0 + page_of n)) OutOfRam OutOfCaps InvalidSize nothing (allocated n nothing)
-
--- nor a sliced block
-sliced_refused : (n : ℕ) → (script_step (Snew n) nothing).next ≡ nothing
-sliced_refused n = refusal_stays (nat_lt 0 n && is_valid_size (sliced_header + n)) (nat_lt 0 (0 + sliced_size n)) OutOfRam OutOfCaps InvalidSize nothing (sliced_in n (own_heap_gap (sliced_size n) nothing) nothing)
-
--- a selector names nothing there
-free_refused : (selector : ℕ) → (freed selector (get nothing.selectors selector) nothing).next ≡ nothing
-free_refused selector = rw (get-empty nat_cmp selector)
-
--- a test before what leaves the state leaves it too
-tested_stays : (refusal : Option Refusal) (outcome : Outcome) → outcome.next ≡ nothing → (unless refusal nothing outcome).next ≡ nothing
-tested_stays (Some refusal) outcome same = refl
-tested_stays None outcome same = same
-
--- no range is found there
-nowhere : (address count : ℕ) → found nothing address count ≡ None
-nowhere address count = rw (no_regions, no_blocks)
-
--- a peek leaves who has nothing as it is
-peek_stays : (address count : ℕ) → (peeked count (found nothing address count) nothing).next ≡ nothing
-peek_stays address count = rw (nowhere address count)
-
--- so does a poke
-poke_stays : (address : ℕ) (bytes : List ℕ) → (poked bytes (found nothing address (length bytes)) nothing).next ≡ nothing
-poke_stays address bytes = rw (nowhere address (length bytes))
-
--- so does any call of a script
-script_stays : (call : Call) → (script_step call nothing).next ≡ nothing
-script_stays (Alloc n) = alloc_refused n
-script_stays (Free selector) = free_refused selector
-script_stays (Attach selector) = rw (get-empty nat_cmp selector)
-script_stays (AttachAt selector address) = rw (get-empty nat_cmp selector)
-script_stays (Detach address) = rw (get-empty nat_cmp address)
-script_stays (Peek address count) = tested_stays (count_refusal count) (peeked count (found nothing address count) nothing) (peek_stays address count)
-script_stays (Poke address bytes) =
-    tested_stays (count_refusal (length bytes)) (poked bytes (found nothing address (length bytes)) nothing) (poke_stays address bytes)
-script_stays Capalloc = refl
-script_stays (Capfree selector) = rw (get-empty nat_cmp selector)
-script_stays (Snew n) = sliced_refused n
-script_stays (Sdel address) = rw (get-empty nat_cmp address)
-script_stays Quota = refl
-
--- and so does any call of a script or a server
-kind_stays : (kind : Kind) (call : Call) → (unless (turned_away kind nothing) nothing (script_step call nothing)).next ≡ nothing
-kind_stays Server call = refl
-kind_stays Script call = script_stays call
+-- nothing that a call can do changes who has nothing
+effects_nothing : KeptByEffects (λ s. s ≡ nothing) nothing
+effects_nothing = record {
+  allocates = λ n accepted. absurd (none_covered (page_of n) (accepted_size n (opened 0 0) accepted));
+  frees = λ selector bytes there. absurd (none_there selector (Dataspace bytes) there);
+  attaches = λ selector address bytes there stands room. absurd (none_there selector (Dataspace bytes) there);
+  detaches = λ address. ap (λ regions. record nothing { regions = regions }) (remove_free empty address (get-empty address));
+  pokes = λ selector offset bytes object there. absurd (none_there selector object there);
+  pokes_payload = λ address offset bytes payload there. absurd (none_there address payload there);
+  slices = λ n start accepted gap. absurd (none_covered (sliced_size n) (accepted_block n (opened 0 0) accepted));
+  unslices = λ address payload there. absurd (none_there address payload there);
+  allocates_cap = λ accepted. absurd (none_covered 0 accepted);
+  frees_cap = λ selector there. absurd (none_there selector RpcObject there);
+}
 
 -- no call changes the state of who has nothing
 nothing_stays : (entry : Entry) (call : Call) → (own_step entry call nothing).next ≡ nothing
-nothing_stays entry call = kind_stays entry.kind call
+nothing_stays entry call = step_keeps (λ s. s ≡ nothing) nothing refl effects_nothing entry call
 
 -- a running state reads as own run of the component's own part
 pub record Tracks (entries : List Entry) (starts states : List OwnState) (earlier : List Made) : Type 0 where

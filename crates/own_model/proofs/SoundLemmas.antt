@@ -11,7 +11,8 @@ use Rattle.trade_base.specs.Page.{page_of}
 use Rattle.own_model.proofs.NatMapLemmas.{get-empty, get-remove_other, before_remove, apart_from_free, IsSome-at, get-insert_other, get-insert_same, each_after_insert}
 use Rattle.own_model.proofs.NewSelector.{new_selector_free}
 use Rattle.own_model.proofs.RegionLemmas.{place, left_without, len-without, free_place}
-use Rattle.own_model.proofs.StepLemmas.{KeptByEffects, step_keeps, run_keeps}
+use Rattle.own_model.proofs.StepLemmas.{KeptByEffects}
+use Rattle.own_model.proofs.TableLemmas.{step_keeps, run_keeps}
 use Rattle.own_model.proofs.Totals.{len-insert_new, len-remove_le}
 use Rattle.own_model.proofs.UseLemmas.{length-zeros, length-with_part, block_size-new}
 use Rattle.own_model.specs.Account.{Account, shortage}

@@ -1,13 +1,11 @@
 -- The use of an account is what its selectors name, before and after a call.
-use Rattle.std.proofs.Common.{◌≡◌, ℕ, ◌+◌, ◌-◌, Bool, true, false, cond, List, Some, length, nat_le, refl, ap, nat_cmp, arith}
-use Rattle.std.proofs.lemmas.List.{length-replicate}
-use Rattle.std.proofs.lemmas.Bool.Decides.{nat_tests}
+use Rattle.std.proofs.Common.{◌≡◌, ℕ, ◌+◌, ◌-◌, List, Some, refl, ap, nat_cmp, arith}
 use Rattle.std.specs.FinMap.{get, len-empty}
-use Rattle.trade_base.specs.Bytes.{with_bytes}
 use Rattle.trade_base.specs.Page.{page_of}
-use Rattle.trade_base.proofs.BytesLemmas.{length-with_bytes}
 use Rattle.own_model.proofs.NewSelector.{new_selector_free}
-use Rattle.own_model.proofs.StepLemmas.{KeptByEffects, run_keeps}
+use Rattle.own_model.proofs.StepLemmas.{KeptByEffects}
+use Rattle.own_model.proofs.TableLemmas.{run_keeps}
+pub use Rattle.own_model.proofs.ByteLemmas.{length-zeros, length-with_part}
 use Rattle.own_model.proofs.Totals.{total-empty, total-insert_new, total-insert_same, total-remove, len-insert_new, len-insert_at, len-remove_at}
 use Rattle.own_model.specs.Call.{Call}
 use Rattle.own_model.specs.OwnState.{OwnState, Object, zeros, new_selector, with_part, object_with}
@@ -17,11 +15,6 @@ use Rattle.own_model.specs.Sliced.{sliced_header, sliced_size, block_size}
 use Rattle.own_model.proofs.HeapRangeLemmas.{gap_free, new_page}
 use Rattle.own_model.specs.StartList.{Entry, StartEntry, start_state}
 use Rattle.own_model.specs.Use.{UsesWhatItHolds, object_size}
-
--- so many zeros
-pub length-zeros : (n : ℕ) → length (zeros n) ≡ n
-unfolding zeros
-length-zeros n = length-replicate n 0
 
 -- nothing is held at the start, and nothing used
 pub start_uses : (start : StartEntry) → UsesWhatItHolds (start_state start)
@@ -47,18 +40,6 @@ freed_uses selector bytes s there h =
     let left = total-remove object_size s.selectors selector (Dataspace bytes) there in
     let count = len-remove_at s.selectors selector (Dataspace bytes) there in
     record { ram = omega (arith, h.ram, left); caps = omega (arith, h.caps, count) }
-
--- bytes put over others where they fit, and else left out, leave their number
-length_put : (fits : Bool) (bytes : List ℕ) (offset : ℕ) (part : List ℕ) → nat_le (offset + length part) (length bytes) ≡ fits →
-    length (cond fits (with_bytes bytes offset part) bytes) ≡ length bytes
-length_put false bytes offset part e = refl
-length_put true bytes offset part e =
-    length-with_bytes bytes offset part (grind (arith, nat_tests))
-
--- bytes put over others leave their number
-pub length-with_part : (bytes : List ℕ) (offset : ℕ) (part : List ℕ) → length (with_part bytes offset part) ≡ length bytes
-unfolding with_part
-length-with_part bytes offset part = length_put (nat_le (offset + length part) (length bytes)) bytes offset part refl
 
 -- the same of what a selector names
 object_size-with : (object : Object) (offset : ℕ) (part : List ℕ) → object_size (object_with object offset part) ≡ object_size object
