@@ -27,15 +27,15 @@ overlap_at address pages e = overlap e.0 e.1.pages address pages
 -- ---- a place, wherever the regions lie
 
 -- pages that end at a region's start, or before, don't overlap it
-ends_before : (start others address pages : ℕ) → address + pages * 4096 ≤ start → overlap start others address pages ≡ false
+pub ends_before : (start others address pages : ℕ) → address + pages * 4096 ≤ start → overlap start others address pages ≡ false
 ends_before start others address pages h = grind (arith, nat_tests)
 
 -- nor do pages that start at its end or after
-starts_after : (start others address pages : ℕ) → start + others * 4096 ≤ address → overlap start others address pages ≡ false
+pub starts_after : (start others address pages : ℕ) → start + others * 4096 ≤ address → overlap start others address pages ≡ false
 starts_after start others address pages h = grind (arith, nat_tests)
 
 -- none of two where neither
-neither : (a b : Bool) → a ≡ false → b ≡ false → (a || b) ≡ false
+pub neither : (a b : Bool) → a ≡ false → b ≡ false → (a || b) ≡ false
 neither a b x y = cc
 
 -- pages that end where all regions start, or before, are clear of all

@@ -1,13 +1,15 @@
 -- The first gap between rows in order is the first gap of the window.
-use Rattle.std.proofs.Common.{◌≡◌, ℕ, suc, zero, ◌+◌, ◌*◌, ◌%◌, ◌<◌, ◌≤◌, ◌||◌, Bool, true, false, cond, List, [], ◌∷◌, length, get_or, drop, drop-cons, add-one, map, Some, refl, sym, ap, ◌∙◌, nat_le, arith}
+use Rattle.std.proofs.Common.{◌≡◌, ℕ, suc, zero, ◌+◌, ◌*◌, ◌%◌, ◌<◌, ◌≤◌, true, false, cond, List, [], ◌∷◌, length, get_or, drop, drop-cons, add-one, map, Some, refl, sym, ap, ◌∙◌, nat_le, arith}
+use Rattle.std.proofs.lemmas.Bool.{le-leb, lt-leb, leb-true, leb-false}
 use Rattle.std.proofs.lemmas.Bool.Decides.{nat_tests}
 use Rattle.std.specs.Prelude.{Option, None}
 use Rattle.std.specs.List.{list_any}
 use Rattle.own_model.specs.Region.{overlap, first_gap, IsPlace, IsFirstGap}
+use Rattle.own_model.proofs.HeapGapLemmas.{ends_before, starts_after, neither}
 use Rattle.own_model.proofs.RegionLemmas.{meets_none, clear_of_all, first_gap_is}
 use Rattle.region_map.specs.declared.row.Row.{Row}
 use Rattle.region_map.specs.Rows.{region_of, end_of, map_of, AreInOrder, gap_from, IsTable}
-use Rattle.region_map.proofs.RowLemmas.{entry, entries-map_of, neither}
+use Rattle.region_map.proofs.RowLemmas.{entry, entries-map_of, each_fails}
 use Rattle.region_map.proofs.SearchLemmas.{overlap_at}
 
 -- rows in order end where they may
@@ -18,31 +20,12 @@ ends low high (row ∷ rows) is =
     let from = is.0 in
     omega arith
 
--- pages that end at a start, or before, don't overlap what starts there
-clear_before : (start others address pages : ℕ) → address + pages * 4096 ≤ start → overlap start others address pages ≡ false
-clear_before start others address pages h = grind (arith, nat_tests)
-
--- nor do those that start at an end, or after
-clear_after : (start others address pages : ℕ) → start + others * 4096 ≤ address → overlap start others address pages ≡ false
-clear_after start others address pages h = grind (arith, nat_tests)
-
--- of two tests none passes where neither does
-both_fail : (a b : Bool) → a ≡ false → b ≡ false → (a || b) ≡ false
-both_fail a b x y = cc
-
 -- pages that end where rows begin, or before, overlap none
 clear_of_rows : (address pages low high : ℕ) (rows : List Row) → address + pages * 4096 ≤ low → AreInOrder low high rows → list_any (overlap_at address pages) (map (entry region_of) rows) ≡ false
 clear_of_rows address pages low high [] h is = refl
 clear_of_rows address pages low high (row ∷ rows) h is =
     let from = is.0 in
-    both_fail _ _ (clear_before row.start row.pages address pages (omega arith)) (clear_of_rows address pages (end_of row) high rows (omega arith) is.1)
-
--- a sum that is at most as large passes the test, and one that is larger fails it
-passes : (a b : ℕ) → a ≤ b → nat_le a b ≡ true
-passes a b h = grind (arith, nat_tests)
-
-fails : (a b : ℕ) → b < a → nat_le a b ≡ false
-fails a b h = grind (arith, nat_tests)
+    neither _ _ (ends_before row.start row.pages address pages (omega arith)) (clear_of_rows address pages (end_of row) high rows (omega arith) is.1)
 
 -- so many pages can stand at an address between rows
 record Stands (low high pages : ℕ) (rows : List Row) (address : ℕ) : Type 0 where
@@ -64,7 +47,7 @@ stands_behind low high pages row rows address from at =
       aligned = at.aligned;
       from_low = omega arith;
       to_high = at.to_high;
-      clear = both_fail _ _ (clear_after row.start row.pages address pages past) at.clear;
+      clear = neither _ _ (starts_after row.start row.pages address pages past) at.clear;
     }
 
 -- what doesn't overlap a row, and has no room in front of it, starts behind it
@@ -74,7 +57,7 @@ behind low start others address pages no_room from clear = grind (arith, nat_tes
 -- where there is no room in front of a row, pages stand behind it
 only_behind : (low high pages : ℕ) (row : Row) (rows : List Row) (address : ℕ) → row.start < low + pages * 4096 → Stands low high pages (row ∷ rows) address → Stands (end_of row) high pages rows address
 only_behind low high pages row rows address no_room at =
-    let parts = neither (overlap row.start row.pages address pages) (list_any (overlap_at address pages) (map (entry region_of) rows)) at.clear in
+    let parts = each_fails (overlap row.start row.pages address pages) (list_any (overlap_at address pages) (map (entry region_of) rows)) at.clear in
     record {
       aligned = at.aligned;
       from_low = behind low row.start row.pages address pages no_room at.from_low parts.0;
@@ -103,22 +86,22 @@ drop-all (suc i) (row ∷ rows) h = drop-all i rows (omega arith)
 -- where there is room in front of a row, the gap is there
 pub gap_in_front : (address high pages : ℕ) (row : Row) (rows : List Row) → address + pages * 4096 ≤ row.start → gap_from address high (row ∷ rows) pages ≡ Some address
 unfolding gap_from
-gap_in_front address high pages row rows h = ap (λ b. cond b (Some address) (gap_from (end_of row) high rows pages)) (passes _ _ h)
+gap_in_front address high pages row rows h = ap (λ b. cond b (Some address) (gap_from (end_of row) high rows pages)) (le-leb _ _ h)
 
 -- where there is none, it is behind it
 pub gap_behind : (address high pages : ℕ) (row : Row) (rows : List Row) → row.start < address + pages * 4096 → gap_from address high (row ∷ rows) pages ≡ gap_from (end_of row) high rows pages
 unfolding gap_from
-gap_behind address high pages row rows h = ap (λ b. cond b (Some address) (gap_from (end_of row) high rows pages)) (fails _ _ h)
+gap_behind address high pages row rows h = ap (λ b. cond b (Some address) (gap_from (end_of row) high rows pages)) (lt-leb _ _ h)
 
 -- after the last row it is where the window has room
 pub gap_at_end : (address high pages : ℕ) → address + pages * 4096 ≤ high → gap_from address high [] pages ≡ Some address
 unfolding gap_from
-gap_at_end address high pages h = ap (λ b. cond b (Some address) None) (passes _ _ h)
+gap_at_end address high pages h = ap (λ b. cond b (Some address) None) (le-leb _ _ h)
 
 -- or there is none
 pub no_gap_at_end : (address high pages : ℕ) → high < address + pages * 4096 → gap_from address high [] pages ≡ None
 unfolding gap_from
-no_gap_at_end address high pages h = ap (λ b. cond b (Some address) None) (fails _ _ h)
+no_gap_at_end address high pages h = ap (λ b. cond b (Some address) None) (lt-leb _ _ h)
 
 -- ---- the first gap of the window
 
@@ -126,26 +109,19 @@ no_gap_at_end address high pages h = ap (λ b. cond b (Some address) None) (fail
 end_aligned : (start pages : ℕ) → start % 4096 ≡ 0 → (start + pages * 4096) % 4096 ≡ 0
 end_aligned start pages h = omega arith
 
--- a test that passes for a sum at most as large, and one that fails
-fits : (a b : ℕ) → nat_le a b ≡ true → a ≤ b
-fits a b h = grind (arith, nat_tests)
-
-exceeds : (a b : ℕ) → nat_le a b ≡ false → b < a
-exceeds a b h = grind (arith, nat_tests)
-
 -- the gap between the rows is the first
 gap_is_first : (low high pages : ℕ) (rows : List Row) → low % 4096 ≡ 0 → AreInOrder low high rows → IsFirst low high pages rows (gap_from low high rows pages)
 unfolding gap_from
 gap_is_first low high pages [] aligned is =
     elim (nat_le (low + pages * 4096) high) as (λ b. nat_le (low + pages * 4096) high ≡ b → IsFirst low high pages [] (cond b (Some low) None)) [
-      | true ↦ λ t. (record { aligned = aligned; from_low = omega arith; to_high = fits _ _ t; clear = refl }, λ b below at. let from = at.from_low in omega arith)
-      | false ↦ λ t b at. let from = at.from_low in let to = at.to_high in let past = exceeds _ _ t in omega arith
+      | true ↦ λ t. (record { aligned = aligned; from_low = omega arith; to_high = leb-true _ _ t; clear = refl }, λ b below at. let from = at.from_low in omega arith)
+      | false ↦ λ t b at. let from = at.from_low in let to = at.to_high in let past = leb-false _ _ t in omega arith
     ] refl
 gap_is_first low high pages (row ∷ rows) aligned is =
     let from = is.0 in
     elim (nat_le (low + pages * 4096) row.start) as (λ b. nat_le (low + pages * 4096) row.start ≡ b → IsFirst low high pages (row ∷ rows) (cond b (Some low) (gap_from (end_of row) high rows pages))) [
       | true ↦ λ t.
-          let before = fits _ _ t in
+          let before = leb-true _ _ t in
           let end = ends (end_of row) high rows is.1 in (
             record {
               aligned = aligned;
@@ -156,7 +132,7 @@ gap_is_first low high pages (row ∷ rows) aligned is =
             λ b below at. let at_least = at.from_low in omega arith,
           )
       | false ↦ λ t.
-          first_behind low high pages row rows _ from (exceeds _ _ t)
+          first_behind low high pages row rows _ from (leb-false _ _ t)
           (gap_is_first (end_of row) high pages rows (end_aligned row.start row.pages row.aligned) is.1)
     ] refl
 

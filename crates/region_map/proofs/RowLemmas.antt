@@ -121,17 +121,17 @@ after_end start others address pages some before h = grind (arith, nat_tests)
 before_start : (start others address pages : ℕ) → 1 ≤ others → address < start → overlap start others address pages ≡ false → address + pages * 4096 ≤ start
 before_start start others address pages some after h = grind (arith, nat_tests)
 
--- of two tests neither passes
-pub neither : (a b : Bool) → (a || b) ≡ false → (a ≡ false) × (b ≡ false)
-neither true b h = absurd (true≢false h)
-neither false b h = (refl, h)
+-- of two tests each_fails passes
+pub each_fails : (a b : Bool) → (a || b) ≡ false → (a ≡ false) × (b ≡ false)
+each_fails true b h = absurd (true≢false h)
+each_fails false b h = (refl, h)
 
 -- a row that overlaps none of those in order stands among them where the binary search says
 pub AreInOrder-insert : (low high : ℕ) (rows : List Row) (row : Row) → AreInOrder low high rows → low ≤ row.start → end_of row ≤ high → list_any (λ e. overlap e.0 e.1.pages row.start row.pages) (map (entry region_of) rows) ≡ false → AreInOrder low high (insert_at rows (count_to row.start rows) row)
 unfolding count_to
 AreInOrder-insert low high [] row is from to clear = (from, to)
 AreInOrder-insert low high (r ∷ rows) row is from to clear =
-    let parts = neither (overlap r.start r.pages row.start row.pages) (list_any (λ e. overlap e.0 e.1.pages row.start row.pages) (map (entry region_of) rows)) clear in
+    let parts = each_fails (overlap r.start r.pages row.start row.pages) (list_any (λ e. overlap e.0 e.1.pages row.start row.pages) (map (entry region_of) rows)) clear in
     elim (nat_le r.start row.start) as (λ b. nat_le r.start row.start ≡ b → AreInOrder low high (insert_at (r ∷ rows) (cond b (suc (count_to row.start rows)) 0) row)) [
       | true ↦ λ t.
           let before : r.start ≤ row.start = grind (arith, nat_tests) in

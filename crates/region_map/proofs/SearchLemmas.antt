@@ -1,6 +1,7 @@
 -- What is found among rows in order: the last one up to an address, and the first gap.
 use Rattle.std.proofs.Common.{◌≡◌, ℕ, suc, zero, ◌+◌, ◌*◌, ◌<◌, ◌≤◌, ◌≢◌, ◌&&◌, ◌||◌, ◌⊎◌, Bool, true, false, cond, eqb, eqb-true, List, [], ◌∷◌, map, length, get_or, is_some, Some, refl, sym, ap, subst, ◌∙◌, inl, inr, nat_le, nat_lt, arith}
-use Rattle.std.proofs.lemmas.Bool.{cases_lt}
+use Rattle.std.proofs.Math.Bool.{or-false}
+use Rattle.std.proofs.lemmas.Bool.{cases_lt, le-leb, lt-leb}
 use Rattle.std.proofs.lemmas.Bool.Decides.{nat_tests}
 use Rattle.std.proofs.lemmas.Option.{none-some, same_Some}
 use Rattle.std.specs.Prelude.{Option, None}
@@ -69,19 +70,6 @@ last_of_some address (suc n) (r ∷ rows) row is at =
       | false ↦ λ h. absurd (omega arith)
     ] is
 
--- a number is not at or below a lower one
-not_below : (a b : ℕ) → a < b → nat_le b a ≡ false
-not_below a b h = grind (arith, nat_tests)
-
--- but at or below a higher one
-at_or_below : (a b : ℕ) → a ≤ b → nat_le a b ≡ true
-at_or_below a b h = grind (arith, nat_tests)
-
--- a test or one that fails is that test
-or_false : (b : Bool) → (b || false) ≡ b
-or_false true = refl
-or_false false = refl
-
 -- a number below one is below a greater one
 later_ends : (a b c : ℕ) → b ≤ c → (nat_lt a b || nat_lt a c) ≡ nat_lt a c
 later_ends a b c h = grind (arith, nat_tests)
@@ -91,7 +79,7 @@ pub last_before : (address low high : ℕ) (rows : List Row) → address < low �
 unfolding last_to
 last_before address low high [] less is = refl
 last_before address low high (row ∷ rows) less is =
-    ap (λ b. cond b (option_or (last_to address rows) (Some row)) None) (not_below address row.start (let from = is.0 in omega arith))
+    ap (λ b. cond b (option_or (last_to address rows) (Some row)) None) (lt-leb row.start address (let from = is.0 in omega arith))
 
 -- the last row among rows that one stands in front of
 record IsLastOf (address : ℕ) (first : Row) (rows : List Row) (row : Row) : Type 0 where
@@ -153,14 +141,14 @@ module _ {X : Type 0} (f : Row → X) where
         | true ↦ λ t.
             let here : address ≡ r.start = eqb-true address r.start t in
             let alone : last_to address (r ∷ rows) ≡ Some r =
-            ap (λ b. cond b (option_or (last_to address rows) (Some r)) None) (at_or_below r.start address (omega arith))
+            ap (λ b. cond b (option_or (last_to address rows) (Some r)) None) (le-leb r.start address (omega arith))
             ∙ ap (λ o. option_or o (Some r)) (last_before address (end_of r) high rows (omega arith) is.1) in
             absurd (other r alone (sym here))
         | false ↦ λ t. get_nothing address (end_of r) high rows is.1 (λ row later.
             let at = last_within address (end_of r) high rows row is.1 later in
             let past = at.0 in
             let up = at.1 in
-            other row (ap (λ b. cond b (option_or (last_to address rows) (Some r)) None) (at_or_below r.start address (omega arith)) ∙ ap (λ o. option_or o (Some r)) later))
+            other row (ap (λ b. cond b (option_or (last_to address rows) (Some r)) None) (le-leb r.start address (omega arith)) ∙ ap (λ o. option_or o (Some r)) later))
       ] refl
 
 -- a map of the same rows has the same starts
@@ -236,18 +224,18 @@ overlap_last address pages bound low high (r ∷ rows) e is =
           let clear : list_any (overlap_at address pages) (map (entry region_of) rows) ≡ false = rest ∙ ap (ends_after address) none in
           let apart : nat_lt r.start (address + pages * 4096) ≡ false = grind (arith, nat_tests) in
           ap (λ b. (b && nat_lt address (end_of r)) || list_any (overlap_at address pages) (map (entry region_of) rows)) apart ∙ clear
-          ∙ sym (ap (λ b. ends_after address (cond b (option_or (last_to bound rows) (Some r)) None)) (not_below bound r.start after))
+          ∙ sym (ap (λ b. ends_after address (cond b (option_or (last_to bound rows) (Some r)) None)) (lt-leb r.start bound after))
       | inr before ↦
           let within : nat_lt r.start (address + pages * 4096) ≡ true = grind (arith, nat_tests) in
           ap (λ b. (b && nat_lt address (end_of r)) || list_any (overlap_at address pages) (map (entry region_of) rows)) within
           ∙ ap (λ b. nat_lt address (end_of r) || b) rest
           ∙ elim (last_to bound rows) as (λ o. last_to bound rows ≡ o → (nat_lt address (end_of r) || ends_after address o) ≡ ends_after address (option_or o (Some r))) [
-            | None ↦ λ none. or_false (nat_lt address (end_of r))
+            | None ↦ λ none. or-false (nat_lt address (end_of r))
             | Some row ↦ λ last.
                 let past = (last_within bound (end_of r) high rows row is.1 last).0 in
                 later_ends address (end_of r) (end_of row) (omega arith)
           ] refl
-          ∙ sym (ap (λ b. ends_after address (cond b (option_or (last_to bound rows) (Some r)) None)) (at_or_below r.start bound before))
+          ∙ sym (ap (λ b. ends_after address (cond b (option_or (last_to bound rows) (Some r)) None)) (le-leb r.start bound before))
     ]
 
 -- so the map meets pages there

@@ -28,7 +28,7 @@ const HEAP_LOW: u64 = 0x1_0000_0000;
 pub struct RegionMap {
     user: Table,
     heap: Table,
-    /// The machine's pages.
+    /// The machine's pages, which contracts alone read.
     pages: usize,
 }
 
@@ -67,7 +67,6 @@ impl RegionMap {
 
     /// Attaches `pages` pages of a dataspace at the first gap of the user window, and tells where. `TooManyRegions`
     /// where there are as many regions as there can be, `RegionConflict` where no gap fits.
-
     #[tactic(auto, using(own_model::proofs::RegionLemmas::first_gap_least, own_model::proofs::HeapGapLemmas::first_gap_stands))]
     pub fn attach(&mut self, ds: DsId, pages: u64) -> Result<u64, Refusal>
         requires some { 1 ≤ pages }

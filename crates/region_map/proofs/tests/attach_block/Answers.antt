@@ -1,5 +1,5 @@
 -- One region more, of its pages.
-use Rattle.std.proofs.Common.{◌≡◌, refl}
+use Rattle.std.proofs.Common.{refl}
 use Rattle.own_model.proofs.NatMapLemmas.{IsSome-insert, IsSome-insert_same}
 use Rattle.own_model.proofs.Totals.{len-insert_new, total-insert_new}
 use Rattle.region_map.proofs.tests.attach_block.Goals as goal

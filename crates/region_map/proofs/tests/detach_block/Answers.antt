@@ -1,5 +1,5 @@
 -- One region less.
-use Rattle.std.proofs.Common.{◌≡◌, arith}
+use Rattle.std.proofs.Common.{arith}
 use Rattle.own_model.proofs.NatMapLemmas.{value_at}
 use Rattle.own_model.proofs.Totals.{len-remove_at, total-remove}
 use Rattle.region_map.proofs.tests.detach_block.Goals as goal
