@@ -9,6 +9,7 @@ use Rattle.page_pool.specs.declared.pool.PageNo.{PageNo}
 use Rattle.slab.specs.Slab.{Slab}
 use Rattle.trade_base.specs.declared.refusal.Refusal.{Refusal}
 use Rattle.trade_base.specs.declared.refusal.Refusal.TheVariants.{OutOfCaps}
+use Rattle.own_model.specs.NatMap.{owed}
 use Rattle.own_model.specs.Account.{Account, shortage, charged, credited, opened}
 use Rattle.own_model.proofs.NatMapLemmas.{IsSome-insert, after_insert}
 use Rattle.own_model.proofs.Totals.{len-total, total_same, total-picked, total-insert_same, owed-total, owed_nothing}
@@ -17,9 +18,9 @@ use Rattle.quota_core.specs.Books.{Books, IsOpen, account_at, with_account}
 use Rattle.quota_core.proofs.BooksLemmas.{account_there}
 use Rattle.dataspace_core.specs.Store.{Store, part, bytes_paid_by, with_account_in, PartBecomes, charged_part}
 use Rattle.dataspace_core.specs.Layout.{store_of}
-use Rattle.dataspace_core.specs.Paid.{IsPaid, IsSound, payer_of, caps_owed}
+use Rattle.dataspace_core.specs.Paid.{IsPaid, IsSound, payer_of}
 use Rattle.dataspace_core.specs.declared.dataspace.Dataspace.{Dataspace}
-use Rattle.dataspace_core.proofs.PaidLemmas.{payer_apart}
+use Rattle.dataspace_core.proofs.PaidLemmas.{payer_apart, IsPaid-capped}
 use Rattle.dataspace_core.proofs.PartLemmas.{becomes-with_account}
 use Rattle.dataspace_core.proofs.MemoryLemmas.{same_store}
 
@@ -29,46 +30,13 @@ counts true bytes = refl
 counts false bytes = refl
 
 -- an account owes a capability for each dataspace of its part
-pub caps_owed-len : (store : Store) (account : ℕ) → len (part account store).spaces ≡ caps_owed store account
+pub caps_owed-len : (store : Store) (account : ℕ) → len (part account store).spaces ≡ owed (λ _. 1) payer_of store.spaces account
 unfolding part
 caps_owed-len store account =
     len-total (part account store).spaces
     ∙ total-picked (λ _. 1) (bytes_paid_by account) store.spaces
     ∙ total_same _ _ store.spaces (λ ds space there. counts (eqb space.payer account) space.bytes)
     ∙ sym (owed-total (λ _. 1) payer_of store.spaces account)
-
-module _ (store : Store) (account : ℕ) (b : Account) where
-  -- the memory where the account is another
-  abbrev after : Store
-  after = with_account_in store account b
-
-  -- all stays paid for where only the use of capabilities is another, and covers the account's dataspaces
-  IsPaid-capped : (free pages : ℕ) → IsPaid store free pages → (a : Account) → get store.books.accounts account ≡ Some a → b.ram_used ≡ a.ram_used → b.ram_limit ≡ a.ram_limit → b.caps_limit ≡ a.caps_limit → caps_owed store account ≤ b.caps_used → b.caps_used ≤ b.caps_limit → IsPaid after free pages
-  IsPaid-capped free pages paid a opens used limit caps_limit covers within = record {
-    payers = λ q s there. IsSome-insert store.books.accounts account b s.payer (paid.payers q s there);
-    sized = paid.sized;
-    within = λ k v there. elim (after_insert store.books.accounts account b k v there) [
-      | inl new ↦
-          let old = paid.within account a opens in
-          record {
-            ram = omega (arith, ap (λ (v : Account). v.ram_used) new.1, ap (λ (v : Account). v.ram_limit) new.1, used, limit, old.ram);
-            caps = omega (arith, ap (λ (v : Account). v.caps_used) new.1, ap (λ (v : Account). v.caps_limit) new.1, within);
-          }
-      | inr old ↦ paid.within k v old.1
-    ];
-    ram = λ k v there. elim (after_insert store.books.accounts account b k v there) [
-      | inl new ↦ paid.ram k a (ap (get store.books.accounts) new.0 ∙ opens) ∙ sym (ap (λ (v : Account). v.ram_used) new.1 ∙ used)
-      | inr old ↦ paid.ram k v old.1
-    ];
-    caps = λ k v there. elim (after_insert store.books.accounts account b k v there) [
-      | inl new ↦ omega (arith, ap (caps_owed store) new.0, ap (λ (v : Account). v.caps_used) new.1, covers)
-      | inr old ↦ paid.caps k v old.1
-    ];
-    ram_limits = total-insert_same (λ (v : Account). v.ram_limit) store.books.accounts account b a opens limit ∙ paid.ram_limits;
-    covered = omega (arith, total-insert_same (λ (v : Account). v.caps_limit) store.books.accounts account b a opens caps_limit, paid.covered);
-    backed = paid.backed;
-    few = paid.few;
-  }
 
 module _ {books : Books} {pool : List (Option (List ℕ))} {table : List PageNo} {room : ℕ} {spaces : Slab Dataspace} (sound : IsSound books pool table room spaces) where
   -- what contracts see
@@ -80,7 +48,7 @@ module _ {books : Books} {pool : List (Option (List ℕ))} {table : List PageNo}
   paid_for account None closed =
       let none = owed_nothing (λ _. 1) payer_of store.spaces account (payer_apart store (free_count pool) (length pool) sound.paid account closed) in
       omega (arith, caps_owed-len store account, none)
-  paid_for account (Some a) there = omega (arith, caps_owed-len store account, sound.paid.caps account a there)
+  paid_for account (Some a) there = omega (arith, caps_owed-len store account, (sound.paid.paying account a there).caps)
 
   -- so no account has more dataspaces than it uses capabilities
   pub spaces_paid : (account : ℕ) → len (part account store).spaces ≤ (account_at books account).caps_used
@@ -89,11 +57,11 @@ module _ {books : Books} {pool : List (Option (List ℕ))} {table : List PageNo}
   module _ (account : ℕ) (opens : IsOpen books account) where
     module _ (new_books : Books) where
       -- the memory stays sound where the account has another use of capabilities
-      IsSound-capped : (b : Account) → new_books ≡ with_account books account b → b.ram_used ≡ (account_at books account).ram_used → b.ram_limit ≡ (account_at books account).ram_limit → b.caps_limit ≡ (account_at books account).caps_limit → caps_owed store account ≤ b.caps_used → b.caps_used ≤ b.caps_limit → IsSound new_books pool table room spaces
+      IsSound-capped : (b : Account) → new_books ≡ with_account books account b → b.ram_used ≡ (account_at books account).ram_used → b.ram_limit ≡ (account_at books account).ram_limit → b.caps_limit ≡ (account_at books account).caps_limit → owed (λ _. 1) payer_of store.spaces account ≤ b.caps_used → b.caps_used ≤ b.caps_limit → IsSound new_books pool table room spaces
       IsSound-capped b is used limit caps_limit covers within = record {
         laid_out = sound.laid_out;
         paid = subst (λ (s : Store). IsPaid s (free_count pool) (length pool)) (sym (same_store new_books _ pool table spaces is))
-            (IsPaid-capped store account b (free_count pool) (length pool) sound.paid (account_at books account) (account_there books account opens) used limit caps_limit covers within);
+            (IsPaid-capped store (free_count pool) (length pool) sound.paid account (account_at books account) b (account_there books account opens) used limit caps_limit covers within);
         counted = sound.counted;
         roomy = sound.roomy;
       }
@@ -102,19 +70,19 @@ module _ {books : Books} {pool : List (Option (List ℕ))} {table : List PageNo}
       pub IsSound-charge_cap : (r : Result ⊤ Refusal) → result_err r ≡ shortage (account_at books account) 0 1 → OnOk r (new_books ≡ with_account books account (charged (account_at books account) 0 1)) → OnErr r (new_books ≡ books) → IsSound new_books pool table room spaces
       IsSound-charge_cap (Ok done) refusal ok err =
           let covered = covers (account_at books account) 0 1 (sym refusal) in
-          let owes = sound.paid.caps account (account_at books account) (account_there books account opens) in
+          let owes = (sound.paid.paying account (account_at books account) (account_there books account opens)).caps in
           IsSound-capped (charged (account_at books account) 0 1) ok (omega arith) refl refl (omega (arith, owes)) covered.caps_fit
       IsSound-charge_cap (Err e) refusal ok err = subst (λ b. IsSound b pool table room spaces) (sym err) sound
 
       -- it is refused for want of a capability alone
       pub only-charge_cap : (r : Result ⊤ Refusal) → result_err r ≡ shortage (account_at books account) 0 1 → IfErr r (λ refusal. refusal ≡ OutOfCaps)
       only-charge_cap (Ok done) refusal = tt
-      only-charge_cap (Err e) refusal = short_of_caps (account_at books account) 1 e (sound.paid.within account (account_at books account) (account_there books account opens)) refusal
+      only-charge_cap (Err e) refusal = short_of_caps (account_at books account) 1 e (sound.paid.paying account (account_at books account) (account_there books account opens)).within refusal
 
       -- a credit of one that pays for no dataspace
       pub IsSound-credit_cap : len (part account store).spaces < (account_at books account).caps_used → new_books ≡ with_account books account (credited (account_at books account) 0 1) → IsSound new_books pool table room spaces
       IsSound-credit_cap spare is =
-          let within = sound.paid.within account (account_at books account) (account_there books account opens) in
+          let within = (sound.paid.paying account (account_at books account) (account_there books account opens)).within in
           IsSound-capped (credited (account_at books account) 0 1) is (omega arith) refl refl
           (omega (arith, caps_owed-len store account, spare)) (omega (arith, within.caps))
 

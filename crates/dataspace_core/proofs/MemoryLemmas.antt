@@ -139,7 +139,7 @@ module _ {books : Books} {pool : List (Option (List ℕ))} {table : List PageNo}
         sound = record {
           laid_out = IsLaidOut-remove pool table spaces sound.laid_out ds d there new_pool new_table given closed left new_spaces updates moves;
           paid = moved _ (store_of new_books new_pool new_table new_spaces) (free_count new_pool) _ _ gone (sym given.size)
-              (IsPaid-less store _ _ sound.paid ds (space_of pool table d) (account_at books d.payer.0) credited_payer space_there (ap (get books.accounts) payer_is ∙ payer_at) refl (free_count new_pool) (omega (arith, given.given, size_there)));
+              (IsPaid-less store _ _ sound.paid ds (space_of pool table d) (account_at books d.payer.0) space_there (ap (get books.accounts) payer_is ∙ payer_at) (free_count new_pool) (omega (arith, given.given, size_there)));
           counted = omega (arith, sound.counted, closed.shorter, given.given, given.size);
           roomy = omega (arith, sound.roomy, same_room, given.size);
         };
@@ -237,7 +237,7 @@ module _ {books : Books} {pool : List (Option (List ℕ))} {table : List PageNo}
         sound = record {
           laid_out = IsLaidOut-insert pool table spaces sound.laid_out new_pool new_table d new_run key new_spaces updates;
           paid = moved _ (store_of new_books new_pool new_table new_spaces) (free_count new_pool) _ _ come (sym run.size)
-              (IsPaid-more store _ _ sound.paid key account size (account_at books account) (charged (account_at books account) size 1) (account_there books account opens) fits page refl vacant_there (free_count new_pool) (omega (arith, run.taken, whole)));
+              (IsPaid-more store _ _ sound.paid key account size (account_at books account) (account_there books account opens) fits page vacant_there (free_count new_pool) (omega (arith, run.taken, whole)));
           counted = omega (arith, sound.counted, run.longer, run.taken, run.size);
           roomy = omega (arith, sound.roomy, same_room, run.size);
         };

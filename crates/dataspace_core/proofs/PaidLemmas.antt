@@ -9,12 +9,12 @@ use Rattle.std.specs.FinMap.{get, insert, remove, empty, len, len-empty}
 use Rattle.own_model.specs.NatMap.{NatMap, total, owed}
 use Rattle.own_model.specs.Account.{Account, Fits, charged, credited, opened, parted_with}
 use Rattle.own_model.specs.OwnState.{zeros}
-use Rattle.own_model.proofs.NatMapLemmas.{get-empty, get-insert_same, get-insert_other, IsSome-insert_same, IsSome-insert, after_insert, apart_from_free, before_remove, by_insertions}
+use Rattle.own_model.proofs.NatMapLemmas.{get-empty, get-insert_same, get-insert_other, IsSome-insert, IsSome-at, after_insert, apart_from_free, before_remove, by_insertions}
 use Rattle.own_model.proofs.UseLemmas.{length-zeros}
 use Rattle.own_model.proofs.Totals.{total-empty, total-insert_new, total-insert_same, total-remove, total_spare, total_le, len-insert_new, len-total, owed-empty, owed-insert_new, owed-insert_same, owed-remove, owed_nothing, owed_at_le, total_owed_le, total-owed, total_at_le}
 use Rattle.quota_core.specs.Books.{Books, account_at, with_child, ram_limits, caps_limits}
 use Rattle.dataspace_core.specs.Store.{Store, Space, fresh_store, IsOpenIn, account_in, places_in, ram_limits_in, caps_limits_in}
-use Rattle.dataspace_core.specs.Paid.{IsPaid, size_of, payer_of, ram_owed, caps_owed}
+use Rattle.dataspace_core.specs.Paid.{IsPaid, IsPaying, size_of, payer_of}
 
 -- ---- how many pages there are dataspaces for
 
@@ -36,8 +36,8 @@ module _ (store : Store) (free pages : ℕ) (paid : IsPaid store free pages) whe
   -- what an account has left the machine has free
   pub free_covers : (account : ℕ) (a : Account) (n : ℕ) → get store.books.accounts account ≡ Some a → a.ram_used + n ≤ a.ram_limit → n ≤ free * 4096
   free_covers account a n there room =
-      let spare = total_spare (λ (a : Account). a.ram_used) (λ a. a.ram_limit) store.books.accounts account a n there room (λ q w is. (paid.within q w is).ram) in
-      let exact = total-owed size_of payer_of (λ (a : Account). a.ram_used) store.spaces store.books.accounts paid.payers paid.ram in
+      let spare = total_spare (λ (a : Account). a.ram_used) (λ a. a.ram_limit) store.books.accounts account a n there room (λ q w is. (paid.paying q w is).within.ram) in
+      let exact = total-owed size_of payer_of (λ (a : Account). a.ram_used) store.spaces store.books.accounts paid.payers (λ q w is. (paid.paying q w is).ram) in
       omega (arith, spare, exact, paid.ram_limits, paid.backed)
 
   -- as many pages as there are dataspaces are full
@@ -48,8 +48,8 @@ module _ (store : Store) (free pages : ℕ) (paid : IsPaid store free pages) whe
   pub places_cover : (account : ℕ) (a : Account) (n : ℕ) → get store.books.accounts account ≡ Some a → 4096 ≤ n → a.ram_used + n ≤ a.ram_limit → a.caps_used + 1 ≤ a.caps_limit → len store.spaces + 1 ≤ places_in store
   places_cover account a n there page room_ram room =
       let free_pages = free_covers account a n there room_ram in
-      let spare = total_spare (λ (a : Account). a.caps_used) (λ a. a.caps_limit) store.books.accounts account a 1 there room (λ q w is. (paid.within q w is).caps) in
-      let within = total_owed_le (λ (_ : Space). 1) payer_of (λ (a : Account). a.caps_used) store.spaces store.books.accounts paid.payers paid.caps in
+      let spare = total_spare (λ (a : Account). a.caps_used) (λ a. a.caps_limit) store.books.accounts account a 1 there room (λ q w is. (paid.paying q w is).within.caps) in
+      let within = total_owed_le (λ (_ : Space). 1) payer_of (λ (a : Account). a.caps_used) store.spaces store.books.accounts paid.payers (λ q w is. (paid.paying q w is).caps) in
       omega (arith, free_pages, page, spare, within, pages_full, paid.backed, paid.covered, len-total store.spaces)
 
   -- no dataspace is larger than the machine
@@ -61,121 +61,89 @@ module _ (store : Store) (free pages : ℕ) (paid : IsPaid store free pages) whe
   use_covers ds space a there opens =
       let ram = owed_at_le size_of payer_of store.spaces ds space space.payer there refl in
       let caps = owed_at_le (λ (_ : Space). 1) payer_of store.spaces ds space space.payer there refl in
-      (omega (arith, ram, paid.ram space.payer a opens), omega (arith, caps, paid.caps space.payer a opens))
+      (omega (arith, ram, (paid.paying space.payer a opens).ram), omega (arith, caps, (paid.paying space.payer a opens).caps))
 
   -- an account that is not open pays for nothing
   pub payer_apart : (child : ℕ) → get store.books.accounts child ≡ None → (ds : ℕ) (space : Space) → get store.spaces ds ≡ Some space → space.payer ≢ child
   payer_apart child closed ds space there = apart_from_free store.books.accounts child space.payer closed (paid.payers ds space there)
 
-  -- ---- an account pays for a new dataspace
+  -- ---- one account is another, and the dataspaces are others
 
-  module _ (ds payer size : ℕ) (a b : Account) (opens : get store.books.accounts payer ≡ Some a) (fits : Fits a size 1) (page : 4096 ≤ size) (is : b ≡ charged a size 1) (new : get store.spaces ds ≡ None) where
+  module _ (account : ℕ) (a b : Account) (opens : get store.books.accounts account ≡ Some a) (ram_limit : b.ram_limit ≡ a.ram_limit) (caps_limit : b.caps_limit ≡ a.caps_limit) (spaces : NatMap Space) where
+    -- the memory after that
+    abbrev after : Store
+    after = record store { books = record store.books { accounts = insert store.books.accounts account b }; spaces = spaces }
+
+    -- all is paid for where this account pays for what is its own now, and the others owe what they owed
+    IsPaid-changed : (free_now : ℕ) → ((q : ℕ) (s : Space) → get spaces q ≡ Some s → IsOpenIn store s.payer × (4096 ≤ size_of s)) → IsPaying spaces account b → ((f : Space → ℕ) (k : ℕ) → k ≢ account → owed f payer_of spaces k ≡ owed f payer_of store.spaces k) → free_now * 4096 + total size_of spaces ≡ pages * 4096 → IsPaid after free_now pages
+    IsPaid-changed free_now each here others backed = record {
+      payers = λ q s there. IsSome-insert store.books.accounts account b s.payer (each q s there).0;
+      sized = λ q s there. (each q s there).1;
+      paying = λ k v there. elim (after_insert store.books.accounts account b k v there) [
+        | inl new ↦ subst (λ (w : Account). IsPaying spaces k w) (sym new.1) (subst (λ q. IsPaying spaces q b) (sym new.0) here)
+        | inr old ↦
+            let was = paid.paying k v old.1 in
+            record { within = was.within; ram = others size_of k old.0 ∙ was.ram; caps = omega (arith, others (λ _. 1) k old.0, was.caps) }
+      ];
+      ram_limits = total-insert_same (λ (v : Account). v.ram_limit) store.books.accounts account b a opens ram_limit ∙ paid.ram_limits;
+      covered = omega (arith, total-insert_same (λ (v : Account). v.caps_limit) store.books.accounts account b a opens caps_limit, paid.covered);
+      backed = backed;
+      few = paid.few;
+    }
+
+  -- an account's use of capabilities is another, and covers its dataspaces
+  pub IsPaid-capped : (account : ℕ) (a b : Account) → get store.books.accounts account ≡ Some a → b.ram_used ≡ a.ram_used → b.ram_limit ≡ a.ram_limit → b.caps_limit ≡ a.caps_limit → owed (λ _. 1) payer_of store.spaces account ≤ b.caps_used → b.caps_used ≤ b.caps_limit → IsPaid (record store { books = record store.books { accounts = insert store.books.accounts account b } }) free pages
+  IsPaid-capped account a b opens used ram_limit caps_limit covers within =
+      let was = paid.paying account a opens in
+      IsPaid-changed account a b opens ram_limit caps_limit store.spaces free
+      (λ q s there. (paid.payers q s there, paid.sized q s there))
+      (record { within = record { ram = omega (arith, was.within.ram, used, ram_limit); caps = within }; ram = was.ram ∙ sym used; caps = covers })
+      (λ f k apart. refl) paid.backed
+
+  -- an account pays for a new dataspace
+  module _ (ds payer size : ℕ) (a : Account) (opens : get store.books.accounts payer ≡ Some a) (fits : Fits a size 1) (page : 4096 ≤ size) (new : get store.spaces ds ≡ None) where
     -- the new dataspace
     abbrev space : Space
     space = record { payer = payer; bytes = zeros size }
 
-    -- the memory with it
-    abbrev after : Store
-    after = record store { books = record store.books { accounts = insert store.books.accounts payer b }; spaces = insert store.spaces ds space }
+    -- its payer owes more, and the others owe what they owed
+    owed_more : (f : Space → ℕ) (n : ℕ) → f space ≡ n → owed f payer_of (insert store.spaces ds space) payer ≡ owed f payer_of store.spaces payer + n
+    owed_more f n e = let more = owed-insert_new f payer_of store.spaces ds space payer new in grind (arith, nat_tests, more, e)
 
-    -- its payer owes more
-    owed_more : (f : Space → ℕ) (n k : ℕ) → f space ≡ n → owed f payer_of (insert store.spaces ds space) k ≡ owed f payer_of store.spaces k + cond (eqb payer k) n 0
-    owed_more f n k e = owed-insert_new f payer_of store.spaces ds space k new ∙ ap (λ m. owed f payer_of store.spaces k + cond (eqb payer k) m 0) e
+    pub IsPaid-more : (free_now : ℕ) → free_now * 4096 + size ≡ free * 4096 → IsPaid (after payer a (charged a size 1) opens refl refl (insert store.spaces ds space)) free_now pages
+    IsPaid-more free_now less =
+        let was = paid.paying payer a opens in
+        IsPaid-changed payer a (charged a size 1) opens refl refl (insert store.spaces ds space) free_now
+        (λ q s there. elim (after_insert store.spaces ds space q s there) [
+          | inl new ↦ (subst (IsOpenIn store) (sym (ap payer_of new.1)) (IsSome-at store.books.accounts payer a opens), omega (arith, ap size_of new.1, length-zeros size, page))
+          | inr old ↦ (paid.payers q s old.1, paid.sized q s old.1)
+        ])
+        (record {
+          within = record { ram = fits.ram_fits; caps = fits.caps_fit };
+          ram = owed_more size_of size (length-zeros size) ∙ ap (λ n. n + size) was.ram;
+          caps = omega (arith, owed_more (λ _. 1) 1 refl, was.caps);
+        })
+        (λ f k apart. let more = owed-insert_new f payer_of store.spaces ds space k new in grind (arith, nat_tests, more, apart))
+        (omega (arith, total-insert_new size_of store.spaces ds space new, length-zeros size, paid.backed, less))
 
-    -- all is paid for
-    pub IsPaid-more : (free_now : ℕ) → free_now * 4096 + size ≡ free * 4096 → IsPaid after free_now pages
-    IsPaid-more free_now less = record {
-      payers = λ q s there. elim (after_insert store.spaces ds space q s there) [
-        | inl new ↦ IsSome-insert_same store.books.accounts payer b s.payer (ap payer_of new.1)
-        | inr old ↦ IsSome-insert store.books.accounts payer b s.payer (paid.payers q s old.1)
-      ];
-      sized = λ q s there. elim (after_insert store.spaces ds space q s there) [
-        | inl new ↦ omega (arith, ap size_of new.1, length-zeros size, page)
-        | inr old ↦ paid.sized q s old.1
-      ];
-      within = λ k v there. elim (after_insert store.books.accounts payer b k v there) [
-        | inl new ↦ record {
-          ram = omega (arith, ap (λ (v : Account). v.ram_used) (new.1 ∙ is), ap (λ (v : Account). v.ram_limit) (new.1 ∙ is), fits.ram_fits);
-          caps = omega (arith, ap (λ (v : Account). v.caps_used) (new.1 ∙ is), ap (λ (v : Account). v.caps_limit) (new.1 ∙ is), fits.caps_fit);
-        }
-        | inr old ↦ paid.within k v old.1
-      ];
-      ram = λ k v there.
-          let more = owed_more size_of size k (length-zeros size) in
-          elim (after_insert store.books.accounts payer b k v there) [
-            | inl new ↦
-                let old = paid.ram k a (ap (get store.books.accounts) new.0 ∙ opens) in
-                let used = ap (λ (v : Account). v.ram_used) (new.1 ∙ is) in
-                grind (arith, nat_tests, more, old, used, new.0)
-            | inr old ↦
-                let same = paid.ram k v old.1 in
-                grind (arith, nat_tests, more, same, old.0)
-          ];
-      caps = λ k v there.
-          let more = owed_more (λ _. 1) 1 k refl in
-          elim (after_insert store.books.accounts payer b k v there) [
-            | inl new ↦
-                let old = paid.caps k a (ap (get store.books.accounts) new.0 ∙ opens) in
-                let used = ap (λ (v : Account). v.caps_used) (new.1 ∙ is) in
-                grind (arith, nat_tests, more, old, used, new.0)
-            | inr old ↦
-                let same = paid.caps k v old.1 in
-                grind (arith, nat_tests, more, same, old.0)
-          ];
-      ram_limits = total-insert_same (λ (v : Account). v.ram_limit) store.books.accounts payer b a opens (ap (λ (v : Account). v.ram_limit) is) ∙ paid.ram_limits;
-      covered = omega (arith, total-insert_same (λ (v : Account). v.caps_limit) store.books.accounts payer b a opens (ap (λ (v : Account). v.caps_limit) is), paid.covered);
-      backed = omega (arith, total-insert_new size_of store.spaces ds space new, length-zeros size, paid.backed, less);
-      few = paid.few;
-    }
+  -- a dataspace goes, and its payer is credited
+  module _ (ds : ℕ) (space : Space) (a : Account) (there : get store.spaces ds ≡ Some space) (opens : get store.books.accounts space.payer ≡ Some a) where
+    -- its payer owes less
+    owed_less : (f : Space → ℕ) → owed f payer_of (remove store.spaces ds) space.payer + f space ≡ owed f payer_of store.spaces space.payer
+    owed_less f = let less = owed-remove f payer_of store.spaces ds space space.payer there in grind (arith, nat_tests, less)
 
-  -- ---- a dataspace goes, and its payer is credited
-
-  module _ (ds : ℕ) (space : Space) (a b : Account) (there : get store.spaces ds ≡ Some space) (opens : get store.books.accounts space.payer ≡ Some a) (is : b ≡ credited a (size_of space) 1) where
-    -- the memory without it
-    abbrev left : Store
-    left = record store { books = record store.books { accounts = insert store.books.accounts space.payer b }; spaces = remove store.spaces ds }
-
-    -- all that is left is paid for
-    pub IsPaid-less : (free_now : ℕ) → free_now * 4096 ≡ free * 4096 + size_of space → IsPaid left free_now pages
-    IsPaid-less free_now more = record {
-      payers = λ q s found. IsSome-insert store.books.accounts space.payer b s.payer (paid.payers q s (before_remove store.spaces ds q s found));
-      sized = λ q s found. paid.sized q s (before_remove store.spaces ds q s found);
-      within = λ k v found. elim (after_insert store.books.accounts space.payer b k v found) [
-        | inl new ↦
-            let old = paid.within space.payer a opens in
-            record {
-              ram = omega (arith, ap (λ (v : Account). v.ram_used) (new.1 ∙ is), ap (λ (v : Account). v.ram_limit) (new.1 ∙ is), old.ram);
-              caps = omega (arith, ap (λ (v : Account). v.caps_used) (new.1 ∙ is), ap (λ (v : Account). v.caps_limit) (new.1 ∙ is), old.caps);
-            }
-        | inr old ↦ paid.within k v old.1
-      ];
-      ram = λ k v found.
-          let less = owed-remove size_of payer_of store.spaces ds space k there in
-          elim (after_insert store.books.accounts space.payer b k v found) [
-            | inl new ↦
-                let old = paid.ram k a (ap (get store.books.accounts) new.0 ∙ opens) in
-                let used = ap (λ (v : Account). v.ram_used) (new.1 ∙ is) in
-                grind (arith, nat_tests, less, old, used, new.0)
-            | inr old ↦
-                let same = paid.ram k v old.1 in
-                grind (arith, nat_tests, less, same, old.0)
-          ];
-      caps = λ k v found.
-          let less = owed-remove (λ (_ : Space). 1) payer_of store.spaces ds space k there in
-          elim (after_insert store.books.accounts space.payer b k v found) [
-            | inl new ↦
-                let old = paid.caps k a (ap (get store.books.accounts) new.0 ∙ opens) in
-                let used = ap (λ (v : Account). v.caps_used) (new.1 ∙ is) in
-                grind (arith, nat_tests, less, old, used, new.0)
-            | inr old ↦
-                let same = paid.caps k v old.1 in
-                grind (arith, nat_tests, less, same, old.0)
-          ];
-      ram_limits = total-insert_same (λ (v : Account). v.ram_limit) store.books.accounts space.payer b a opens (ap (λ (v : Account). v.ram_limit) is) ∙ paid.ram_limits;
-      covered = omega (arith, total-insert_same (λ (v : Account). v.caps_limit) store.books.accounts space.payer b a opens (ap (λ (v : Account). v.caps_limit) is), paid.covered);
-      backed = omega (arith, total-remove size_of store.spaces ds space there, paid.backed, more);
-      few = paid.few;
-    }
+    pub IsPaid-less : (free_now : ℕ) → free_now * 4096 ≡ free * 4096 + size_of space → IsPaid (after space.payer a (credited a (size_of space) 1) opens refl refl (remove store.spaces ds)) free_now pages
+    IsPaid-less free_now more =
+        let was = paid.paying space.payer a opens in
+        IsPaid-changed space.payer a (credited a (size_of space) 1) opens refl refl (remove store.spaces ds) free_now
+        (λ q s found. let old = before_remove store.spaces ds q s found in (paid.payers q s old, paid.sized q s old))
+        (record {
+          within = record { ram = omega (arith, was.within.ram); caps = omega (arith, was.within.caps) };
+          ram = omega (arith, owed_less size_of, was.ram);
+          caps = omega (arith, owed_less (λ _. 1), was.caps);
+        })
+        (λ f k apart. let less = owed-remove f payer_of store.spaces ds space k there in grind (arith, nat_tests, less, apart))
+        (omega (arith, total-remove size_of store.spaces ds space there, paid.backed, more))
 
   -- ---- a dataspace gets other bytes
 
@@ -191,9 +159,13 @@ module _ (store : Store) (free pages : ℕ) (paid : IsPaid store free pages) whe
         | inl new ↦ omega (arith, ap size_of new.1, size, paid.sized ds space there)
         | inr old ↦ paid.sized q s old.1
       ];
-      within = paid.within;
-      ram = λ k v found. owed-insert_same size_of payer_of store.spaces ds other space k there payer size ∙ paid.ram k v found;
-      caps = λ k v found. omega (arith, owed-insert_same (λ (_ : Space). 1) payer_of store.spaces ds other space k there payer refl, paid.caps k v found);
+      paying = λ k v found.
+          let was = paid.paying k v found in
+          record {
+            within = was.within;
+            ram = owed-insert_same size_of payer_of store.spaces ds other space k there payer size ∙ was.ram;
+            caps = omega (arith, owed-insert_same (λ (_ : Space). 1) payer_of store.spaces ds other space k there payer refl, was.caps);
+          };
       ram_limits = paid.ram_limits;
       covered = paid.covered;
       backed = omega (arith, total-insert_same size_of store.spaces ds other space there size, paid.backed);
@@ -211,44 +183,29 @@ module _ (store : Store) (free pages : ℕ) (paid : IsPaid store free pages) whe
     abbrev rest : Account
     rest = parted_with (account_in store parent) ram caps
 
-    -- which is its account after its limits went
-    rest_is : rest ≡ parted_with a ram caps
-    rest_is = ap (λ (v : Account). parted_with v ram caps) (account_at-some store.books parent a opens)
+    -- the parent still pays for what it paid for
+    parent_pays : IsPaying store.spaces parent rest
+    parent_pays =
+        let was = paid.paying parent a opens in
+        subst (λ (v : Account). IsPaying store.spaces parent (parted_with v ram caps)) (sym (account_at-some store.books parent a opens))
+        (record { within = record { ram = omega (arith, fits.ram_fits); caps = omega (arith, fits.caps_fit) }; ram = was.ram; caps = was.caps })
+
+    -- and the new account for nothing
+    child_pays : IsPaying store.spaces child (opened ram caps)
+    child_pays =
+        let none = λ (f : Space → ℕ). owed_nothing f payer_of store.spaces child (payer_apart child new) in
+        record { within = record { ram = omega arith; caps = omega arith }; ram = none size_of; caps = omega (arith, none (λ _. 1)) }
 
     -- all is paid for
     pub IsPaid-opened : ram_limits opening ≡ ram_limits_in store → caps_limits opening ≡ caps_limits_in store → IsPaid (record store { books = opening }) free pages
     IsPaid-opened ram_moved caps_moved = record {
       payers = λ q s found. IsSome-insert (insert store.books.accounts parent rest) child (opened ram caps) s.payer (IsSome-insert store.books.accounts parent rest s.payer (paid.payers q s found));
       sized = paid.sized;
-      within = λ k v found. elim (after_insert (insert store.books.accounts parent rest) child (opened ram caps) k v found) [
-        | inl young ↦ record {
-          ram = omega (arith, ap (λ (v : Account). v.ram_used) young.1);
-          caps = omega (arith, ap (λ (v : Account). v.caps_used) young.1);
-        }
+      paying = λ k v found. elim (after_insert (insert store.books.accounts parent rest) child (opened ram caps) k v found) [
+        | inl young ↦ subst (λ (w : Account). IsPaying store.spaces k w) (sym young.1) (subst (λ q. IsPaying store.spaces q (opened ram caps)) (sym young.0) child_pays)
         | inr there ↦ elim (after_insert store.books.accounts parent rest k v there.1) [
-          | inl old ↦ record {
-            ram = omega (arith, ap (λ (v : Account). v.ram_used) (old.1 ∙ rest_is), ap (λ (v : Account). v.ram_limit) (old.1 ∙ rest_is), fits.ram_fits);
-            caps = omega (arith, ap (λ (v : Account). v.caps_used) (old.1 ∙ rest_is), ap (λ (v : Account). v.caps_limit) (old.1 ∙ rest_is), fits.caps_fit);
-          }
-          | inr other ↦ paid.within k v other.1
-        ]
-      ];
-      ram = λ k v found. elim (after_insert (insert store.books.accounts parent rest) child (opened ram caps) k v found) [
-        | inl young ↦
-            ap (ram_owed store) young.0 ∙ owed_nothing size_of payer_of store.spaces child (payer_apart child new)
-            ∙ sym (ap (λ (v : Account). v.ram_used) young.1)
-        | inr there ↦ elim (after_insert store.books.accounts parent rest k v there.1) [
-          | inl old ↦ paid.ram k a (ap (get store.books.accounts) old.0 ∙ opens) ∙ sym (ap (λ (v : Account). v.ram_used) (old.1 ∙ rest_is))
-          | inr other ↦ paid.ram k v other.1
-        ]
-      ];
-      caps = λ k v found. elim (after_insert (insert store.books.accounts parent rest) child (opened ram caps) k v found) [
-        | inl young ↦
-            let none : caps_owed store k ≡ 0 = ap (caps_owed store) young.0 ∙ owed_nothing (λ (_ : Space). 1) payer_of store.spaces child (payer_apart child new) in
-            omega (arith, none)
-        | inr there ↦ elim (after_insert store.books.accounts parent rest k v there.1) [
-          | inl old ↦ omega (arith, paid.caps k a (ap (get store.books.accounts) old.0 ∙ opens), ap (λ (v : Account). v.caps_used) (old.1 ∙ rest_is))
-          | inr other ↦ paid.caps k v other.1
+          | inl old ↦ subst (λ (w : Account). IsPaying store.spaces k w) (sym old.1) (subst (λ q. IsPaying store.spaces q rest) (sym old.0) parent_pays)
+          | inr other ↦ paid.paying k v other.1
         ]
       ];
       ram_limits = ram_moved ∙ paid.ram_limits;
@@ -264,18 +221,14 @@ pub IsPaid-fresh : (root pages caps accounts places : ℕ) → pages ≤ 4096 �
 IsPaid-fresh root pages caps accounts places few covered = record {
   payers = λ q s there. absurd (none-some s (sym (get-empty q) ∙ there));
   sized = λ q s there. absurd (none-some s (sym (get-empty q) ∙ there));
-  within = λ k v there. elim (after_insert empty root (opened (pages * 4096) caps) k v there) [
-    | inl new ↦ record {
-      ram = omega (arith, ap (λ (v : Account). v.ram_used) new.1);
-      caps = omega (arith, ap (λ (v : Account). v.caps_used) new.1);
-    }
+  paying = λ k v there. elim (after_insert empty root (opened (pages * 4096) caps) k v there) [
+    | inl new ↦ subst (λ (w : Account). IsPaying empty k w) (sym new.1) (record {
+      within = record { ram = omega arith; caps = omega arith };
+      ram = owed-empty size_of payer_of k;
+      caps = omega (arith, owed-empty (λ (_ : Space). 1) payer_of k);
+    })
     | inr old ↦ absurd (none-some v (sym (get-empty k) ∙ old.1))
   ];
-  ram = λ k v there. elim (after_insert empty root (opened (pages * 4096) caps) k v there) [
-    | inl new ↦ owed-empty size_of payer_of k ∙ sym (ap (λ (v : Account). v.ram_used) new.1)
-    | inr old ↦ absurd (none-some v (sym (get-empty k) ∙ old.1))
-  ];
-  caps = λ k v there. omega (arith, owed-empty (λ (_ : Space). 1) payer_of k);
   ram_limits = total-insert_new (λ (v : Account). v.ram_limit) empty root (opened (pages * 4096) caps) (get-empty root) ∙ ap (λ n. n + pages * 4096) (total-empty (λ (v : Account). v.ram_limit)) ∙ zero-add (pages * 4096);
   covered = omega (arith, total-insert_new (λ (v : Account). v.caps_limit) empty root (opened (pages * 4096) caps) (get-empty root), total-empty (λ (v : Account). v.caps_limit), covered);
   backed = omega (arith, total-empty size_of);

@@ -4,7 +4,7 @@ use Rattle.std.specs.Prelude.{Option, None}
 use Rattle.std.specs.Option.{option_and_then}
 use Rattle.std.specs.FinMap.{get}
 use Rattle.own_model.proofs.NatMapLemmas.{get-picked, value_at}
-use Rattle.dataspace_core.specs.Store.{Store, Space, IsOpenIn, account_in, Exists, space_at, Part, part, bytes_paid_by, account_of, PartBecomes}
+use Rattle.dataspace_core.specs.Store.{Store, Space, IsOpenIn, account_in, Exists, space_at, Part, part, bytes_paid_by, account_of, bytes_of, PartBecomes}
 use Rattle.dataspace_core.proofs.PartLemmas.{part-payer}
 
 -- ---- calls for one account
@@ -87,3 +87,11 @@ paid_after {account} {ds} {bytes} {t = t} becomes has = paid_in_part account ds 
 pub paid_by_other : {account ds other : ℕ} {bytes : List ℕ} {p : Part} {s t : Store} → PartBecomes account p s t → other ≢ account → IsPaidBy other ds bytes s → IsPaidBy other ds bytes t
 paid_by_other {ds = ds} {other} {bytes} {t = t} becomes apart paid =
     paid_in_part other ds bytes t (ap (λ (q : Part). get q.spaces ds) (becomes.others other apart) ∙ part_paid paid)
+
+-- its bytes are those of the part
+pub bytes_of-paid : {account ds : ℕ} {bytes : List ℕ} {store : Store} → IsPaidBy account ds bytes store → bytes_of (part account store) ds ≡ bytes
+bytes_of-paid paid = ap (λ o. unwrap_or o []) (part_paid paid)
+
+-- a call that changes a dataspace's payer changes this account
+pub becomes_paid : {account ds : ℕ} {bytes : List ℕ} {s t : Store} (change : Part → Part) → IsPaidBy account ds bytes s → PartBecomes (space_at s ds).payer (change (part (space_at s ds).payer s)) s t → PartBecomes account (change (part account s)) s t
+becomes_paid {s = s} {t} change paid becomes = subst (λ a. PartBecomes a (change (part a s)) s t) paid.payer becomes
