@@ -14,3 +14,4 @@ pub mod CallLemmas
 pub mod LimitLemmas
 pub mod StartLemmas
 pub mod ReadBackLemmas
+pub mod SessionArgsLemmas

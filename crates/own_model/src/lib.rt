@@ -9,6 +9,7 @@ mod limits;
 mod regions;
 mod rows;
 mod runs;
+mod session_args;
 mod start;
 
 pub use answers::{
@@ -28,4 +29,5 @@ pub use rows::{
     long_lines_are_no_calls, longest_line_is_read,
 };
 pub use runs::{own_part_over_append, own_run_over_append};
+pub use session_args::arguments_are_read_back;
 pub use start::{boots_balanced, machine_a_boots};
