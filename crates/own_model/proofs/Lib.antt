@@ -22,3 +22,4 @@ pub mod ByteLemmas
 pub mod LimitLemmas
 pub mod StartLemmas
 pub mod ReadBackLemmas
+pub mod SessionArgsLemmas

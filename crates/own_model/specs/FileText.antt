@@ -85,12 +85,16 @@ pub data FileReply : Type 0 where
   Quotas : Account → FileReply
   Refused : FileError → FileReply
 
--- the text of a reply; no bytes are told without a space
+-- the reply of bytes: no bytes are told without a space
+abbrev pub bytes_reply : List ℕ → List ℕ
+bytes_reply [] = codes "OK"
+bytes_reply (b ∷ bytes) = codes "OK " ++ hex_text (b ∷ bytes)
+
+-- the text of a reply
 abbrev pub file_reply : FileReply → List ℕ
 file_reply Done = codes "OK"
 file_reply (Count n) = codes "OK " ++ decimal n
-file_reply (Bytes []) = codes "OK"
-file_reply (Bytes (b ∷ bytes)) = codes "OK " ++ hex_text (b ∷ bytes)
+file_reply (Bytes bytes) = bytes_reply bytes
 file_reply (Named name) = codes "OK " ++ name
 file_reply (Quotas account) = codes "OK " ++ quota_text account
 file_reply (Refused e) = codes "ERR " ++ error_name e

@@ -1,5 +1,5 @@
 -- The texts with which a session is asked for, and is given more.
-use Rattle.std.specs.Prelude.{ℕ, ◌^◌, ◌-◌, ◌<◌, ◌≤◌, ◌==◌, ◌&&◌, ◌||◌, not, Bool, false, IsTrue, List, [], ◌∷◌, ◌++◌, length, take, drop, reverse, slice_index, codes, decimal, nat_lt, nat_le, if◌then◌else◌, find, Option, Some, None}
+use Rattle.std.specs.Prelude.{◌≡◌, ℕ, ◌^◌, ◌-◌, ◌<◌, ◌≤◌, ◌==◌, ◌&&◌, ◌||◌, not, Bool, false, IsTrue, List, [], ◌∷◌, ◌++◌, length, take, drop, reverse, slice_index, codes, decimal, nat_lt, nat_le, if◌then◌else◌, find, Option, Some, None}
 use Rattle.std.specs.List.{list_all, before_first, after_first}
 use Rattle.std.specs.Option.{option_map, option_and_then}
 use Rattle.std.specs.Char.{is_ascii_alphabetic, is_ascii_alphanumeric}
@@ -160,3 +160,7 @@ pub record HasText (arguments : Arguments) : Type 0 where
   pub caps : arguments.caps < 2 ^ 32
   pub short : length arguments.label ≤ 64
   pub label : IsTrue (list_all is_quotable arguments.label)
+
+-- the canonical writing gives the arguments back
+abbrev pub ArgumentsAreReadBack : Type 0
+ArgumentsAreReadBack = (arguments : Arguments) → HasText arguments → arguments_of (arguments_text arguments) ≡ Some arguments

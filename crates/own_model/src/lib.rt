@@ -11,6 +11,7 @@ mod regions;
 mod rows;
 mod runs;
 mod sliced;
+mod session_args;
 mod start;
 
 pub use answers::{
@@ -37,4 +38,5 @@ pub use runs::{own_part_over_append, own_run_over_append};
 pub use sliced::{
     gaps_fit_the_machine, new_blocks_are_zero, payloads_are_found, payloads_lie_apart,
 };
+pub use session_args::arguments_are_read_back;
 pub use start::{boots_balanced, machine_a_boots};

@@ -3,3 +3,4 @@ pub mod ArgsLemmas
 pub mod WordLemmas
 pub mod HexLemmas
 pub mod SearchLemmas
+pub mod ReplyLemmas

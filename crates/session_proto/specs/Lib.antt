@@ -3,3 +3,5 @@ pub mod Found
 pub mod Pieces
 pub mod Words
 pub mod LogReply
+pub mod File
+pub mod FileReply

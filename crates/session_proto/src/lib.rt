@@ -3,6 +3,8 @@
 
 mod args;
 mod buffer;
+mod file;
+mod file_reply;
 mod log;
 mod pair;
 #[cfg(test)]
@@ -11,4 +13,6 @@ mod text;
 mod words;
 
 pub use args::SessionArgs;
+pub use file::FileRequest;
+pub use file_reply::{FileError, FileReply, Shares};
 pub use log::{LogReply, LogRequest};

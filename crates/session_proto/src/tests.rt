@@ -1,7 +1,8 @@
 //! The texts of worked inputs.
 
-use crate::SessionArgs;
-use trade_base::{Caps, Ram, Refusal};
+use crate::{FileError, FileReply, FileRequest, LogReply, LogRequest, SessionArgs, Shares};
+use arrayvec::ArrayVec;
+use trade_base::{Caps, Ram};
 
 // What a text gives, as plain values.
 fn read(text: &[u8]) -> Option<(u64, u32, &[u8])> {
@@ -79,4 +80,157 @@ fn labels_have_64_bytes_at_most(rt: HostRuntime) {
     assert!(rt; read(&text).is_some());
     text[6] = b'.';
     assert!(rt; read(&text).is_none());
+}
+
+#[test]
+fn log_requests_are_read(rt: HostRuntime) {
+    for (text, hex) in [
+        (b"WRITE".as_slice(), b"".as_slice()),
+        (b"WRITE 6869", b"6869"),
+        (b"WRITE 0aFf", b"0aFf"),
+    ] {
+        assert_eq!(rt;
+            LogRequest::read(text).map(|request| request.hex),
+            Some(hex)
+        );
+    }
+    for text in [
+        b"".as_slice(),
+        b"WRITE ",
+        b"WRITE 0",
+        b"WRITE 0g",
+        b"WRITE 00 ",
+        b"WRITE  00",
+        b" WRITE",
+        b"write",
+        b"STAT",
+    ] {
+        assert!(rt; LogRequest::read(text).is_none());
+    }
+}
+
+#[test]
+fn long_requests_are_none(rt: HostRuntime) {
+    let mut text = [b'0'; 8194];
+    text[..6].copy_from_slice(b"WRITE ");
+    assert!(rt; LogRequest::read(&text[..8192]).is_some());
+    assert!(rt; LogRequest::read(&text).is_none());
+    text[..6].copy_from_slice(b"CREATE");
+    text[6] = b' ';
+    assert!(rt; FileRequest::read(&text[..8192]).is_some());
+    assert!(rt; FileRequest::read(&text[..8193]).is_none());
+}
+
+#[test]
+fn log_replies_are_written(rt: HostRuntime) {
+    let mut text = ArrayVec::<u8, 64>::new();
+    LogReply::Wrote(4096).write(&mut text);
+    LogReply::BadRequest.write(&mut text);
+    assert_eq!(rt; text.as_slice(), b"OK 4096ERR BAD_REQUEST".as_slice());
+}
+
+#[test]
+fn file_requests_are_read(rt: HostRuntime) {
+    assert!(rt;
+        matches!(
+            FileRequest::read(b"CREATE a/b"),
+            Some(FileRequest::Create(b"a/b"))
+        )
+    );
+    assert!(rt;
+        matches!(
+            FileRequest::read(b"WRITE a 7 00"),
+            Some(FileRequest::Write {
+                file: b"a",
+                offset: 7,
+                hex: b"00"
+            })
+        )
+    );
+    assert!(rt;
+        matches!(
+            FileRequest::read(b"WRITE a 6"),
+            Some(FileRequest::Write {
+                file: b"a",
+                offset: 6,
+                hex: b""
+            })
+        )
+    );
+    assert!(rt;
+        matches!(
+            FileRequest::read(b"READ a 0 1025"),
+            Some(FileRequest::Read {
+                file: b"a",
+                offset: 0,
+                len: 1025
+            })
+        )
+    );
+    assert!(rt; matches!(FileRequest::read(b"SIZE a"), Some(FileRequest::Size(b"a"))));
+    assert!(rt;
+        matches!(
+            FileRequest::read(b"CLEAR a"),
+            Some(FileRequest::Clear(b"a"))
+        )
+    );
+    assert!(rt; matches!(FileRequest::read(b"DROP a"), Some(FileRequest::Drop(b"a"))));
+    assert!(rt; matches!(FileRequest::read(b"NAME 0"), Some(FileRequest::Name(0))));
+    assert!(rt; matches!(FileRequest::read(b"STAT"), Some(FileRequest::Stat)));
+}
+
+#[test]
+fn other_file_requests_are_none(rt: HostRuntime) {
+    for text in [
+        b"".as_slice(),
+        b"FROB",
+        b"STAT ",
+        b" STAT",
+        b"STAT x",
+        b"CREATE",
+        b"CREATE ",
+        b"CREATE a b",
+        b"WRITE a",
+        b"WRITE a ",
+        b"WRITE a 0 ",
+        b"WRITE a 0 0",
+        b"WRITE a 0 00 00",
+        b"WRITE  0 00",
+        b"READ x 0 y",
+        b"READ a 0",
+        b"READ a 0 1 ",
+        b"READ a 0x0 1",
+        b"NAME",
+        b"NAME -1",
+        b"SIZE  a",
+    ] {
+        assert!(rt; FileRequest::read(text).is_none());
+    }
+}
+
+#[test]
+fn file_replies_are_written(rt: HostRuntime) {
+    let shares = Shares {
+        ram_used: Ram(20480),
+        ram_limit: Ram(32768),
+        caps_used: Caps(3),
+        caps_limit: Caps(5),
+    };
+    for (reply, want) in [
+        (FileReply::Done, b"OK".as_slice()),
+        (FileReply::Count(5), b"OK 5"),
+        (FileReply::Bytes(b"hello"), b"OK 68656c6c6f"),
+        (FileReply::Bytes(b""), b"OK"),
+        (FileReply::Named(b"a"), b"OK a"),
+        (FileReply::Quotas(shares), b"OK ram 20480/32768 caps 3/5"),
+        (
+            FileReply::Refused(FileError::TooManyChunks),
+            b"ERR TOO_MANY_CHUNKS",
+        ),
+        (FileReply::Refused(FileError::NotFound), b"ERR NOT_FOUND"),
+    ] {
+        let mut text = ArrayVec::<u8, 2100>::new();
+        reply.write(&mut text);
+        assert_eq!(rt; text.as_slice(), want);
+    }
 }

@@ -1,0 +1,123 @@
+//! The file service's requests.
+ghost use Rattle.std.specs.Prelude.{◌≡◌, ◌==◌, not, IfSome};
+ghost use Rattle.std.specs.Option.{option_map, option_copied};
+ghost use Rattle.std.specs.List.{list_all};
+ghost use Rattle.own_model.specs.FileText.{file_request, file_word, of_file, read_of, write_of, request_of};
+ghost use Rattle.session_proto.specs.File.{model_request, HasHex};
+
+use crate::log::LONGEST_REQUEST;
+use crate::words::{hex_or_nothing, split_first_word};
+use trade_base::read_number;
+
+/// A request. A file is named by one or more bytes without a space, and bytes are hexadecimal digits, two a byte.
+#[derive(Clone, Copy)]
+pub enum FileRequest<'a> {
+    /// A file is made.
+    Create(&'a [u8]),
+    /// Bytes are written at an offset of a file.
+    Write {
+        file: &'a [u8],
+        offset: u64,
+        hex: &'a [u8],
+    },
+    /// So many bytes are read at an offset of a file.
+    Read {
+        file: &'a [u8],
+        offset: u64,
+        len: u64,
+    },
+    /// A file's size is told.
+    Size(&'a [u8]),
+    /// A file's bytes go.
+    Clear(&'a [u8]),
+    /// A file goes.
+    Drop(&'a [u8]),
+    /// A file's name is told by its place.
+    Name(u64),
+    /// Use and limit of the session's account are told.
+    Stat,
+}
+
+impl<'a> FileRequest<'a> {
+    /// The request that a text is, or `None` where it is none.
+    pub fn read(text: &'a [u8]) -> Option<FileRequest<'a>>
+        ensures request { option_map model_request result ≡ file_request text.now }
+        ensures hex { IfSome result HasHex }
+    {
+        if text.len() > LONGEST_REQUEST {
+            return None;
+        }
+        let (form, arguments) = split_first_word(text);
+        request_from(form, arguments)
+    }
+}
+
+/// The request of a form, with what stands after the form and a space as its arguments.
+fn request_from<'a>(form: &[u8], arguments: Option<&'a [u8]>) -> Option<FileRequest<'a>>
+    ensures request { option_map model_request result ≡ request_of form.now (option_copied arguments.entry) }
+    ensures hex { IfSome result HasHex }
+{
+    if form == b"CREATE".as_slice() {
+        Some(FileRequest::Create(file_word(arguments?)?))
+    } else if form == b"WRITE".as_slice() {
+        read_write(arguments?)
+    } else if form == b"READ".as_slice() {
+        read_read(arguments?)
+    } else if form == b"SIZE".as_slice() {
+        Some(FileRequest::Size(file_word(arguments?)?))
+    } else if form == b"CLEAR".as_slice() {
+        Some(FileRequest::Clear(file_word(arguments?)?))
+    } else if form == b"DROP".as_slice() {
+        Some(FileRequest::Drop(file_word(arguments?)?))
+    } else if form == b"NAME".as_slice() {
+        Some(FileRequest::Name(read_number(arguments?)?))
+    } else if form == b"STAT".as_slice() && arguments.is_none() {
+        Some(FileRequest::Stat)
+    } else {
+        None
+    }
+}
+
+/// A file word, if a text is one: one or more bytes without a space.
+fn file_word(text: &[u8]) -> Option<&[u8]>
+    ensures { option_copied result ≡ file_word text.now }
+{
+    if !text.is_empty() && has_no_space(text) {
+        Some(text)
+    } else {
+        None
+    }
+}
+
+/// Whether no byte of a text is a space.
+fn has_no_space(text: &[u8]) -> bool
+    ensures { result ≡ list_all (λ b. not (b == 32)) text.now }
+{
+    text.iter().all(|byte| *byte != b' ')
+}
+
+/// A file word and an offset, and hexadecimal digits or nothing, parted by spaces.
+fn read_write(arguments: &[u8]) -> Option<FileRequest<'_>>
+    ensures request { option_map model_request result ≡ of_file write_of arguments.now }
+    ensures hex { IfSome result HasHex }
+{
+    let (file, rest) = split_first_word(arguments);
+    let file = file_word(file)?;
+    let (offset, hex) = split_first_word(rest?);
+    let offset = read_number(offset)?;
+    let hex = hex_or_nothing(hex)?;
+    Some(FileRequest::Write { file, offset, hex })
+}
+
+/// A file word, an offset and a length, parted by spaces.
+fn read_read(arguments: &[u8]) -> Option<FileRequest<'_>>
+    ensures request { option_map model_request result ≡ of_file read_of arguments.now }
+    ensures hex { IfSome result HasHex }
+{
+    let (file, rest) = split_first_word(arguments);
+    let file = file_word(file)?;
+    let (offset, len) = split_first_word(rest?);
+    let offset = read_number(offset)?;
+    let len = read_number(len?)?;
+    Some(FileRequest::Read { file, offset, len })
+}
