@@ -6,7 +6,7 @@ use Rattle.std.specs.Cmp.{ranked}
 use Rattle.std.specs.FinMap.{get, entries, entries_sorted, get-entries, find, is_sorted}
 use Rattle.std.specs.FinMap.Entries.{below_all}
 use Rattle.own_model.specs.NatMap.{NatMap, least_gap}
-use Rattle.own_model.specs.OwnState.{new_selector}
+use Rattle.own_model.specs.OwnState.{IsLeastUnused, new_selector}
 use Rattle.own_model.proofs.EntryLemmas.{value_of-cons}
 use Rattle.own_model.proofs.NatMapLemmas.{both_parts, is_less}
 
@@ -99,20 +99,26 @@ module _ {X : Type 0} where
 -- ---- the new selector
 
 module _ {X : Type 0} (m : NatMap X) where
+  -- it is the least positive number that is not in use
+  pub IsLeastUnused-new_selector : IsLeastUnused m (new_selector m)
+  unfolding new_selector
+  IsLeastUnused-new_selector = record {
+    positive = let from = least_gap_from 1 (entries m) in omega arith;
+    free = get-entries m _ ∙ least_gap_free 1 (entries m) (entries_sorted m);
+    least = λ t positive below. ap is_some (get-entries m t) ∙ least_gap_filled 1 t (entries m) (omega arith) below;
+  }
+
   -- it is positive
   pub new_selector_positive : 0 < new_selector m
-  unfolding new_selector
-  new_selector_positive = let from = least_gap_from 1 (entries m) in omega arith
+  new_selector_positive = IsLeastUnused-new_selector.positive
 
   -- nothing is under it
   pub new_selector_free : get m (new_selector m) ≡ None
-  unfolding new_selector
-  new_selector_free = get-entries m _ ∙ least_gap_free 1 (entries m) (entries_sorted m)
+  new_selector_free = IsLeastUnused-new_selector.free
 
   -- each positive number below it is in use
   pub new_selector_least : (t : ℕ) → 0 < t → t < new_selector m → IsSome (get m t)
-  unfolding new_selector
-  new_selector_least t positive below = ap is_some (get-entries m t) ∙ least_gap_filled 1 t (entries m) (omega arith) below
+  new_selector_least = IsLeastUnused-new_selector.least
 
   -- and it is the only number of which these hold
   pub new_selector_is : (s : ℕ) → 0 < s → get m s ≡ None → ((t : ℕ) → 0 < t → t < s → IsSome (get m t)) → new_selector m ≡ s

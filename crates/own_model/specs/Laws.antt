@@ -1,20 +1,22 @@
 -- The laws of runs and of answers, as statements.
-use Rattle.std.specs.Prelude.{◌≡◌, ◌≢◌, ◌<◌, ◌≤◌, ℕ, ◌+◌, ◌++◌, List, [], ◌∷◌, length, Some, None}
+use Rattle.std.specs.Prelude.{◌≡◌, ◌≢◌, ◌<◌, ◌≤◌, ℕ, ◌+◌, ◌^◌, ◌++◌, List, [], ◌∷◌, length, Some, None}
 use Rattle.std.specs.FinMap.{get, len}
+use Rattle.std.specs.List.{AllByRecursion}
 use Rattle.trade_base.specs.declared.refusal.Refusal.{Refusal}
 use Rattle.trade_base.specs.declared.refusal.Refusal.TheVariants.{InvalidCap, OutOfCaps, TooManyRegions}
 use Rattle.own_model.specs.Account.{WithinLimits}
 use Rattle.own_model.specs.Call.{Call}
 use Rattle.own_model.specs.Call.Call.{Free, Attach, AttachAt, Peek, Poke, Capalloc}
-use Rattle.own_model.specs.OwnState.{OwnState}
+use Rattle.own_model.specs.OwnState.{OwnState, IsLeastUnused, new_selector}
 use Rattle.own_model.specs.OwnState.Object.{Dataspace}
 use Rattle.own_model.specs.OwnStep.{own_run, own_step, script_step, refused}
 use Rattle.own_model.specs.Region.{Region, most_regions, resolved}
+use Rattle.own_model.specs.Reply.{address_text, hex_text}
 use Rattle.own_model.specs.Reply.Reply.{Bytes, Done, Refused}
 use Rattle.own_model.specs.Running.{told_running, states_running, told_now, states_after_heard}
 use Rattle.own_model.specs.StartList.{Entry, StartEntry, StartList, Boots, start_state}
 use Rattle.own_model.specs.StartList.Kind.{Server}
-use Rattle.own_model.specs.Text.{lines_of}
+use Rattle.own_model.specs.Text.{lines_of, address_of, bytes_of_hex}
 use Rattle.own_model.specs.Transcript.{Made, heard, own_part, state_at, state_after, answer, transcript, calls_of, longest_line}
 use Rattle.own_model.specs.Transcript.Heard.{NoCall}
 use Rattle.own_model.specs.Sound.{IsSound}
@@ -189,3 +191,15 @@ LinesKeepBalance =
 -- a start list that boots starts balanced
 abbrev pub BootsBalanced : Type 0
 BootsBalanced = (list : StartList) → Boots list → IsBalanced list.pages list.caps (start_world list)
+
+-- the selector of what is new is the least positive number that is not in use
+abbrev pub NewSelectorIsLeastUnused : Type 0
+NewSelectorIsLeastUnused = (s : OwnState) → IsLeastUnused s.selectors (new_selector s.selectors)
+
+-- an address that is printed and read again is the same
+abbrev pub AddressesAreReadBack : Type 0
+AddressesAreReadBack = (address : ℕ) → address < 2 ^ 64 → address_of (address_text address) ≡ Some address
+
+-- and so are bytes as hex
+abbrev pub HexIsReadBack : Type 0
+HexIsReadBack = (bytes : List ℕ) → AllByRecursion (λ b. b < 256) bytes → bytes_of_hex (hex_text bytes) ≡ Some bytes

@@ -1,10 +1,11 @@
 -- What a component has: its own state.
-use Rattle.std.specs.Prelude.{ℕ, ◌+◌, ◌/◌, List, [], length, Bool, nat_le, if◌then◌else◌, Option, Some, None, replicate}
-use Rattle.std.specs.FinMap.{keys}
+use Rattle.std.specs.Prelude.{◌≡◌, ℕ, ◌+◌, ◌/◌, ◌<◌, List, [], length, Bool, nat_le, if◌then◌else◌, Option, Some, None, IsSome, replicate}
+use Rattle.std.specs.FinMap.{get, keys}
 use Rattle.trade_base.specs.Bytes.{with_bytes}
 use Rattle.own_model.specs.NatMap.{NatMap, least_gap}
 use Rattle.own_model.specs.Account.{Account}
 use Rattle.own_model.specs.Region.{Region}
+use Rattle.own_model.specs.Sliced.{ranges_of_blocks}
 
 -- what a selector names: a dataspace, by its bytes, or an RPC object, which is a capability alone
 pub data Object : Type 0 where
@@ -12,12 +13,18 @@ pub data Object : Type 0 where
   RpcObject : Object
 
 -- a component's account, what its selectors name, its regions by their start addresses, each of a selector,
--- and whether it has exited. A server has its account alone
+-- its sliced blocks by the addresses of their payloads, each by its payload's bytes, and whether it has exited.
+-- A server has its account alone
 pub record OwnState : Type 0 where
   pub account : Account
   pub selectors : NatMap Object
   pub regions : NatMap Region
+  pub sliced : NatMap (List ℕ)
   pub gone : Bool
+
+-- what stands in the heap window, as ranges of pages by their starts
+abbrev pub heap_ranges : OwnState → NatMap Region
+heap_ranges s = ranges_of_blocks s.sliced
 
 -- so many zero bytes
 unfoldable pub zeros : ℕ → List ℕ
@@ -43,6 +50,12 @@ abbrev pub object_with : Object → ℕ → List ℕ → Object
 object_with (Dataspace bytes) offset part = Dataspace (with_part bytes offset part)
 object_with RpcObject offset part = RpcObject
 
--- the new selector: the least positive number that is not in use
+-- a selector is the least positive number that is not in use
+pub record IsLeastUnused {X : Type 0} (selectors : NatMap X) (selector : ℕ) : Type 0 where
+  pub positive : 0 < selector
+  pub free : get selectors selector ≡ None
+  pub least : (other : ℕ) → 0 < other → other < selector → IsSome (get selectors other)
+
+-- the new selector, as it is computed: the least number from 1 on that none of the rising keys is
 unfoldable pub new_selector : {X : Type 0} → NatMap X → ℕ
 new_selector selectors = least_gap 1 (keys selectors)

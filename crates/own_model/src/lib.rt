@@ -4,16 +4,21 @@
 #![tactic(auto)]
 
 mod answers;
+mod calls;
+mod heap_window;
 mod limits;
 mod regions;
 mod rows;
 mod runs;
+mod sliced;
 mod start;
 
 pub use answers::{
     equal_parts_equal_answers, equal_parts_equal_states, states_are_own_runs, states_over_a_line,
     told_over_a_line, transcript_is_running,
 };
+pub use calls::{addresses_are_read_back, hex_is_read_back, new_selector_is_least_unused};
+pub use heap_window::heap_has_gap;
 pub use limits::{
     calls_keep_balance, calls_keep_limits, capalloc_lacks_caps_alone, servers_stay,
     use_is_what_is_held,
@@ -26,4 +31,7 @@ pub use rows::{
     long_lines_are_no_calls, longest_line_is_read,
 };
 pub use runs::{own_part_over_append, own_run_over_append};
+pub use sliced::{
+    gaps_fit_the_machine, new_blocks_are_zero, payloads_are_found, payloads_lie_apart,
+};
 pub use start::{boots_balanced, machine_a_boots};
