@@ -1,19 +1,19 @@
 -- Why the heap window always has a gap: walked from its start, a region costs at most the pages sought and its own.
-use Rattle.std.proofs.Common.{◌≡◌, ℕ, ◌+◌, ◌*◌, ◌%◌, ◌<◌, ◌≤◌, ◌||◌, is_lt, Bool, false, true≢false, T, List, [], ◌∷◌, length, map, IsSome, Some, refl, sym, nat_cmp, inl, inr, arith, mul-add}
+use Rattle.std.proofs.Common.{◌≡◌, ℕ, ◌+◌, ◌*◌, ◌%◌, ◌<◌, ◌≤◌, ◌||◌, is_lt, Bool, true, false, true≢false, T, List, [], ◌∷◌, length, map, IsSome, Some, refl, sym, subst, nat_cmp, inl, inr, arith, mul-add}
 use Rattle.std.proofs.lemmas.Bool.{cases_lt}
 use Rattle.std.proofs.lemmas.Bool.Decides.{nat_tests}
 use Rattle.std.proofs.lemmas.Cmp.{ranked}
 use Rattle.std.proofs.lemmas.List.Sums.{sum_by-cons}
 use Rattle.std.proofs.lemmas.Nat.{mul-le}
-use Rattle.std.specs.Prelude.{None, sum_by}
+use Rattle.std.specs.Prelude.{Option, None, sum_by}
 use Rattle.std.specs.List.{list_any}
 use Rattle.std.specs.FinMap.{entries, entries_sorted, len, len-entries, is_sorted}
 use Rattle.std.specs.FinMap.Entries.{below_all}
 use Rattle.own_model.specs.HeapWindow.{heap_low, heap_high, heap_gap, FitMachine, HeapHasGap, HeapGapsAgree}
 use Rattle.own_model.specs.NatMap.{NatMap, total}
-use Rattle.own_model.specs.Region.{Region, overlap, first_gap, IsPlace, IsFirstGap}
+use Rattle.own_model.specs.Region.{Region, overlap, can_stand, first_gap, IsPlace, IsFirstGap}
 use Rattle.own_model.proofs.NatMapLemmas.{both_parts, is_less}
-use Rattle.own_model.proofs.RegionLemmas.{meets_none, first_gap_least, first_gap_is}
+use Rattle.own_model.proofs.RegionLemmas.{meets_none, first_gap_least, first_gap_is, stands}
 use Rattle.own_model.proofs.Totals.{len-total, total_le}
 
 -- the pages of all entries
@@ -146,3 +146,11 @@ heap_gap_is_there machine regions pages fit small = has_gap machine regions fit 
 pub heap_gaps_agree : HeapGapsAgree
 heap_gaps_agree machine larger regions pages fit small more =
     longer_window heap_low (heap_high machine) (heap_high larger) regions pages (longer (machine * (machine + 2)) (larger * (larger + 2)) (mul-le _ _ _ _ more (omega arith))) (has_gap machine regions fit pages small)
+
+-- ---- beside it
+
+-- pages can stand at a first gap
+pub first_gap_stands : (low high : ℕ) (regions : NatMap Region) (pages address : ℕ) → first_gap low high regions pages ≡ Some address → can_stand low high regions pages address ≡ true
+first_gap_stands low high regions pages address is =
+    let least : IsFirstGap low high regions pages (Some address) = subst (λ (o : Option ℕ). IsFirstGap low high regions pages o) is (first_gap_least low high regions pages) in
+    stands low high regions pages address least.0

@@ -1,2 +1,3 @@
 pub mod Regions
-pub mod Table
+pub mod Window
+pub mod Rows

@@ -1,8 +1,10 @@
-//! Region maps: where a component has attached which dataspaces in its user window.
+//! Region maps: where dataspaces are attached, in the user window and in the heap window.
 #![tactic(auto)]
 
 mod map;
 mod row;
+mod search;
+mod table;
 #[cfg(test)]
 mod tests;
 

@@ -1,22 +1,23 @@
-//! One row of the table.
+//! One row of a table.
 ghost use Rattle.std.specs.Prelude.{◌≡◌, ◌+◌, ◌*◌, ◌%◌, ◌^◌, ◌<◌, ◌≤◌};
 
 use trade_base::{DsId, PAGE};
 
-/// A region: the address where it starts, its pages, and the dataspace.
+/// A region: the address where it starts, its pages, the dataspace, and a number kept with it.
 #[derive(Clone, Copy)]
 pub struct Row {
     pub start: u64,
     pub pages: u64,
     pub ds: DsId,
+    pub tag: u64,
     pub ghost aligned: { start % 4096 ≡ 0 },
     pub ghost some: { 1 ≤ pages },
-    pub ghost within: { start + pages * 4096 ≤ 0x2000_0000 },
+    pub ghost fits: { start + pages * 4096 < 2 ^ 63 },
 }
 
 impl Row {
-    ghost use Rattle.own_model.specs.Region.{overlap, holds};
-    ghost use Rattle.region_map.specs.Table.{entry_of};
+    ghost use Rattle.own_model.specs.Region.{holds};
+    ghost use Rattle.region_map.specs.Rows.{region_of};
 
     /// The address after the region.
     pub fn end(&self) -> u64
@@ -25,17 +26,9 @@ impl Row {
         self.start + self.pages * PAGE
     }
 
-    /// Whether the pages at an address overlap the region.
-    pub fn meets(&self, address: u64, pages: u64) -> bool
-        requires { address + pages * 4096 < 2 ^ 64 }
-        ensures { result ≡ overlap self.now.start self.now.pages address pages }
-    {
-        self.start < address + pages * PAGE && address < self.end()
-    }
-
     /// Whether the region holds the whole range.
     pub fn holds(&self, address: u64, length: u64) -> bool
-        ensures { result ≡ holds address length (entry_of self.now) }
+        ensures { result ≡ holds address length (self.now.start, region_of self.now) }
     {
         self.start <= address && address <= self.end() && length <= self.end() - address
     }

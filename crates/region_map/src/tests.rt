@@ -1,4 +1,4 @@
-//! Worked examples, and that calls succeed where there is memory.
+//! Worked examples at the largest sizes, and that calls succeed where there is memory.
 ghost use Rattle.std.specs.Prelude.{◌≡◌, ◌≤◌};
 
 use super::RegionMap;
@@ -53,11 +53,11 @@ fn regions_and_their_edges(rt: HostRuntime) {
         Err(Refusal::RegionConflict)
     );
     assert_eq!(rt;
-        attach_at(&mut map, SECOND, 1, 0x1000_0800),
-        Err(Refusal::RegionConflict)
+        attach_at(&mut map, SECOND, 1, 0x1fff_d000),
+        Ok(0x1fff_d000)
     );
     assert_eq!(rt;
-        attach_at(&mut map, SECOND, 1, 0x0fff_f000),
+        attach_at(&mut map, SECOND, 1, 0x1000_2800),
         Err(Refusal::RegionConflict)
     );
     assert_eq!(rt;
@@ -67,6 +67,9 @@ fn regions_and_their_edges(rt: HostRuntime) {
     assert_eq!(rt; map.detach(0x1fff_f000), Err(Refusal::PageFault));
     assert_eq!(rt; map.detach(0x1000_0000), Ok(()));
     assert_eq!(rt; map.detach(0x1000_0000), Err(Refusal::PageFault));
+    assert_eq!(rt; map.resolve(0x1000_1fff, 1), Some((FIRST, 0xfff)));
+    assert_eq!(rt; map.resolve(0x1000_1fff, 2), None);
+    assert_eq!(rt; map.resolve(u64::MAX, u64::MAX), None);
 }
 
 #[test]
@@ -79,39 +82,55 @@ fn region_limit_comes_first(rt: HostRuntime) {
     assert_eq!(rt; last, Ok(0x1007_f000));
     assert_eq!(rt; attach(&mut map, FIRST, 1), Err(Refusal::TooManyRegions));
     assert_eq!(rt;
-        attach_at(&mut map, FIRST, 1, 0x1000_0000),
-        Err(Refusal::TooManyRegions)
-    );
-    assert_eq!(rt;
         attach_at(&mut map, FIRST, 1, 0x1000_0001),
         Err(Refusal::TooManyRegions)
     );
-}
-
-#[test]
-fn range_lies_in_one_region(rt: HostRuntime) {
-    let mut map = booted(&rt, rt.alloc());
-    assert_eq!(rt; attach(&mut map, FIRST, 1), Ok(0x1000_0000));
-    assert_eq!(rt; attach(&mut map, FIRST, 2), Ok(0x1000_1000));
-    assert_eq!(rt; attach(&mut map, SECOND, 1), Ok(0x1000_3000));
-    assert_eq!(rt; map.resolve(0x1000_0fff, 1), Some((FIRST, 0xfff)));
-    assert_eq!(rt; map.resolve(0x1000_0fff, 2), None);
-    assert_eq!(rt; map.resolve(0x1000_1001, 0x1fff), Some((FIRST, 1)));
-    assert_eq!(rt; map.resolve(0x1000_3ff0, 16), Some((SECOND, 0xff0)));
-    assert_eq!(rt; map.resolve(0x1000_3ff0, 17), None);
-    assert_eq!(rt; map.resolve(0x1000_3ff0, u64::MAX), None);
-    assert_eq!(rt; map.resolve(u64::MAX, u64::MAX), None);
+    assert_eq!(rt; map.detach(0x1003_0000), Ok(()));
+    assert_eq!(rt; attach(&mut map, SECOND, 1), Ok(0x1003_0000));
+    assert_eq!(rt; map.resolve(0x1002_ffff, 1), Some((FIRST, 0xfff)));
+    assert_eq!(rt; map.resolve(0x1003_0001, 1), Some((SECOND, 1)));
     map.detach_all(FIRST);
-    assert_eq!(rt; map.resolve(0x1000_0000, 1), None);
-    assert_eq!(rt; map.resolve(0x1000_1000, 1), None);
-    assert_eq!(rt; map.resolve(0x1000_3000, 1), Some((SECOND, 0)));
+    assert_eq!(rt; attach(&mut map, FIRST, 48), Ok(0x1000_0000));
+    assert_eq!(rt; attach(&mut map, FIRST, 1), Ok(0x1003_1000));
 }
 
 #[test]
-fn freed_gap_is_found_first(rt: HostRuntime) {
+fn boots_at_the_largest_sizes(rt: HostRuntime) {
+    let mut map = RegionMap::boot(rt.alloc(), 4096, 4096, 4096).expect(
+        &rt,
+        "memory for 8192 regions",
+    );
+    assert_eq!(rt; map.attach_block(FIRST, 4096, 7), 0x1_0000_0000);
+    assert_eq!(rt;
+        map.heap_region(0x1_00ff_ffff),
+        Some((0x1_0000_0000, FIRST, 7))
+    );
+    assert_eq!(rt; map.heap_region(0x1_0100_0000), None);
+}
+
+#[test]
+fn lowest_heap_gap_is_taken_again(rt: HostRuntime) {
     let mut map = booted(&rt, rt.alloc());
-    assert_eq!(rt; attach(&mut map, FIRST, 2), Ok(0x1000_0000));
-    assert_eq!(rt; attach(&mut map, FIRST, 1), Ok(0x1000_2000));
-    assert_eq!(rt; map.detach(0x1000_0000), Ok(()));
-    assert_eq!(rt; attach(&mut map, FIRST, 3), Ok(0x1000_3000));
+    let one = map.attach_block(FIRST, 1, 10);
+    let two = map.attach_block(SECOND, 2, 20);
+    let three = map.attach_heap(FIRST, 1);
+    assert_eq!(rt;
+        (one, two, three),
+        (0x1_0000_0000, 0x1_0000_1000, 0x1_0000_3000)
+    );
+    map.detach_heap(two);
+    assert_eq!(rt; map.heap_region(0x1_0000_1000), None);
+    assert_eq!(rt; map.attach_block(SECOND, 3, 30), 0x1_0000_4000);
+    assert_eq!(rt; map.attach_block(SECOND, 1, 40), 0x1_0000_1000);
+    assert_eq!(rt;
+        map.heap_region(0x1_0000_1fff),
+        Some((0x1_0000_1000, SECOND, 40))
+    );
+    assert_eq!(rt;
+        map.heap_region(0x1_0000_3000),
+        Some((0x1_0000_3000, FIRST, 0))
+    );
+    assert_eq!(rt; map.resolve(0x1_0000_4010, 0x2ff0), Some((SECOND, 0x10)));
+    assert_eq!(rt; map.resolve(0x1_0000_4010, 0x2ff1), None);
+    assert_eq!(rt; map.resolve_user(0x1_0000_4010, 1), None);
 }

@@ -1,0 +1,9 @@
+-- There are as many regions as rows.
+use Rattle.std.proofs.Common.{rules}
+use Rattle.region_map.specs.Rows.{region_of}
+use Rattle.region_map.proofs.RowLemmas.{len-map_of}
+use Rattle.region_map.proofs.table.Table.is_full.Goals as goal
+
+pub returns : goal.returns
+returns c =
+    rw (← c.self.view_is, len-map_of region_of c.self.inside.low c.self.inside.high c.self.inside.rows.items c.self.invariant.in_order) (search rules)
