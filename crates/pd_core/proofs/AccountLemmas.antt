@@ -67,7 +67,7 @@ no_rpc p s b (Some (Dataspace d)) h = elim (get p.spaces d.0) as (λ o. refused 
 no_rpc p s b (Some RpcObject) h = absurd (true≢false h)
 no_rpc p s b (Some (Session server session)) h = refl
 
-module _ (p : Part) (space : Space) (regions : Regions) (sound : IsScript p space regions) where
+module _ (p : Part) (space : Space) (regions : Regions) (sliced : NatMap (List ℕ)) (sound : IsScript p space regions sliced) where
   -- there is a place for one more selector where the account covers one more capability
   pub has_place : (n : ℕ) → Fits (account_of p) n 1 → len space.caps < space.places
   has_place n fits = omega (arith, fits.caps_fit, sound.paid.named, sound.paid.placed)
@@ -75,9 +75,9 @@ module _ (p : Part) (space : Space) (regions : Regions) (sound : IsScript p spac
   -- ---- alloc
 
   -- an alloc is refused as the account tells
-  pub alloc_refused : (n : ℕ) (refusal : Refusal) → Some refusal ≡ alloc_refusal n (account_of p) → refused (before p space regions sound) refusal ≡ script_step (Alloc n) (before p space regions sound)
+  pub alloc_refused : (n : ℕ) (refusal : Refusal) → Some refusal ≡ alloc_refusal n (account_of p) → refused (before p space regions sliced sound) refusal ≡ script_step (Alloc n) (before p space regions sliced sound)
   unfolding own_of
-  alloc_refused n refusal is = let b = before p space regions sound in ap (λ r. unless r b (allocated n b)) is
+  alloc_refused n refusal is = let b = before p space regions sliced sound in ap (λ r. unless r b (allocated n b)) is
 
   -- the account of one that isn't refused covers the pages and a capability
   pub alloc_fits : (n : ℕ) → None ≡ alloc_refusal n (account_of p) → Fits (account_of p) (page_of n) 1
@@ -88,22 +88,15 @@ module _ (p : Part) (space : Space) (regions : Regions) (sound : IsScript p spac
     abbrev more : NatMap (List ℕ)
     more = insert p.spaces ds.0 (zeros (page_of n))
 
-    -- no dataspace is larger than the machine, nor is the new one
-    more_few : (key : ℕ) (bytes : List ℕ) → get more key ≡ Some bytes → length bytes ≤ regions.pages * 4096
-    more_few key bytes there = elim (after_insert p.spaces ds.0 (zeros (page_of n)) key bytes there) [
-      | inl here ↦ omega (arith, ap length here.1, length-zeros (page_of n), (alloc_fits n accepted).ram_fits, sound.fits.ram)
-      | inr old ↦ sound.fits.few key bytes old.1
-    ]
-
     -- an alloc settles
-    pub alloc_settles : (s : ℕ) → s ≡ new_selector space.caps → Settles (Alloc n) p space regions (Selected s) (part_with_space p ds.0 n) (with_cap space s (Dataspace ds)) regions
+    pub alloc_settles : (s : ℕ) → s ≡ new_selector space.caps → Settles (Alloc n) p space regions sliced (Selected s) (part_with_space p ds.0 n) (with_cap space s (Dataspace ds)) regions sliced
     unfolding own_of
     alloc_settles s least =
-        let b = before p space regions sound in
-        grows p space regions sound (Alloc n) (page_of n) more (Dataspace ds) (ADataspace (zeros (page_of n))) (alloc_fits n accepted)
+        let b = before p space regions sliced sound in
+        grows p space regions sliced sound (Alloc n) (page_of n) more (Dataspace ds) (ADataspace (zeros (page_of n)))
         (λ key there. get-insert_other p.spaces ds.0 (zeros (page_of n)) key (apart_from_free p.spaces ds.0 key free there))
         (λ d is. ap (get p.spaces) (sym (same_key ds d is)) ∙ free)
-        more_few (omega (arith, len-insert_new p.spaces ds.0 (zeros (page_of n)) free))
+        (omega (arith, len-insert_new p.spaces ds.0 (zeros (page_of n)) free))
         (ap (option_map ADataspace) (get-insert_same p.spaces ds.0 (zeros (page_of n)) ds.0 refl)) s least
         (ap (λ r. unless r b (allocated n b)) (sym accepted))
 
@@ -111,10 +104,10 @@ module _ (p : Part) (space : Space) (regions : Regions) (sound : IsScript p spac
 
   module _ (s : ℕ) where
     -- a free of what is no dataspace is refused
-    pub free_refused : (refusal : Refusal) → Err refusal ≡ dataspace_at (get space.caps s) → refused (before p space regions sound) refusal ≡ script_step (Free s) (before p space regions sound)
+    pub free_refused : (refusal : Refusal) → Err refusal ≡ dataspace_at (get space.caps s) → refused (before p space regions sliced sound) refusal ≡ script_step (Free s) (before p space regions sliced sound)
     free_refused refusal h =
-        let b = before p space regions sound in
-        refuses (λ o. freed s o b) b refl refl p refusal (get space.caps s) h ∙ ap (λ o. freed s o b) (sym (object_is p space regions sound s))
+        let b = before p space regions sliced sound in
+        refuses (λ o. freed s o b) b refl refl p refusal (get space.caps s) h ∙ ap (λ o. freed s o b) (sym (object_is p space regions sliced sound s))
 
     module _ (ds : DsId) (named : get space.caps s ≡ Some (Dataspace ds)) where
       -- what the selector names is under one key
@@ -132,44 +125,44 @@ module _ (p : Part) (space : Space) (regions : Regions) (sound : IsScript p spac
       left start region there = let was = left_without ds.0 regions.user start region there in (was.0, λ names. was.1 (alone region.of names))
 
       -- a free settles
-      pub free_settles : Settles (Free s) p space regions Done (part_without_space p ds.0) (without_cap space s) (all_detached regions ds.0)
+      pub free_settles : Settles (Free s) p space regions sliced Done (part_without_space p ds.0) (without_cap space s) (all_detached regions ds.0) sliced
       unfolding own_of regions_of
       free_settles =
-          let b = before p space regions sound in
-          let has = has_bytes p space regions sound s ds named in
+          let b = before p space regions sliced sound in
+          let has = has_bytes p space regions sliced sound s ds named in
           let map = renamed-without (selector_of space.caps) ds.0 s (named_is space.caps sound.named.one s ds named) alone regions.user in
-          shrinks p space regions sound (Free s) (length (bytes_of p ds.0)) (remove p.spaces ds.0) (Dataspace ds) s named (all_detached regions ds.0)
+          shrinks p space regions sliced sound (Free s) (length (bytes_of p ds.0)) (remove p.spaces ds.0) (Dataspace ds) s named (all_detached regions ds.0)
           (λ q d there. get-remove_other p.spaces ds.0 d.0 (rest_apart q d there)) left
-          (λ key bytes there. before_remove p.spaces ds.0 key bytes there) (omega (arith, len-remove_at p.spaces ds.0 (bytes_of p ds.0) has)) refl refl
-          (ap (λ o. freed s o b) (names_object p space regions sound s ds named)
+          (omega (arith, len-remove_at p.spaces ds.0 (bytes_of p ds.0) has)) refl refl
+          (ap (λ o. freed s o b) (names_object p space regions sliced sound s ds named)
           ∙ (λ i. record { reply = Done; lines = []; next = record b { account = credited b.account (length (bytes_of p ds.0)) 1; selectors = remove b.selectors s; regions = sym map i } }))
 
   -- ---- capalloc
 
   -- a capalloc is refused as the account tells
-  pub capalloc_refused : (refusal : Refusal) → Some refusal ≡ shortage (account_of p) 0 1 → refused (before p space regions sound) refusal ≡ script_step Capalloc (before p space regions sound)
+  pub capalloc_refused : (refusal : Refusal) → Some refusal ≡ shortage (account_of p) 0 1 → refused (before p space regions sliced sound) refusal ≡ script_step Capalloc (before p space regions sliced sound)
   unfolding own_of
-  capalloc_refused refusal is = let b = before p space regions sound in ap (λ r. unless r b (cap_allocated b)) is
+  capalloc_refused refusal is = let b = before p space regions sliced sound in ap (λ r. unless r b (cap_allocated b)) is
 
   -- the account of one that isn't refused covers a capability
   pub cap_fits : None ≡ shortage (account_of p) 0 1 → Fits (account_of p) 0 1
   cap_fits accepted = covers _ _ _ (sym accepted)
 
   -- a capalloc settles
-  pub capalloc_settles : None ≡ shortage (account_of p) 0 1 → (s : ℕ) → s ≡ new_selector space.caps → Settles Capalloc p space regions (Selected s) (charged_part p 1) (with_cap space s RpcObject) regions
+  pub capalloc_settles : None ≡ shortage (account_of p) 0 1 → (s : ℕ) → s ≡ new_selector space.caps → Settles Capalloc p space regions sliced (Selected s) (charged_part p 1) (with_cap space s RpcObject) regions sliced
   unfolding own_of
   capalloc_settles accepted s least =
-      let b = before p space regions sound in
-      grows p space regions sound Capalloc 0 p.spaces RpcObject AnRpcObject (cap_fits accepted) (λ key there. refl) (λ ds is. cc) sound.fits.few refl refl s least
+      let b = before p space regions sliced sound in
+      grows p space regions sliced sound Capalloc 0 p.spaces RpcObject AnRpcObject (λ key there. refl) (λ ds is. cc) refl refl s least
       (ap (λ r. unless r b (cap_allocated b)) (sym accepted))
 
   -- ---- capfree
 
   module _ (s : ℕ) where
     -- a capfree of what is no RPC object is refused
-    pub capfree_refused : is_rpc_object (get space.caps s) ≡ false → refused (before p space regions sound) InvalidCap ≡ script_step (Capfree s) (before p space regions sound)
+    pub capfree_refused : is_rpc_object (get space.caps s) ≡ false → refused (before p space regions sliced sound) InvalidCap ≡ script_step (Capfree s) (before p space regions sliced sound)
     capfree_refused none =
-        let b = before p space regions sound in no_rpc p s b (get space.caps s) none ∙ ap (λ o. cap_freed s o b) (sym (object_is p space regions sound s))
+        let b = before p space regions sliced sound in no_rpc p s b (get space.caps s) none ∙ ap (λ o. cap_freed s o b) (sym (object_is p space regions sliced sound s))
 
     module _ (named : get space.caps s ≡ Some RpcObject) where
       -- the account uses a capability more than it pays dataspaces
@@ -181,10 +174,10 @@ module _ (p : Part) (space : Space) (regions : Regions) (sound : IsScript p spac
       not_attached thing is = let of = is_named space.caps thing s is in let e = same_cap _ _ (sym of.there ∙ named) in cc
 
       -- a capfree settles
-      pub capfree_settles : Settles (Capfree s) p space regions Done (credited_part p 1) (without_cap space s) regions
+      pub capfree_settles : Settles (Capfree s) p space regions sliced Done (credited_part p 1) (without_cap space s) regions sliced
       unfolding own_of
       capfree_settles =
-          let b = before p space regions sound in
-          shrinks p space regions sound (Capfree s) 0 p.spaces RpcObject s named regions (λ q d there. refl) (λ start region there. (there, not_attached region.of))
-          (λ key bytes there. there) refl refl refl
-          (ap (λ o. cap_freed s o b) (object_is p space regions sound s ∙ ap (option_and_then (object_of p)) named))
+          let b = before p space regions sliced sound in
+          shrinks p space regions sliced sound (Capfree s) 0 p.spaces RpcObject s named regions (λ q d there. refl) (λ start region there. (there, not_attached region.of))
+          refl refl refl
+          (ap (λ o. cap_freed s o b) (object_is p space regions sliced sound s ∙ ap (option_and_then (object_of p)) named))

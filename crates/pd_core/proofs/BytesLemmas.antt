@@ -1,22 +1,26 @@
 -- A script's peeks and pokes.
-use Rattle.std.proofs.Common.{◌≡◌, ℕ, ◌+◌, ◌≤◌, List, [], length, Option, Some, None, is_some, IsSome, subst, refl, sym, ap, ◌∙◌, slice_range, arith}
+use Rattle.std.proofs.Common.{◌≡◌, ℕ, ◌+◌, ◌-◌, ◌≤◌, List, [], length, Option, Some, None, is_some, IsSome, subst, refl, sym, ap, ◌∙◌, slice_range, arith}
 use Rattle.std.specs.Option.{option_map, option_and_then, option_or}
 use Rattle.std.specs.Prelude.{if◌then◌else◌}
 use Rattle.std.proofs.lemmas.Bool.Decides.{nat_tests}
-use Rattle.std.specs.FinMap.{get, insert}
+use Rattle.std.specs.List.{find}
+use Rattle.std.specs.FinMap.{get, insert, empty}
 use Rattle.trade_base.specs.declared.refusal.Refusal.{Refusal}
 use Rattle.trade_base.specs.declared.refusal.Refusal.TheVariants.{PageFault}
 use Rattle.own_model.specs.Call.Call.{Peek, Poke}
-use Rattle.own_model.specs.OwnState.{with_part}
 use Rattle.own_model.specs.OwnState.Object.{Dataspace as ADataspace}
-use Rattle.own_model.specs.OwnStep.{Outcome, refused, unless, count_refusal, most_bytes, peeked, poked, poked_at, script_step}
-use Rattle.own_model.specs.OwnState.{OwnState, bytes_named}
+use Rattle.own_model.specs.OwnStep.{Outcome, refused, unless, count_refusal, most_bytes, peeked, poked, script_step}
+use Rattle.own_model.specs.NatMap.{NatMap}
+use Rattle.own_model.specs.OwnState.{OwnState}
+use Rattle.own_model.specs.Place.{Place, in_dataspace, in_payload, found}
+use Rattle.own_model.specs.Sliced.{block_found, holds_in_payload}
 use Rattle.own_model.specs.Region.{resolved}
 use Rattle.own_model.specs.Reply.Reply.{Bytes, Done}
+use Rattle.own_model.proofs.CallLemmas.{peeks, pokes}
 use Rattle.own_model.proofs.RangeLemmas.{range_fits, with_part-within}
 use Rattle.own_model.proofs.RegionLemmas.{resolved_renamed, resolved_facts}
 use Rattle.own_model.proofs.UseLemmas.{length-with_part}
-use Rattle.own_model.proofs.NatMapLemmas.{some_of}
+use Rattle.own_model.proofs.NatMapLemmas.{some_of, entries-empty}
 use Rattle.cap_space.specs.Space.{Space}
 use Rattle.cap_space.specs.declared.cap.Cap.TheVariants.{Dataspace}
 use Rattle.region_map.specs.Regions.{Regions}
@@ -27,11 +31,11 @@ use Rattle.pd_core.proofs.NameLemmas.{Names, is_named}
 use Rattle.pd_core.proofs.OwnLemmas.{Settles, before, has_bytes, names_object, rewrites}
 
 -- what refuses a range refuses a call that looks at the count and then at what is found
-ranges_refused : (b : OwnState) (found : Option (ℕ × ℕ) → Outcome) (rename : ℕ × ℕ → Option (ℕ × ℕ)) → found None ≡ refused b PageFault → (refusal : Refusal) (count : Option Refusal) (o : Option (ℕ × ℕ)) →
-    Some refusal ≡ option_or count (if is_some o then None else Some PageFault) → refused b refusal ≡ unless count b (found (option_and_then rename o))
-ranges_refused b found rename fault refusal (Some r) o is = let e : refusal ≡ r = cc in ap (refused b) e
-ranges_refused b found rename fault refusal None None is = let e : refusal ≡ PageFault = cc in ap (refused b) e ∙ sym fault
-ranges_refused b found rename fault refusal None (Some x) is = cc
+ranges_refused : (b : OwnState) (step : Option (ℕ × ℕ) → Outcome) (rename : ℕ × ℕ → Option (ℕ × ℕ)) → step None ≡ refused b PageFault → (refusal : Refusal) (count : Option Refusal) (o : Option (ℕ × ℕ)) →
+    Some refusal ≡ option_or count (if is_some o then None else Some PageFault) → refused b refusal ≡ unless count b (step (option_and_then rename o))
+ranges_refused b step rename fault refusal (Some r) o is = let e : refusal ≡ r = cc in ap (refused b) e
+ranges_refused b step rename fault refusal None None is = let e : refusal ≡ PageFault = cc in ap (refused b) e ∙ sym fault
+ranges_refused b step rename fault refusal None (Some x) is = cc
 
 -- a count that isn't refused
 counted : (count other : Option Refusal) → None ≡ option_or count other → count ≡ None
@@ -46,32 +50,39 @@ count_within count h = grind (arith, nat_tests)
 same_bytes : (a b : List ℕ) → Some (ADataspace a) ≡ Some (ADataspace b) → a ≡ b
 same_bytes a b e = cc
 
-module _ (p : Part) (space : Space) (regions : Regions) (sound : IsScript p space regions) (address count : ℕ) where
+-- no payload holds a range where there is no block
+pub none_in_no_block : (address count : ℕ) → block_found empty address count ≡ None
+none_in_no_block address count = ap (λ l. option_map (λ block. (block.0, address - block.0)) (find (holds_in_payload address count) l)) entries-empty
+
+module _ (p : Part) (space : Space) (regions : Regions) (sliced : NatMap (List ℕ)) (sound : IsScript p space regions sliced) (address count : ℕ) where
   -- the own state finds a range where the map does, by the selector in place of the key
-  renamed_is : resolved (before p space regions sound).regions address count
+  renamed_is : resolved (before p space regions sliced sound).regions address count
       ≡ option_and_then (λ (x : ℕ × ℕ). option_map (λ other. (other, x.1)) (selector_of space.caps x.0)) (resolved regions.user address count)
   unfolding own_of regions_of
   renamed_is = resolved_renamed (selector_of space.caps) regions.user sound.attached address count
 
-  module _ (refusal : Refusal) (is : Some refusal ≡ range_refusal regions.user address count) where
+  module _ (none : block_found sliced address count ≡ None) (refusal : Refusal) (is : Some refusal ≡ range_refusal regions.user address count) where
     -- a call that looks for the range is refused as the range is
-    range_refused : (found : Option (ℕ × ℕ) → Outcome) → found None ≡ refused (before p space regions sound) PageFault →
-        refused (before p space regions sound) refusal ≡ unless (count_refusal count) (before p space regions sound) (found (resolved (before p space regions sound).regions address count))
-    range_refused found fault =
-        let b = before p space regions sound in
-        ranges_refused b found _ fault refusal (count_refusal count) (resolved regions.user address count) is ∙ ap (λ o. unless (count_refusal count) b (found o)) (sym renamed_is)
+    range_refused : (step : Option Place → Outcome) → step None ≡ refused (before p space regions sliced sound) PageFault →
+        refused (before p space regions sliced sound) refusal ≡ unless (count_refusal count) (before p space regions sliced sound) (step (found (before p space regions sliced sound) address count))
+    unfolding own_of
+    range_refused step fault =
+        let b = before p space regions sliced sound in
+        let by_region : Option (ℕ × ℕ) → Outcome = λ o. step (option_or (option_map in_dataspace o) (option_map in_payload (block_found sliced address count))) in
+        ranges_refused b by_region _ (ap (λ o. step (option_map in_payload o)) none ∙ fault) refusal (count_refusal count) (resolved regions.user address count) is
+        ∙ ap (λ o. unless (count_refusal count) b (by_region o)) (sym renamed_is)
 
     -- so a peek is
-    pub peek_refused : refused (before p space regions sound) refusal ≡ script_step (Peek address count) (before p space regions sound)
-    peek_refused = range_refused (λ o. peeked count o (before p space regions sound)) refl
+    pub peek_refused : refused (before p space regions sliced sound) refusal ≡ script_step (Peek address count) (before p space regions sliced sound)
+    peek_refused = range_refused (λ o. peeked count o (before p space regions sliced sound)) refl
 
     -- and so is a poke
-    pub poke_refused : (bytes : List ℕ) → count ≡ length bytes → refused (before p space regions sound) refusal ≡ script_step (Poke address bytes) (before p space regions sound)
+    pub poke_refused : (bytes : List ℕ) → count ≡ length bytes → refused (before p space regions sliced sound) refusal ≡ script_step (Poke address bytes) (before p space regions sliced sound)
     poke_refused bytes size =
-        let b = before p space regions sound in
-        range_refused (λ o. poked bytes o b) refl ∙ ap (λ n. unless (count_refusal n) b (poked bytes (resolved b.regions address n) b)) size
+        let b = before p space regions sliced sound in
+        range_refused (λ o. poked bytes o b) refl ∙ ap (λ n. unless (count_refusal n) b (poked bytes (found b address n) b)) size
 
-  module _ (key offset : ℕ) (accepted : None ≡ range_refusal regions.user address count) (found : resolved regions.user address count ≡ Some (key, offset)) where
+  module _ (key offset : ℕ) (accepted : None ≡ range_refusal regions.user address count) (at : resolved regions.user address count ≡ Some (key, offset)) where
     -- the range is of as many bytes as can be
     pub few : count_refusal count ≡ None
     few = counted _ _ accepted
@@ -83,7 +94,7 @@ module _ (p : Part) (space : Space) (regions : Regions) (sound : IsScript p spac
     -- a selector names the dataspace that is found
     abbrev selector : (s : ℕ) × (selector_of space.caps key ≡ Some s)
     selector =
-        let facts = resolved_facts regions.user address count key offset found in
+        let facts = resolved_facts regions.user address count key offset at in
         some_of (selector_of space.caps key) (subst (λ k. IsSome (selector_of space.caps k)) facts.3 (sound.attached facts.0.0 facts.0.1 facts.2))
 
     -- it names the dataspace under the key
@@ -92,40 +103,33 @@ module _ (p : Part) (space : Space) (regions : Regions) (sound : IsScript p spac
 
     -- the part has its bytes
     pub has : get p.spaces key ≡ Some (bytes_of p key)
-    has = subst (λ k. get p.spaces k ≡ Some (bytes_of p k)) names.same (has_bytes p space regions sound selector.0 names.ds names.there)
+    has = subst (λ k. get p.spaces k ≡ Some (bytes_of p k)) names.same (has_bytes p space regions sliced sound selector.0 names.ds names.there)
 
     -- in the own state the selector names these bytes
-    object : get (before p space regions sound).selectors selector.0 ≡ Some (ADataspace (bytes_of p key))
-    object = subst (λ k. get (before p space regions sound).selectors selector.0 ≡ Some (ADataspace (bytes_of p k))) names.same (names_object p space regions sound selector.0 names.ds names.there)
+    object : get (before p space regions sliced sound).selectors selector.0 ≡ Some (ADataspace (bytes_of p key))
+    object = subst (λ k. get (before p space regions sliced sound).selectors selector.0 ≡ Some (ADataspace (bytes_of p k))) names.same (names_object p space regions sliced sound selector.0 names.ds names.there)
 
     -- the own state finds the range under that selector, at the same offset
-    own_found : resolved (before p space regions sound).regions address count ≡ Some (selector.0, offset)
+    own_found : resolved (before p space regions sliced sound).regions address count ≡ Some (selector.0, offset)
     own_found =
-        renamed_is ∙ ap (option_and_then (λ (x : ℕ × ℕ). option_map (λ other. (other, x.1)) (selector_of space.caps x.0))) found
+        renamed_is ∙ ap (option_and_then (λ (x : ℕ × ℕ). option_map (λ other. (other, x.1)) (selector_of space.caps x.0))) at
         ∙ ap (option_map (λ other. (other, offset))) selector.1
 
     -- the range lies within the bytes
     pub fits : offset + count ≤ length (bytes_of p key)
     fits =
-        let range = range_fits (before p space regions sound) address count selector.0 offset sound.sound own_found in
+        let range = range_fits (before p space regions sliced sound) address count selector.0 offset sound.lawful.sound own_found in
         subst (λ (l : List ℕ). offset + count ≤ length l) (same_bytes range.0 (bytes_of p key) (sym range.1 ∙ object)) range.2
 
     -- a peek tells the bytes of the dataspace
-    pub peek_is : record { reply = Bytes (slice_range (bytes_of p key) offset (offset + count)); lines = []; next = before p space regions sound } ≡ script_step (Peek address count) (before p space regions sound)
-    peek_is =
-        let b = before p space regions sound in
-        sym (ap (λ r. unless r b (peeked count (resolved b.regions address count) b)) few
-        ∙ ap (λ o. peeked count o b) own_found
-        ∙ ap (λ o. record { reply = Bytes (slice_range (bytes_named o) offset (offset + count)); lines = []; next = b }) object)
+    pub peek_is : record { reply = Bytes (slice_range (bytes_of p key) offset (offset + count)); lines = []; next = before p space regions sliced sound } ≡ script_step (Peek address count) (before p space regions sliced sound)
+    peek_is = sym (peeks (before p space regions sliced sound) address count selector.0 offset (bytes_of p key) few own_found object)
 
     -- a poke puts its bytes over those of the dataspace
-    pub poke_settles : (bytes : List ℕ) → count ≡ length bytes → Settles (Poke address bytes) p space regions Done (part_with_bytes p key offset bytes) space regions
+    pub poke_settles : (bytes : List ℕ) → count ≡ length bytes → Settles (Poke address bytes) p space regions sliced Done (part_with_bytes p key offset bytes) space regions sliced
     poke_settles bytes size =
-        let b = before p space regions sound in
+        let b = before p space regions sliced sound in
         let over = with_part-within (bytes_of p key) offset bytes (subst (λ n. offset + n ≤ length (bytes_of p key)) size fits) in
-        rewrites p space regions sound (Poke address bytes) key selector.0 _ names (ap length (sym over) ∙ length-with_part (bytes_of p key) offset bytes)
-        (ap (λ n. unless (count_refusal n) b (poked bytes (resolved b.regions address n) b)) (sym size)
-        ∙ ap (λ r. unless r b (poked bytes (resolved b.regions address count) b)) few
-        ∙ ap (λ o. poked bytes o b) own_found
-        ∙ ap (λ o. poked_at selector.0 offset bytes o b) object
+        rewrites p space regions sliced sound (Poke address bytes) key selector.0 _ names (ap length (sym over) ∙ length-with_part (bytes_of p key) offset bytes)
+        (pokes b address selector.0 offset bytes (ADataspace (bytes_of p key)) (ap count_refusal (sym size) ∙ few) (ap (resolved b.regions address) (sym size) ∙ own_found) object
         ∙ ap (λ l. record { reply = Done; lines = []; next = record b { selectors = insert b.selectors selector.0 (ADataspace l) } }) over)

@@ -8,11 +8,11 @@ use Rattle.std.specs.FinMap.{empty, len}
 use Rattle.std.proofs.lemmas.List.Elements.{All-head, All-tail}
 use Rattle.own_model.specs.NatMap.{NatMap, total}
 use Rattle.own_model.specs.Region.{Region}
-use Rattle.own_model.specs.Sound.{IsSound as IsSoundState}
 use Rattle.own_model.specs.StartList.{StartEntry, start_state}
 use Rattle.own_model.specs.Transcript.{nobody}
 use Rattle.own_model.proofs.NatMapLemmas.{none_in_empty, picked-empty}
 use Rattle.own_model.proofs.SoundLemmas.{start_sound}
+use Rattle.own_model.proofs.UseLemmas.{start_uses}
 use Rattle.own_model.proofs.Totals.{total-empty}
 use Rattle.cap_space.specs.declared.cap.Cap.{Cap}
 use Rattle.dataspace_core.specs.Store.{Store, root_in, account_in}
@@ -20,7 +20,7 @@ use Rattle.pd_core.specs.declared.component.Component.{Component}
 use Rattle.pd_core.specs.declared.component.Role.{Role}
 use Rattle.pd_core.specs.declared.component.Role.TheVariants.{Script, Server}
 use Rattle.pd_core.specs.Own.{own_of, object_of, regions_of, selector_of}
-use Rattle.pd_core.specs.Sound.{rpc_weight}
+use Rattle.pd_core.specs.Sound.{rpc_weight, IsLawful}
 use Rattle.pd_core.specs.Component.{entry_of, tables_in, own_in, own, IsSound, IsSoundRole}
 use Rattle.pd_core.specs.Core.{world_of, IsCore}
 use Rattle.pd_core.specs.Fresh.{start_of, starts_of, opened_part, started_world, AreEmpty, IsFresh, AreFresh}
@@ -30,12 +30,12 @@ abbrev budget : ℕ → ℕ → StartEntry
 budget ram caps = record { entry = nobody; ram = ram; caps = caps }
 
 -- who has nothing has the own state of a start
-own_opened : (ram caps : ℕ) → own_of (opened_part ram caps) empty empty ≡ start_state (budget ram caps)
+own_opened : (ram caps : ℕ) → own_of (opened_part ram caps) empty empty empty ≡ start_state (budget ram caps)
 unfolding own_of regions_of
 own_opened ram caps =
     let selectors = picked-empty (object_of (opened_part ram caps)) in
     let regions = picked-empty (λ (region : Region). option_map (λ (other : ℕ). record region { of = other }) (selector_of empty region.of)) in
-    λ j. record { account = (start_state (budget ram caps)).account; selectors = selectors j; regions = regions j; gone = (start_state (budget ram caps)).gone }
+    λ j. record { account = (start_state (budget ram caps)).account; selectors = selectors j; regions = regions j; sliced = empty; gone = (start_state (budget ram caps)).gone }
 
 -- a role before its first call
 abbrev IsEmptyRole : ℕ → ℕ → Role → Type 0
@@ -44,7 +44,8 @@ IsEmptyRole ram caps role = IfSome (tables_in role) (λ tables. AreEmpty ram cap
 -- its own state is that of a start
 own_unused : (ram caps : ℕ) (role : Role) → IsEmptyRole ram caps role → own_in (opened_part ram caps) role ≡ start_state (budget ram caps)
 own_unused ram caps (Script script) fresh =
-    ap (λ (c : NatMap Cap). own_of (opened_part ram caps) c script.regions.user) fresh.no_caps ∙ ap (own_of (opened_part ram caps) empty) fresh.no_regions ∙ own_opened ram caps
+    ap (λ (c : NatMap Cap). own_of (opened_part ram caps) c script.regions.user empty) fresh.no_caps
+    ∙ ap (λ (user : NatMap Region). own_of (opened_part ram caps) empty user empty) fresh.no_regions ∙ own_opened ram caps
 own_unused ram caps (Server account) fresh = own_opened ram caps
 
 -- it is sound where nothing is used
@@ -58,11 +59,12 @@ role_sound ram caps (Script script) fresh =
         there = λ q cap names. absurd (none_in_empty _ fresh.no_caps q cap names);
         one = λ s t a b first second same. absurd (none_in_empty _ fresh.no_caps s _ first);
       };
-      paid = record { is_open = refl; named = omega (arith, few); spare = omega (arith, none, weight); within = omega arith; placed = fresh.places };
-      fits = record { ram = fresh.pages; few = λ key bytes there. absurd (none_in_empty (empty {X = List ℕ} {R = nat_cmp}) refl key bytes there) };
+      paid = record { is_open = refl; named = omega (arith, few); spare = omega (arith, none, weight); placed = fresh.places };
+      ram = fresh.pages;
       attached = λ start region there. absurd (none_in_empty _ fresh.no_regions start region there);
       most = fresh.most;
-      sound = subst IsSoundState (sym (own_unused ram caps (Script script) fresh)) (start_sound (budget ram caps));
+      lawful = subst IsLawful (sym (own_unused ram caps (Script script) fresh))
+          (record { sound = start_sound (budget ram caps); uses = start_uses (budget ram caps); within = record { ram = omega arith; caps = omega arith } });
     }
 role_sound ram caps (Server account) fresh = refl
 

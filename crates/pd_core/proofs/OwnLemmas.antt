@@ -1,7 +1,7 @@
 -- A script's own state when its part of the memory and its tables change.
-use Rattle.std.proofs.Common.{◌≡◌, ℕ, false, ◌+◌, ◌*◌, ◌/◌, ◌≤◌, ◌≢◌, List, [], length, Option, Some, None, is_some, IsSome, inl, inr, subst, true≢false, refl, sym, ap, ◌∙◌, arith}
+use Rattle.std.proofs.Common.{◌≡◌, ℕ, false, ◌+◌, ◌*◌, ◌/◌, ◌≤◌, ◌≢◌, List, [], ◌∷◌, length, Option, Some, None, is_some, IsSome, inl, inr, subst, true≢false, refl, sym, ap, ◌∙◌, arith}
 use Rattle.std.specs.Option.{option_map, option_and_then, unwrap_or}
-use Rattle.std.specs.FinMap.{get, insert, remove, len}
+use Rattle.std.specs.FinMap.{get, insert, remove, len, empty}
 use Rattle.std.specs.Prelude.{Result, IsErrAnd}
 use Rattle.std.proofs.lemmas.Bool.{cases_eq}
 use Rattle.std.proofs.lemmas.Result.{err_from_is_err_and}
@@ -9,7 +9,7 @@ use Rattle.trade_base.specs.declared.id.DsId.{DsId}
 use Rattle.trade_base.specs.declared.id.AccountId.{AccountId}
 use Rattle.trade_base.specs.declared.refusal.Refusal.{Refusal}
 use Rattle.own_model.specs.NatMap.{NatMap, picked}
-use Rattle.own_model.specs.Account.{charged, credited, Fits}
+use Rattle.own_model.specs.Account.{charged, credited}
 use Rattle.own_model.specs.Call.{Call}
 use Rattle.own_model.specs.OwnState.{OwnState, Object, new_selector, pages_in}
 use Rattle.own_model.specs.OwnState.Object.{Dataspace as ADataspace}
@@ -17,12 +17,15 @@ use Rattle.own_model.specs.OwnStep.{Outcome, refused, script_step}
 use Rattle.own_model.specs.Region.{Region}
 use Rattle.own_model.specs.Reply.{Reply}
 use Rattle.own_model.specs.Reply.Reply.{Selected, Done}
-use Rattle.own_model.specs.Sound.{IsSound}
+use Rattle.own_model.specs.Use.{object_size}
+use Rattle.own_model.specs.StartList.{Entry}
 use Rattle.own_model.specs.StartList.Kind.{Script as AScript}
 use Rattle.own_model.proofs.NatMapLemmas.{same, get-insert_same, get-insert_other, get-remove_other, get-picked, picked-insert_some, picked-remove, picked_alike, and_then_alike, after_insert, apart_from_free, none_at, before_remove}
 use Rattle.own_model.proofs.NewSelector.{new_selector_is, new_selector_positive, new_selector_free, new_selector_least}
-use Rattle.own_model.proofs.Totals.{len-insert_new, len-insert_at, len-remove_at, total-insert_new, total-remove}
+use Rattle.own_model.proofs.Totals.{len-insert_new, len-insert_at, len-remove_at, total-insert_new, total-remove, total_at_le}
 use Rattle.own_model.proofs.SoundLemmas.{step_sound}
+use Rattle.own_model.proofs.UseLemmas.{run_uses}
+use Rattle.own_model.proofs.LimitLemmas.{step_within}
 use Rattle.cap_space.specs.Space.{Space, with_cap, without_cap}
 use Rattle.cap_space.specs.declared.cap.Cap.{Cap}
 use Rattle.cap_space.specs.declared.cap.Cap.TheVariants.{Dataspace, RpcObject, Session}
@@ -32,21 +35,21 @@ use Rattle.dataspace_core.proofs.PartLaws.{paid_in_part}
 use Rattle.pd_core.specs.declared.answer.Answer.{Answer}
 use Rattle.pd_core.specs.Answer.{outcome_of}
 use Rattle.pd_core.specs.Own.{object_of, selector_of, regions_of, own_of}
-use Rattle.pd_core.specs.Sound.{rpc_weight, IsOne, AreNamed, IsNamed, FitsMachine, IsScript, Keeps}
+use Rattle.pd_core.specs.Sound.{rpc_weight, IsOne, AreNamed, IsNamed, IsLawful, IsScript, Keeps}
 use Rattle.pd_core.specs.declared.script.Script.{Script}
 use Rattle.pd_core.proofs.NameLemmas.{Names, is_named, regions_alike, attached_alike}
 
 -- what a call makes of a script's part, capabilities and regions: the model's outcome, and a sound script
-pub record Settles (call : Call) (p : Part) (space : Space) (regions : Regions) (reply : Reply) (p' : Part) (space' : Space) (regions' : Regions) : Type 0 where
-  pub outcome : ◌≡◌ {A = Outcome} (record { reply = reply; lines = []; next = own_of p' space'.caps regions'.user }) (script_step call (own_of p space.caps regions.user))
-  pub script : IsScript p' space' regions'
+pub record Settles (call : Call) (p : Part) (space : Space) (regions : Regions) (sliced : NatMap (List ℕ)) (reply : Reply) (p' : Part) (space' : Space) (regions' : Regions) (sliced' : NatMap (List ℕ)) : Type 0 where
+  pub outcome : ◌≡◌ {A = Outcome} (record { reply = reply; lines = []; next = own_of p' space'.caps regions'.user sliced' }) (script_step call (own_of p space.caps regions.user sliced))
+  pub script : IsScript p' space' regions' sliced'
 
 -- the same of what they are equal to
-pub settled : {call : Call} {p q p' : Part} {space t space' : Space} {regions r regions' : Regions} {reply : Reply} → q ≡ p' → t ≡ space' → r ≡ regions' →
-    Settles call p space regions reply p' space' regions' → Settles call p space regions reply q t r
-settled {call} {p} {q} {p'} {space} {t} {space'} {regions} {r} {reply = reply} part caps map done =
-    subst (λ x. Settles call p space regions reply x t r) (sym part)
-    (subst (λ x. Settles call p space regions reply p' x r) (sym caps) (subst (λ x. Settles call p space regions reply p' space' x) (sym map) done))
+pub settled : {call : Call} {p q p' : Part} {space t space' : Space} {regions r regions' : Regions} {sliced sliced' : NatMap (List ℕ)} {reply : Reply} → q ≡ p' → t ≡ space' → r ≡ regions' →
+    Settles call p space regions sliced reply p' space' regions' sliced' → Settles call p space regions sliced reply q t r sliced'
+settled {call} {p} {q} {p'} {space} {t} {space'} {regions} {r} {sliced = sliced} {sliced'} {reply} part caps map done =
+    subst (λ x. Settles call p space regions sliced reply x t r sliced') (sym part)
+    (subst (λ x. Settles call p space regions sliced reply p' x r sliced') (sym caps) (subst (λ x. Settles call p space regions sliced reply p' space' x sliced') (sym map) done))
 
 -- what a refused call gives back and leaves
 pub refused_told : (answered : Result Answer Refusal) {refusal : Refusal} {next b : OwnState} → IsErrAnd answered (λ y. y ≡ refusal) → next ≡ b → outcome_of answered next ≡ refused b refusal
@@ -70,10 +73,10 @@ pub value_of : (o : Option (List ℕ)) → IsSome o → o ≡ Some (unwrap_or o 
 value_of None h = absurd (true≢false (sym h))
 value_of (Some bytes) h = refl
 
-module _ (p : Part) (space : Space) (regions : Regions) (sound : IsScript p space regions) where
+module _ (p : Part) (space : Space) (regions : Regions) (sliced : NatMap (List ℕ)) (sound : IsScript p space regions sliced) where
   -- the own state before the change
   abbrev pub before : OwnState
-  before = own_of p space.caps regions.user
+  before = own_of p space.caps regions.user sliced
 
   -- what the own state has under a selector is the object of the capability there
   pub object_is : (s : ℕ) → get before.selectors s ≡ option_and_then (object_of p) (get space.caps s)
@@ -92,6 +95,12 @@ module _ (p : Part) (space : Space) (regions : Regions) (sound : IsScript p spac
   pub names_object : (s : ℕ) (ds : DsId) → get space.caps s ≡ Some (Dataspace ds) → get before.selectors s ≡ Some (ADataspace (bytes_of p ds.0))
   names_object s ds names = object_is s ∙ ap (option_and_then (object_of p)) names ∙ ap (option_map ADataspace) (has_bytes s ds names)
 
+  -- which are no more than the machine's
+  pub few_bytes : (s : ℕ) (ds : DsId) → get space.caps s ≡ Some (Dataspace ds) → length (bytes_of p ds.0) ≤ regions.pages * 4096
+  unfolding own_of
+  few_bytes s ds names =
+      omega (arith, total_at_le object_size before.selectors s (ADataspace (bytes_of p ds.0)) (names_object s ds names), sound.lawful.uses.ram, sound.lawful.within.ram, sound.ram)
+
   -- there is an object where there is a capability, and nowhere else
   has_object : (o : Option Cap) → ((cap : Cap) → o ≡ Some cap → IsSome (object_of p cap)) → is_some (option_and_then (object_of p) o) ≡ is_some o
   has_object None there = refl
@@ -109,17 +118,20 @@ module _ (p : Part) (space : Space) (regions : Regions) (sound : IsScript p spac
       (λ t positive below. selects t ∙ new_selector_least space.caps t positive below)
 
   module _ (call : Call) where
-    -- what the call makes of the own state is sound, as it was before
-    pub kept : (o : Outcome) → o ≡ script_step call before → IsSound o.next
+    -- what the call makes of the own state is lawful, as it was before
+    pub kept : (o : Outcome) → o ≡ script_step call before → IsLawful o.next
     unfolding own_of
-    kept o is = subst (λ (x : Outcome). IsSound x.next) (sym is) (step_sound (record { name = []; kind = AScript }) call before sound.sound)
+    kept o is = let entry : Entry = record { name = []; kind = AScript } in subst (λ (x : Outcome). IsLawful x.next) (sym is) (record {
+      sound = step_sound entry call before sound.lawful.sound;
+      uses = run_uses entry (call ∷ []) before sound.lawful.uses;
+      within = step_within entry call before sound.lawful.within;
+    })
 
     -- ---- a new capability
 
-    module _ (n : ℕ) (spaces : NatMap (List ℕ)) (cap : Cap) (object : Object) (fits : Fits (account_of p) n 1)
+    module _ (n : ℕ) (spaces : NatMap (List ℕ)) (cap : Cap) (object : Object)
         (still : (key : ℕ) → IsSome (get p.spaces key) → get spaces key ≡ get p.spaces key)
         (fresh : (ds : DsId) → cap ≡ Dataspace ds → get p.spaces ds.0 ≡ None)
-        (few : (key : ℕ) (bytes : List ℕ) → get spaces key ≡ Some bytes → length bytes ≤ regions.pages * 4096)
         (counts : len spaces + rpc_weight cap ≡ len p.spaces + 1) where
       -- the part with the charge, and these dataspaces
       abbrev pub charged_part : Part
@@ -164,7 +176,7 @@ module _ (p : Part) (space : Space) (regions : Regions) (sound : IsScript p spac
             get-insert_other space.caps s cap q (apart_from_free space.caps s q free_selector (ap is_some (is_named space.caps region.of q names).there))
 
         -- the own state has the object under its new selector
-        grown_own : own_of charged_part (insert space.caps s cap) regions.user
+        grown_own : own_of charged_part (insert space.caps s cap) regions.user sliced
             ≡ record before { account = charged before.account n 1; selectors = insert before.selectors (new_selector before.selectors) object }
         unfolding own_of
         grown_own =
@@ -172,16 +184,16 @@ module _ (p : Part) (space : Space) (regions : Regions) (sound : IsScript p spac
             ∙ ap (λ m. insert m s object) (picked_alike (object_of charged_part) (object_of p) space.caps object_stays)
             ∙ ap (λ k. insert (picked (object_of p) space.caps) k object) (least ∙ sym same_new_selector) in
             let attached = regions_alike space.caps (insert space.caps s cap) regions.user grown_one sound.attached named_apart in
-            λ i. record { account = charged (account_of p) n 1; selectors = names i; regions = attached i; gone = false }
+            λ i. record { account = charged (account_of p) n 1; selectors = names i; regions = attached i; sliced = sliced; gone = false }
 
         -- so a call that does this settles
         pub grows : script_step call before ≡ record {
           reply = Selected (new_selector before.selectors);
           lines = [];
           next = record before { account = charged before.account n 1; selectors = insert before.selectors (new_selector before.selectors) object };
-        } → Settles call p space regions (Selected s) charged_part (with_cap space s cap) regions
+        } → Settles call p space regions sliced (Selected s) charged_part (with_cap space s cap) regions sliced
         grows is =
-            let outcome : ◌≡◌ {A = Outcome} (record { reply = Selected s; lines = []; next = own_of charged_part (insert space.caps s cap) regions.user }) (script_step call before)
+            let outcome : ◌≡◌ {A = Outcome} (record { reply = Selected s; lines = []; next = own_of charged_part (insert space.caps s cap) regions.user sliced }) (script_step call before)
             = (λ i. record { reply = Selected ((least ∙ sym same_new_selector) i); lines = []; next = grown_own i }) ∙ sym is in record {
               outcome = outcome;
               script = record {
@@ -190,13 +202,12 @@ module _ (p : Part) (space : Space) (regions : Regions) (sound : IsScript p spac
                   is_open = refl;
                   named = omega (arith, len-insert_new space.caps s cap free_selector, sound.paid.named);
                   spare = omega (arith, counts, sound.paid.spare, total-insert_new rpc_weight space.caps s cap free_selector);
-                  within = fits.caps_fit;
                   placed = sound.paid.placed;
                 };
-                fits = record { ram = sound.fits.ram; few = few };
+                ram = sound.ram;
                 attached = attached_alike space.caps (insert space.caps s cap) regions.user grown_one sound.attached named_apart;
                 most = sound.most;
-                sound = kept _ outcome;
+                lawful = kept _ outcome;
               };
             }
 
@@ -205,7 +216,6 @@ module _ (p : Part) (space : Space) (regions : Regions) (sound : IsScript p spac
     module _ (n : ℕ) (spaces : NatMap (List ℕ)) (cap : Cap) (s : ℕ) (there : get space.caps s ≡ Some cap) (regions' : Regions)
         (still : (q : ℕ) (ds : DsId) → get (remove space.caps s) q ≡ Some (Dataspace ds) → get spaces ds.0 ≡ get p.spaces ds.0)
         (left : (start : ℕ) (region : Region) → get regions'.user start ≡ Some region → (get regions.user start ≡ Some region) × (selector_of space.caps region.of ≢ Some s))
-        (few : (key : ℕ) (bytes : List ℕ) → get spaces key ≡ Some bytes → get p.spaces key ≡ Some bytes)
         (counts : len spaces + 1 ≡ len p.spaces + rpc_weight cap) (most : regions'.most ≡ regions.most) (pages : regions'.pages ≡ regions.pages) where
       -- the part with the credit, and these dataspaces
       abbrev pub credited_part : Part
@@ -228,22 +238,22 @@ module _ (p : Part) (space : Space) (regions : Regions) (sound : IsScript p spac
       left_apart q start region here names = get-remove_other space.caps s q (λ e. (left start region here).1 (names ∙ ap (λ k. Some k) e))
 
       -- the own state has nothing under the selector
-      shrunk_own : own_of credited_part (remove space.caps s) regions'.user
+      shrunk_own : own_of credited_part (remove space.caps s) regions'.user sliced
           ≡ record before { account = credited before.account n 1; selectors = remove before.selectors s; regions = regions_of space.caps regions'.user }
       unfolding own_of
       shrunk_own =
           let names = picked_alike (object_of credited_part) (object_of p) (remove space.caps s) object_left ∙ picked-remove (object_of p) space.caps s in
           let attached = regions_alike space.caps (remove space.caps s) regions'.user shrunk_one left_named left_apart in
-          λ i. record { account = credited (account_of p) n 1; selectors = names i; regions = attached i; gone = false }
+          λ i. record { account = credited (account_of p) n 1; selectors = names i; regions = attached i; sliced = sliced; gone = false }
 
       -- so a call that does this settles
       pub shrinks : script_step call before ≡ record {
         reply = Done;
         lines = [];
         next = record before { account = credited before.account n 1; selectors = remove before.selectors s; regions = regions_of space.caps regions'.user };
-      } → Settles call p space regions Done credited_part (without_cap space s) regions'
+      } → Settles call p space regions sliced Done credited_part (without_cap space s) regions' sliced
       shrinks is =
-          let outcome : ◌≡◌ {A = Outcome} (record { reply = Done; lines = []; next = own_of credited_part (remove space.caps s) regions'.user }) (script_step call before)
+          let outcome : ◌≡◌ {A = Outcome} (record { reply = Done; lines = []; next = own_of credited_part (remove space.caps s) regions'.user sliced }) (script_step call before)
           = (λ i. record { reply = Done; lines = []; next = shrunk_own i }) ∙ sym is in
           let shorter = len-remove_at space.caps s cap there in record {
             outcome = outcome;
@@ -253,16 +263,12 @@ module _ (p : Part) (space : Space) (regions : Regions) (sound : IsScript p spac
                 is_open = refl;
                 named = omega (arith, shorter, sound.paid.named);
                 spare = omega (arith, counts, sound.paid.spare, total-remove rpc_weight space.caps s cap there);
-                within = omega (arith, sound.paid.within);
                 placed = sound.paid.placed;
               };
-              fits = record {
-                ram = rw pages sound.fits.ram;
-                few = λ key bytes here. rw pages (sound.fits.few key bytes (few key bytes here));
-              };
+              ram = rw pages sound.ram;
               attached = attached_alike space.caps (remove space.caps s) regions'.user shrunk_one left_named left_apart;
               most = most ∙ sound.most;
-              sound = kept _ outcome;
+              lawful = kept _ outcome;
             };
           }
 
@@ -270,16 +276,16 @@ module _ (p : Part) (space : Space) (regions : Regions) (sound : IsScript p spac
 
     -- a call that changes the regions settles, if selectors name their dataspaces
     pub remaps : (regions' : Regions) (reply : Reply) → regions'.most ≡ regions.most → regions'.pages ≡ regions.pages → AreNamed space.caps regions'.user →
-        ◌≡◌ {A = Outcome} (record { reply = reply; lines = []; next = own_of p space.caps regions'.user }) (script_step call before) → Settles call p space regions reply p space regions'
+        ◌≡◌ {A = Outcome} (record { reply = reply; lines = []; next = own_of p space.caps regions'.user sliced }) (script_step call before) → Settles call p space regions sliced reply p space regions' sliced
     remaps regions' reply most pages attached is = record {
       outcome = is;
       script = record {
         named = sound.named;
         paid = sound.paid;
-        fits = record { ram = rw pages sound.fits.ram; few = λ key bytes here. rw pages (sound.fits.few key bytes here) };
+        ram = rw pages sound.ram;
         attached = attached;
         most = most ∙ sound.most;
-        sound = kept _ is;
+        lawful = kept _ is;
       };
     }
 
@@ -320,20 +326,13 @@ module _ (p : Part) (space : Space) (regions : Regions) (sound : IsScript p spac
         | inr apart ↦ ap is_some (object_other q c apart there) ∙ sound.named.there q c there
       ]
 
-      -- no dataspace is larger than the machine
-      written_few : (k : ℕ) (b : List ℕ) → get (insert p.spaces key over) k ≡ Some b → length b ≤ regions.pages * 4096
-      written_few k b there = elim (after_insert p.spaces key over k b there) [
-        | inl here ↦ omega (arith, ap length here.1, size, sound.fits.few key (bytes_of p key) has)
-        | inr old ↦ sound.fits.few k b old.1
-      ]
-
       -- so a call that does this settles
       pub rewrites : script_step call before ≡ record { reply = Done; lines = []; next = record before { selectors = insert before.selectors s (ADataspace over) } } →
-          Settles call p space regions Done written space regions
+          Settles call p space regions sliced Done written space regions sliced
       unfolding own_of
       rewrites is =
           let selectors = same _ _ written_at in
-          let outcome : ◌≡◌ {A = Outcome} (record { reply = Done; lines = []; next = own_of written space.caps regions.user }) (script_step call before)
+          let outcome : ◌≡◌ {A = Outcome} (record { reply = Done; lines = []; next = own_of written space.caps regions.user sliced }) (script_step call before)
           = (λ i. record { reply = Done; lines = []; next = record before { selectors = selectors i } }) ∙ sym is in record {
             outcome = outcome;
             script = record {
@@ -342,13 +341,12 @@ module _ (p : Part) (space : Space) (regions : Regions) (sound : IsScript p spac
                 is_open = sound.paid.is_open;
                 named = sound.paid.named;
                 spare = omega (arith, sound.paid.spare, len-insert_at p.spaces key over (bytes_of p key) has);
-                within = sound.paid.within;
                 placed = sound.paid.placed;
               };
-              fits = record { ram = sound.fits.ram; few = written_few };
+              ram = sound.ram;
               attached = sound.attached;
               most = sound.most;
-              sound = kept _ outcome;
+              lawful = kept _ outcome;
             };
           }
 
@@ -356,9 +354,9 @@ module _ (p : Part) (space : Space) (regions : Regions) (sound : IsScript p spac
 
 -- what a call that settles keeps
 pub keeps : {call : Call} {store store' : Store} {p' : Part} {script script' : Script} {reply : Reply} → PartBecomes script.account.0 p' store store' → script'.account ≡ script.account →
-    Settles call (part script.account.0 store) script.caps script.regions reply (part script.account.0 store') script'.caps script'.regions → Keeps store script store' script'
+    Settles call (part script.account.0 store) script.caps script.regions empty reply (part script.account.0 store') script'.caps script'.regions empty → Keeps store script store' script'
 keeps {store' = store'} {script' = script'} becomes same done = record {
-  sound = subst (λ (a : AccountId). IsScript (part a.0 store') script'.caps script'.regions) (sym same) done.script;
+  sound = subst (λ (a : AccountId). IsScript (part a.0 store') script'.caps script'.regions empty) (sym same) done.script;
   account = same;
   root = becomes.root;
   others = becomes.others;

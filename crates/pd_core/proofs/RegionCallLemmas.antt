@@ -1,5 +1,5 @@
 -- A script's calls on its regions.
-use Rattle.std.proofs.Common.{◌≡◌, ℕ, ◌/◌, ◌≤◌, [], Option, Some, None, is_some, IsSome, refl, sym, ap, subst, ◌∙◌, arith, inl, inr}
+use Rattle.std.proofs.Common.{◌≡◌, ℕ, ◌/◌, ◌≤◌, List, [], Option, Some, None, is_some, IsSome, refl, sym, ap, subst, ◌∙◌, arith, inl, inr}
 use Rattle.std.specs.Prelude.{Err}
 use Rattle.std.specs.Option.{unwrap_or}
 use Rattle.std.specs.FinMap.{get, insert, remove}
@@ -7,6 +7,7 @@ use Rattle.trade_base.specs.declared.id.DsId.{DsId}
 use Rattle.trade_base.specs.declared.refusal.Refusal.{Refusal}
 use Rattle.own_model.specs.Call.{Call}
 use Rattle.own_model.specs.Call.Call.{Attach, AttachAt, Detach}
+use Rattle.own_model.specs.NatMap.{NatMap}
 use Rattle.own_model.specs.OwnState.{pages_in}
 use Rattle.own_model.specs.OwnStep.{Outcome, refused, unless, attached_first, attached_at, with_region, region_detached, script_step}
 use Rattle.own_model.specs.Region.{Region, user_low, user_high, first_gap, user_gap, attach_refusal, attach_at_refusal, detach_refusal, most_regions}
@@ -21,12 +22,12 @@ use Rattle.dataspace_core.specs.Store.{Part, bytes_of}
 use Rattle.pd_core.specs.Own.{selector_of, regions_of, own_of, dataspace_at}
 use Rattle.pd_core.specs.Sound.{AreNamed, IsScript}
 use Rattle.pd_core.proofs.NameLemmas.{named_is}
-use Rattle.pd_core.proofs.OwnLemmas.{Settles, before, object_is, has_bytes, names_object, remaps}
+use Rattle.pd_core.proofs.OwnLemmas.{Settles, before, object_is, few_bytes, names_object, remaps}
 use Rattle.pd_core.proofs.AccountLemmas.{refuses}
 
-module _ (p : Part) (space : Space) (regions : Regions) (sound : IsScript p space regions) where
+module _ (p : Part) (space : Space) (regions : Regions) (sliced : NatMap (List ℕ)) (sound : IsScript p space regions sliced) where
   -- the own state's regions have the starts and pages of the map's
-  alike : AreAlike regions.user (before p space regions sound).regions
+  alike : AreAlike regions.user (before p space regions sliced sound).regions
   unfolding own_of regions_of
   alike = AreAlike-renamed (selector_of space.caps) regions.user sound.attached
 
@@ -34,21 +35,21 @@ module _ (p : Part) (space : Space) (regions : Regions) (sound : IsScript p spac
 
   module _ (s : ℕ) (refusal : Refusal) (none : Err refusal ≡ dataspace_at (get space.caps s)) where
     -- an attach of what is no dataspace is refused
-    pub attach_unnamed : refused (before p space regions sound) refusal ≡ script_step (Attach s) (before p space regions sound)
+    pub attach_unnamed : refused (before p space regions sliced sound) refusal ≡ script_step (Attach s) (before p space regions sliced sound)
     attach_unnamed =
-        let b = before p space regions sound in
-        refuses (λ o. attached_first s o b) b refl refl p refusal (get space.caps s) none ∙ ap (λ o. attached_first s o b) (sym (object_is p space regions sound s))
+        let b = before p space regions sliced sound in
+        refuses (λ o. attached_first s o b) b refl refl p refusal (get space.caps s) none ∙ ap (λ o. attached_first s o b) (sym (object_is p space regions sliced sound s))
 
     -- so is one at an address
-    pub attach_at_unnamed : (address : ℕ) → refused (before p space regions sound) refusal ≡ script_step (AttachAt s address) (before p space regions sound)
+    pub attach_at_unnamed : (address : ℕ) → refused (before p space regions sliced sound) refusal ≡ script_step (AttachAt s address) (before p space regions sliced sound)
     attach_at_unnamed address =
-        let b = before p space regions sound in
-        refuses (λ o. attached_at s address o b) b refl refl p refusal (get space.caps s) none ∙ ap (λ o. attached_at s address o b) (sym (object_is p space regions sound s))
+        let b = before p space regions sliced sound in
+        refuses (λ o. attached_at s address o b) b refl refl p refusal (get space.caps s) none ∙ ap (λ o. attached_at s address o b) (sym (object_is p space regions sliced sound s))
 
   module _ (s : ℕ) (ds : DsId) (named : get space.caps s ≡ Some (Dataspace ds)) (pages : ℕ) (size : pages ≡ pages_in (bytes_of p ds.0)) where
     -- what is attached is pages
     whole : IsPages (bytes_of p ds.0)
-    whole = sound.sound.whole s (bytes_of p ds.0) (names_object p space regions sound s ds named)
+    whole = sound.lawful.sound.whole s (bytes_of p ds.0) (names_object p space regions sliced sound s ds named)
 
     -- at least one
     pub some_pages : 1 ≤ pages
@@ -56,38 +57,38 @@ module _ (p : Part) (space : Space) (regions : Regions) (sound : IsScript p spac
 
     -- and no more than the machine has
     pub few_pages : pages ≤ regions.pages
-    few_pages = omega (arith, size, whole.whole, sound.fits.few ds.0 (bytes_of p ds.0) (has_bytes p space regions sound s ds named))
+    few_pages = omega (arith, size, whole.whole, few_bytes p space regions sliced sound s ds named)
 
     -- an attach does to the own state what it does to the map
-    first_is : script_step (Attach s) (before p space regions sound)
-        ≡ unless (attach_refusal regions.most regions.user pages) (before p space regions sound)
-        (with_region s pages (unwrap_or (first_gap user_low user_high regions.user pages) 0) (before p space regions sound))
+    first_is : script_step (Attach s) (before p space regions sliced sound)
+        ≡ unless (attach_refusal regions.most regions.user pages) (before p space regions sliced sound)
+        (with_region s pages (unwrap_or (first_gap user_low user_high regions.user pages) 0) (before p space regions sliced sound))
     first_is =
-        let b = before p space regions sound in
-        ap (λ x. attached_first s x b) (names_object p space regions sound s ds named)
+        let b = before p space regions sliced sound in
+        ap (λ x. attached_first s x b) (names_object p space regions sliced sound s ds named)
         ∙ ap (λ n. unless (attach_refusal most_regions b.regions n) b (with_region s n (user_gap b.regions n) b)) (sym size)
         ∙ ap (λ r. unless r b (with_region s pages (user_gap b.regions pages) b))
         (sym (attach_refusal_alike regions.user b.regions alike most_regions pages) ∙ ap (λ m. attach_refusal m regions.user pages) (sym sound.most))
         ∙ ap (λ o. unless (attach_refusal regions.most regions.user pages) b (with_region s pages (unwrap_or o 0) b)) (sym (first_gap_alike regions.user b.regions alike user_low user_high pages))
 
     -- so does one at an address
-    place_is : (address : ℕ) → script_step (AttachAt s address) (before p space regions sound)
-        ≡ unless (attach_at_refusal regions.most regions.user pages address) (before p space regions sound) (with_region s pages address (before p space regions sound))
+    place_is : (address : ℕ) → script_step (AttachAt s address) (before p space regions sliced sound)
+        ≡ unless (attach_at_refusal regions.most regions.user pages address) (before p space regions sliced sound) (with_region s pages address (before p space regions sliced sound))
     place_is address =
-        let b = before p space regions sound in
-        ap (λ x. attached_at s address x b) (names_object p space regions sound s ds named)
+        let b = before p space regions sliced sound in
+        ap (λ x. attached_at s address x b) (names_object p space regions sliced sound s ds named)
         ∙ ap (λ n. unless (attach_at_refusal most_regions b.regions n address) b (with_region s n address b)) (sym size)
         ∙ ap (λ r. unless r b (with_region s pages address b))
         (sym (attach_at_refusal_alike regions.user b.regions alike most_regions pages address) ∙ ap (λ m. attach_at_refusal m regions.user pages address) (sym sound.most))
 
     -- what the map refuses, the attach is refused
-    pub attach_refused : (refusal : Refusal) → Some refusal ≡ attach_refusal regions.most regions.user pages → refused (before p space regions sound) refusal ≡ script_step (Attach s) (before p space regions sound)
-    attach_refused refusal is = let b = before p space regions sound in ap (λ r. unless r b (with_region s pages (unwrap_or (first_gap user_low user_high regions.user pages) 0) b)) is ∙ sym first_is
+    pub attach_refused : (refusal : Refusal) → Some refusal ≡ attach_refusal regions.most regions.user pages → refused (before p space regions sliced sound) refusal ≡ script_step (Attach s) (before p space regions sliced sound)
+    attach_refused refusal is = let b = before p space regions sliced sound in ap (λ r. unless r b (with_region s pages (unwrap_or (first_gap user_low user_high regions.user pages) 0) b)) is ∙ sym first_is
 
     -- and one at an address
     pub attach_at_refused : (address : ℕ) (refusal : Refusal) → Some refusal ≡ attach_at_refusal regions.most regions.user pages address →
-        refused (before p space regions sound) refusal ≡ script_step (AttachAt s address) (before p space regions sound)
-    attach_at_refused address refusal is = let b = before p space regions sound in ap (λ r. unless r b (with_region s pages address b)) is ∙ sym (place_is address)
+        refused (before p space regions sliced sound) refusal ≡ script_step (AttachAt s address) (before p space regions sliced sound)
+    attach_at_refused address refusal is = let b = before p space regions sliced sound in ap (λ r. unless r b (with_region s pages address b)) is ∙ sym (place_is address)
 
     -- a region more is named too
     attached_more : (address : ℕ) → AreNamed space.caps (attached regions ds.0 pages address).user
@@ -97,48 +98,48 @@ module _ (p : Part) (space : Space) (regions : Regions) (sound : IsScript p spac
     ]
 
     -- a call that attaches the pages settles
-    attaches : (call : Call) (address : ℕ) → script_step call (before p space regions sound) ≡ with_region s pages address (before p space regions sound) →
-        Settles call p space regions (Attached address) p space (attached regions ds.0 pages address)
+    attaches : (call : Call) (address : ℕ) → script_step call (before p space regions sliced sound) ≡ with_region s pages address (before p space regions sliced sound) →
+        Settles call p space regions sliced (Attached address) p space (attached regions ds.0 pages address) sliced
     unfolding own_of regions_of
     attaches call address is =
-        let b = before p space regions sound in
+        let b = before p space regions sliced sound in
         let more = renamed-insert (selector_of space.caps) regions.user address ds.0 pages s (named_is space.caps sound.named.one s ds named) in
-        remaps p space regions sound call (attached regions ds.0 pages address) (Attached address) refl refl (attached_more address)
+        remaps p space regions sliced sound call (attached regions ds.0 pages address) (Attached address) refl refl (attached_more address)
         ((λ i. record { reply = Attached address; lines = []; next = record b { regions = more i } }) ∙ sym is)
 
     -- an attach settles
     pub attach_settles : (address : ℕ) → None ≡ attach_refusal regions.most regions.user pages → first_gap user_low user_high regions.user pages ≡ Some address →
-        Settles (Attach s) p space regions (Attached address) p space (attached regions ds.0 pages address)
+        Settles (Attach s) p space regions sliced (Attached address) p space (attached regions ds.0 pages address) sliced
     attach_settles address accepted gap =
-        let b = before p space regions sound in
+        let b = before p space regions sliced sound in
         attaches (Attach s) address (first_is ∙ ap (λ r. unless r b (with_region s pages (unwrap_or (first_gap user_low user_high regions.user pages) 0) b)) (sym accepted)
         ∙ ap (λ o. with_region s pages (unwrap_or o 0) b) gap)
 
     -- so does one at an address
     pub attach_at_settles : (address told : ℕ) → told ≡ address → None ≡ attach_at_refusal regions.most regions.user pages address →
-        Settles (AttachAt s address) p space regions (Attached told) p space (attached regions ds.0 pages address)
+        Settles (AttachAt s address) p space regions sliced (Attached told) p space (attached regions ds.0 pages address) sliced
     attach_at_settles address told same accepted =
-        let b = before p space regions sound in
-        subst (λ a. Settles (AttachAt s address) p space regions (Attached a) p space (attached regions ds.0 pages address)) (sym same)
+        let b = before p space regions sliced sound in
+        subst (λ a. Settles (AttachAt s address) p space regions sliced (Attached a) p space (attached regions ds.0 pages address) sliced) (sym same)
         (attaches (AttachAt s address) address (place_is address ∙ ap (λ r. unless r b (with_region s pages address b)) (sym accepted)))
 
   -- ---- detach
 
   module _ (address : ℕ) where
     -- a detach does to the own state what it does to the map
-    detach_is : script_step (Detach address) (before p space regions sound) ≡ unless (detach_refusal regions.user address) (before p space regions sound) (region_detached address (before p space regions sound))
-    detach_is = let b = before p space regions sound in ap (λ r. unless r b (region_detached address b)) (sym (detach_refusal_alike regions.user b.regions alike address))
+    detach_is : script_step (Detach address) (before p space regions sliced sound) ≡ unless (detach_refusal regions.user address) (before p space regions sliced sound) (region_detached address (before p space regions sliced sound))
+    detach_is = let b = before p space regions sliced sound in ap (λ r. unless r b (region_detached address b)) (sym (detach_refusal_alike regions.user b.regions alike address))
 
     -- what the map refuses, the detach is refused
-    pub detach_refused : (refusal : Refusal) → Some refusal ≡ detach_refusal regions.user address → refused (before p space regions sound) refusal ≡ script_step (Detach address) (before p space regions sound)
-    detach_refused refusal is = let b = before p space regions sound in ap (λ r. unless r b (region_detached address b)) is ∙ sym detach_is
+    pub detach_refused : (refusal : Refusal) → Some refusal ≡ detach_refusal regions.user address → refused (before p space regions sliced sound) refusal ≡ script_step (Detach address) (before p space regions sliced sound)
+    detach_refused refusal is = let b = before p space regions sliced sound in ap (λ r. unless r b (region_detached address b)) is ∙ sym detach_is
 
     -- a detach settles
-    pub detach_settles : None ≡ detach_refusal regions.user address → Settles (Detach address) p space regions Done p space (detached regions address)
+    pub detach_settles : None ≡ detach_refusal regions.user address → Settles (Detach address) p space regions sliced Done p space (detached regions address) sliced
     unfolding own_of regions_of
     detach_settles accepted =
-        let b = before p space regions sound in
+        let b = before p space regions sliced sound in
         let less = renamed-remove (selector_of space.caps) regions.user address in
-        remaps p space regions sound (Detach address) (detached regions address) Done refl refl
+        remaps p space regions sliced sound (Detach address) (detached regions address) Done refl refl
         (λ start region there. sound.attached start region (before_remove regions.user address start region there))
         ((λ i. record { reply = Done; lines = []; next = record b { regions = less i } }) ∙ sym (detach_is ∙ ap (λ r. unless r b (region_detached address b)) (sym accepted)))

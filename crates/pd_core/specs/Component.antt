@@ -40,8 +40,8 @@ entry_of component = record { name = component.name.now; kind = kind_of componen
 
 -- the own state of a role with this part: a server has its account alone
 abbrev pub own_in : Part → Role → OwnState
-own_in part (Script script) = own_of part script.caps.caps script.regions.user
-own_in part (Server account) = own_of part empty empty
+own_in part (Script script) = own_of part script.caps.caps script.regions.user empty
+own_in part (Server account) = own_of part empty empty empty
 
 -- the component's own state
 abbrev pub own : Store → Component → OwnState
@@ -49,7 +49,7 @@ own store component = own_in (part (payer_of component) store) component.role
 
 -- a script is sound; a server has an account
 abbrev pub IsSoundRole : Part → Role → Type 0
-IsSoundRole part (Script script) = IsScript part script.caps script.regions
+IsSoundRole part (Script script) = IsScript part script.caps script.regions empty
 IsSoundRole part (Server account) = IsSome part.account
 
 abbrev pub IsSound : Store → Component → Type 0

@@ -1,8 +1,8 @@
--- A script's own state, read out of its account's part of the memory, its capabilities and its regions.
-use Rattle.std.specs.Prelude.{◌≡◌, ℕ, ◌==◌, Bool, true, false, Option, Some, None, Result, Ok, Err, is_some, if◌then◌else◌}
+-- A script's own state, read out of its account's part of the memory, its capabilities, its regions and its sliced blocks.
+use Rattle.std.specs.Prelude.{◌≡◌, ℕ, ◌==◌, Bool, true, false, List, Option, Some, None, Result, Ok, Err, is_some, if◌then◌else◌}
 use Rattle.std.specs.List.{find}
 use Rattle.std.specs.Option.{option_map, option_or}
-use Rattle.std.specs.FinMap.{get, entries}
+use Rattle.std.specs.FinMap.{get, entries, empty}
 use Rattle.trade_base.specs.declared.id.DsId.{DsId}
 use Rattle.trade_base.specs.declared.refusal.Refusal.{Refusal}
 use Rattle.trade_base.specs.declared.refusal.Refusal.TheVariants.{InvalidCap, PageFault}
@@ -36,18 +36,19 @@ selector_of caps key = option_map (λ e. e.0) (find (λ e. is_of key e.1) (entri
 unfoldable pub regions_of : NatMap Cap → NatMap Region → NatMap Region
 regions_of caps user = picked (λ region. option_map (λ other. record region { of = other }) (selector_of caps region.of)) user
 
--- the own state of a component that has this part, these capabilities and these regions
-unfoldable pub own_of : Part → NatMap Cap → NatMap Region → OwnState
-own_of part caps user = record {
+-- the own state of a component that has this part, these capabilities, these regions and these sliced blocks
+unfoldable pub own_of : Part → NatMap Cap → NatMap Region → NatMap (List ℕ) → OwnState
+own_of part caps user sliced = record {
   account = account_of part;
   selectors = picked (object_of part) caps;
   regions = regions_of caps user;
+  sliced = sliced;
   gone = false;
 }
 
 -- that of a script
 abbrev pub own_at : Store → Script → OwnState
-own_at store script = own_of (part script.account.0 store) script.caps.caps script.regions.user
+own_at store script = own_of (part script.account.0 store) script.caps.caps script.regions.user empty
 
 -- ---- what a script looks up
 

@@ -1,10 +1,13 @@
 -- What is true of a script between calls, and what a call keeps.
-use Rattle.std.specs.Prelude.{◌≡◌, ◌≢◌, ℕ, ◌+◌, ◌*◌, ◌≤◌, List, length, Some, IsSome}
-use Rattle.std.specs.FinMap.{get, len}
+use Rattle.std.specs.Prelude.{◌≡◌, ◌≢◌, ℕ, ◌+◌, ◌*◌, ◌≤◌, List, Some, IsSome}
+use Rattle.std.specs.FinMap.{get, len, empty}
 use Rattle.trade_base.specs.declared.id.DsId.{DsId}
 use Rattle.own_model.specs.NatMap.{NatMap, total}
 use Rattle.own_model.specs.Region.{Region, most_regions}
+use Rattle.own_model.specs.Account.{WithinLimits}
+use Rattle.own_model.specs.OwnState.{OwnState}
 use Rattle.own_model.specs.Sound.{IsSound}
+use Rattle.own_model.specs.Use.{UsesWhatItHolds}
 use Rattle.cap_space.specs.Space.{Space}
 use Rattle.cap_space.specs.declared.cap.Cap.{Cap}
 use Rattle.cap_space.specs.declared.cap.Cap.TheVariants.{Dataspace, RpcObject, Session}
@@ -29,36 +32,37 @@ pub record IsNamed (part : Part) (caps : NatMap Cap) : Type 0 where
   pub there : (selector : ℕ) (cap : Cap) → get caps selector ≡ Some cap → IsSome (object_of part cap)
   pub one : IsOne caps
 
--- the account is open and within its limit of capabilities; it uses one for each selector, and one for each dataspace and
--- each RPC object; and there is a place for as many as it can use
+-- the account is open; it uses a capability for each selector, and one for each dataspace and each RPC object; and there is a
+-- place for as many selectors as it can pay for
 pub record IsPaid (part : Part) (space : Space) : Type 0 where
   pub is_open : IsSome part.account
   pub named : len space.caps ≤ (account_of part).caps_used
   pub spare : len part.spaces + total rpc_weight space.caps ≤ (account_of part).caps_used
-  pub within : (account_of part).caps_used ≤ (account_of part).caps_limit
   pub placed : (account_of part).caps_limit ≤ space.places
-
--- neither the RAM that the account can use nor a dataspace is larger than the machine
-pub record FitsMachine (part : Part) (pages : ℕ) : Type 0 where
-  pub ram : (account_of part).ram_limit ≤ pages * 4096
-  pub few : (key : ℕ) (bytes : List ℕ) → get part.spaces key ≡ Some bytes → length bytes ≤ pages * 4096
 
 -- each region is of a dataspace that a selector names
 abbrev pub AreNamed : NatMap Cap → NatMap Region → Type 0
 AreNamed caps user =
     (start : ℕ) (region : Region) → get user start ≡ Some region → IsSome (selector_of caps region.of)
 
--- what is true of a script with this part, these capabilities and these regions
-pub record IsScript (part : Part) (space : Space) (regions : Regions) : Type 0 where
+-- what calls of the model keep: an own state is sound, uses what it holds, and uses no more than its limits
+pub record IsLawful (s : OwnState) : Type 0 where
+  pub sound : IsSound s
+  pub uses : UsesWhatItHolds s
+  pub within : WithinLimits s.account
+
+-- what is true of a script with this part, these capabilities, these regions and these sliced blocks. The machine has at
+-- least the account's RAM
+pub record IsScript (part : Part) (space : Space) (regions : Regions) (sliced : NatMap (List ℕ)) : Type 0 where
   pub named : IsNamed part space.caps
   pub paid : IsPaid part space
-  pub fits : FitsMachine part regions.pages
+  pub ram : (account_of part).ram_limit ≤ regions.pages * 4096
   pub attached : AreNamed space.caps regions.user
   pub most : regions.most ≡ most_regions
-  pub sound : IsSound (own_of part space.caps regions.user)
+  pub lawful : IsLawful (own_of part space.caps regions.user sliced)
 
 abbrev pub IsSoundScript : Store → Script → Type 0
-IsSoundScript store script = IsScript (part script.account.0 store) script.caps script.regions
+IsSoundScript store script = IsScript (part script.account.0 store) script.caps script.regions empty
 
 -- the script is sound after a call; its account, the root's key and the parts of all other accounts stay
 pub record Keeps (old : Store) (before : Script) (new : Store) (after : Script) : Type 0 where

@@ -218,7 +218,7 @@ impl Script {
             return Err(Refusal::InvalidSize);
         }
         self.regions
-            .resolve(address, count)
+            .resolve_user(address, count)
             .ok_or(Refusal::PageFault)
     }
 }

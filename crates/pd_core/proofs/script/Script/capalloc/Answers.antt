@@ -14,15 +14,15 @@ pub returns-in_err-charge_cap-clause-outcome : goal.returns-in_err-charge_cap-cl
 unfolding part
 returns-in_err-charge_cap-clause-outcome c =
     refused_told c.from_residual.result c.from_residual.ensures.1 (ap (λ m. own_at m c.args.self.now) c.in_err-charge_cap.ensures.err)
-    ∙ capalloc_refused _ _ _ c.requires _ c.in_err-charge_cap.ensures.refusal
+    ∙ capalloc_refused _ _ _ _ c.requires _ c.in_err-charge_cap.ensures.refusal
 
 pub insert-requires : goal.insert-requires
 unfolding part
-insert-requires c = record { room = has_place _ _ _ c.requires _ (cap_fits _ _ _ c.requires c.in_ok-charge_cap.ensures.refusal) }
+insert-requires c = record { room = has_place _ _ _ _ c.requires _ (cap_fits _ _ _ _ c.requires c.in_ok-charge_cap.ensures.refusal) }
 
 pub returns : goal.returns
 unfolding part
 returns c =
     let done = settled c.in_ok-charge_cap.ensures.part.own c.insert.ensures.taken refl
-    (capalloc_settles _ _ _ c.requires c.in_ok-charge_cap.ensures.refusal _ c.insert.ensures.least) in
+    (capalloc_settles _ _ _ _ c.requires c.in_ok-charge_cap.ensures.refusal _ c.insert.ensures.least) in
     record { outcome = done.outcome; keeps = keeps c.in_ok-charge_cap.ensures.part refl done }
