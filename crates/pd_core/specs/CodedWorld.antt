@@ -52,10 +52,11 @@ coded_entry = code_by (List ℕ × Kind) (coded× (coded_list coded_ℕ) coded_k
 abbrev pub coded_own_state : Coded OwnState
 coded_own_state =
     code_by
-    (Account × (NatMap Object × (NatMap Region × Bool)))
-    (coded× coded_account (coded× (map.code coded_ℕ coded_object) (coded× (map.code coded_ℕ coded_region) coded_bool)))
-    (λ s. (s.account, (s.selectors, (s.regions, s.gone))))
-    (λ p. record { account = p.0; selectors = p.1.0; regions = p.1.1.0; gone = p.1.1.1 })
+    (Account × (NatMap Object × (NatMap Region × (NatMap (List ℕ) × Bool))))
+    (coded× coded_account (coded× (map.code coded_ℕ coded_object) (coded× (map.code coded_ℕ coded_region)
+    (coded× (map.code coded_ℕ (coded_list coded_ℕ)) coded_bool))))
+    (λ s. (s.account, (s.selectors, (s.regions, (s.sliced, s.gone)))))
+    (λ p. record { account = p.0; selectors = p.1.0; regions = p.1.1.0; sliced = p.1.1.1.0; gone = p.1.1.1.1 })
     (λ _. refl)
 
 abbrev pub coded_world : Coded World
