@@ -7,3 +7,4 @@ pub mod Next
 pub mod Stops
 pub mod Answered
 pub mod Serves
+pub mod Program
