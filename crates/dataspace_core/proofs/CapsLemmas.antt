@@ -1,5 +1,5 @@
 -- An account's use of capabilities may change while it covers the account's dataspaces.
-use Rattle.std.proofs.Common.{◌≡◌, ◌≢◌, ℕ, ◌<◌, ◌≤◌, List, length, Some, Ok, Err, unwrap_or, refl, sym, ap, subst, ◌∙◌, arith, Bool, cond, eqb, true, false, inl, inr}
+use Rattle.std.proofs.Common.{◌≡◌, ℕ, ◌<◌, ◌≤◌, List, length, Some, Ok, Err, unwrap_or, refl, sym, ap, subst, ◌∙◌, arith, Bool, cond, eqb, true, false, inl, inr}
 use Rattle.std.specs.Prelude.{⊤, Option, None, Result, IfErr, OnOk, OnErr}
 use Rattle.std.specs.Option.{option_map}
 use Rattle.std.specs.Result.{result_err}
@@ -14,12 +14,12 @@ use Rattle.own_model.proofs.Totals.{len-total, total_same, total-picked, total-i
 use Rattle.own_model.proofs.StepLemmas.{covers, short_of_caps}
 use Rattle.quota_core.specs.Books.{Books, IsOpen, account_at, with_account}
 use Rattle.quota_core.proofs.BooksLemmas.{account_there}
-use Rattle.dataspace_core.specs.Store.{Store, part, bytes_paid_by, with_account_in}
+use Rattle.dataspace_core.specs.Store.{Store, part, bytes_paid_by, with_account_in, PartBecomes, charged_part}
 use Rattle.dataspace_core.specs.Layout.{store_of}
 use Rattle.dataspace_core.specs.Paid.{IsPaid, IsSound, payer_of, caps_owed}
 use Rattle.dataspace_core.specs.declared.dataspace.Dataspace.{Dataspace}
 use Rattle.dataspace_core.proofs.PaidLemmas.{after_insert, payer_apart}
-use Rattle.dataspace_core.proofs.PartLemmas.{part-with_account, part-with_account_other}
+use Rattle.dataspace_core.proofs.PartLemmas.{becomes-with_account}
 use Rattle.dataspace_core.proofs.MemoryLemmas.{same_store}
 
 -- a dataspace counts for one in its payer's part, and for none in another
@@ -42,9 +42,10 @@ module _ (store : Store) (account : ℕ) (b : Account) where
   after = with_account_in store account b
 
   -- all stays paid for where only the use of capabilities is another, and covers the account's dataspaces
-  IsPaid-capped : (free pages places : ℕ) → IsPaid store free pages places → (a : Account) → get store.books.accounts account ≡ Some a → b.ram_used ≡ a.ram_used → b.ram_limit ≡ a.ram_limit → b.caps_limit ≡ a.caps_limit → caps_owed store account ≤ b.caps_used → b.caps_used ≤ b.caps_limit → IsPaid after free pages places
-  IsPaid-capped free pages places paid a opens used limit caps_limit covers within = record {
+  IsPaid-capped : (free pages : ℕ) → IsPaid store free pages → (a : Account) → get store.books.accounts account ≡ Some a → b.ram_used ≡ a.ram_used → b.ram_limit ≡ a.ram_limit → b.caps_limit ≡ a.caps_limit → caps_owed store account ≤ b.caps_used → b.caps_used ≤ b.caps_limit → IsPaid after free pages
+  IsPaid-capped free pages paid a opens used limit caps_limit covers within = record {
     payers = λ q s there. IsSome-insert store.books.accounts account b s.payer (paid.payers q s there);
+    sized = paid.sized;
     within = λ k v there. elim (after_insert store.books.accounts account b k v there) [
       | inl new ↦
           let old = paid.within account a opens in
@@ -63,7 +64,7 @@ module _ (store : Store) (account : ℕ) (b : Account) where
       | inr old ↦ paid.caps k v old.1
     ];
     ram_limits = total-insert_same (λ (v : Account). v.ram_limit) store.books.accounts account b a opens limit ∙ paid.ram_limits;
-    caps_limits = omega (arith, total-insert_same (λ (v : Account). v.caps_limit) store.books.accounts account b a opens caps_limit, paid.caps_limits);
+    covered = omega (arith, total-insert_same (λ (v : Account). v.caps_limit) store.books.accounts account b a opens caps_limit, paid.covered);
     backed = paid.backed;
     few = paid.few;
   }
@@ -76,7 +77,7 @@ module _ {books : Books} {pool : List (Option (List ℕ))} {next : List ℕ} {sp
   -- an account uses a capability at least for each dataspace of its part, and one that is not open has none
   paid_for : (account : ℕ) (o : Option Account) → get books.accounts account ≡ o → len (part account store).spaces ≤ (unwrap_or o (opened 0 0)).caps_used
   paid_for account None closed =
-      let none = owed_nothing (λ _. 1) payer_of store.spaces account (payer_apart store (free_count pool) (length pool) spaces.capacity sound.paid account closed) in
+      let none = owed_nothing (λ _. 1) payer_of store.spaces account (payer_apart store (free_count pool) (length pool) sound.paid account closed) in
       omega (arith, caps_owed-len store account, none)
   paid_for account (Some a) there = omega (arith, caps_owed-len store account, sound.paid.caps account a there)
 
@@ -90,8 +91,8 @@ module _ {books : Books} {pool : List (Option (List ℕ))} {next : List ℕ} {sp
       IsSound-capped : (b : Account) → new_books ≡ with_account books account b → b.ram_used ≡ (account_at books account).ram_used → b.ram_limit ≡ (account_at books account).ram_limit → b.caps_limit ≡ (account_at books account).caps_limit → caps_owed store account ≤ b.caps_used → b.caps_used ≤ b.caps_limit → IsSound new_books pool next spaces
       IsSound-capped b is used limit caps_limit covers within = record {
         laid_out = sound.laid_out;
-        paid = subst (λ (s : Store). IsPaid s (free_count pool) (length pool) spaces.capacity) (sym (same_store new_books _ pool next spaces is))
-            (IsPaid-capped store account b (free_count pool) (length pool) spaces.capacity sound.paid (account_at books account) (account_there books account opens) used limit caps_limit covers within);
+        paid = subst (λ (s : Store). IsPaid s (free_count pool) (length pool)) (sym (same_store new_books _ pool next spaces is))
+            (IsPaid-capped store account b (free_count pool) (length pool) sound.paid (account_at books account) (account_there books account opens) used limit caps_limit covers within);
       }
 
       -- a charge of one capability
@@ -114,12 +115,9 @@ module _ {books : Books} {pool : List (Option (List ℕ))} {next : List ℕ} {sp
           IsSound-capped (credited (account_at books account) 0 1) is (omega arith) refl refl
           (omega (arith, caps_owed-len store account, spare)) (omega (arith, within.caps))
 
-      -- the account's own part after the charge
-      pub own-charge_cap : (b : Account) (r : Result ⊤ Refusal) → OnOk r (new_books ≡ with_account books account b) → OnOk r (part account (store_of new_books pool next spaces) ≡ record { account = Some b; spaces = (part account store).spaces })
-      own-charge_cap b (Ok done) ok = ap (part account) (same_store new_books _ pool next spaces ok) ∙ part-with_account store account b
-      own-charge_cap b (Err e) ok = tt
-
-      -- the parts of the others stay
-      pub others-charge_cap : (b : Account) (r : Result ⊤ Refusal) → OnOk r (new_books ≡ with_account books account b) → OnErr r (new_books ≡ books) → (other : ℕ) → other ≢ account → part other (store_of new_books pool next spaces) ≡ part other store
-      others-charge_cap b (Ok done) ok err other apart = ap (part other) (same_store new_books _ pool next spaces ok) ∙ part-with_account_other store account b other apart
-      others-charge_cap b (Err e) ok err other apart = ap (part other) (same_store new_books _ pool next spaces err)
+      -- its part is charged
+      pub becomes-charge_cap : (r : Result ⊤ Refusal) → OnOk r (new_books ≡ with_account books account (charged (account_at books account) 0 1)) → OnOk r (PartBecomes account (charged_part (part account store) 1) store (store_of new_books pool next spaces))
+      unfolding part
+      becomes-charge_cap (Ok done) ok =
+          rw ok (becomes-with_account store account (charged (account_at books account) 0 1))
+      becomes-charge_cap (Err e) ok = tt

@@ -4,7 +4,7 @@ use Rattle.std.specs.Prelude.{slice_get, replicate}
 use Rattle.std.proofs.lemmas.List.{get_or-set_same, get_or-set_other, length-set, length-append, replicate-append-replicate}
 use Rattle.std.proofs.lemmas.Option.{slice_get_within}
 use Rattle.page_pool.specs.Pages.{free_count, is_taken, page_bytes, zero_page}
-use Rattle.page_pool.specs.PageLaws.{is_taken-lt-length, is_taken-free_page, length-zero_page}
+use Rattle.page_pool.proofs.PageLaws.{is_taken-lt-length, is_taken-free_page, length-zero_page}
 use Rattle.own_model.specs.OwnState.{zeros}
 use Rattle.dataspace_core.specs.Layout.{page_at, joined, IsOutside, IsChain, IsNewChain, IsGiven}
 

@@ -6,7 +6,7 @@ use Rattle.std.proofs.lemmas.Bool.{cases_eq}
 use Rattle.std.proofs.lemmas.Option.{none-some, same_Some}
 use Rattle.trade_base.specs.Bytes.{with_bytes}
 use Rattle.page_pool.specs.Pages.{is_taken, page_bytes}
-use Rattle.page_pool.specs.PageLaws.{length-zero_page}
+use Rattle.page_pool.proofs.PageLaws.{length-zero_page}
 use Rattle.slab.specs.Slab.{Slab, Updates}
 use Rattle.slab.specs.Slab as slab
 use Rattle.own_model.specs.OwnState.{zeros}

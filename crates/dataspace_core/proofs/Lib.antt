@@ -9,3 +9,4 @@ pub mod WriteLemmas
 pub mod WalkLemmas
 pub mod ReadLemmas
 pub mod TestLemmas
+pub mod PartLaws

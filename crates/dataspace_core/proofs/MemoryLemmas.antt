@@ -1,8 +1,8 @@
 -- A memory stays sound over each call, and is what the call's contract says.
-use Rattle.std.proofs.Common.{[], get_or, ◌≡◌, ◌≢◌, ℕ, ◌+◌, ◌*◌, ◌/◌, ◌^◌, ◌<◌, ◌≤◌, List, length, Some, Ok, Err, refl, sym, ap, subst, ◌∙◌, arith}
+use Rattle.std.proofs.Common.{[], get_or, ◌≡◌, ◌≢◌, ℕ, ◌+◌, ◌*◌, ◌/◌, ◌^◌, ◌<◌, ◌≤◌, min, List, length, Some, Ok, Err, refl, sym, ap, subst, ◌∙◌, arith}
 use Rattle.std.specs.Prelude.{Option, None, Result, IfOk, OnErr}
 use Rattle.std.specs.Result.{result_err}
-use Rattle.std.specs.FinMap.{get, insert, remove, empty}
+use Rattle.std.specs.FinMap.{get, insert, remove}
 use Rattle.std.proofs.lemmas.List.{length-replicate}
 use Rattle.std.proofs.lemmas.Option.{none-some}
 use Rattle.page_pool.specs.Pages.{free_count, fresh_pages}
@@ -13,24 +13,25 @@ use Rattle.trade_base.specs.Page.{page_of}
 use Rattle.trade_base.proofs.BytesLemmas.{length-with_bytes}
 use Rattle.trade_base.specs.declared.id.AccountId.{AccountId}
 use Rattle.trade_base.specs.declared.refusal.Refusal.{Refusal}
-use Rattle.own_model.specs.Account.{Account, Fits, shortage, charged, credited, opened}
+use Rattle.own_model.specs.Account.{Account, Fits, shortage, charged, credited}
 use Rattle.own_model.specs.OwnState.{zeros}
 use Rattle.own_model.proofs.StepLemmas.{covers}
+use Rattle.own_model.proofs.NatMapLemmas.{apart_from_free}
 use Rattle.quota_core.specs.Books.{Books, IsOpen, account_at, fresh_books, with_account, with_child, ram_limits, caps_limits}
+use Rattle.quota_core.specs.SlabMap.{map_of}
 use Rattle.quota_core.proofs.BooksLemmas.{account_there}
 use Rattle.quota_core.proofs.SlabMap.{map_of-empty, get-map_of_at, get-map_of_none, ContainsKey-map_of, len-map_of}
-use Rattle.dataspace_core.specs.Store.{Store, Space, fresh_store, Exists, space_at, with_space, without_space, with_bytes_at, part}
+use Rattle.dataspace_core.specs.Store.{Store, Space, fresh_store, room_in, Exists, space_at, with_space, without_space, with_bytes_at, OpensPart}
 use Rattle.dataspace_core.specs.Layout.{IsNewChain, IsGiven, IsWritten, IsChain, space_of, store_of}
 use Rattle.dataspace_core.specs.Paid.{IsPaid, IsSound, size_of}
 use Rattle.dataspace_core.specs.declared.dataspace.Dataspace.{Dataspace}
-use Rattle.dataspace_core.proofs.PartLemmas.{space_at-some, part-with_child, part-with_child_other}
+use Rattle.dataspace_core.proofs.PartLemmas.{space_at-some, opens-with_child}
 use Rattle.dataspace_core.proofs.LaidOutLemmas.{IsChain-laid_out, length-space_of, IsLaidOut-insert, map_of-insert_space, IsLaidOut-remove, map_of-remove_space, IsLaidOut-written, map_of-written}
 use Rattle.dataspace_core.proofs.PaidLemmas.{free_covers, places_cover, size_fits, use_covers, payer_apart, IsPaid-more, IsPaid-less, IsPaid-same, IsPaid-opened, IsPaid-fresh}
 
 -- the same facts of equal memories
-moved : (s t : Store) (free pages more places room : ℕ) → t ≡ s → pages ≡ more → places ≡ room → IsPaid s free pages places → IsPaid t free more room
-moved s t free pages more places room e p q paid =
-    subst (λ r. IsPaid t free more r) q (subst (λ m. IsPaid t free m places) p (subst (λ u. IsPaid u free pages places) (sym e) paid))
+moved : (s t : Store) (free pages more : ℕ) → t ≡ s → pages ≡ more → IsPaid s free pages → IsPaid t free more
+moved s t free pages more e p paid = subst (λ m. IsPaid t free m) p (subst (λ u. IsPaid u free pages) (sym e) paid)
 
 -- equal books make equal memories
 pub same_store : (books others : Books) (pool : List (Option (List ℕ))) (next : List ℕ) (spaces : Slab Dataspace) → books ≡ others → store_of books pool next spaces ≡ store_of others pool next spaces
@@ -66,7 +67,7 @@ module _ {books : Books} {pool : List (Option (List ℕ))} {next : List ℕ} {sp
 
     -- its size is below 2^64
     pub size_small : d.chain.count * 4096 < 2 ^ 64
-    size_small = omega (arith, size_fits store _ _ _ sound.paid ds (space_of pool next d) space_there, size_there, sound.paid.few)
+    size_small = omega (arith, size_fits store _ _ sound.paid ds (space_of pool next d) space_there, size_there, sound.paid.few)
 
     -- and is the size that contracts see
     pub size_is : d.chain.count * 4096 ≡ length (space_at store ds).bytes
@@ -90,7 +91,7 @@ module _ {books : Books} {pool : List (Option (List ℕ))} {next : List ℕ} {sp
     -- whose use covers it
     covered : (d.chain.count * 4096 ≤ (account_at books d.payer.0).ram_used) × (1 ≤ (account_at books d.payer.0).caps_used)
     covered =
-        let enough = use_covers store _ _ _ sound.paid ds (space_of pool next d) (account_at books d.payer.0) space_there (ap (get books.accounts) payer_is ∙ payer_at) in
+        let enough = use_covers store _ _ sound.paid ds (space_of pool next d) (account_at books d.payer.0) space_there (ap (get books.accounts) payer_is ∙ payer_at) in
         (omega (arith, enough.0, size_there), enough.1)
 
     -- the payer uses as many bytes at least
@@ -107,18 +108,19 @@ module _ {books : Books} {pool : List (Option (List ℕ))} {next : List ℕ} {sp
       credited_payer = credited (account_at books d.payer.0) (length (space_of pool next d).bytes) 1
 
       -- the memory has lost this dataspace, and its payer has the credit
-      gone : store_of new_books new_pool next new_spaces ≡ record { books = with_account books (space_of pool next d).payer credited_payer; spaces = remove store.spaces ds }
+      gone : store_of new_books new_pool next new_spaces ≡ record { books = with_account books (space_of pool next d).payer credited_payer; spaces = remove store.spaces ds; places = spaces.capacity }
       gone =
           same_store new_books _ new_pool next new_spaces
           (credit ∙ ap (λ n. with_account books d.payer.0 (credited (account_at books d.payer.0) n 1)) (is ∙ sym size_there) ∙ ap (λ p. with_account books p credited_payer) (sym payer_is))
-          ∙ ap (λ m. record { books = with_account books (space_of pool next d).payer credited_payer; spaces = m }) (map_of-remove_space pool next spaces sound.laid_out ds d there new_pool given new_spaces updates)
+          ∙ ap (λ m. record { books = with_account books (space_of pool next d).payer credited_payer; spaces = m; places = new_spaces.capacity }) (map_of-remove_space pool next spaces sound.laid_out ds d there new_pool given new_spaces updates)
+          ∙ ap (λ n. record { books = with_account books (space_of pool next d).payer credited_payer; spaces = remove store.spaces ds; places = n }) room
 
       -- the memory stays sound
       pub IsSound-free : IsSound new_books new_pool next new_spaces
       IsSound-free = record {
         laid_out = IsLaidOut-remove pool next spaces sound.laid_out ds d there new_pool given new_spaces updates;
-        paid = moved _ (store_of new_books new_pool next new_spaces) (free_count new_pool) _ _ _ _ gone (sym given.size) (sym room)
-            (IsPaid-less store _ _ _ sound.paid ds (space_of pool next d) (account_at books d.payer.0) credited_payer space_there (ap (get books.accounts) payer_is ∙ payer_at) refl (free_count new_pool) (omega (arith, given.given, size_there)));
+        paid = moved _ (store_of new_books new_pool next new_spaces) (free_count new_pool) _ _ gone (sym given.size)
+            (IsPaid-less store _ _ sound.paid ds (space_of pool next d) (account_at books d.payer.0) credited_payer space_there (ap (get books.accounts) payer_is ∙ payer_at) refl (free_count new_pool) (omega (arith, given.given, size_there)));
       }
 
       -- and is what the contract of `free` says
@@ -126,7 +128,7 @@ module _ {books : Books} {pool : List (Option (List ℕ))} {next : List ℕ} {sp
       unfolding space_of
       store-free =
           gone
-          ∙ ap (λ (s : Space). record { books = with_account books s.payer (credited (account_at books s.payer) (length s.bytes) 1); spaces = remove store.spaces ds })
+          ∙ ap (λ (s : Space). record { books = with_account books s.payer (credited (account_at books s.payer) (length s.bytes) 1); spaces = remove store.spaces ds; places = spaces.capacity })
           (sym space_at-there)
 
   -- ---- it is written
@@ -137,8 +139,8 @@ module _ {books : Books} {pool : List (Option (List ℕ))} {next : List ℕ} {sp
     becomes = record { payer = (space_of pool next d).payer; bytes = with_bytes (space_of pool next d).bytes offset bytes }
 
     -- the memory has the written dataspace under its key, and is else what it was
-    changed : store_of books new_pool next spaces ≡ record { books = books; spaces = insert store.spaces ds becomes }
-    changed = ap (λ m. record { books = books; spaces = m }) (map_of-written pool next spaces sound.laid_out ds d there new_pool offset bytes written)
+    changed : store_of books new_pool next spaces ≡ record store { spaces = insert store.spaces ds becomes }
+    changed = ap (λ m. record store { spaces = m }) (map_of-written pool next spaces sound.laid_out ds d there new_pool offset bytes written)
 
     -- it has the size that it had
     same_size : size_of becomes ≡ size_of (space_of pool next d)
@@ -148,35 +150,39 @@ module _ {books : Books} {pool : List (Option (List ℕ))} {next : List ℕ} {sp
     pub IsSound-write : IsSound books new_pool next spaces
     IsSound-write = record {
       laid_out = IsLaidOut-written pool next spaces sound.laid_out ds d there new_pool offset bytes written;
-      paid = moved _ (store_of books new_pool next spaces) (free_count new_pool) _ _ _ _ changed (sym written.size) refl
-          (subst (λ free. IsPaid (record { books = books; spaces = insert store.spaces ds becomes }) free (length pool) spaces.capacity) (sym written.taken)
-          (IsPaid-same store _ _ _ sound.paid ds (space_of pool next d) becomes (space_there ds d there) refl same_size));
+      paid = moved _ (store_of books new_pool next spaces) (free_count new_pool) _ _ changed (sym written.size)
+          (subst (λ free. IsPaid (record store { spaces = insert store.spaces ds becomes }) free (length pool)) (sym written.taken)
+          (IsPaid-same store _ _ sound.paid ds (space_of pool next d) becomes (space_there ds d there) refl same_size));
     }
 
     -- and is what the contract of `write` says
     pub store-write : store_of books new_pool next spaces ≡ with_bytes_at store ds offset bytes
     store-write =
         changed
-        ∙ ap (λ (s : Space). record { books = books; spaces = insert store.spaces ds (record { payer = s.payer; bytes = with_bytes s.bytes offset bytes }) })
+        ∙ ap (λ (s : Space). record store { spaces = insert store.spaces ds (record { payer = s.payer; bytes = with_bytes s.bytes offset bytes }) })
         (sym (space_at-there ds d there))
 
   -- ---- a dataspace comes
 
-  module _ (account n size : ℕ) (is : size ≡ page_of n) (opens : IsOpen books account) (enough : None ≡ shortage (account_at books account) size 1) where
+  module _ (account n size : ℕ) (is : size ≡ page_of n) (some : 1 ≤ n) (opens : IsOpen books account) (enough : None ≡ shortage (account_at books account) size 1) where
     -- the account covers it
     fits : Fits (account_at books account) size 1
     fits = covers (account_at books account) size 1 (sym enough)
 
+    -- it has a page at least
+    page : 4096 ≤ size
+    page = omega (arith, is, some)
+
     -- there is a page for each that the account can pay for
     pub pages_free : size / 4096 ≤ free_count pool
     pages_free =
-        let free = free_covers store _ _ _ sound.paid account (account_at books account) size (account_there books account opens) fits.ram_fits in
+        let free = free_covers store _ _ sound.paid account (account_at books account) size (account_there books account opens) fits.ram_fits in
         omega (arith, free)
 
     -- and a place
     pub place_free : HasRoomFor spaces 1
     place_free =
-        let place = places_cover store _ _ _ sound.paid account (account_at books account) (account_there books account opens) fits.caps_fit in
+        let place = places_cover store _ _ sound.paid account (account_at books account) size (account_there books account opens) page fits.ram_fits fits.caps_fit in
         omega (arith, place, len-map_of (space_of pool next) spaces)
 
     module _ {new_books : Books} {new_pool : List (Option (List ℕ))} {new_next : List ℕ} {new_spaces : Slab Dataspace} {key : ℕ} {d : Dataspace} (updates : Updates spaces new_spaces key (Some d)) (charge : new_books ≡ with_account books account (charged (account_at books account) size 1)) (payer : d.payer.0 ≡ account) (count : d.chain.count ≡ size / 4096) (chain : IsNewChain pool next new_pool new_next d.chain.first (size / 4096)) (vacant : slab.get spaces key ≡ None) (room : new_spaces.capacity ≡ spaces.capacity) where
@@ -193,10 +199,11 @@ module _ {books : Books} {pool : List (Option (List ℕ))} {next : List ℕ} {sp
       vacant_there = get-map_of_none (space_of pool next) spaces key vacant
 
       -- the memory has a dataspace of zeros more, and its payer has the charge
-      come : store_of new_books new_pool new_next new_spaces ≡ record { books = with_account books account (charged (account_at books account) size 1); spaces = insert store.spaces key (record { payer = account; bytes = zeros size }) }
+      come : store_of new_books new_pool new_next new_spaces ≡ record { books = with_account books account (charged (account_at books account) size 1); spaces = insert store.spaces key (record { payer = account; bytes = zeros size }); places = spaces.capacity }
       come =
           same_store new_books _ new_pool new_next new_spaces charge
-          ∙ ap (λ m. record { books = with_account books account (charged (account_at books account) size 1); spaces = m })
+          ∙ ap (λ n. record { books = with_account books account (charged (account_at books account) size 1); spaces = map_of (space_of new_pool new_next) new_spaces; places = n }) room
+          ∙ ap (λ m. record { books = with_account books account (charged (account_at books account) size 1); spaces = m; places = spaces.capacity })
           (map_of-insert_space pool next spaces sound.laid_out new_pool new_next d new_chain key new_spaces updates
           ∙ ap (λ p. insert store.spaces key (record { payer = p; bytes = zeros (d.chain.count * 4096) })) payer
           ∙ ap (λ m. insert store.spaces key (record { payer = account; bytes = zeros m })) (ap (λ c. c * 4096) count ∙ whole))
@@ -205,15 +212,15 @@ module _ {books : Books} {pool : List (Option (List ℕ))} {next : List ℕ} {sp
       pub IsSound-alloc : IsSound new_books new_pool new_next new_spaces
       IsSound-alloc = record {
         laid_out = IsLaidOut-insert pool next spaces sound.laid_out new_pool new_next d new_chain key new_spaces updates;
-        paid = moved _ (store_of new_books new_pool new_next new_spaces) (free_count new_pool) _ _ _ _ come (sym chain.size) (sym room)
-            (IsPaid-more store _ _ _ sound.paid key account size (account_at books account) (charged (account_at books account) size 1) (account_there books account opens) fits refl vacant_there (free_count new_pool) (omega (arith, chain.taken, whole)));
+        paid = moved _ (store_of new_books new_pool new_next new_spaces) (free_count new_pool) _ _ come (sym chain.size)
+            (IsPaid-more store _ _ sound.paid key account size (account_at books account) (charged (account_at books account) size 1) (account_there books account opens) fits page refl vacant_there (free_count new_pool) (omega (arith, chain.taken, whole)));
       }
 
       -- and is what the contract of `alloc` says
       pub store-alloc : store_of new_books new_pool new_next new_spaces ≡ with_space store key account n
       store-alloc =
           come
-          ∙ ap (λ m. record { books = with_account books account (charged (account_at books account) m 1); spaces = insert store.spaces key (record { payer = account; bytes = zeros m }) }) is
+          ∙ ap (λ m. record { books = with_account books account (charged (account_at books account) m 1); spaces = insert store.spaces key (record { payer = account; bytes = zeros m }); places = spaces.capacity }) is
 
   -- ---- an account is opened
 
@@ -222,8 +229,8 @@ module _ {books : Books} {pool : List (Option (List ℕ))} {next : List ℕ} {sp
     IsSound-with_child : (child : ℕ) → None ≡ shortage (account_at books parent) ram caps → new_books ≡ with_child books parent child ram caps → get books.accounts child ≡ None → IsSound new_books pool next spaces
     IsSound-with_child child enough is new = record {
       laid_out = sound.laid_out;
-      paid = moved _ (store_of new_books pool next spaces) _ _ _ _ _ (same_store new_books _ pool next spaces is) refl refl
-          (IsPaid-opened store _ _ _ sound.paid parent child ram caps (account_at books parent) (account_there books parent opens) (covers (account_at books parent) ram caps (sym enough)) new
+      paid = moved _ (store_of new_books pool next spaces) _ _ _ (same_store new_books _ pool next spaces is) refl
+          (IsPaid-opened store _ _ sound.paid parent child ram caps (account_at books parent) (account_there books parent opens) (covers (account_at books parent) ram caps (sym enough)) new
           (sym (ap ram_limits is) ∙ ram_moved) (sym (ap caps_limits is) ∙ caps_moved));
     }
 
@@ -232,19 +239,15 @@ module _ {books : Books} {pool : List (Option (List ℕ))} {next : List ℕ} {sp
     IsSound-open (Ok child) refusal ok fresh err = IsSound-with_child child.0 refusal ok fresh
     IsSound-open (Err e) refusal ok fresh err = subst (λ b. IsSound b pool next spaces) (sym err) sound
 
-    -- the new account's part has the limits it was opened with, and no dataspace
-    pub own-open : (r : Result AccountId Refusal) → IfOk r (λ child. new_books ≡ with_child books parent child.0 ram caps) → IfOk r (λ child. get books.accounts child.0 ≡ None) → IfOk r (λ child. part child.0 (store_of new_books pool next spaces) ≡ record { account = Some (opened ram caps); spaces = empty })
-    own-open (Ok child) ok fresh =
-        ap (part child.0) (same_store new_books _ pool next spaces ok)
-        ∙ part-with_child store parent child.0 ram caps (payer_apart store _ _ _ sound.paid child.0 fresh)
-    own-open (Err e) ok fresh = tt
+  -- an open account is not a key that was free
+  parent_apart : (parent child : ℕ) → IsOpen books parent → get books.accounts child ≡ None → parent ≢ child
+  parent_apart parent child opens free = apart_from_free books.accounts child parent free opens
 
-    -- the parts of the others stay
-    pub others-open : (r : Result AccountId Refusal) → IfOk r (λ child. new_books ≡ with_child books parent child.0 ram caps) → IfOk r (λ child. (other : ℕ) → other ≢ parent → other ≢ child.0 → part other (store_of new_books pool next spaces) ≡ part other store)
-    others-open (Ok child) ok = λ other apart_parent apart_child.
-        ap (part other) (same_store new_books _ pool next spaces ok)
-        ∙ part-with_child_other store parent child.0 ram caps other apart_parent apart_child
-    others-open (Err e) ok = tt
+  -- the new account's part has the limits it was opened with, and no dataspace
+  pub opens-part : (parent ram caps : ℕ) → IsOpen books parent → (new_books : Books) → 0 < room_in store → (r : Result AccountId Refusal) → IfOk r (λ child. new_books ≡ with_child books parent child.0 ram caps) → IfOk r (λ child. get books.accounts child.0 ≡ None) → IfOk r (λ child. OpensPart parent child.0 ram caps store (store_of new_books pool next spaces))
+  opens-part parent ram caps opens new_books place (Ok child) ok fresh =
+      rw ok (opens-with_child store parent child.0 ram caps (parent_apart parent child.0 opens fresh) place (payer_apart store _ _ sound.paid child.0 fresh))
+  opens-part parent ram caps opens new_books place (Err e) ok fresh = tt
 
 -- ---- boot
 
@@ -254,11 +257,11 @@ module _ (books : Books) (pool : List (Option (List ℕ))) (next : List ℕ) (sp
   no_space ds d there = none-some d (sym (ap (λ slots. get_or slots ds None) empty_slots) ∙ there)
 
   -- the memory is what the contract of `boot` says
-  pub store-boot : store_of books pool next spaces ≡ fresh_store books.root pages caps accounts
-  store-boot = λ i. record { books = fresh i; spaces = map_of-empty (space_of pool next) spaces empty_slots i }
+  pub store-boot : store_of books pool next spaces ≡ fresh_store books.root pages caps accounts spaces.capacity
+  store-boot = λ i. record { books = fresh i; spaces = map_of-empty (space_of pool next) spaces empty_slots i; places = spaces.capacity }
 
   -- and is sound
-  pub IsSound-boot : pages ≤ 4096 → caps ≤ spaces.capacity → pool ≡ fresh_pages pages → free_count pool ≡ pages → length next ≡ pages → IsSound books pool next spaces
+  pub IsSound-boot : pages ≤ 4096 → min pages caps ≤ spaces.capacity → pool ≡ fresh_pages pages → free_count pool ≡ pages → length next ≡ pages → IsSound books pool next spaces
   IsSound-boot few places all_free count table =
       let size : length pool ≡ pages = ap length all_free ∙ length-replicate pages None in
       record {
@@ -267,6 +270,6 @@ module _ (books : Books) (pool : List (Option (List ℕ))) (next : List ℕ) (sp
           held = λ ds d there. absurd (no_space ds d there);
           apart = λ a b x y there _. absurd (no_space a x there);
         };
-        paid = moved _ (store_of books pool next spaces) (free_count pool) _ _ _ _ store-boot (sym size) refl
-            (subst (λ free. IsPaid (fresh_store books.root pages caps accounts) free pages spaces.capacity) (sym count) (IsPaid-fresh books.root pages caps accounts spaces.capacity few places));
+        paid = moved _ (store_of books pool next spaces) (free_count pool) _ _ store-boot (sym size)
+            (subst (λ free. IsPaid (fresh_store books.root pages caps accounts spaces.capacity) free pages) (sym count) (IsPaid-fresh books.root pages caps accounts spaces.capacity few places));
       }

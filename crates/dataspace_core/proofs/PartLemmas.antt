@@ -1,16 +1,17 @@
 -- What a change of the memory does to the part of each account.
-use Rattle.std.proofs.Common.{◌≡◌, ◌≢◌, ℕ, List, [], length, Some, unwrap_or, refl, sym, ap, ◌∙◌, arith}
+use Rattle.std.proofs.Common.{◌≡◌, ◌≢◌, ℕ, ◌<◌, List, [], length, Some, unwrap_or, refl, sym, ap, ◌∙◌, arith}
 use Rattle.std.proofs.lemmas.Bool.Decides.{nat_tests}
 use Rattle.std.specs.Prelude.{Option, None}
 use Rattle.std.specs.Option.{option_and_then}
-use Rattle.std.specs.FinMap.{get, insert, remove, empty}
+use Rattle.std.specs.FinMap.{get, insert}
 use Rattle.trade_base.specs.Bytes.{with_bytes}
 use Rattle.trade_base.specs.Page.{page_of}
 use Rattle.own_model.specs.NatMap.{NatMap, picked}
-use Rattle.own_model.specs.Account.{Account, charged, credited, opened}
+use Rattle.own_model.specs.Account.{Account, credited, opened}
 use Rattle.own_model.specs.OwnState.{zeros}
 use Rattle.own_model.proofs.NatMapLemmas.{same, get-empty, get-insert_same, get-insert_other, get-picked, get-picked_none, get-picked_at, picked-insert_some, picked-insert_hidden, picked-insert_alike, picked-remove, picked-remove_hidden}
-use Rattle.dataspace_core.specs.Store.{Store, Space, Part, part, bytes_paid_by, space_at, with_space, without_space, with_bytes_at, account_in, with_account_in, with_child_in}
+use Rattle.dataspace_core.specs.Store.{Store, Space, space_at, with_space, without_space, with_bytes_at, account_in, with_account_in, with_child_in, room_in}
+use Rattle.dataspace_core.specs.Store.{Part, part, bytes_paid_by, bytes_of, part_with_space, part_without_space, part_with_bytes, PartBecomes, OpensPart}
 
 -- its payer has the bytes of a dataspace in its part, and nobody else
 paid_by : (account : ℕ) (space : Space) → space.payer ≡ account → bytes_paid_by account space ≡ Some space.bytes
@@ -28,60 +29,81 @@ same_part account other spaces kept p q = λ i. record { account = p i; spaces =
 pub space_at-some : (store : Store) (ds : ℕ) (space : Space) → get store.spaces ds ≡ Some space → space_at store ds ≡ space
 space_at-some store ds space there = ap (λ (o : Option Space). unwrap_or o (record { payer = 0; bytes = [] })) there
 
+-- a key that no dataspace has is in no part
+pub part-fresh : (store : Store) (account ds : ℕ) → get store.spaces ds ≡ None → get (part account store).spaces ds ≡ None
+unfolding part
+part-fresh store account ds free = get-picked_none (bytes_paid_by account) store.spaces ds free
+
+-- ---- a dataspace comes
+
 module _ (store : Store) (ds payer n : ℕ) (free : get store.spaces ds ≡ None) where
   -- the payer is charged, and its part has a dataspace of zeros more
-  pub part-with_space : part payer (with_space store ds payer n) ≡ record { account = Some (charged (account_in store payer) (page_of n) 1); spaces = insert (part payer store).spaces ds (zeros (page_of n)) }
+  pub becomes-with_space : PartBecomes payer (part_with_space (part payer store) ds n) store (with_space store ds payer n)
   unfolding part
-  part-with_space = same_part _ _ _ _
-      (get-insert_same store.books.accounts payer _ payer refl)
-      (picked-insert_some (bytes_paid_by payer) store.spaces ds _ (zeros (page_of n)) (paid_by payer _ refl))
+  becomes-with_space = record {
+    own = same_part _ _ _ _
+        (get-insert_same store.books.accounts payer _ payer refl)
+        (picked-insert_some (bytes_paid_by payer) store.spaces ds _ (zeros (page_of n)) (paid_by payer _ refl));
+    others = λ other apart. same_part _ _ _ _
+        (get-insert_other store.books.accounts payer _ other apart)
+        (picked-insert_hidden (bytes_paid_by other) store.spaces ds _ (paid_by_another other _ (λ e. apart (sym e))) (get-picked_none (bytes_paid_by other) store.spaces ds free));
+    root = refl;
+  }
 
-  -- the parts of the others stay
-  pub part-with_space_other : (other : ℕ) → other ≢ payer → part other (with_space store ds payer n) ≡ part other store
-  unfolding part
-  part-with_space_other other apart = same_part _ _ _ _
-      (get-insert_other store.books.accounts payer _ other apart)
-      (picked-insert_hidden (bytes_paid_by other) store.spaces ds _ (paid_by_another other _ (λ e. apart (sym e))) (get-picked_none (bytes_paid_by other) store.spaces ds free))
-
--- a key that no dataspace has is in no part
-pub own_fresh : (store : Store) (account ds : ℕ) → get store.spaces ds ≡ None → get (part account store).spaces ds ≡ None
-unfolding part
-own_fresh store account ds free = get-picked_none (bytes_paid_by account) store.spaces ds free
+-- ---- a dataspace goes, or is written
 
 module _ (store : Store) (ds : ℕ) (space : Space) (there : get store.spaces ds ≡ Some space) where
-  -- the payer is credited, and its part has lost the dataspace
-  pub part-without_space : part (space_at store ds).payer (without_space store ds) ≡ record { account = Some (credited (account_in store (space_at store ds).payer) (length (space_at store ds).bytes) 1); spaces = remove (part (space_at store ds).payer store).spaces ds }
+  -- it is what a contract reads under its key
+  at_key : space_at store ds ≡ space
+  at_key = space_at-some store ds space there
+
+  -- its payer's part has its bytes
+  pub part-payer : get (part (space_at store ds).payer store).spaces ds ≡ Some (space_at store ds).bytes
   unfolding part
-  part-without_space = same_part _ _ _ _
-      (get-insert_same store.books.accounts (space_at store ds).payer _ (space_at store ds).payer refl)
-      (picked-remove (bytes_paid_by (space_at store ds).payer) store.spaces ds)
+  part-payer =
+      get-picked_at (bytes_paid_by (space_at store ds).payer) store.spaces ds space there
+      ∙ paid_by (space_at store ds).payer space (ap (λ (s : Space). s.payer) (sym at_key))
+      ∙ ap (λ (s : Space). Some s.bytes) (sym at_key)
+
+  -- so they are those that a contract reads there
+  bytes_of-payer : bytes_of (part (space_at store ds).payer store) ds ≡ (space_at store ds).bytes
+  bytes_of-payer = ap (λ o. unwrap_or o []) part-payer
 
   -- it is in no other part
   hidden : (other : ℕ) → other ≢ (space_at store ds).payer → get (picked (bytes_paid_by other) store.spaces) ds ≡ None
   hidden other apart =
       get-picked_at (bytes_paid_by other) store.spaces ds space there
-      ∙ paid_by_another other space (λ e. apart (sym e ∙ ap (λ (s : Space). s.payer) (sym (space_at-some store ds space there))))
+      ∙ paid_by_another other space (λ e. apart (sym e ∙ ap (λ (s : Space). s.payer) (sym at_key)))
 
-  -- the parts of the others stay
-  pub part-without_space_other : (other : ℕ) → other ≢ (space_at store ds).payer → part other (without_space store ds) ≡ part other store
+  -- the payer is credited, and its part has lost the dataspace
+  pub becomes-without_space : PartBecomes (space_at store ds).payer (part_without_space (part (space_at store ds).payer store) ds) store (without_space store ds)
   unfolding part
-  part-without_space_other other apart = same_part _ _ _ _
-      (get-insert_other store.books.accounts (space_at store ds).payer _ other apart)
-      (picked-remove_hidden (bytes_paid_by other) store.spaces ds (hidden other apart))
+  becomes-without_space = record {
+    own = same_part _ _ _ _
+        (get-insert_same store.books.accounts (space_at store ds).payer _ (space_at store ds).payer refl
+        ∙ ap (λ l. Some (credited (account_in store (space_at store ds).payer) (length l) 1)) (sym bytes_of-payer))
+        (picked-remove (bytes_paid_by (space_at store ds).payer) store.spaces ds);
+    others = λ other apart. same_part _ _ _ _
+        (get-insert_other store.books.accounts (space_at store ds).payer _ other apart)
+        (picked-remove_hidden (bytes_paid_by other) store.spaces ds (hidden other apart));
+    root = refl;
+  }
 
   -- the payer's account stays, and its part has the dataspace with the new bytes
-  pub part-with_bytes_at : (offset : ℕ) (bytes : List ℕ) → part (space_at store ds).payer (with_bytes_at store ds offset bytes) ≡ record { account = (part (space_at store ds).payer store).account; spaces = insert (part (space_at store ds).payer store).spaces ds (with_bytes (space_at store ds).bytes offset bytes) }
+  pub becomes-with_bytes_at : (offset : ℕ) (bytes : List ℕ) → PartBecomes (space_at store ds).payer (part_with_bytes (part (space_at store ds).payer store) ds offset bytes) store (with_bytes_at store ds offset bytes)
   unfolding part
-  part-with_bytes_at offset bytes = same_part _ _ _ _
-      refl
-      (picked-insert_some (bytes_paid_by (space_at store ds).payer) store.spaces ds _ (with_bytes (space_at store ds).bytes offset bytes) (paid_by (space_at store ds).payer _ refl))
+  becomes-with_bytes_at offset bytes = record {
+    own = same_part _ _ _ _
+        refl
+        (picked-insert_some (bytes_paid_by (space_at store ds).payer) store.spaces ds _ (with_bytes (space_at store ds).bytes offset bytes) (paid_by (space_at store ds).payer _ refl)
+        ∙ ap (λ l. insert (part (space_at store ds).payer store).spaces ds (with_bytes l offset bytes)) (sym bytes_of-payer));
+    others = λ other apart. same_part _ _ _ _
+        refl
+        (picked-insert_alike (bytes_paid_by other) store.spaces ds _ (paid_by_another other _ (λ e. apart (sym e)) ∙ sym (hidden other apart)));
+    root = refl;
+  }
 
-  -- the parts of the others stay
-  pub part-with_bytes_at_other : (offset : ℕ) (bytes : List ℕ) (other : ℕ) → other ≢ (space_at store ds).payer → part other (with_bytes_at store ds offset bytes) ≡ part other store
-  unfolding part
-  part-with_bytes_at_other offset bytes other apart = same_part _ _ _ _
-      refl
-      (picked-insert_alike (bytes_paid_by other) store.spaces ds _ (paid_by_another other _ (λ e. apart (sym e)) ∙ sym (hidden other apart)))
+-- ---- an account is opened
 
 module _ (store : Store) (parent child ram caps : ℕ) where
   -- nothing is picked where it pays for nothing
@@ -89,27 +111,30 @@ module _ (store : Store) (parent child ram caps : ℕ) where
   nothing_picked None apart = refl
   nothing_picked (Some space) apart = paid_by_another child space (apart space refl)
 
-  -- a new account pays for nothing
-  pub part-with_child : ((ds : ℕ) (space : Space) → get store.spaces ds ≡ Some space → space.payer ≢ child) → part child (with_child_in store parent child ram caps) ≡ record { account = Some (opened ram caps); spaces = empty }
+  -- the new account pays for nothing, and its parent has parted with its limits
+  pub opens-with_child : parent ≢ child → 0 < room_in store → ((ds : ℕ) (space : Space) → get store.spaces ds ≡ Some space → space.payer ≢ child) → OpensPart parent child ram caps store (with_child_in store parent child ram caps)
   unfolding part
-  part-with_child apart = same_part _ _ _ _
-      (get-insert_same _ child (opened ram caps) child refl)
-      (same _ _ (λ q. get-picked (bytes_paid_by child) store.spaces q ∙ nothing_picked (get store.spaces q) (apart q) ∙ sym (get-empty q)))
+  opens-with_child apart place pays_for_none = record {
+    opened_one = same_part _ _ _ _
+        (get-insert_same _ child (opened ram caps) child refl)
+        (same _ _ (λ q. get-picked (bytes_paid_by child) store.spaces q ∙ nothing_picked (get store.spaces q) (pays_for_none q) ∙ sym (get-empty q)));
+    parted_one = same_part _ _ _ _
+        (get-insert_other _ child (opened ram caps) parent apart ∙ get-insert_same store.books.accounts parent _ parent refl)
+        refl;
+    others = λ other apart_parent apart_child. same_part _ _ _ _
+        (get-insert_other _ child (opened ram caps) other apart_child ∙ get-insert_other store.books.accounts parent _ other apart_parent)
+        refl;
+    root = refl;
+    room = omega (arith, place);
+  }
 
-  -- the parts of the others stay
-  pub part-with_child_other : (other : ℕ) → other ≢ parent → other ≢ child → part other (with_child_in store parent child ram caps) ≡ part other store
-  unfolding part
-  part-with_child_other other apart_parent apart_child = same_part _ _ _ _
-      (get-insert_other _ child (opened ram caps) other apart_child ∙ get-insert_other store.books.accounts parent _ other apart_parent)
-      refl
+-- ---- an account is another
 
-module _ (store : Store) (account : ℕ) (b : Account) where
-  -- the part of an account that is another has that one, and the same dataspaces
-  pub part-with_account : part account (with_account_in store account b) ≡ record { account = Some b; spaces = (part account store).spaces }
-  unfolding part
-  part-with_account = same_part _ _ _ _ (get-insert_same store.books.accounts account b account refl) refl
-
-  -- the parts of the others stay
-  pub part-with_account_other : (other : ℕ) → other ≢ account → part other (with_account_in store account b) ≡ part other store
-  unfolding part
-  part-with_account_other other apart = same_part _ _ _ _ (get-insert_other store.books.accounts account b other apart) refl
+-- the part of an account that is another has that one, and the same dataspaces
+pub becomes-with_account : (store : Store) (account : ℕ) (b : Account) → PartBecomes account (record (part account store) { account = Some b }) store (with_account_in store account b)
+unfolding part
+becomes-with_account store account b = record {
+  own = same_part _ _ _ _ (get-insert_same store.books.accounts account b account refl) refl;
+  others = λ other apart. same_part _ _ _ _ (get-insert_other store.books.accounts account b other apart) refl;
+  root = refl;
+}

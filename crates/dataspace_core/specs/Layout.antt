@@ -69,4 +69,5 @@ space_of pages next d = record { payer = d.payer.0; bytes = chain_bytes pages ne
 
 -- the memory as contracts see it
 abbrev pub store_of : Books → List (Option (List ℕ)) → List ℕ → Slab Dataspace → Store
-store_of books pages next spaces = record { books = books; spaces = map_of (space_of pages next) spaces }
+store_of books pages next spaces =
+    record { books = books; spaces = map_of (space_of pages next) spaces; places = spaces.capacity }

@@ -1,6 +1,5 @@
 -- What a contract sees of the memory.
-use Rattle.std.specs.Prelude.{ℕ, ◌*◌, ◌==◌, List, [], length, Option, Some, None, IsSome, if◌then◌else◌}
-use Rattle.std.proofs.Common.{refl}
+use Rattle.std.specs.Prelude.{◌≡◌, ◌≢◌, ℕ, ◌+◌, ◌*◌, ◌==◌, List, [], length, Option, Some, None, IsSome, if◌then◌else◌, refl}
 use Rattle.std.specs.Option.{unwrap_or}
 use Rattle.std.specs.Coded.{Coded, code_by, coded×, coded_ℕ, coded_list}
 use Rattle.std.specs.FinMap as map
@@ -8,7 +7,7 @@ use Rattle.std.specs.FinMap.{get, insert, remove, empty}
 use Rattle.trade_base.specs.Bytes.{with_bytes}
 use Rattle.trade_base.specs.Page.{page_of}
 use Rattle.own_model.specs.NatMap.{NatMap, picked}
-use Rattle.own_model.specs.Account.{Account, charged, credited}
+use Rattle.own_model.specs.Account.{Account, charged, credited, opened, parted_with}
 use Rattle.own_model.specs.OwnState.{zeros}
 use Rattle.quota_core.specs.Books.{Books, IsOpen, coded_books, fresh_books, account_at, with_account, with_child, ram_limits, caps_limits}
 
@@ -17,25 +16,31 @@ pub record Space : Type 0 where
   pub payer : ℕ
   pub bytes : List ℕ
 
--- the books, and the dataspaces by their keys
+-- the books, the dataspaces by their keys, and how many of them there are places for
 pub record Store : Type 0 where
   pub books : Books
   pub spaces : NatMap Space
+  pub places : ℕ
 
 -- a dataspace is stored as the pair of its fields
 abbrev pub coded_space : Coded Space
 coded_space =
     code_by (ℕ × List ℕ) (coded× coded_ℕ (coded_list coded_ℕ)) (λ s. (s.payer, s.bytes)) (λ p. record { payer = p.0; bytes = p.1 }) (λ _. refl)
 
--- a memory is stored as the pair of its fields
+-- a memory is stored as the tuple of its fields
 abbrev pub coded_store : Coded Store
 coded_store =
-    code_by (Books × NatMap Space) (coded× coded_books (map.code coded_ℕ coded_space)) (λ s. (s.books, s.spaces)) (λ p. record { books = p.0; spaces = p.1 }) (λ _. refl)
+    code_by
+    (Books × (NatMap Space × ℕ))
+    (coded× coded_books (coded× (map.code coded_ℕ coded_space) coded_ℕ))
+    (λ s. (s.books, (s.spaces, s.places)))
+    (λ p. record { books = p.0; spaces = p.1.0; places = p.1.1 })
+    (λ _. refl)
 
 -- a memory that has just booted: one account, the root, which has all pages and capabilities, and no dataspace
-abbrev pub fresh_store : ℕ → ℕ → ℕ → ℕ → Store
-fresh_store root pages caps places =
-    record { books = fresh_books root (pages * 4096) caps places; spaces = empty }
+abbrev pub fresh_store : ℕ → ℕ → ℕ → ℕ → ℕ → Store
+fresh_store root pages caps accounts places =
+    record { books = fresh_books root (pages * 4096) caps accounts; spaces = empty; places = places }
 
 -- ---- the accounts of a memory
 
@@ -50,6 +55,10 @@ root_in store = store.books.root
 -- how many more accounts find a place
 abbrev pub room_in : Store → ℕ
 room_in store = store.books.room
+
+-- how many dataspaces there are places for
+abbrev pub places_in : Store → ℕ
+places_in store = store.places
 
 -- the account is open
 abbrev pub IsOpenIn : Store → ℕ → Type 0
@@ -122,3 +131,58 @@ part account store = record {
   account = get store.books.accounts account;
   spaces = picked (bytes_paid_by account) store.spaces;
 }
+
+-- the account of a part, or one of nothing
+abbrev pub account_of : Part → Account
+account_of p = unwrap_or p.account (opened 0 0)
+
+-- the bytes of a dataspace of a part, or none
+abbrev pub bytes_of : Part → ℕ → List ℕ
+bytes_of p ds = unwrap_or (get p.spaces ds) []
+
+-- ---- what a call does to a part
+
+-- its account is charged for a new dataspace of n bytes in whole pages, all zero
+abbrev pub part_with_space : Part → ℕ → ℕ → Part
+part_with_space p ds n =
+    record { account = Some (charged (account_of p) (page_of n) 1); spaces = insert p.spaces ds (zeros (page_of n)) }
+
+-- a dataspace goes, and its account is credited
+abbrev pub part_without_space : Part → ℕ → Part
+part_without_space p ds =
+    record { account = Some (credited (account_of p) (length (bytes_of p ds)) 1); spaces = remove p.spaces ds }
+
+-- other bytes are put at an offset of a dataspace
+abbrev pub part_with_bytes : Part → ℕ → ℕ → List ℕ → Part
+part_with_bytes p ds offset bytes = record p { spaces = insert p.spaces ds (with_bytes (bytes_of p ds) offset bytes) }
+
+-- its account is charged for so many capabilities that are no dataspace's
+abbrev pub charged_part : Part → ℕ → Part
+charged_part p caps = record p { account = Some (charged (account_of p) 0 caps) }
+
+-- its account is credited with so many capabilities
+abbrev pub credited_part : Part → ℕ → Part
+credited_part p caps = record p { account = Some (credited (account_of p) 0 caps) }
+
+-- its account parts with limits
+abbrev pub parted_part : Part → ℕ → ℕ → Part
+parted_part p ram caps = record p { account = Some (parted_with (account_of p) ram caps) }
+
+-- the part of an account that is opened with these limits: it pays for nothing
+abbrev pub opened_part : ℕ → ℕ → Part
+opened_part ram caps = record { account = Some (opened ram caps); spaces = empty }
+
+-- an account's part becomes this one; every other account's part stays, and so does the root's key
+pub record PartBecomes (account : ℕ) (after : Part) (old new : Store) : Type 0 where
+  pub own : part account new ≡ after
+  pub others : (other : ℕ) → other ≢ account → part other new ≡ part other old
+  pub root : root_in new ≡ root_in old
+
+-- a parent's account parts with limits, with which a new account is opened in one of the places; every other account's part
+-- stays, and so does the root's key
+pub record OpensPart (parent child ram caps : ℕ) (old new : Store) : Type 0 where
+  pub opened_one : part child new ≡ opened_part ram caps
+  pub parted_one : part parent new ≡ parted_part (part parent old) ram caps
+  pub others : (other : ℕ) → other ≢ parent → other ≢ child → part other new ≡ part other old
+  pub root : root_in new ≡ root_in old
+  pub room : room_in new + 1 ≡ room_in old

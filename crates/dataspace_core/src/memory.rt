@@ -1,15 +1,15 @@
 //! Dataspaces over a pool of pages and the books of accounts.
-ghost use Rattle.std.specs.Prelude.{◌≡◌, ◌≢◌, ℕ, ◌+◌, ◌*◌, ◌<◌, ◌≤◌, length, if◌then◌else◌, Some, None, IfOk, IfErr, OnOk, OnErr, slice_range};
+ghost use Rattle.std.specs.Prelude.{◌≡◌, ◌+◌, ◌%◌, ◌<◌, ◌≤◌, length, if◌then◌else◌, Some, None, IfOk, IfErr, IfSome, OnOk, OnErr, slice_range};
 ghost use Rattle.std.specs.Result.{result_err};
-ghost use Rattle.std.specs.FinMap.{get, insert, remove, len};
-ghost use Rattle.std.specs.FinMap as map;
-ghost use Rattle.trade_base.specs.Bytes.{with_bytes};
+ghost use Rattle.std.specs.FinMap.{get, len};
 ghost use Rattle.trade_base.specs.Page.{page_of};
+ghost use Rattle.trade_base.specs.Word.{word_of, word_bytes};
 ghost use Rattle.trade_base.specs.declared.refusal.Refusal.TheVariants.{OutOfCaps};
-ghost use Rattle.own_model.specs.Account.{shortage, charged, credited, opened, WithinLimits};
-ghost use Rattle.own_model.specs.OwnState.{zeros};
+ghost use Rattle.own_model.specs.Account.{shortage, charged, credited, WithinLimits};
 ghost use Rattle.own_model.specs.OwnStep.{alloc_refusal, is_valid_size};
-ghost use Rattle.dataspace_core.specs.Store.{fresh_store, accounts_in, root_in, room_in, IsOpenIn, account_in, with_account_in, with_child_in, ram_limits_in, caps_limits_in, Exists, space_at, with_space, without_space, with_bytes_at, part};
+ghost use Rattle.dataspace_core.specs.Store.{fresh_store, accounts_in, root_in, room_in, places_in, IsOpenIn, account_in, with_account_in, with_child_in, ram_limits_in, caps_limits_in};
+ghost use Rattle.dataspace_core.specs.Store.{Exists, space_at, with_space, without_space, with_bytes_at};
+ghost use Rattle.dataspace_core.specs.Store.{part, PartBecomes, OpensPart, part_with_space, part_without_space, part_with_bytes, charged_part, credited_part};
 
 use crate::chains::{give_chain, no_links, read_chain, take_chain, write_chain};
 use crate::dataspace::{Dataspace, no_spaces, size_of, space_under};
@@ -60,14 +60,15 @@ impl Memory {
         accounts: usize,
     ) -> Result<Memory, NoMemory>
         requires pages { pages ≤ 4096 }
-        requires caps { caps.0 ≤ 4096 }
         requires some { 1 ≤ accounts }
         requires few { accounts ≤ 4096 }
-        ensures { IfOk result (λ memory. memory ≡ fresh_store (root_in memory) pages caps.0 accounts) }
+        ensures { IfOk result (λ memory.
+            memory ≡ fresh_store (root_in memory) pages caps.0 accounts (places_in memory)) }
     {
         let pool = Pool::boot(alloc, pages)?;
         let books = Books::boot(alloc, Ram(pages as u64 * PAGE), caps, accounts)?;
-        let spaces = no_spaces(alloc, caps.0 as usize)?;
+        // Each dataspace has a page at least, and a capability.
+        let spaces = no_spaces(alloc, pages.min(caps.0 as usize))?;
         let next = no_links(alloc, pages)?;
         Ok(Memory {
             pool,
@@ -87,12 +88,8 @@ impl Memory {
         ensures refusal { result_err result ≡ alloc_refusal bytes (account_in self.old account.0) }
         ensures ok { IfOk result (λ ds. self.new ≡ with_space self.old ds.0 account.0 bytes) }
         ensures fresh { IfOk result (λ ds. get self.old.spaces ds.0 ≡ None) }
-        ensures own { IfOk result (λ ds. part account.0 self.new ≡ record {
-          account = Some (charged (account_in self.old account.0) (page_of bytes) 1);
-          spaces = insert (part account.0 self.old).spaces ds.0 (zeros (page_of bytes));
-        }) }
-        ensures own_fresh { IfOk result (λ ds. get (part account.0 self.old).spaces ds.0 ≡ None) }
-        ensures others { (other : ℕ) → other ≢ account.0 → part other self.new ≡ part other self.old }
+        ensures part { IfOk result (λ ds.
+            PartBecomes account.0 (part_with_space (part account.0 self.old) ds.0 bytes) self.old self.new) }
         ensures err { OnErr result (self.new ≡ self.old) }
         ensures paid { IfOk result (λ _. len (part account.0 self.new).spaces ≤ (account_in self.new account.0).caps_used) }
     {
@@ -110,15 +107,20 @@ impl Memory {
     pub fn free(&mut self, ds: DsId)
         requires { Exists self.old ds.0 }
         ensures freed { self.new ≡ without_space self.old ds.0 }
-        ensures own { let payer = (space_at self.old ds.0).payer in part payer self.new ≡ record {
-          account = Some (credited (account_in self.old payer) (length (space_at self.old ds.0).bytes) 1);
-          spaces = remove (part payer self.old).spaces ds.0;
-        } }
-        ensures others { (other : ℕ) → other ≢ (space_at self.old ds.0).payer → part other self.new ≡ part other self.old }
+        ensures part { let payer = (space_at self.old ds.0).payer in
+            PartBecomes payer (part_without_space (part payer self.old) ds.0) self.old self.new }
     {
         let space = self.spaces.remove(ds.0);
         give_chain(&mut self.pool, &self.next, space.chain);
         self.books.credit(space.payer, Ram(size_of(space)), Caps(1));
+    }
+
+    /// The account that pays for a dataspace.
+    pub fn payer(&self, ds: DsId) -> AccountId
+        requires { Exists self.now ds.0 }
+        ensures { result.0 ≡ (space_at self.now ds.0).payer }
+    {
+        space_under(&self.spaces, ds).payer
     }
 
     /// The size of a dataspace, in bytes.
@@ -149,14 +151,37 @@ impl Memory {
         requires exists { Exists self.old ds.0 }
         requires range { offset + length bytes.now ≤ length (space_at self.old ds.0).bytes }
         ensures written { self.new ≡ with_bytes_at self.old ds.0 offset bytes.now }
-        ensures own { let payer = (space_at self.old ds.0).payer in part payer self.new ≡ record {
-          account = (part payer self.old).account;
-          spaces = insert (part payer self.old).spaces ds.0 (with_bytes (space_at self.old ds.0).bytes offset bytes.now);
-        } }
-        ensures others { (other : ℕ) → other ≢ (space_at self.old ds.0).payer → part other self.new ≡ part other self.old }
+        ensures part { let payer = (space_at self.old ds.0).payer in
+            PartBecomes payer (part_with_bytes (part payer self.old) ds.0 offset bytes.now) self.old self.new }
     {
         let chain = space_under(&self.spaces, ds).chain;
         write_chain(&mut self.pool, &self.next, chain, offset as usize, bytes);
+    }
+
+    /// The word of a dataspace that stands at `offset`, its lowest byte first.
+    #[tactic(auto, unfolding(trade_base::specs::Word::word_of))]
+    pub fn load_word(&self, ds: DsId, offset: u64) -> u64
+        requires exists { Exists self.now ds.0 }
+        requires aligned { offset % 8 ≡ 0 }
+        requires range { offset + 8 ≤ length (space_at self.now ds.0).bytes }
+        ensures { result ≡ word_of (slice_range (space_at self.now ds.0).bytes offset (offset + 8)) }
+    {
+        let mut bytes = [0; 8];
+        self.read(ds, offset, &mut bytes);
+        u64::from_le_bytes(bytes)
+    }
+
+    /// Puts `word` into a dataspace at `offset`, its lowest byte first. Nothing else changes.
+    #[tactic(auto, unfolding(trade_base::specs::Word::word_bytes))]
+    pub fn store_word(&mut self, ds: DsId, offset: u64, word: u64)
+        requires exists { Exists self.old ds.0 }
+        requires aligned { offset % 8 ≡ 0 }
+        requires range { offset + 8 ≤ length (space_at self.old ds.0).bytes }
+        ensures written { self.new ≡ with_bytes_at self.old ds.0 offset (word_bytes word) }
+        ensures part { let payer = (space_at self.old ds.0).payer in
+            PartBecomes payer (part_with_bytes (part payer self.old) ds.0 offset (word_bytes word)) self.old self.new }
+    {
+        self.write(ds, offset, &word.to_le_bytes());
     }
 
     /// Charges an account for one capability that is no dataspace's.
@@ -167,11 +192,8 @@ impl Memory {
         ensures refusal { result_err result ≡ shortage (account_in self.old account.0) 0 1 }
         ensures only { IfErr result (λ refusal. refusal ≡ OutOfCaps) }
         ensures ok { OnOk result (self.new ≡ with_account_in self.old account.0 (charged (account_in self.old account.0) 0 1)) }
-        ensures own { OnOk result (part account.0 self.new ≡ record {
-          account = Some (charged (account_in self.old account.0) 0 1);
-          spaces = (part account.0 self.old).spaces;
-        }) }
-        ensures others { (other : ℕ) → other ≢ account.0 → part other self.new ≡ part other self.old }
+        ensures part { OnOk result (
+            PartBecomes account.0 (charged_part (part account.0 self.old) 1) self.old self.new) }
         ensures err { OnErr result (self.new ≡ self.old) }
         ensures paid { len (part account.0 self.new).spaces ≤ (account_in self.new account.0).caps_used }
     {
@@ -183,11 +205,7 @@ impl Memory {
         requires open { IsOpenIn self.old account.0 }
         requires spare { len (part account.0 self.old).spaces < (account_in self.old account.0).caps_used }
         ensures credited { self.new ≡ with_account_in self.old account.0 (credited (account_in self.old account.0) 0 1) }
-        ensures own { part account.0 self.new ≡ record {
-          account = Some (credited (account_in self.old account.0) 0 1);
-          spaces = (part account.0 self.old).spaces;
-        } }
-        ensures others { (other : ℕ) → other ≢ account.0 → part other self.new ≡ part other self.old }
+        ensures part { PartBecomes account.0 (credited_part (part account.0 self.old) 1) self.old self.new }
         ensures paid { len (part account.0 self.new).spaces ≤ (account_in self.new account.0).caps_used }
     {
         self.books.credit(account, Ram(0), Caps(1));
@@ -212,8 +230,7 @@ impl Memory {
         ensures refusal { result_err result ≡ shortage (account_in self.old parent.0) ram.0 caps.0 }
         ensures ok { IfOk result (λ child. self.new ≡ with_child_in self.old parent.0 child.0 ram.0 caps.0) }
         ensures fresh { IfOk result (λ child. get (accounts_in self.old) child.0 ≡ None) }
-        ensures own { IfOk result (λ child. part child.0 self.new ≡ record { account = Some (opened ram.0 caps.0); spaces = map.empty }) }
-        ensures others { IfOk result (λ child. (other : ℕ) → other ≢ parent.0 → other ≢ child.0 → part other self.new ≡ part other self.old) }
+        ensures part { IfOk result (λ child. OpensPart parent.0 child.0 ram.0 caps.0 self.old self.new) }
         ensures err { OnErr result (self.new ≡ self.old) }
         ensures ram_moved { ram_limits_in self.new ≡ ram_limits_in self.old }
         ensures caps_moved { caps_limits_in self.new ≡ caps_limits_in self.old }
@@ -244,7 +261,9 @@ impl Memory {
 
 /// So many bytes in whole pages, or `None` where that is no size: 0 bytes, or too many for 64 bits.
 fn valid_size(bytes: u64) -> Option<u64>
-    ensures { result ≡ (if is_valid_size bytes then Some (page_of bytes) else None) }
+    ensures valid { result ≡ (if is_valid_size bytes then Some (page_of bytes) else None) }
+    ensures rounded { IfSome result (λ size. size ≡ page_of bytes) }
+    ensures some { IfSome result (λ _. 1 ≤ bytes) }
 {
     if bytes == 0 { None } else { page_round(bytes) }
 }

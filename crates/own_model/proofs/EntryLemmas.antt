@@ -1,25 +1,16 @@
 -- A search by a test among entries whose keys differ, and in a finite map.
-use Rattle.std.proofs.Common.{◌≡◌, ℕ, Bool, true, false, cond, eqb, ◌||◌, T, List, [], ◌∷◌, is_some, Some, refl, sym, ap, subst, ◌∙◌, eqb-true, true≢false, nat_cmp, is_eq, arith}
-use Rattle.std.proofs.lemmas.Bool.Decides.{nat_tests}
+use Rattle.std.proofs.Common.{◌≡◌, ℕ, Bool, true, false, cond, eqb, ◌||◌, T, List, [], ◌∷◌, is_some, Some, refl, sym, ap, subst, ◌∙◌, eqb-true, true≢false, nat_cmp}
+use Rattle.std.proofs.lemmas.Bool.{eq-eqb}
 use Rattle.std.proofs.lemmas.Option.{none-some, same_Some}
-use Rattle.std.specs.Prelude.{Option, None}
+use Rattle.std.specs.Prelude.{None}
 use Rattle.std.specs.Cmp.{unsigned_tied}
 use Rattle.std.specs.List.{find, list_any}
 use Rattle.std.specs.FinMap.{get, entries, entries_sorted, get-entries, is_sorted}
-use Rattle.std.specs.FinMap.Entries as keyed
-use Rattle.std.specs.FinMap.Entries.{below_all}
 use Rattle.own_model.specs.NatMap.{NatMap}
-use Rattle.own_model.proofs.NatMapLemmas.{both_parts, is_less}
-
--- a number is equal to itself
-eqb_same : (k : ℕ) → eqb k k ≡ true
-eqb_same k = grind (arith, nat_tests)
+use Rattle.own_model.proofs.NatMapLemmas.{both_parts, none_below}
+pub use Rattle.own_model.specs.Entries.{value_of, KeysDiffer}
 
 module _ {X : Type 0} where
-  -- the value of the first entry with a key
-  abbrev pub value_of : ℕ → List (ℕ × X) → Option X
-  value_of q es = keyed.find nat_cmp q es
-
   -- under a key is the first entry's value, if that has the key, or else what later entries have
   pub value_of-cons : (q : ℕ) (e : ℕ × X) (es : List (ℕ × X)) → value_of q (e ∷ es) ≡ cond (eqb q e.0) (Some e.1) (value_of q es)
   value_of-cons q e es = ap (λ b. cond b (Some e.1) (value_of q es)) (unsigned_tied q e.0)
@@ -31,18 +22,6 @@ module _ {X : Type 0} where
   -- under another key is what later entries have
   pub value_of_later : (q : ℕ) (e : ℕ × X) (es : List (ℕ × X)) → eqb q e.0 ≡ false → value_of q (e ∷ es) ≡ value_of q es
   value_of_later q e es t = value_of-cons q e es ∙ ap (λ b. cond b (Some e.1) (value_of q es)) t
-
-  -- no two entries have one key
-  abbrev pub KeysDiffer : List (ℕ × X) → Type 0
-  KeysDiffer [] = Unit {0}
-  KeysDiffer (e ∷ es) = (value_of e.0 es ≡ None) × KeysDiffer es
-
-  -- a key below all others is none of them
-  none_below : (k : ℕ) (es : List (ℕ × X)) → T (below_all nat_cmp k es) → value_of k es ≡ None
-  none_below k [] h = refl
-  none_below k (e ∷ es) h =
-      let parts = both_parts _ _ h in
-      ap (λ o. cond (is_eq o) (Some e.1) (value_of k es)) (is_less (nat_cmp k e.0) parts.0) ∙ none_below k es parts.1
 
   -- keys that rise differ
   pub KeysDiffer-sorted : (es : List (ℕ × X)) → T (is_sorted nat_cmp es) → KeysDiffer es
@@ -68,7 +47,7 @@ module _ {X : Type 0} where
     found [] e differ is = absurd (none-some e is)
     found (x ∷ es) e differ is =
         elim (test x) as (λ b. test x ≡ b → cond b (Some x) (find test es) ≡ Some e → (test e ≡ true) × (value_of e.0 (x ∷ es) ≡ Some e.1)) [
-          | true ↦ λ t here. subst (λ (y : ℕ × X). (test y ≡ true) × (value_of y.0 (x ∷ es) ≡ Some y.1)) (same_Some x e here) (t, value_of_first x.0 x es (eqb_same x.0))
+          | true ↦ λ t here. subst (λ (y : ℕ × X). (test y ≡ true) × (value_of y.0 (x ∷ es) ≡ Some y.1)) (same_Some x e here) (t, value_of_first x.0 x es (eq-eqb x.0 x.0 refl))
           | false ↦ λ t later.
               let rest = found es e differ.1 later in
               (rest.0, later_value e.0 e.1 x es differ.0 rest.1)
@@ -95,7 +74,7 @@ module _ {X : Type 0} where
     pub finds_none : (es : List (ℕ × X)) → KeysDiffer es → ((k : ℕ) (v : X) → value_of k es ≡ Some v → test (k, v) ≡ false) → find test es ≡ None
     finds_none [] differ fails = refl
     finds_none (x ∷ es) differ fails =
-        ap (λ b. cond b (Some x) (find test es)) (fails x.0 x.1 (value_of_first x.0 x es (eqb_same x.0)))
+        ap (λ b. cond b (Some x) (find test es)) (fails x.0 x.1 (value_of_first x.0 x es (eq-eqb x.0 x.0 refl)))
         ∙ finds_none es differ.1 (λ k v there. fails k v (later_value k v x es differ.0 there))
 
     -- some element passes where one is found

@@ -9,10 +9,6 @@ pub mod RunningLemmas
 pub mod UseLemmas
 pub mod SoundLemmas
 pub mod RangeLemmas
-pub mod RowLemmas
-pub mod GapLemmas
 pub mod CallLemmas
-pub mod CapRows
-pub mod RegionRows
 pub mod LimitLemmas
 pub mod StartLemmas

@@ -1,6 +1,8 @@
 -- What a finite map from numbers answers: after a change, where it is picked from another, and by induction on its insertions.
-use Rattle.std.proofs.Common.{◌≡◌, ℕ, ◌≢◌, Bool, true, false, cond, eqb, ◌&&◌, T, List, [], ◌∷◌, is_some, IsSome, Some, refl, sym, ap, subst, ◌∙◌, eqb-true, true≢false, nat_cmp, is_eq, is_lt, Ordering, Less, Equal, Greater, arith}
+use Rattle.std.proofs.Common.{◌≡◌, ℕ, ◌≢◌, ◌⊎◌, inl, inr, Bool, true, false, cond, eqb, ◌&&◌, T, List, [], ◌∷◌, is_some, IsSome, Some, refl, sym, ap, subst, ◌∙◌, eqb-true, true≢false, nat_cmp, is_eq, is_lt, Ordering, Less, Equal, Greater, arith}
+use Rattle.std.proofs.lemmas.Bool.{cases_eq}
 use Rattle.std.proofs.lemmas.Bool.Decides.{nat_tests}
+use Rattle.std.proofs.lemmas.Option.{none-some, same_Some}
 use Rattle.std.proofs.lemmas.List.{nil_from_length}
 use Rattle.std.specs.Prelude.{Option, None}
 use Rattle.std.specs.Option.{option_map, option_and_then, option_or}
@@ -47,6 +49,35 @@ module _ {X : Type 0} where
   pub get-remove_other : (m : NatMap X) (k q : ℕ) → q ≢ k → get (remove m k) q ≡ get m q
   get-remove_other m k q apart = grind (arith, nat_tests, get-remove m k q)
 
+-- nothing is in a map that is empty
+pub none_in_empty : {X : Type 0} (m : NatMap X) → m ≡ empty → (q : ℕ) (w : X) → get m q ≡ Some w → ⊥
+none_in_empty m none q w there = none-some w (sym (ap (λ n. get n q) none ∙ get-empty q) ∙ there)
+
+-- an option without a value is none
+pub none_of : {X : Type 0} (o : Option X) → is_some o ≡ false → o ≡ None
+none_of None h = refl
+none_of (Some v) h = absurd (true≢false h)
+
+-- what an option that is there has
+pub some_of : {X : Type 0} (o : Option X) → IsSome o → (v : X) × (o ≡ Some v)
+some_of None h = absurd (true≢false (sym h))
+some_of (Some v) h = (v, refl)
+
+module _ {X : Type 0} (m : NatMap X) (k : ℕ) (v : X) where
+  -- what a map has after an insertion is the new value, or was there before
+  pub after_insert : (q : ℕ) (w : X) → get (insert m k v) q ≡ Some w → ((q ≡ k) × (w ≡ v)) ⊎ ((q ≢ k) × (get m q ≡ Some w))
+  after_insert q w there = elim (cases_eq q k) [
+    | inl here ↦ inl (here, same_Some w v (sym there ∙ get-insert_same m k v q here))
+    | inr apart ↦ inr (apart, sym (get-insert_other m k v q apart) ∙ there)
+  ]
+
+  -- what holds of each value, and of the new one, holds of each after the insertion
+  pub each_after_insert : (P : ℕ → X → Type 0) → ((q : ℕ) (w : X) → get m q ≡ Some w → P q w) → P k v → (q : ℕ) (w : X) → get (insert m k v) q ≡ Some w → P q w
+  each_after_insert P each here q w there = elim (after_insert q w there) [
+    | inl new ↦ subst (λ x. P q x) (sym new.1) (subst (λ j. P j v) (sym new.0) here)
+    | inr old ↦ each q w old.1
+  ]
+
 -- the equations by which `grind` reads a map
 pub ruleset natmaps = (nat_tests, get-empty, get-insert, get-remove)
 
@@ -84,11 +115,11 @@ is_less Greater h = absurd h
 
 module _ {X : Type 0} where
   -- a key below all others is none of them
-  find_below : (k : ℕ) (es : List (ℕ × X)) → T (below_all nat_cmp k es) → find nat_cmp k es ≡ None
-  find_below k [] h = refl
-  find_below k (e ∷ es) h =
+  pub none_below : (k : ℕ) (es : List (ℕ × X)) → T (below_all nat_cmp k es) → find nat_cmp k es ≡ None
+  none_below k [] h = refl
+  none_below k (e ∷ es) h =
       let parts = both_parts _ _ h in
-      ap (λ o. cond (is_eq o) (Some e.1) (find nat_cmp k es)) (is_less (nat_cmp k e.0) parts.0) ∙ find_below k es parts.1
+      ap (λ o. cond (is_eq o) (Some e.1) (find nat_cmp k es)) (is_less (nat_cmp k e.0) parts.0) ∙ none_below k es parts.1
 
   -- the insertions of its entries make the map
   pub from_entries-entries : (m : NatMap X) → from_entries {R = nat_cmp} (entries m) ≡ m
@@ -100,7 +131,7 @@ module _ {X : Type 0} where
     along [] h = none
     along (e ∷ es) h =
         let parts = both_parts _ _ h in
-        more (from_entries es) e.0 e.1 (map.get-from_entries nat_cmp_total es e.0 ∙ find_below e.0 es parts.0) (along es parts.1)
+        more (from_entries es) e.0 e.1 (map.get-from_entries nat_cmp_total es e.0 ∙ none_below e.0 es parts.0) (along es parts.1)
 
     -- what holds of the empty map, and stays when a free key is filled, holds of each map
     pub by_insertions : (m : NatMap X) → P m
@@ -124,7 +155,7 @@ find-cons_option q k None es = elim (eq_by_cmp nat_cmp q k) as (λ b. find nat_c
 
 -- entries whose keys are all above a key have nothing under it
 find_ended : {X : Type 0} (q k : ℕ) (es : List (ℕ × X)) → T (below_all nat_cmp k es) → eqb q k ≡ true → find nat_cmp q es ≡ None
-find_ended q k es h e = rw (eqb-true q k e) (find_below k es h)
+find_ended q k es h e = rw (eqb-true q k e) (none_below k es h)
 
 module _ {X Y : Type 0} where
   -- what is picked of sorted entries has under each key f of what they have there
@@ -146,9 +177,18 @@ module _ {X Y : Type 0} where
       map.get-from_entries nat_cmp_total (filter_map (entry_of f) (entries m)) q
       ∙ find-filter_map f q (entries m) (entries_sorted m) ∙ ap (option_and_then f) (sym (get-entries m q))
 
+  -- functions that agree on what an option has answer alike for it
+  pub and_then_alike : (f g : X → Option Y) (o : Option X) → ((x : X) → o ≡ Some x → f x ≡ g x) → option_and_then f o ≡ option_and_then g o
+  and_then_alike f g None alike = refl
+  and_then_alike f g (Some x) alike = alike x refl
+
   -- the same is picked of two maps where each key answers alike
   pub picked_same : (f g : X → Option Y) (m n : NatMap X) → ((q : ℕ) → option_and_then f (get m q) ≡ option_and_then g (get n q)) → picked f m ≡ picked g n
   picked_same f g m n alike = same _ _ (λ q. get-picked f m q ∙ alike q ∙ sym (get-picked g n q))
+
+  -- the same is picked by functions that agree on what the map has
+  pub picked_alike : (f g : X → Option Y) (m : NatMap X) → ((q : ℕ) (x : X) → get m q ≡ Some x → f x ≡ g x) → picked f m ≡ picked g m
+  picked_alike f g m alike = picked_same f g m m (λ q. and_then_alike f g (get m q) (alike q))
 
   -- nothing is picked of the empty map
   pub picked-empty : (f : X → Option Y) → picked f empty ≡ empty
@@ -219,7 +259,7 @@ module _ {X : Type 0} where
 
   -- a key that is there has a value
   pub value_at : (m : NatMap X) (q : ℕ) → IsSome (get m q) → (v : X) × (get m q ≡ Some v)
-  value_at m q there = elim (get m q) as (λ o. IsSome o → (v : X) × (o ≡ Some v)) [ None ↦ λ h. absurd (true≢false (sym h)) | Some v ↦ λ h. (v, refl) ] there
+  value_at m q there = some_of (get m q) there
 
   -- a key that has a value is there
   pub IsSome-at : (m : NatMap X) (q : ℕ) (v : X) → get m q ≡ Some v → IsSome (get m q)
@@ -227,7 +267,7 @@ module _ {X : Type 0} where
 
   -- a key that is not there has nothing
   pub none_at : (m : NatMap X) (q : ℕ) → is_some (get m q) ≡ false → get m q ≡ None
-  none_at m q h = elim (get m q) as (λ o. is_some o ≡ false → o ≡ None) [ None ↦ λ _. refl | Some v ↦ λ h. absurd (true≢false h) ] h
+  none_at m q h = none_of (get m q) h
 
   -- a key that is there and one that is free differ
   pub apart_from_free : (m : NatMap X) (k q : ℕ) → get m k ≡ None → IsSome (get m q) → q ≢ k

@@ -1,19 +1,16 @@
 -- The new selector is the least positive number that is not in use.
 use Rattle.std.proofs.Common.{◌≡◌, ℕ, ◌+◌, ◌<◌, ◌≤◌, ◌≢◌, true, false, cond, eqb, T, List, [], ◌∷◌, map, length, is_some, IsSome, Some, refl, sym, ap, ◌∙◌, eqb-true, true≢false, nat_cmp, is_lt, Less, arith}
-use Rattle.std.proofs.lemmas.Bool.Decides.{nat_tests}
+use Rattle.std.proofs.lemmas.Bool.{eqb-false}
 use Rattle.std.specs.Prelude.{None}
-use Rattle.std.specs.Cmp.{unsigned_tied, ranked}
+use Rattle.std.specs.Cmp.{ranked}
 use Rattle.std.specs.FinMap.{get, entries, entries_sorted, get-entries, find, is_sorted}
 use Rattle.std.specs.FinMap.Entries.{below_all}
 use Rattle.own_model.specs.NatMap.{NatMap, least_gap}
 use Rattle.own_model.specs.OwnState.{new_selector}
+use Rattle.own_model.proofs.EntryLemmas.{value_of-cons}
 use Rattle.own_model.proofs.NatMapLemmas.{both_parts, is_less}
 
 -- ---- the least gap in rising numbers
-
--- numbers that a test tells apart differ
-apart_from_test : (a b : ℕ) → eqb a b ≡ false → a ≢ b
-apart_from_test a b e = grind (arith, nat_tests)
 
 -- a number that the order puts below another is less
 below_from_test : (a b : ℕ) → T (is_lt (nat_cmp a b)) → a < b
@@ -23,10 +20,6 @@ module _ {X : Type 0} where
   -- the keys of entries, in order
   abbrev keys_of : List (ℕ × X) → List ℕ
   keys_of es = map (λ e. e.0) es
-
-  -- under a key is the first entry's value, if that has the key, or else what later entries have
-  find-cons : (q : ℕ) (e : ℕ × X) (es : List (ℕ × X)) → find nat_cmp q (e ∷ es) ≡ cond (eqb q e.0) (Some e.1) (find nat_cmp q es)
-  find-cons q e es = ap (λ b. cond b (Some e.1) (find nat_cmp q es)) (unsigned_tied q e.0)
 
   -- it is no less than where the search began
   least_gap_from : (n : ℕ) (es : List (ℕ × X)) → n ≤ least_gap n (keys_of es)
@@ -49,11 +42,11 @@ module _ {X : Type 0} where
   least_gap_filled n t [] from below = absurd (omega arith)
   least_gap_filled n t (e ∷ es) from below =
       elim (eqb t e.0) as (λ c. eqb t e.0 ≡ c → IsSome (find nat_cmp t (e ∷ es))) [
-        | true ↦ λ here. ap is_some (find-cons t e es ∙ ap (λ c. cond c (Some e.1) (find nat_cmp t es)) here)
-        | false ↦ λ other. ap is_some (find-cons t e es ∙ ap (λ c. cond c (Some e.1) (find nat_cmp t es)) other)
+        | true ↦ λ here. ap is_some (value_of-cons t e es ∙ ap (λ c. cond c (Some e.1) (find nat_cmp t es)) here)
+        | false ↦ λ other. ap is_some (value_of-cons t e es ∙ ap (λ c. cond c (Some e.1) (find nat_cmp t es)) other)
             ∙ elim (eqb e.0 n) as (λ b. eqb e.0 n ≡ b → t < cond b (least_gap (n + 1) (keys_of es)) (least_gap n (keys_of es)) → IsSome (find nat_cmp t es)) [
               | true ↦ λ at h.
-                  let apart = apart_from_test t e.0 other in
+                  let apart = eqb-false t e.0 other in
                   let first = eqb-true e.0 n at in
                   least_gap_filled (n + 1) t es (omega arith) h
               | false ↦ λ _ h. least_gap_filled n t es from h
@@ -81,7 +74,7 @@ module _ {X : Type 0} where
             let past = least_gap_from (n + 1) es in
             omega arith
         | false ↦ λ other same.
-            let apart = apart_from_test e.0 n other in
+            let apart = eqb-false e.0 n other in
             let past = least_gap_from n es in
             let n_below : n < e.0 = omega arith in
             let stays = least_gap_above n e.0 es n_below parts.0 in
@@ -94,7 +87,7 @@ module _ {X : Type 0} where
   least_gap_free n (e ∷ es) h =
       let parts = both_parts _ _ h in
       let gap = least_gap n (keys_of (e ∷ es)) in
-      find-cons gap e es
+      value_of-cons gap e es
       ∙ elim (eqb gap e.0) as (λ c. eqb gap e.0 ≡ c → cond c (Some e.1) (find nat_cmp gap es) ≡ None) [
         | true ↦ λ at. absurd (least_gap_apart n e es h (eqb-true gap e.0 at))
         | false ↦ λ _. elim (eqb e.0 n) as (λ b. find nat_cmp (cond b (least_gap (n + 1) (keys_of es)) (least_gap n (keys_of es))) es ≡ None) [

@@ -1,5 +1,5 @@
 -- Where regions can be attached, and what stays when they change.
-use Rattle.std.proofs.Common.{◌≡◌, ℕ, ◌+◌, ◌-◌, ◌*◌, ◌%◌, ◌<◌, ◌≤◌, ◌&&◌, ◌||◌, is_lt, Bool, true, false, cond, not, T, List, [], ◌∷◌, length, is_some, IsSome, Some, refl, sym, ap, subst, ◌∙◌, true≢false, eqb, eqb-true, ◌==◌, nat_le, nat_cmp, zero, suc, map, arith}
+use Rattle.std.proofs.Common.{◌≡◌, ℕ, ◌+◌, ◌-◌, ◌*◌, ◌%◌, ◌<◌, ◌≤◌, ◌&&◌, ◌||◌, is_lt, Bool, true, false, cond, not, T, List, [], ◌∷◌, length, is_some, IsSome, Some, refl, sym, ap, subst, ◌∙◌, true≢false, eqb, eqb-true, ◌==◌, nat_le, nat_cmp, zero, suc, map, arith, ◌≢◌}
 use Rattle.std.proofs.lemmas.Bool.Decides.{nat_tests}
 use Rattle.std.proofs.lemmas.Option.{none-some, same_Some, some_pair_parts}
 use Rattle.std.proofs.lemmas.List.{length-map}
@@ -13,17 +13,20 @@ use Rattle.std.specs.FinMap.Entries.{below_all, same_entries}
 use Rattle.trade_base.specs.declared.refusal.Refusal.TheVariants.{PageFault}
 use Rattle.own_model.specs.NatMap.{NatMap, picked}
 use Rattle.own_model.specs.Region.{Region, user_low, user_high, overlap, meets, can_stand, first_gap, IsPlace, IsFirstGap, region_at, resolved, without, holds, attach_refusal, attach_at_refusal, detach_refusal}
-use Rattle.own_model.proofs.NatMapLemmas.{same, get-picked, picked-insert_some, picked-remove}
+use Rattle.own_model.proofs.NatMapLemmas.{same, get-picked, picked-insert_some, picked-remove, none_of}
 use Rattle.own_model.proofs.EntryLemmas.{value_of, list_any-find, found_in_map, not_found_in_map, finds_none_in_map}
+use Rattle.own_model.proofs.Totals.{total-picked_le, len-total}
+use Rattle.std.proofs.lemmas.Bool.{eq-eqb, eqb-false}
 
--- an option without a value is none
-none_found : {X : Type 0} (o : Option X) → is_some o ≡ false → o ≡ None
-none_found None h = refl
-none_found (Some x) h = absurd (true≢false h)
+-- ---- ranges
 
--- equal numbers pass the test of equality
-same_test : (a b : ℕ) → a ≡ b → eqb a b ≡ true
-same_test a b e = grind (arith, nat_tests)
+-- whether two ranges overlap is the same from either side
+pub overlap_sym : (a p b q : ℕ) → overlap a p b q ≡ overlap b q a p
+overlap_sym a p b q = grind (arith, nat_tests)
+
+-- two ranges with one start overlap, where each has a page
+pub overlap_self : (a p q : ℕ) → 1 ≤ p → 1 ≤ q → overlap a p a q ≡ true
+overlap_self a p q some more = grind (arith, nat_tests)
 
 -- ---- whether pages meet a region
 
@@ -34,7 +37,7 @@ overlap_at address pages e = overlap e.0 e.1.pages address pages
 -- pages that meet no region overlap none
 pub meets_none : (regions : NatMap Region) (address pages start : ℕ) (region : Region) → meets regions address pages ≡ false → get regions start ≡ Some region → overlap start region.pages address pages ≡ false
 meets_none regions address pages start region clear there =
-    not_found_in_map (overlap_at address pages) regions start region (none_found _ (sym (list_any-find (overlap_at address pages) (entries regions)) ∙ clear)) there
+    not_found_in_map (overlap_at address pages) regions start region (none_of _ (sym (list_any-find (overlap_at address pages) (entries regions)) ∙ clear)) there
 
 -- pages that overlap no region meet none
 pub clear_of_all : (regions : NatMap Region) (address pages : ℕ) → ((start : ℕ) (region : Region) → get regions start ≡ Some region → overlap start region.pages address pages ≡ false) → meets regions address pages ≡ false
@@ -73,6 +76,15 @@ place low high regions pages address can =
 pub stands : (low high : ℕ) (regions : NatMap Region) (pages address : ℕ) → IsPlace low high regions pages address → can_stand low high regions pages address ≡ true
 stands low high regions pages address at =
     tests_of_place low high pages address (meets regions address pages) at.aligned at.from_low at.to_high (clear_of_all regions address pages at.free)
+
+-- no region starts where pages can stand
+pub free_place : (low high : ℕ) (regions : NatMap Region) (pages address : ℕ) → 1 ≤ pages → ((start : ℕ) (region : Region) → get regions start ≡ Some region → 1 ≤ region.pages) →
+    IsPlace low high regions pages address → get regions address ≡ None
+free_place low high regions pages address some each at =
+    elim (get regions address) as (λ o. get regions address ≡ o → o ≡ None) [
+      | None ↦ λ _. refl
+      | Some r ↦ λ there. absurd (true≢false (sym (overlap_self address r.pages pages (each address r there) some) ∙ at.free address r there))
+    ] refl
 
 -- ---- the first gap
 
@@ -153,6 +165,30 @@ pub skip_region : (low high : ℕ) (regions : NatMap Region) (pages address star
 skip_region low high regions pages address start region there over b from below at =
     let free = at.free start region there in
     skipped start region.pages address pages b over from below free
+
+-- ---- regions without those of a thing
+
+-- what is left of the regions without those of a selector was there, and is of another
+kept_region : (selector : ℕ) (o : Option Region) (region : Region) → option_and_then (λ r. if r.of == selector then None else Some r) o ≡ Some region → (o ≡ Some region) × (region.of ≢ selector)
+kept_region selector None region is = absurd (none-some region is)
+kept_region selector (Some r) region is =
+    elim (eqb r.of selector) as (λ b. eqb r.of selector ≡ b → cond b None (Some r) ≡ Some region → (◌≡◌ {A = Option Region} (Some r) (Some region)) × (region.of ≢ selector)) [
+      | true ↦ λ same found. absurd (none-some region found)
+      | false ↦ λ other found.
+          let e = same_Some r region found in
+          (found, subst (λ x. x.of ≢ selector) e (eqb-false r.of selector other))
+    ] refl is
+
+-- the same of the map
+pub left_without : (selector : ℕ) (regions : NatMap Region) (start : ℕ) (region : Region) → get (without selector regions) start ≡ Some region → (get regions start ≡ Some region) × (region.of ≢ selector)
+left_without selector regions start region is =
+    kept_region selector (get regions start) region (sym (get-picked (λ r. if r.of == selector then None else Some r) regions start) ∙ is)
+
+-- they are no more
+pub len-without : (selector : ℕ) (regions : NatMap Region) → len (without selector regions) ≤ len regions
+len-without selector regions =
+    let fewer = total-picked_le (λ r. 1) (λ r. 1) (λ r. if r.of == selector then None else Some r) regions (λ v y e. omega arith) in
+    omega (arith, len-total (without selector regions), len-total regions, fewer)
 
 -- ---- regions of the same starts and pages, of whatever things
 
@@ -389,7 +425,7 @@ module _ (name : ℕ → Option ℕ) where
     -- a region of another thing gets another name
     renamed_apart : (region : Region) (n : ℕ) → name region.of ≡ Some n → eqb region.of of ≡ false → eqb n other ≡ false
     renamed_apart region n there differs = elim (eqb n other) as (λ b. eqb n other ≡ b → b ≡ false) [
-      | true ↦ λ t. absurd (true≢false (sym (same_test region.of of (alone region.of (there ∙ ap (λ m. Some m) (eqb-true n other t)))) ∙ differs))
+      | true ↦ λ t. absurd (true≢false (sym (eq-eqb region.of of (alone region.of (there ∙ ap (λ m. Some m) (eqb-true n other t)))) ∙ differs))
       | false ↦ λ t. refl
     ] refl
 
@@ -402,7 +438,7 @@ module _ (name : ℕ → Option ℕ) where
           | true ↦ λ t.
               let named : name region.of ≡ Some other = ap name (eqb-true region.of of t) ∙ is in
               sym (ap (λ n. option_and_then (but other) (option_map (λ m. record region { of = m }) n)) named
-              ∙ ap (λ b. cond b None (Some (record region { of = other }))) (same_test other other refl))
+              ∙ ap (λ b. cond b None (Some (record region { of = other }))) (eq-eqb other other refl))
           | false ↦ λ t.
               elim (name region.of) as (λ n. name region.of ≡ n → option_map (λ m. record region { of = m }) n ≡ option_and_then (but other) (option_map (λ m. record region { of = m }) n)) [
                 | None ↦ λ there. refl

@@ -2,18 +2,16 @@
 use Rattle.std.proofs.Common.{◌≡◌, ◌≢◌, ℕ, ◌+◌, ◌*◌, ◌/◌, ◌^◌, ◌<◌, ◌≤◌, ◌&&◌, Bool, true, false, cond, eqb, List, length, nat_lt, nat_le, Some, refl, sym, ap, subst, ◌∙◌, eqb-true, true≢false, nat_cmp, arith}
 use Rattle.std.proofs.lemmas.Bool.Decides.{nat_tests}
 use Rattle.std.proofs.lemmas.Option.{none-some, same_Some}
-use Rattle.std.specs.Prelude.{Option, None, is_none, if◌then◌else◌, ◌==◌}
-use Rattle.std.specs.Option.{option_and_then}
-use Rattle.std.specs.Cmp.{nat_cmp_total}
-use Rattle.std.specs.FinMap.{get, insert, remove, len, len-empty, len-remove}
+use Rattle.std.specs.Prelude.{Option, None, is_none}
+use Rattle.std.specs.FinMap.{get, insert, remove, len, len-empty}
 use Rattle.trade_base.specs.declared.refusal.Refusal.{Refusal}
 use Rattle.trade_base.specs.declared.refusal.Refusal.TheVariants.{InvalidSize, InvalidCap, TooManyRegions, RegionConflict}
 use Rattle.trade_base.specs.Page.{page_of}
-use Rattle.own_model.proofs.NatMapLemmas.{get-empty, get-insert, get-picked, get-remove_other, before_remove, apart_from_free, IsSome-at, get-insert_other, get-insert_same}
+use Rattle.own_model.proofs.NatMapLemmas.{get-empty, get-remove_other, before_remove, apart_from_free, IsSome-at, get-insert_other, get-insert_same, each_after_insert}
 use Rattle.own_model.proofs.NewSelector.{new_selector_free}
-use Rattle.own_model.proofs.RegionLemmas.{place}
+use Rattle.own_model.proofs.RegionLemmas.{place, left_without, len-without, overlap_sym, free_place}
 use Rattle.own_model.proofs.StepLemmas.{KeptByEffects, step_keeps, run_keeps}
-use Rattle.own_model.proofs.Totals.{len-insert_new, len-total, total-picked_le}
+use Rattle.own_model.proofs.Totals.{len-insert_new, len-remove_le}
 use Rattle.own_model.proofs.UseLemmas.{length-zeros, length-with_part}
 use Rattle.own_model.specs.Account.{Account, shortage}
 use Rattle.own_model.specs.Call.{Call}
@@ -22,65 +20,10 @@ use Rattle.own_model.specs.NatMap.{NatMap}
 use Rattle.own_model.specs.OwnState.{OwnState, Object, zeros, new_selector, pages_in, with_part, object_with}
 use Rattle.own_model.specs.OwnState.Object.{Dataspace, RpcObject}
 use Rattle.own_model.specs.OwnStep.{own_step, own_run, script_step, refused, unless, alloc_refusal, allocated, freed, with_region, attached_first, attached_at, region_detached, poked_at, cap_allocated, cap_freed}
-use Rattle.own_model.specs.Region.{Region, user_low, user_high, most_regions, overlap, can_stand, first_gap, user_gap, IsPlace, without}
+use Rattle.own_model.specs.Region.{Region, user_low, user_high, most_regions, overlap, can_stand, first_gap, user_gap}
 use Rattle.own_model.specs.Sound.{IsPages, NamesDataspace, IsInWindow, IsSound}
 use Rattle.own_model.specs.StartList.{Entry, StartEntry, start_state}
-
--- ---- what holds of each value of a map
-
-module _ {X : Type 0} (P : ℕ → X → Type 0) where
-  -- it holds after an insertion of a value of which it holds
-  pub after_insert : (m : NatMap X) (k : ℕ) (v : X) → ((q : ℕ) (w : X) → get m q ≡ Some w → P q w) → P k v → (q : ℕ) (w : X) → get (insert m k v) q ≡ Some w → P q w
-  after_insert m k v each here q w is =
-      elim (eqb q k) as (λ b. eqb q k ≡ b → cond b (Some v) (get m q) ≡ Some w → P q w) [
-        | true ↦ λ same found. subst (λ x. P q x) (same_Some v w found) (subst (λ j. P j v) (sym (eqb-true q k same)) here)
-        | false ↦ λ other found. each q w found
-      ] refl (sym (get-insert m k v q) ∙ is)
-
--- numbers that a test tells apart differ
-apart_by : (a b : ℕ) → eqb a b ≡ false → a ≢ b
-apart_by a b e = grind (arith, nat_tests)
-
--- what is left of the regions without those of a selector was there, and is of another
-kept_region : (selector : ℕ) (o : Option Region) (region : Region) → option_and_then (λ r. if r.of == selector then None else Some r) o ≡ Some region → (o ≡ Some region) × (region.of ≢ selector)
-kept_region selector None region is = absurd (none-some region is)
-kept_region selector (Some r) region is =
-    elim (eqb r.of selector) as (λ b. eqb r.of selector ≡ b → cond b None (Some r) ≡ Some region → (◌≡◌ {A = Option Region} (Some r) (Some region)) × (region.of ≢ selector)) [
-      | true ↦ λ same found. absurd (none-some region found)
-      | false ↦ λ other found.
-          let e = same_Some r region found in
-          (found, subst (λ x. x.of ≢ selector) e (apart_by r.of selector other))
-    ] refl is
-
--- the same of the map
-pub left_without : (selector : ℕ) (regions : NatMap Region) (start : ℕ) (region : Region) → get (without selector regions) start ≡ Some region → (get regions start ≡ Some region) × (region.of ≢ selector)
-left_without selector regions start region is =
-    kept_region selector (get regions start) region (sym (get-picked (λ r. if r.of == selector then None else Some r) regions start) ∙ is)
-
--- they are no more
-pub len-without : (selector : ℕ) (regions : NatMap Region) → len (without selector regions) ≤ len regions
-len-without selector regions =
-    let fewer = total-picked_le (λ r. 1) (λ r. 1) (λ r. if r.of == selector then None else Some r) regions (λ v y e. omega arith) in
-    omega (arith, len-total (without selector regions), len-total regions, fewer)
-
--- ---- places
-
--- whether two ranges overlap is the same from either side
-overlap_sym : (a p b q : ℕ) → overlap a p b q ≡ overlap b q a p
-overlap_sym a p b q = grind (arith, nat_tests)
-
--- two ranges with one start overlap, where each has a page
-overlap_self : (a p q : ℕ) → 1 ≤ p → 1 ≤ q → overlap a p a q ≡ true
-overlap_self a p q some more = grind (arith, nat_tests)
-
--- no region starts where pages can stand
-free_place : (regions : NatMap Region) (pages address : ℕ) → 1 ≤ pages → ((start : ℕ) (region : Region) → get regions start ≡ Some region → 1 ≤ region.pages) →
-    IsPlace user_low user_high regions pages address → get regions address ≡ None
-free_place regions pages address some each at =
-    elim (get regions address) as (λ o. get regions address ≡ o → o ≡ None) [
-      | None ↦ λ _. refl
-      | Some r ↦ λ there. absurd (true≢false (sym (overlap_self address r.pages pages (each address r there) some) ∙ at.free address r there))
-    ] refl
+use Rattle.std.proofs.lemmas.Bool.{ltb-true, eqb-false}
 
 -- ---- dataspaces
 
@@ -99,13 +42,9 @@ valid_parts : (a b : Bool) (o : Option Refusal) (x : Refusal) → cond (a && b) 
 valid_parts true b o x accepted = refl
 valid_parts false b o x accepted = absurd (none-some x (sym accepted))
 
--- a number that passes the test is above 0
-positive : (n : ℕ) → nat_lt 0 n ≡ true → 0 < n
-positive n h = grind (arith, nat_tests)
-
 -- an allocation that is accepted is of some bytes
 valid_some : (n : ℕ) (a : Account) → alloc_refusal n a ≡ None → 0 < n
-valid_some n a accepted = positive n (valid_parts (nat_lt 0 n) (nat_lt (page_of n) (2 ^ 64)) (shortage a (page_of n) 1) InvalidSize accepted)
+valid_some n a accepted = ltb-true 0 n (valid_parts (nat_lt 0 n) (nat_lt (page_of n) (2 ^ 64)) (shortage a (page_of n) 1) InvalidSize accepted)
 
 -- each dataspace that a selector names is whole pages
 abbrev EachWhole : NatMap Object → Type 0
@@ -124,7 +63,7 @@ whole_objects selectors each q RpcObject is = tt
 -- one more object that is leaves each dataspace whole pages
 whole_after : (selectors : NatMap Object) (k : ℕ) (object : Object) → EachWhole selectors → ObjectWhole object → EachWhole (insert selectors k object)
 whole_after selectors k object each here selector bytes is =
-    after_insert (λ q w. ObjectWhole w) selectors k object (whole_objects selectors each) here selector (Dataspace bytes) is
+    each_after_insert selectors k object (λ q w. ObjectWhole w) (whole_objects selectors each) here selector (Dataspace bytes) is
 
 -- ---- names
 
@@ -159,7 +98,7 @@ named_poked selectors k offset part object region there h =
             there = get-insert_same selectors k (object_with object offset part) region.of at ∙ ap (λ o. Some (object_with o offset part)) is;
             pages = h.pages ∙ ap (λ l. l / 4096) (sym (length-with_part h.bytes offset part));
           }
-      | false ↦ λ other. named_same selectors _ region h (get-insert_other selectors k (object_with object offset part) region.of (apart_by region.of k other))
+      | false ↦ λ other. named_same selectors _ region h (get-insert_other selectors k (object_with object offset part) region.of (eqb-false region.of k other))
     ] refl
 
 -- bytes put over others leave whole pages whole
@@ -235,10 +174,6 @@ sound_cap_freed selector s there h = record {
   few = h.few;
 }
 
--- after a removal there are no more
-len-remove_le : {X : Type 0} (m : NatMap X) (k : ℕ) → len (remove m k) ≤ len m
-len-remove_le m k = grind (arith, len-remove nat_cmp_total m k)
-
 -- a region that is detached keeps an own state sound
 sound_detached : (address : ℕ) (s : OwnState) → IsSound s → IsSound (region_detached address s).next
 sound_detached address s h = record {
@@ -278,9 +213,9 @@ apart_after : (regions : NatMap Region) (address : ℕ) (region : Region) →
     ((start : ℕ) (r : Region) → get regions start ≡ Some r → overlap start r.pages address region.pages ≡ false) →
     (a b : ℕ) (r q : Region) → get (insert regions address region) a ≡ Some r → get (insert regions address region) b ≡ Some q → a ≢ b → overlap a r.pages b q.pages ≡ false
 apart_after regions address region apart free a b r q x y =
-    after_insert (λ a r. (b : ℕ) (q : Region) → get (insert regions address region) b ≡ Some q → a ≢ b → overlap a r.pages b q.pages ≡ false) regions address region
-    (λ a r x. after_insert (λ b q. a ≢ b → overlap a r.pages b q.pages ≡ false) regions address region (λ b q y. apart a b r q x y) (λ _. free a r x))
-    (after_insert (λ b q. address ≢ b → overlap address region.pages b q.pages ≡ false) regions address region
+    each_after_insert regions address region (λ a r. (b : ℕ) (q : Region) → get (insert regions address region) b ≡ Some q → a ≢ b → overlap a r.pages b q.pages ≡ false)
+    (λ a r x. each_after_insert regions address region (λ b q. a ≢ b → overlap a r.pages b q.pages ≡ false) (λ b q y. apart a b r q x y) (λ _. free a r x))
+    (each_after_insert regions address region (λ b q. address ≢ b → overlap address region.pages b q.pages ≡ false)
     (λ b q y _. overlap_sym address region.pages b q.pages ∙ free b q y) (λ same. absurd (same refl)))
     a r x b q y
 
@@ -291,11 +226,11 @@ sound_attached : (selector address : ℕ) (bytes : List ℕ) (s : OwnState) → 
 sound_attached selector address bytes s there can room h =
     let at = place user_low user_high s.regions (pages_in bytes) address can in
     let region : Region = record { of = selector; pages = pages_in bytes } in
-    let free = free_place s.regions (pages_in bytes) address (h.whole selector bytes there).some (some_pages s h) at in
+    let free = free_place user_low user_high s.regions (pages_in bytes) address (h.whole selector bytes there).some (some_pages s h) at in
     record {
       whole = h.whole;
-      named = after_insert (λ start r. NamesDataspace s.selectors r) s.regions address region h.named (record { bytes = bytes; there = there; pages = refl });
-      within = after_insert (λ start r. IsInWindow start r.pages) s.regions address region h.within
+      named = each_after_insert s.regions address region (λ start r. NamesDataspace s.selectors r) h.named (record { bytes = bytes; there = there; pages = refl });
+      within = each_after_insert s.regions address region (λ start r. IsInWindow start r.pages) h.within
           (record { aligned = at.aligned; from_low = at.from_low; to_high = at.to_high });
       apart = apart_after s.regions address region h.apart at.free;
       few = omega (arith, fewer most_regions (len s.regions) room, len-insert_new s.regions address region free);

@@ -1,5 +1,5 @@
 -- What holds of an own state after a call, where it holds after each thing that a call can do.
-use Rattle.std.proofs.Common.{◌≡◌, ℕ, ◌+◌, ◌≤◌, Bool, true, false, cond, List, [], ◌∷◌, length, nat_le, nat_lt, unwrap_or, refl, sym, subst, true≢false, arith}
+use Rattle.std.proofs.Common.{◌≡◌, ℕ, ◌+◌, Bool, true, false, cond, List, [], ◌∷◌, length, nat_le, nat_lt, unwrap_or, refl, sym, subst, true≢false, arith}
 use Rattle.std.proofs.lemmas.Bool.Decides.{nat_tests}
 use Rattle.std.proofs.lemmas.Option.{none-some}
 use Rattle.std.specs.Prelude.{Option, Some, None, is_none}
@@ -17,6 +17,7 @@ use Rattle.own_model.specs.OwnState.Object.{Dataspace, RpcObject}
 use Rattle.own_model.specs.OwnStep.{Outcome, own_step, own_run, unless, is_valid_size, alloc_refusal, allocated, freed, with_region, attached_first, attached_at, region_detached, count_refusal, peeked, poked_at, poked, cap_allocated, cap_freed, script_step, turned_away}
 use Rattle.own_model.specs.Region.{Region, most_regions, user_low, user_high, can_stand, first_gap, IsFirstGap, user_gap, resolved, attach_refusal, attach_at_refusal, detach_refusal}
 use Rattle.own_model.specs.StartList.{Entry}
+use Rattle.std.proofs.lemmas.Bool.{ltb-false}
 
 -- P holds of a state after each thing that a call can do to it
 pub record KeptByEffects (P : OwnState → Type 0) (s : OwnState) : Type 0 where
@@ -74,15 +75,11 @@ attach_at_place : (most : ℕ) (regions : NatMap Region) (pages address : ℕ) �
 attach_at_place most regions pages address accepted =
     neither_then (can_stand user_low user_high regions pages address) (nat_le most (len regions)) TooManyRegions RegionConflict accepted
 
--- what isn't above a limit is within it
-within : (limit n : ℕ) → nat_lt limit n ≡ false → n ≤ limit
-within limit n h = grind (arith, nat_tests)
-
 -- an account that lacks nothing covers it
 pub covers : (a : Account) (ram caps : ℕ) → shortage a ram caps ≡ None → Fits a ram caps
 covers a ram caps enough =
     let parts = neither (nat_lt a.ram_limit (a.ram_used + ram)) (nat_lt a.caps_limit (a.caps_used + caps)) OutOfRam OutOfCaps enough in
-    record { ram_fits = within a.ram_limit (a.ram_used + ram) parts.0; caps_fit = within a.caps_limit (a.caps_used + caps) parts.1 }
+    record { ram_fits = ltb-false a.ram_limit (a.ram_used + ram) parts.0; caps_fit = ltb-false a.caps_limit (a.caps_used + caps) parts.1 }
 
 -- an account within its limits lacks nothing but capabilities where no bytes are asked for
 pub short_of_caps : (a : Account) (caps : ℕ) (refusal : Refusal) → WithinLimits a → Some refusal ≡ shortage a 0 caps → refusal ≡ OutOfCaps

@@ -6,7 +6,7 @@ use Rattle.std.proofs.lemmas.Option.{none-some}
 use Rattle.std.specs.Prelude.{Option, None, sum_by}
 use Rattle.std.specs.Option.{option_map}
 use Rattle.std.specs.Cmp.{nat_cmp_total}
-use Rattle.std.specs.FinMap.{get, insert, remove, empty, entries, len, len-empty, len-entries, len-insert, get-entries, entries-insert, find}
+use Rattle.std.specs.FinMap.{get, insert, remove, empty, entries, len, len-empty, len-entries, len-insert, len-remove, get-entries, entries-insert, find}
 use Rattle.std.specs.FinMap.Entries.{put, by_order}
 use Rattle.own_model.specs.NatMap.{NatMap, total, picked, owed}
 use Rattle.own_model.proofs.NatMapLemmas.{natmaps, get-empty, get-insert, get-insert_same, get-insert_other, get-remove_same, insert-remove, insert_back, apart_from_free, before_remove, by_insertions, picked-empty, picked-insert_some, picked-insert_hidden, get-picked_none}
@@ -96,6 +96,10 @@ module _ {X : Type 0} where
   -- a key that goes is one less
   pub len-remove_at : (m : NatMap X) (k : ℕ) (w : X) → get m k ≡ Some w → len (remove m k) + 1 ≡ len m
   len-remove_at m k w there = sym (len-insert_new (remove m k) k w (get-remove_same m k k refl)) ∙ ap len (put_back m k w there)
+
+  -- after a removal there are no more
+  pub len-remove_le : (m : NatMap X) (k : ℕ) → len (remove m k) ≤ len m
+  len-remove_le m k = grind (arith, len-remove nat_cmp_total m k)
 
   -- a map has as many values as ones
   pub len-total : (m : NatMap X) → len m ≡ total (λ v. 1) m

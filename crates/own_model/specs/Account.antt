@@ -3,7 +3,8 @@ use Rattle.std.specs.Prelude.{ℕ, ◌+◌, ◌-◌, ◌≤◌, nat_lt, if◌the
 use Rattle.std.proofs.Common.{refl}
 use Rattle.std.specs.Coded.{Coded, code_by, coded×, coded_ℕ}
 use Rattle.trade_base.specs.declared.refusal.Refusal.{Refusal}
-use Rattle.trade_base.specs.declared.refusal.Refusal.TheVariants.{OutOfRam, OutOfCaps}
+use Rattle.trade_base.specs.declared.refusal.Refusal.TheVariants.{InvalidSize, OutOfRam, OutOfCaps}
+use Rattle.trade_base.specs.Page.{page_of, is_valid_size}
 
 -- a limit and a use, of bytes and of capabilities
 pub record Account : Type 0 where
@@ -32,6 +33,11 @@ abbrev pub shortage : Account → ℕ → ℕ → Option Refusal
 shortage a ram caps =
     if nat_lt a.ram_limit (a.ram_used + ram) then Some OutOfRam
     else (if nat_lt a.caps_limit (a.caps_used + caps) then Some OutOfCaps else None)
+
+-- why an allocation of n bytes, in whole pages and under one capability, is refused
+abbrev pub alloc_refusal : ℕ → Account → Option Refusal
+alloc_refusal n account =
+    if is_valid_size n then shortage account (page_of n) 1 else Some InvalidSize
 
 -- the account with so much more in use
 abbrev pub charged : Account → ℕ → ℕ → Account

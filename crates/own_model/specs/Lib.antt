@@ -1,4 +1,5 @@
 pub mod NatMap
+pub mod Entries
 pub mod Account
 pub mod Text
 pub mod Call

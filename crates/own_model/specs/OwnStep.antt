@@ -4,7 +4,9 @@ use Rattle.std.specs.FinMap.{get, insert, remove}
 use Rattle.trade_base.specs.declared.refusal.Refusal.{Refusal}
 use Rattle.trade_base.specs.declared.refusal.Refusal.TheVariants.{NotAScript, Gone, InvalidSize, InvalidCap, PageFault}
 use Rattle.trade_base.specs.Page.{page_of}
-use Rattle.own_model.specs.Account.{Account, shortage, charged, credited}
+use Rattle.own_model.specs.Account.{shortage, charged, credited}
+pub use Rattle.own_model.specs.Account.{alloc_refusal}
+pub use Rattle.trade_base.specs.Page.{is_valid_size}
 use Rattle.own_model.specs.Call.{Call}
 use Rattle.own_model.specs.Call.Call.{Alloc, Free, Attach, AttachAt, Detach, Peek, Poke, Capalloc, Capfree, Quota}
 use Rattle.own_model.specs.OwnState.{OwnState, Object, zeros, new_selector, pages_in, bytes_named, object_with}
@@ -34,15 +36,6 @@ unless None s accepted = accepted
 abbrev pub turned_away : Kind → OwnState → Option Refusal
 turned_away Server s = Some NotAScript
 turned_away Script s = if s.gone then Some Gone else None
-
--- a size is valid that isn't 0 and is below 2^64 in whole pages
-abbrev pub is_valid_size : ℕ → Bool
-is_valid_size n = nat_lt 0 n && nat_lt (page_of n) (2 ^ 64)
-
--- why an allocation of n bytes is refused
-abbrev pub alloc_refusal : ℕ → Account → Option Refusal
-alloc_refusal n account =
-    if is_valid_size n then shortage account (page_of n) 1 else Some InvalidSize
 
 -- n bytes in whole pages, all zero, under the new selector
 abbrev pub allocated : ℕ → OwnState → Outcome

@@ -22,11 +22,8 @@ pub use regions::{
     found_ranges_fit, freed_has_no_regions, full_maps_refuse, pokes_are_read, regions_stay_sound,
 };
 pub use rows::{
-    arguments_are_read, empty_budget_is_told, free_detaches_every_region,
-    lines_and_names_are_refused, lines_end_and_overflow, long_lines_are_no_calls,
-    longest_line_is_read, new_bytes_are_zero, ram_is_exact_at_the_limit,
-    ram_is_refused_before_capabilities, regions_and_their_edges, regions_are_128_at_most,
-    selectors_are_ones_own, selectors_come_again, sizes_round_up_to_pages,
+    arguments_are_read, empty_budget_is_told, lines_and_names_are_refused, lines_end_and_overflow,
+    long_lines_are_no_calls, longest_line_is_read,
 };
 pub use runs::{own_part_over_append, own_run_over_append};
 pub use start::{boots_balanced, machine_a_boots};

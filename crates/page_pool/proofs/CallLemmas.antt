@@ -8,7 +8,7 @@ use Rattle.std.proofs.lemmas.Bool.Decides.{nat_tests}
 use Rattle.trade_base.specs.Bytes.{with_bytes}
 use Rattle.trade_base.proofs.BytesLemmas.{length-with_bytes, with_bytes-whole}
 use Rattle.page_pool.specs.Pages.{fresh_pages, free_count, is_taken, page_bytes, zero_page}
-use Rattle.page_pool.specs.PageLaws.{length-zero_page}
+use Rattle.page_pool.proofs.PageLaws.{length-zero_page}
 use Rattle.page_pool.specs.Layout.{is_listed, has_no_repeat, AreNumbersBelow, page_count, bytes_at, pages_of, IsLaidOut}
 use Rattle.page_pool.proofs.NumberLemmas.{is_listed-push, has_no_repeat-push}
 use Rattle.page_pool.proofs.ByteLemmas.{range_with_part, range_of_range}

@@ -1,3 +1,4 @@
+pub mod PageLaws
 pub mod NumberLemmas
 pub mod ByteLemmas
 pub mod CountLemmas

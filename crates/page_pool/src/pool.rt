@@ -1,7 +1,8 @@
 //! The pool over one vector of bytes, with the numbers of the free pages in another.
-ghost use Rattle.std.specs.Prelude.{◌≡◌, ◌+◌, ◌≤◌, length, IsTrue, IfOk, IfSome, IfNone, Some, None, is_some, nat_lt, slice_get, slice_set, slice_range, vec_len, vec_capacity};
+ghost use Rattle.std.specs.Prelude.{◌≡◌, ◌+◌, ◌%◌, ◌≤◌, length, IsTrue, IfOk, IfSome, IfNone, Some, None, is_some, nat_lt, slice_get, slice_set, slice_range, vec_len, vec_capacity};
 ghost use Rattle.page_pool.specs.Layout.{AreNumbersBelow};
 ghost use Rattle.trade_base.specs.Bytes.{with_bytes};
+ghost use Rattle.trade_base.specs.Word.{word_bytes, word_of};
 ghost use Rattle.page_pool.specs.Pages.{fresh_pages, free_count, is_taken, page_bytes, zero_page};
 
 use std::alloc::Global;
@@ -95,6 +96,35 @@ impl Pool {
     {
         let bytes = &mut self.bytes;
         put(bytes, page.0 * PAGE_BYTES + offset, part);
+    }
+
+    /// The word of a taken page that stands at `offset`, its lowest byte first.
+    #[tactic(auto, unfolding(trade_base::specs::Word::word_of))]
+    pub fn load(&self, page: PageNo, offset: usize) -> u64
+        requires taken { IsTrue (is_taken self.now page.0) }
+        requires aligned { offset % 8 ≡ 0 }
+        requires range { offset + 8 ≤ 4096 }
+        ensures word { let bytes = page_bytes self.now page.0 in
+            result ≡ word_of (slice_range bytes offset (offset + 8)) }
+        ensures size { length (page_bytes self.now page.0) ≡ 4096 }
+    {
+        let mut bytes = [0; 8];
+        self.read(page, offset, &mut bytes);
+        u64::from_le_bytes(bytes)
+    }
+
+    /// Puts `word` at `offset` into a taken page, its lowest byte first. Nothing else changes.
+    #[tactic(auto, unfolding(trade_base::specs::Word::word_bytes))]
+    pub fn store(&mut self, page: PageNo, offset: usize, word: u64)
+        requires taken { IsTrue (is_taken self.old page.0) }
+        requires aligned { offset % 8 ≡ 0 }
+        requires range { offset + 8 ≤ 4096 }
+        ensures written { let bytes = with_bytes (page_bytes self.old page.0) offset (word_bytes word) in
+            self.new ≡ slice_set self.old page.0 (Some bytes) }
+        ensures size { length (page_bytes self.old page.0) ≡ 4096 }
+        ensures count { free_count self.new ≡ free_count self.old }
+    {
+        self.write(page, offset, &word.to_le_bytes());
     }
 
     /// How many pages are free.

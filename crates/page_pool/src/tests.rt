@@ -6,7 +6,7 @@ use super::{PageNo, Pool};
 use std::process::Abort;
 
 /// A page of ones, where the page that was handed out held zeros.
-#[tactic(auto, using(crate::specs::PageLaws::page_laws))]
+#[tactic(auto, using(crate::proofs::PageLaws::page_laws))]
 fn take_and_fill(rt: &impl Abort, pool: &mut Pool) -> PageNo
     ensures taken { IsTrue (is_taken pool.new result.0) }
     ensures others { (page : ℕ) → IsTrue (is_taken pool.old page) → IsTrue (is_taken pool.new page) }
@@ -21,7 +21,7 @@ fn take_and_fill(rt: &impl Abort, pool: &mut Pool) -> PageNo
 }
 
 #[test]
-#[tactic(auto, using(crate::specs::PageLaws::page_laws))]
+#[tactic(auto, using(crate::proofs::PageLaws::page_laws))]
 fn pages_come_back_zero(rt: HostRuntime) {
     let mut pool = Pool::boot(rt.alloc(), 4).expect(&rt, "memory for four pages");
     let first = take_and_fill(&rt, &mut pool);

@@ -1,18 +1,17 @@
 -- The world when one component's call has changed the memory and the component.
-use Rattle.std.proofs.Common.{◌≡◌, ℕ, ◌<◌, ◌≢◌, List, length, map, get_or, set, subst, sym, ap, ◌∙◌, inl, inr, arith, length-set, get_or-set_other}
-use Rattle.std.specs.Option.{unwrap_or}
+use Rattle.std.proofs.Common.{◌≡◌, ℕ, ◌<◌, ◌≢◌, List, length, map, get_or, set, subst, refl, sym, ap, ◌∙◌, inl, inr, arith, length-set, get_or-set_other}
 use Rattle.std.specs.List.{AllPairs}
 use Rattle.std.proofs.lemmas.Bool.{cases_eq, cases_lt}
-use Rattle.std.proofs.lemmas.List.{map-set, set-get_or, get_or-map, ext_get_or, length-map, get_or_read}
+use Rattle.std.proofs.Math.Seq.{map-set_same}
+use Rattle.std.proofs.lemmas.List.{map-set, get_or-map, ext_get_or, length-map, get_or_read}
 use Rattle.std.proofs.lemmas.Grind.{get_or-set_at}
-use Rattle.own_model.specs.Account.{opened}
 use Rattle.own_model.specs.Call.{Call}
 use Rattle.own_model.specs.OwnStep.{own_step}
 use Rattle.own_model.specs.Transcript.{nobody, nothing, entry_at, state_at}
 use Rattle.own_model.specs.World.{World, with_state, outcome_at}
-use Rattle.dataspace_core.specs.Store.{Store, part, account_in}
-use Rattle.pd_core.specs.Own.{own_of}
-use Rattle.pd_core.specs.Component.{entry_of, payer_of, caps_of, user_of, own, IsSound, IsSoundRole}
+use Rattle.dataspace_core.specs.Store.{Store, part, root_in, account_in, account_of}
+use Rattle.dataspace_core.proofs.PartLaws.{account_of-part}
+use Rattle.pd_core.specs.Component.{entry_of, payer_of, own_in, own, IsSound, IsSoundRole, Keeps}
 use Rattle.pd_core.specs.Core.{world_of, IsCore}
 use Rattle.pd_core.specs.declared.component.Component.{Component}
 
@@ -46,35 +45,25 @@ module _ (store : Store) (components : List Component) (i : ℕ) (caller : Compo
   pub outcome_is : (call : Call) → outcome_at (world_of store components) i call ≡ own_step (entry_of caller) call (own store caller)
   outcome_is call = ap (λ e. own_step e call (state_at (map (own store) components) i)) entry_is ∙ ap (λ s. own_step (entry_of caller) call s) state_is
 
-  module _ (core : IsCore store components) (store' : Store) (after : Component) (entry : entry_of after ≡ entry_of caller) (account : payer_of after ≡ payer_of caller)
-      (root : store'.books.root ≡ store.books.root) (others : (other : ℕ) → other ≢ payer_of caller → part other store' ≡ part other store) where
+  module _ (core : IsCore store components) (store' : Store) (after : Component) (keeps : Keeps store caller store' after) where
     -- the entries stay
     same_entries : map entry_of (set components i after) ≡ map entry_of components
-    same_entries =
-        map-set entry_of components i after
-        ∙ ap (set (map entry_of components) i) (entry ∙ sym entry_is)
-        ∙ set-get_or (map entry_of components) i nobody
+    same_entries = map-set_same entry_of components i after caller (keeps.entry ∙ ap entry_of (caller_is caller))
 
     -- the caller's account isn't init's
-    init_apart : store.books.root ≢ payer_of caller
+    init_apart : root_in store ≢ payer_of caller
     init_apart e = core.not_init i caller here (ap payer_of (sym (caller_is caller)) ∙ sym e)
 
     -- init's account stays
-    same_init : account_in store' store'.books.root ≡ account_in store store.books.root
-    unfolding part
-    same_init = ap (account_in store') root ∙ ap (λ p. unwrap_or p.account (opened 0 0)) (others store.books.root init_apart)
+    same_init : account_in store' (root_in store') ≡ account_in store (root_in store)
+    same_init =
+        ap (account_in store') keeps.root ∙ sym (account_of-part (root_in store) store')
+        ∙ ap account_of (keeps.others (root_in store) init_apart) ∙ account_of-part (root_in store) store
 
     -- the others' parts
     other_part : (k : ℕ) (d : Component) → k < length components → k ≢ i → part (payer_at components k d) store' ≡ part (payer_at components k d) store
     other_part k d within differs =
-        let theirs : payer_at components k d ≢ payer_of caller = λ e. payers_differ components core.apart k i d within here differs (e ∙ ap payer_of (caller_is d)) in
-        others (payer_at components k d) theirs
-
-    -- and own states
-    other_states : (k : ℕ) → k < length components → k ≢ i → own store' (get_or components k caller) ≡ own store (get_or components k caller)
-    other_states k within differs =
-        let other : Component = get_or components k caller in
-        ap (λ p. own_of p (caps_of other.role) (user_of other.role)) (other_part k caller within differs)
+        keeps.others (payer_at components k d) (λ e. payers_differ components core.apart k i d within here differs (e ∙ ap payer_of (caller_is d)))
 
     -- each place has the own state from before, and the caller's place the new one
     states_at : (k : ℕ) → k < length components →
@@ -86,7 +75,7 @@ module _ (store : Store) (components : List Component) (i : ℕ) (caller : Compo
       | inr differs ↦
           get_or-set_other (map (own store') components) i k (own store' after) nothing differs
           ∙ get_or-map (own store') components k caller nothing within
-          ∙ other_states k within differs
+          ∙ (let other : Component = get_or components k caller in ap (λ p. own_in p other.role) (other_part k caller within differs))
           ∙ sym (get_or-map (own store) components k caller nothing within)
           ∙ sym (get_or-set_other (map (own store) components) i k (own store' after) nothing differs)
     ]
@@ -103,26 +92,21 @@ module _ (store : Store) (components : List Component) (i : ℕ) (caller : Compo
     pub world_after : (call : Call) → own store' after ≡ (own_step (entry_of caller) call (own store caller)).next →
         world_of store' (set components i after) ≡ with_state (world_of store components) i (outcome_at (world_of store components) i call).next
     world_after call next =
-        let state : own store' after ≡ (outcome_at (world_of store components) i call).next = next ∙ ap (λ o. o.next) (sym (outcome_is call)) in
-        let states = same_states ∙ ap (set (map (own store) components) i) state in
+        let states = same_states ∙ ap (set (map (own store) components) i) (next ∙ ap (λ o. o.next) (sym (outcome_is call))) in
         λ j. record { entries = same_entries j; init = same_init j; states = states j }
-
-    -- the changed component stands at the caller's place
-    after_at : (k : ℕ) (d : Component) → k ≡ i → get_or (set components i after) k d ≡ after
-    after_at k d at = get_or-set_at components i k after d at here
 
     -- each component keeps its account
     payer_stays : (k : ℕ) (d : Component) → payer_at (set components i after) k d ≡ payer_at components k d
     payer_stays k d = elim (cases_eq k i) [
       | inl at ↦
-          ap payer_of (after_at k d at) ∙ account ∙ ap payer_of (caller_is d ∙ ap (λ j. get_or components j d) (sym at))
+          ap payer_of (get_or-set_at components i k after d at here) ∙ keeps.account ∙ ap payer_of (caller_is d ∙ ap (λ j. get_or components j d) (sym at))
       | inr differs ↦ ap payer_of (get_or-set_other components i k after d differs)
     ]
 
     -- each component is sound after the call
-    sound_at : IsSound store' after → (k : ℕ) (d : Component) → k < length components → IsSound store' (get_or (set components i after) k d)
-    sound_at sound k d within = elim (cases_eq k i) [
-      | inl at ↦ subst (IsSound store') (sym (after_at k d at)) sound
+    sound_at : (k : ℕ) (d : Component) → k < length components → IsSound store' (get_or (set components i after) k d)
+    sound_at k d within = elim (cases_eq k i) [
+      | inl at ↦ subst (IsSound store') (sym (get_or-set_at components i k after d at here)) keeps.sound
       | inr differs ↦ subst (IsSound store') (sym (get_or-set_other components i k after d differs))
           (let other : Component = get_or components k d in subst (λ p. IsSoundRole p other.role) (sym (other_part k d within differs)) (core.sound k d within))
     ]
@@ -132,10 +116,10 @@ module _ (store : Store) (components : List Component) (i : ℕ) (caller : Compo
     as_many = length-set components i after
 
     -- the core stays sound
-    pub core_after : IsSound store' after → IsCore store' (set components i after)
-    core_after sound = record {
-      sound = λ k d h. sound_at sound k d (omega (arith, h, as_many));
-      not_init = λ k d h e. core.not_init k d (omega (arith, h, as_many)) (sym (payer_stays k d) ∙ e ∙ root);
+    pub core_after : IsCore store' (set components i after)
+    core_after = record {
+      sound = λ k d h. sound_at k d (omega (arith, h, as_many));
+      not_init = λ k d h e. core.not_init k d (omega (arith, h, as_many)) (sym (payer_stays k d) ∙ e ∙ keeps.root);
       apart = λ j k d before h e. core.apart j k d before (omega (arith, h, as_many)) (sym (payer_stays j d) ∙ e ∙ payer_stays k d);
     }
 
@@ -150,17 +134,12 @@ module _ (store : Store) (components : List Component) (world : World) (is : wor
   pub told_outcome : (call : Call) → own_step (entry_of caller) call (own store caller) ≡ outcome_at world i call
   told_outcome call = sym (outcome_is store components i caller caller_within read call) ∙ ap (λ w. outcome_at w i call) is
 
-  -- the world after the call is that world, with the caller's new own state
-  pub told_world : (store' : Store) (after : Component) → entry_of after ≡ entry_of caller → payer_of after ≡ payer_of caller → store'.books.root ≡ store.books.root →
-      ((other : ℕ) → other ≢ payer_of caller → part other store' ≡ part other store) →
-      (call : Call) → own store' after ≡ (own_step (entry_of caller) call (own store caller)).next →
-      world_of store' (set components i after) ≡ with_state world i (outcome_at world i call).next
-  told_world store' after entry account root others call next =
-      world_after store components i caller caller_within read core store' after entry account root others call next
-      ∙ ap (λ w. with_state w i (outcome_at w i call).next) is
+  module _ (store' : Store) (after : Component) (keeps : Keeps store caller store' after) where
+    -- the world after the call is that world, with the caller's new own state
+    pub told_world : (call : Call) → own store' after ≡ (own_step (entry_of caller) call (own store caller)).next →
+        world_of store' (set components i after) ≡ with_state world i (outcome_at world i call).next
+    told_world call next = world_after store components i caller caller_within read core store' after keeps call next ∙ ap (λ w. with_state w i (outcome_at w i call).next) is
 
-  -- the core stays sound
-  pub told_core : (store' : Store) (after : Component) → entry_of after ≡ entry_of caller → payer_of after ≡ payer_of caller → store'.books.root ≡ store.books.root →
-      ((other : ℕ) → other ≢ payer_of caller → part other store' ≡ part other store) → IsSound store' after → IsCore store' (set components i after)
-  told_core store' after entry account root others sound =
-      core_after store components i caller caller_within read core store' after entry account root others sound
+    -- the core stays sound
+    pub told_core : IsCore store' (set components i after)
+    told_core = core_after store components i caller caller_within read core store' after keeps

@@ -1,37 +1,33 @@
 -- A core of fresh parts is sound, and its own states are the start states.
-use Rattle.std.proofs.Common.{◌≡◌, ℕ, List, [], ◌∷◌, map, Some, is_some, true≢false, subst, refl, sym, ap, ◌∙◌, arith, nat_cmp}
+use Rattle.std.proofs.Common.{◌≡◌, ℕ, List, [], ◌∷◌, map, subst, refl, sym, ap, ◌∙◌, arith, nat_cmp}
 use Rattle.std.specs.Prelude.{IfSome}
 use Rattle.std.specs.Option.{option_map}
 use Rattle.std.specs.List.{All}
 use Rattle.std.specs.FinMap as finmap
-use Rattle.std.specs.FinMap.{get, empty, len}
+use Rattle.std.specs.FinMap.{empty, len}
 use Rattle.std.proofs.lemmas.List.Elements.{All-head, All-tail}
 use Rattle.own_model.specs.NatMap.{NatMap, total}
 use Rattle.own_model.specs.Region.{Region}
 use Rattle.own_model.specs.Sound.{IsSound as IsSoundState}
 use Rattle.own_model.specs.StartList.{StartEntry, start_state}
 use Rattle.own_model.specs.Transcript.{nobody}
-use Rattle.own_model.proofs.NatMapLemmas.{get-empty, picked-empty}
+use Rattle.own_model.proofs.NatMapLemmas.{none_in_empty, picked-empty}
 use Rattle.own_model.proofs.SoundLemmas.{start_sound}
 use Rattle.own_model.proofs.Totals.{total-empty}
 use Rattle.cap_space.specs.declared.cap.Cap.{Cap}
-use Rattle.dataspace_core.specs.Store.{Store, account_in}
+use Rattle.dataspace_core.specs.Store.{Store, root_in, account_in}
 use Rattle.pd_core.specs.declared.component.Component.{Component}
 use Rattle.pd_core.specs.declared.component.Role.{Role}
 use Rattle.pd_core.specs.declared.component.Role.TheVariants.{Script, Server}
-use Rattle.pd_core.specs.declared.tables.Tables.{Tables}
-use Rattle.pd_core.specs.Own.{own_of, object_of, regions_of, selector_of, rpc_weight, IsScriptAt}
-use Rattle.pd_core.specs.Component.{entry_of, caps_of, user_of, tables_in, own, IsSound, IsSoundRole}
+use Rattle.pd_core.specs.Own.{own_of, object_of, regions_of, selector_of}
+use Rattle.pd_core.specs.Sound.{rpc_weight}
+use Rattle.pd_core.specs.Component.{entry_of, tables_in, own_in, own, IsSound, IsSoundRole}
 use Rattle.pd_core.specs.Core.{world_of, IsCore}
 use Rattle.pd_core.specs.Fresh.{start_of, starts_of, opened_part, started_world, AreEmpty, IsFresh, AreFresh}
 
 -- a start with this budget
 abbrev budget : ℕ → ℕ → StartEntry
 budget ram caps = record { entry = nobody; ram = ram; caps = caps }
-
--- nothing is in a map that is empty
-no_key : {X : Type 0} (m : NatMap X) → m ≡ empty → (q : ℕ) (x : X) → get m q ≡ Some x → ⊥
-no_key m none q x there = true≢false (sym (ap is_some there) ∙ ap is_some (ap (λ n. get n q) none ∙ get-empty q))
 
 -- who has nothing has the own state of a start
 own_opened : (ram caps : ℕ) → own_of (opened_part ram caps) empty empty ≡ start_state (budget ram caps)
@@ -41,71 +37,44 @@ own_opened ram caps =
     let regions = picked-empty (λ (region : Region). option_map (λ (other : ℕ). record region { of = other }) (selector_of empty region.of)) in
     λ j. record { account = (start_state (budget ram caps)).account; selectors = selectors j; regions = regions j; gone = (start_state (budget ram caps)).gone }
 
--- the same where the capabilities and the regions are known to be empty
-own_unused : (ram caps : ℕ) (m : NatMap Cap) (n : NatMap Region) → m ≡ empty → n ≡ empty → own_of (opened_part ram caps) m n ≡ start_state (budget ram caps)
-own_unused ram caps m n no_caps no_regions =
-    ap (λ (c : NatMap Cap). own_of (opened_part ram caps) c n) no_caps ∙ ap (own_of (opened_part ram caps) empty) no_regions ∙ own_opened ram caps
-
--- tables of nothing are sound where nothing is used
-tables_sound : (ram caps : ℕ) (tables : Tables) → AreEmpty ram caps tables.caps tables.regions → IsScriptAt (opened_part ram caps) tables
-tables_sound ram caps tables fresh =
-    let length_is : len tables.caps.caps ≡ 0 = ap (λ m. len m) fresh.no_caps ∙ finmap.len-empty nat_cmp Cap in
-    record {
-      is_open = refl;
-      there = λ q cap names. absurd (no_key _ fresh.no_caps q cap names);
-      one = λ s t a b first second same. absurd (no_key _ fresh.no_caps s _ first);
-      paid = omega (arith, length_is);
-      spare =
-          let spaces_is : len (empty {X = List ℕ} {R = nat_cmp}) ≡ 0 = finmap.len-empty nat_cmp (List ℕ) in
-          let weight_is : total rpc_weight tables.caps.caps ≡ 0 = ap (total rpc_weight) fresh.no_caps ∙ total-empty rpc_weight in
-          omega (arith, spaces_is, weight_is);
-      within = omega arith;
-      placed = fresh.places;
-      attached = λ start region there. absurd (no_key _ fresh.no_regions start region there);
-      most = fresh.most;
-      ram = fresh.pages;
-      few = λ key bytes there. absurd (no_key (empty {X = List ℕ} {R = nat_cmp}) refl key bytes there);
-      sound = subst IsSoundState (sym (own_unused ram caps tables.caps.caps tables.regions.user fresh.no_caps fresh.no_regions)) (start_sound (budget ram caps));
-    }
-
--- what a role has before its first call
+-- a role before its first call
 abbrev IsEmptyRole : ℕ → ℕ → Role → Type 0
 IsEmptyRole ram caps role = IfSome (tables_in role) (λ tables. AreEmpty ram caps tables.0 tables.1)
 
--- a role of nothing is sound where nothing is used
+-- its own state is that of a start
+own_unused : (ram caps : ℕ) (role : Role) → IsEmptyRole ram caps role → own_in (opened_part ram caps) role ≡ start_state (budget ram caps)
+own_unused ram caps (Script script) fresh =
+    ap (λ (c : NatMap Cap). own_of (opened_part ram caps) c script.regions.user) fresh.no_caps ∙ ap (own_of (opened_part ram caps) empty) fresh.no_regions ∙ own_opened ram caps
+own_unused ram caps (Server account) fresh = own_opened ram caps
+
+-- it is sound where nothing is used
 role_sound : (ram caps : ℕ) (role : Role) → IsEmptyRole ram caps role → IsSoundRole (opened_part ram caps) role
-role_sound ram caps (Script tables) fresh = tables_sound ram caps tables fresh
-role_sound ram caps Server fresh = refl
-
--- such a role names nothing, and has no regions
-caps_none : (ram caps : ℕ) (role : Role) → IsEmptyRole ram caps role → caps_of role ≡ empty
-caps_none ram caps (Script tables) fresh = fresh.no_caps
-caps_none ram caps Server fresh = refl
-
--- the same of its regions
-user_none : (ram caps : ℕ) (role : Role) → IsEmptyRole ram caps role → user_of role ≡ empty
-user_none ram caps (Script tables) fresh = fresh.no_regions
-user_none ram caps Server fresh = refl
+role_sound ram caps (Script script) fresh =
+    let few : len script.caps.caps ≡ 0 = ap (λ m. len m) fresh.no_caps ∙ finmap.len-empty nat_cmp Cap in
+    let none : len (empty {X = List ℕ} {R = nat_cmp}) ≡ 0 = finmap.len-empty nat_cmp (List ℕ) in
+    let weight : total rpc_weight script.caps.caps ≡ 0 = ap (total rpc_weight) fresh.no_caps ∙ total-empty rpc_weight in
+    record {
+      named = record {
+        there = λ q cap names. absurd (none_in_empty _ fresh.no_caps q cap names);
+        one = λ s t a b first second same. absurd (none_in_empty _ fresh.no_caps s _ first);
+      };
+      paid = record { is_open = refl; named = omega (arith, few); spare = omega (arith, none, weight); within = omega arith; placed = fresh.places };
+      fits = record { ram = fresh.pages; few = λ key bytes there. absurd (none_in_empty (empty {X = List ℕ} {R = nat_cmp}) refl key bytes there) };
+      attached = λ start region there. absurd (none_in_empty _ fresh.no_regions start region there);
+      most = fresh.most;
+      sound = subst IsSoundState (sym (own_unused ram caps (Script script) fresh)) (start_sound (budget ram caps));
+    }
+role_sound ram caps (Server account) fresh = refl
 
 -- a fresh component is sound, and its own state is that of its start
 module _ (store : Store) (component : Component) (fresh : IsFresh store component) where
-  -- the RAM limit of its start
-  abbrev ram : ℕ
-  ram = (start_of store component).ram
-
-  -- the limit of capabilities of its start
-  abbrev caps : ℕ
-  caps = (start_of store component).caps
-
   -- the component is sound
   fresh_sound : IsSound store component
-  fresh_sound = subst (λ p. IsSoundRole p component.role) (sym fresh.unused) (role_sound ram caps component.role fresh.tables)
+  fresh_sound = subst (λ p. IsSoundRole p component.role) (sym fresh.unused) (role_sound _ _ component.role fresh.tables)
 
   -- its own state is that of its start
   fresh_state : own store component ≡ start_state (start_of store component)
-  fresh_state =
-      ap (λ p. own_of p (caps_of component.role) (user_of component.role)) fresh.unused
-      ∙ own_unused ram caps (caps_of component.role) (user_of component.role) (caps_none ram caps component.role fresh.tables) (user_none ram caps component.role fresh.tables)
+  fresh_state = ap (λ p. own_in p component.role) fresh.unused ∙ own_unused _ _ component.role fresh.tables
 
 -- the entries and the own states are those of the starts
 fresh_entries : (store : Store) (components : List Component) → map entry_of components ≡ map (λ start. start.entry) (starts_of store components)
@@ -134,4 +103,4 @@ module _ (store : Store) (components : List Component) (fresh : AreFresh store c
   fresh_world =
       let entries = fresh_entries store components in
       let states = fresh_states store components fresh.each in
-      λ j. record { entries = entries j; init = account_in store store.books.root; states = states j }
+      λ j. record { entries = entries j; init = account_in store (root_in store); states = states j }

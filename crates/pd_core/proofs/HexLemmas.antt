@@ -1,19 +1,13 @@
--- What hexadecimal digits stand for.
+-- Bytes and their hexadecimal digits.
 use Rattle.std.proofs.Common.{◌≡◌, ℕ, ◌+◌, ◌*◌, ◌/◌, ◌%◌, List, [], ◌∷◌, length, refl, sym, ap, ◌∙◌, arith, is_some, IsSome, Bool, true, false, eqb, cond, true≢false, Option, Some, None}
-use Rattle.std.specs.Prelude.{Result, Ok, is_none}
+use Rattle.std.specs.Prelude.{Result, Ok, slice_index}
 use Rattle.std.specs.Option.{option_map, option_and_then, unwrap_or}
 use Rattle.std.proofs.lemmas.Bool.Decides.{nat_tests}
-use Rattle.trade_base.specs.declared.refusal.Refusal.TheVariants.{InvalidSize}
-use Rattle.own_model.specs.Call.Call.{Poke}
-use Rattle.own_model.specs.OwnStep.{refused, unless, poked, count_refusal}
-use Rattle.own_model.specs.Region.{resolved}
-use Rattle.dataspace_core.specs.Store.{Part}
-use Rattle.pd_core.specs.Call.{bytes_in}
-use Rattle.pd_core.specs.Own.{own_at, outcome_of}
-use Rattle.pd_core.specs.declared.tables.Tables.{Tables}
+use Rattle.own_model.specs.Reply.{hex_text}
 use Rattle.own_model.specs.Text.{bytes_of_hex, hex_digit_of}
+use Rattle.pd_core.specs.Call.{bytes_in}
 use Rattle.hex.specs.declared.error.FromHexError.{FromHexError}
-use Rattle.hex.specs.Hex.{decode_pairs, decode_sized, hex_digit_value, digit_or_error, ◌>>=◌}
+use Rattle.hex.specs.Hex.{decode_pairs, decode_sized, hex_digit_value, digit_or_error, encode_with, encode_lower, lower_digits, ◌>>=◌}
 
 -- two digits and the rest
 record Parts (h l : Option ℕ) (r : Option (List ℕ)) (bytes : List ℕ) : Type 0 where
@@ -79,14 +73,8 @@ value_of (Some bytes) h = refl
 pub half_is : (text : List ℕ) → IsSome (bytes_of_hex text) → length text / 2 ≡ length (bytes_in text)
 half_is text some = half text (bytes_in text) (value_of (bytes_of_hex text) some)
 
--- a count that is refused
-counted : (b : Bool) → false ≡ is_none (cond b None (Some InvalidSize)) → cond b None (Some InvalidSize) ≡ Some InvalidSize
-counted true h = absurd (true≢false (sym h))
-counted false h = refl
-
--- a poke of too many bytes, or of none, is refused with Invalid_size
-pub poke_too_long : (p : Part) (tables : Tables) (address : ℕ) (text : List ℕ) → IsSome (bytes_of_hex text) → false ≡ is_none (count_refusal (length text / 2)) →
-    outcome_of p tables (Poke address (bytes_in text)) ≡ refused (own_at p tables) InvalidSize
-poke_too_long p tables address text some h =
-    ap (λ r. unless r (own_at p tables) (poked (bytes_in text) (resolved (own_at p tables).regions address (length (bytes_in text))) (own_at p tables)))
-    (ap count_refusal (sym (half_is text some)) ∙ counted _ h)
+-- the model's digits are those that are written
+pub hex_text_is : (bytes : List ℕ) → encode_lower bytes ≡ hex_text bytes
+unfolding encode_with hex_text
+hex_text_is [] = refl
+hex_text_is (b ∷ bs) = ap (λ (l : List ℕ). slice_index lower_digits (b / 16) ∷ slice_index lower_digits (b % 16) ∷ l) (hex_text_is bs)

@@ -1,12 +1,9 @@
-pub mod NameLemmas
-pub mod OwnLemmas
-pub mod PartLemmas
-pub mod AccountLemmas
-pub mod RegionCallLemmas
-pub mod RpcLemmas
-pub mod TextLemmas
 pub mod HexLemmas
 pub mod SpellingLemmas
+pub mod NameLemmas
+pub mod OwnLemmas
+pub mod AccountLemmas
+pub mod RegionCallLemmas
 pub mod BytesLemmas
 pub mod ComponentLemmas
 pub mod CoreLemmas

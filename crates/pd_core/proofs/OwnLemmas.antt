@@ -1,88 +1,105 @@
 -- A script's own state when its part of the memory and its tables change.
-use Rattle.std.proofs.Common.{◌≡◌, ℕ, ◌+◌, ◌-◌, ◌*◌, ◌≤◌, ◌≢◌, true, false, cond, eqb, List, [], length, Option, Some, None, is_some, IsSome, true≢false, ◌⊎◌, inl, inr, subst, refl, sym, ap, ◌∙◌, arith}
-use Rattle.std.specs.Prelude.{◌==◌, if◌then◌else◌}
-use Rattle.std.specs.Option.{option_map, option_and_then}
-use Rattle.std.specs.Cmp.{nat_cmp_total}
-use Rattle.std.specs.FinMap as map
+use Rattle.std.proofs.Common.{◌≡◌, ℕ, false, ◌+◌, ◌*◌, ◌/◌, ◌≤◌, ◌≢◌, List, [], length, Option, Some, None, is_some, IsSome, inl, inr, subst, true≢false, refl, sym, ap, ◌∙◌, arith}
+use Rattle.std.specs.Option.{option_map, option_and_then, unwrap_or}
 use Rattle.std.specs.FinMap.{get, insert, remove, len}
+use Rattle.std.specs.Prelude.{Result, IsErrAnd}
 use Rattle.std.proofs.lemmas.Bool.{cases_eq}
+use Rattle.std.proofs.lemmas.Result.{err_from_is_err_and}
 use Rattle.trade_base.specs.declared.id.DsId.{DsId}
+use Rattle.trade_base.specs.declared.id.AccountId.{AccountId}
+use Rattle.trade_base.specs.declared.refusal.Refusal.{Refusal}
 use Rattle.own_model.specs.NatMap.{NatMap, picked}
+use Rattle.own_model.specs.Account.{charged, credited, Fits}
 use Rattle.own_model.specs.Call.{Call}
-use Rattle.own_model.specs.OwnState.{OwnState, Object, new_selector}
+use Rattle.own_model.specs.OwnState.{OwnState, Object, new_selector, pages_in}
 use Rattle.own_model.specs.OwnState.Object.{Dataspace as ADataspace}
-use Rattle.own_model.specs.OwnStep.{script_step}
-use Rattle.own_model.specs.Region.{Region, without}
+use Rattle.own_model.specs.OwnStep.{Outcome, refused, script_step}
+use Rattle.own_model.specs.Region.{Region}
+use Rattle.own_model.specs.Reply.{Reply}
+use Rattle.own_model.specs.Reply.Reply.{Selected, Done}
 use Rattle.own_model.specs.Sound.{IsSound}
-use Rattle.own_model.specs.StartList.Kind.{Script}
-use Rattle.own_model.proofs.NatMapLemmas.{same, get-insert_same, get-insert_other, get-remove_other, get-picked, picked-insert_some, picked-remove, apart_from_free, none_at, before_remove}
+use Rattle.own_model.specs.StartList.Kind.{Script as AScript}
+use Rattle.own_model.proofs.NatMapLemmas.{same, get-insert_same, get-insert_other, get-remove_other, get-picked, picked-insert_some, picked-remove, picked_alike, and_then_alike, after_insert, apart_from_free, none_at, before_remove}
 use Rattle.own_model.proofs.NewSelector.{new_selector_is, new_selector_positive, new_selector_free, new_selector_least}
-use Rattle.own_model.proofs.Totals.{len-total, total-insert_new, total-remove}
+use Rattle.own_model.proofs.Totals.{len-insert_new, len-insert_at, len-remove_at, total-insert_new, total-remove}
 use Rattle.own_model.proofs.SoundLemmas.{step_sound}
 use Rattle.cap_space.specs.Space.{Space, with_cap, without_cap}
 use Rattle.cap_space.specs.declared.cap.Cap.{Cap}
 use Rattle.cap_space.specs.declared.cap.Cap.TheVariants.{Dataspace, RpcObject, Session}
 use Rattle.region_map.specs.Regions.{Regions}
-use Rattle.dataspace_core.specs.Store.{Part}
-use Rattle.pd_core.specs.Own.{account_of, object_of, selector_of, regions_of, own_of, rpc_weight, IsOne, IsScript}
-use Rattle.pd_core.proofs.NameLemmas.{at_value, picked_alike, is_named, regions_alike, attached_alike}
+use Rattle.dataspace_core.specs.Store.{Store, Part, part, space_at, account_of, bytes_of, PartBecomes}
+use Rattle.dataspace_core.proofs.PartLaws.{paid_in_part}
+use Rattle.pd_core.specs.declared.answer.Answer.{Answer}
+use Rattle.pd_core.specs.Answer.{outcome_of}
+use Rattle.pd_core.specs.Own.{object_of, selector_of, regions_of, own_of}
+use Rattle.pd_core.specs.Sound.{rpc_weight, IsOne, AreNamed, IsNamed, FitsMachine, IsScript, Keeps}
+use Rattle.pd_core.specs.declared.script.Script.{Script}
+use Rattle.pd_core.proofs.NameLemmas.{Names, is_named, regions_alike, attached_alike}
 
--- ---- maps
+-- what a call makes of a script's part, capabilities and regions: the model's outcome, and a sound script
+pub record Settles (call : Call) (p : Part) (space : Space) (regions : Regions) (reply : Reply) (p' : Part) (space' : Space) (regions' : Regions) : Type 0 where
+  pub outcome : ◌≡◌ {A = Outcome} (record { reply = reply; lines = []; next = own_of p' space'.caps regions'.user }) (script_step call (own_of p space.caps regions.user))
+  pub script : IsScript p' space' regions'
 
--- a key that is new makes a map longer by one
-pub len-insert_new : {X : Type 0} (m : NatMap X) (k : ℕ) (v : X) → get m k ≡ None → len (insert m k v) ≡ len m + 1
-len-insert_new m k v free = map.len-insert nat_cmp_total m k v ∙ (rw free)
+-- the same of what they are equal to
+pub settled : {call : Call} {p q p' : Part} {space t space' : Space} {regions r regions' : Regions} {reply : Reply} → q ≡ p' → t ≡ space' → r ≡ regions' →
+    Settles call p space regions reply p' space' regions' → Settles call p space regions reply q t r
+settled {call} {p} {q} {p'} {space} {t} {space'} {regions} {r} {reply = reply} part caps map done =
+    subst (λ x. Settles call p space regions reply x t r) (sym part)
+    (subst (λ x. Settles call p space regions reply p' x r) (sym caps) (subst (λ x. Settles call p space regions reply p' space' x) (sym map) done))
 
--- and one that goes makes it shorter
-len-remove_there : {X : Type 0} (m : NatMap X) (k : ℕ) (v : X) → get m k ≡ Some v → len (remove m k) ≡ len m - 1
-len-remove_there m k v there = map.len-remove nat_cmp_total m k ∙ (rw there)
+-- what a refused call gives back and leaves
+pub refused_told : (answered : Result Answer Refusal) {refusal : Refusal} {next b : OwnState} → IsErrAnd answered (λ y. y ≡ refusal) → next ≡ b → outcome_of answered next ≡ refused b refusal
+refused_told answered {refusal} {b = b} err same =
+    let told = err_from_is_err_and answered err in
+    ap (outcome_of answered) same ∙ ap (λ r. outcome_of r b) told.1 ∙ ap (refused b) told.2
 
--- with one more it is as long as before
-pub len-remove_suc : {X : Type 0} (m : NatMap X) (k : ℕ) (v : X) → get m k ≡ Some v → len (remove m k) + 1 ≡ len m
-len-remove_suc m k v there = ap (λ n. n + 1) (len-total (remove m k)) ∙ total-remove (λ v. 1) m k v there ∙ sym (len-total m)
+-- what holds of a capability's object, by kinds: a dataspace's depends on its bytes alone
+object_alike : (p p' : Part) (cap : Cap) → ((ds : DsId) → cap ≡ Dataspace ds → get p'.spaces ds.0 ≡ get p.spaces ds.0) → object_of p' cap ≡ object_of p cap
+object_alike p p' (Dataspace ds) same = ap (option_map ADataspace) (same ds refl)
+object_alike p p' RpcObject same = refl
+object_alike p p' (Session server session) same = refl
 
--- a key that is there leaves it as long
-len-insert_at : {X : Type 0} (m : NatMap X) (k : ℕ) (v w : X) → get m k ≡ Some w → len (insert m k v) ≡ len m
-len-insert_at m k v w there = map.len-insert nat_cmp_total m k v ∙ (rw there)
+-- where there is a dataspace, there are bytes
+some_bytes : (o : Option (List ℕ)) → IsSome (option_map ADataspace o) → IsSome o
+some_bytes None h = h
+some_bytes (Some bytes) h = refl
 
--- what is there after an insertion is the new value, or was there
-pub inserted : {X : Type 0} (m : NatMap X) (k : ℕ) (v : X) (q : ℕ) (x : X) → get (insert m k v) q ≡ Some x → ((q ≡ k) × (x ≡ v)) ⊎ ((q ≢ k) × (get m q ≡ Some x))
-inserted m k v q x there = elim (cases_eq q k) [
-  | inl at ↦ inl (at, (let is : Some v ≡ Some x = sym (get-insert_same m k v q at) ∙ there in cc))
-  | inr apart ↦ inr (apart, sym (get-insert_other m k v q apart) ∙ there)
-]
-
--- a region that stays when those of a thing go
-kept_region : (key : ℕ) (o : Option Region) (region : Region) → option_and_then (λ (region : Region). if region.of == key then None else Some region) o ≡ Some region →
-    (o ≡ Some region) × (eqb region.of key ≡ false)
-kept_region key None region is = absurd (true≢false (sym (ap is_some is)))
-kept_region key (Some r) region is =
-    elim (eqb r.of key) as (λ b. eqb r.of key ≡ b → cond b None (Some r) ≡ Some region → (Some r ≡ Some region) × (eqb region.of key ≡ false)) [
-      | true ↦ λ t h. absurd (true≢false (sym (ap is_some h)))
-      | false ↦ λ t h. (h, (let e : r ≡ region = (let k : Some r ≡ Some region = h in cc) in sym (ap (λ (x : Region). eqb x.of key) e) ∙ t))
-    ] refl is
-
--- a region that stays was there before, and is of another thing
-pub stays : (key : ℕ) (user : NatMap Region) (start : ℕ) (region : Region) → get (without key user) start ≡ Some region → (get user start ≡ Some region) × (eqb region.of key ≡ false)
-stays key user start region there =
-    kept_region key (get user start) region (sym (get-picked (λ region. if region.of == key then None else Some region) user start) ∙ there)
-
--- ---- what is named
+-- what is there is its value
+pub value_of : (o : Option (List ℕ)) → IsSome o → o ≡ Some (unwrap_or o [])
+value_of None h = absurd (true≢false (sym h))
+value_of (Some bytes) h = refl
 
 module _ (p : Part) (space : Space) (regions : Regions) (sound : IsScript p space regions) where
   -- the own state before the change
-  abbrev before : OwnState
+  abbrev pub before : OwnState
   before = own_of p space.caps regions.user
 
+  -- what the own state has under a selector is the object of the capability there
+  pub object_is : (s : ℕ) → get before.selectors s ≡ option_and_then (object_of p) (get space.caps s)
+  unfolding own_of
+  object_is s = get-picked (object_of p) space.caps s
+
+  -- the part has the bytes of a dataspace that a selector names
+  pub is_held : (s : ℕ) (ds : DsId) → get space.caps s ≡ Some (Dataspace ds) → IsSome (get p.spaces ds.0)
+  is_held s ds names = some_bytes _ (sound.named.there s (Dataspace ds) names)
+
+  -- they are these
+  pub has_bytes : (s : ℕ) (ds : DsId) → get space.caps s ≡ Some (Dataspace ds) → get p.spaces ds.0 ≡ Some (bytes_of p ds.0)
+  has_bytes s ds names = value_of (get p.spaces ds.0) (is_held s ds names)
+
+  -- and what the own state has under the selector
+  pub names_object : (s : ℕ) (ds : DsId) → get space.caps s ≡ Some (Dataspace ds) → get before.selectors s ≡ Some (ADataspace (bytes_of p ds.0))
+  names_object s ds names = object_is s ∙ ap (option_and_then (object_of p)) names ∙ ap (option_map ADataspace) (has_bytes s ds names)
+
   -- there is an object where there is a capability, and nowhere else
-  is_object : (o : Option Cap) → ((cap : Cap) → o ≡ Some cap → IsSome (object_of p cap)) → is_some (option_and_then (object_of p) o) ≡ is_some o
-  is_object None there = refl
-  is_object (Some cap) there = there cap refl
+  has_object : (o : Option Cap) → ((cap : Cap) → o ≡ Some cap → IsSome (object_of p cap)) → is_some (option_and_then (object_of p) o) ≡ is_some o
+  has_object None there = refl
+  has_object (Some cap) there = there cap refl
 
   -- the own state has the selectors of the space
   selects : (q : ℕ) → is_some (get before.selectors q) ≡ is_some (get space.caps q)
-  unfolding own_of
-  selects q = ap is_some (get-picked (object_of p) space.caps q) ∙ is_object (get space.caps q) (sound.there q)
+  selects q = ap is_some (object_is q) ∙ has_object (get space.caps q) (sound.named.there q)
 
   -- the own state's new selector is the space's
   pub same_new_selector : new_selector before.selectors ≡ new_selector space.caps
@@ -91,205 +108,267 @@ module _ (p : Part) (space : Space) (regions : Regions) (sound : IsScript p spac
       (none_at _ _ (selects _ ∙ ap is_some (new_selector_free space.caps)))
       (λ t positive below. selects t ∙ new_selector_least space.caps t positive below)
 
-  -- a call keeps the own state sound
-  pub kept : (call : Call) → IsSound (script_step call before).next
-  unfolding own_of
-  kept call = step_sound (record { name = []; kind = Script }) call before sound.sound
-
-  -- ---- a new capability
-
-  module _ (cap : Cap) (s : ℕ) (p' : Part) (least : s ≡ new_selector space.caps)
-      (still : (q : ℕ) (c : Cap) → get space.caps q ≡ Some c → object_of p' c ≡ object_of p c)
-      (new_one : (ds : DsId) → cap ≡ Dataspace ds → (q : ℕ) (b : DsId) → get space.caps q ≡ Some (Dataspace b) → b.0 ≢ ds.0)
-      (object : Object) (new_object : object_of p' cap ≡ Some object) where
-    -- the new selector named nothing before
-    free_selector : get space.caps s ≡ None
-    free_selector = rw least (new_selector_free space.caps)
-
-    -- a dataspace still has one selector at most
-    grown_one : IsOne (insert space.caps s cap)
-    grown_one q t a b first second same = elim (inserted space.caps s cap q (Dataspace a) first) [
-      | inl here ↦ elim (inserted space.caps s cap t (Dataspace b) second) [
-        | inl too ↦ here.0 ∙ sym too.0
-        | inr old ↦ absurd (new_one a (sym here.1) t b old.1 (sym same))
-      ]
-      | inr old ↦ elim (inserted space.caps s cap t (Dataspace b) second) [
-        | inl here ↦ absurd (new_one b (sym here.1) q a old.1 same)
-        | inr too ↦ sound.one q t a b old.1 too.1 same
-      ]
-    ]
-
-    -- the selector of a region's dataspace names what it did
-    named_apart : (q start : ℕ) (region : Region) → get regions.user start ≡ Some region → selector_of space.caps region.of ≡ Some q → get (insert space.caps s cap) q ≡ get space.caps q
-    named_apart q start region there names =
-        get-insert_other space.caps s cap q (apart_from_free space.caps s q free_selector (ap is_some (is_named space.caps region.of q names).1))
-
-    -- the own state has the object under its new selector
-    pub grown_own : own_of p' (insert space.caps s cap) regions.user ≡ record before { account = account_of p'; selectors = insert before.selectors (new_selector before.selectors) object }
+  module _ (call : Call) where
+    -- what the call makes of the own state is sound, as it was before
+    pub kept : (o : Outcome) → o ≡ script_step call before → IsSound o.next
     unfolding own_of
-    grown_own =
-        let names : picked (object_of p') (insert space.caps s cap) ≡ insert (picked (object_of p) space.caps) s object
-        = picked-insert_some (object_of p') space.caps s cap object new_object ∙ ap (λ m. insert m s object) (picked_alike (object_of p') (object_of p) space.caps still) in
-        let selector : s ≡ new_selector before.selectors = least ∙ sym same_new_selector in
-        let attached = regions_alike space.caps (insert space.caps s cap) regions.user grown_one sound.attached named_apart in
-        λ i. record { account = account_of p'; selectors = (names ∙ ap (λ k. insert (picked (object_of p) space.caps) k object) selector) i; regions = attached i; gone = false }
+    kept o is = subst (λ (x : Outcome). IsSound x.next) (sym is) (step_sound (record { name = []; kind = AScript }) call before sound.sound)
 
-    -- each capability has an object, and so has the new one
-    grown_there : (q : ℕ) (c : Cap) → get (insert space.caps s cap) q ≡ Some c → IsSome (object_of p' c)
-    grown_there q c there = elim (inserted space.caps s cap q c there) [
-      | inl here ↦ ap (λ x. is_some (object_of p' x)) here.1 ∙ ap is_some new_object
-      | inr old ↦ ap is_some (still q c old.1) ∙ sound.there q c old.1
-    ]
+    -- ---- a new capability
 
-    -- the script stays sound with a capability more
-    pub grown : IsSome p'.account → len p'.spaces + rpc_weight cap ≡ len p.spaces + 1 → (account_of p').caps_used ≡ (account_of p).caps_used + 1 → (account_of p').caps_limit ≡ (account_of p).caps_limit →
-        (account_of p').ram_limit ≡ (account_of p).ram_limit → (account_of p).caps_used + 1 ≤ (account_of p).caps_limit →
-        ((key : ℕ) (bytes : List ℕ) → get p'.spaces key ≡ Some bytes → length bytes ≤ regions.pages * 4096) →
-        IsSound (own_of p' (insert space.caps s cap) regions.user) → IsScript p' (with_cap space s cap) regions
-    grown opened counts used limit ram fits few kept =
-        let longer : len (insert space.caps s cap) ≡ len space.caps + 1 = len-insert_new space.caps s cap free_selector in record {
-          is_open = opened;
-          there = grown_there;
-          one = grown_one;
-          paid = omega (arith, longer, used, sound.paid);
-          spare = omega (arith, counts, used, sound.spare, total-insert_new rpc_weight space.caps s cap free_selector);
-          within = omega (arith, used, limit, fits);
-          placed = omega (arith, limit, sound.placed);
-          attached = attached_alike space.caps (insert space.caps s cap) regions.user grown_one sound.attached named_apart;
-          most = sound.most;
-          ram = omega (arith, ram, sound.ram);
-          few = few;
-          sound = kept;
-        }
+    module _ (n : ℕ) (spaces : NatMap (List ℕ)) (cap : Cap) (object : Object) (fits : Fits (account_of p) n 1)
+        (still : (key : ℕ) → IsSome (get p.spaces key) → get spaces key ≡ get p.spaces key)
+        (fresh : (ds : DsId) → cap ≡ Dataspace ds → get p.spaces ds.0 ≡ None)
+        (few : (key : ℕ) (bytes : List ℕ) → get spaces key ≡ Some bytes → length bytes ≤ regions.pages * 4096)
+        (counts : len spaces + rpc_weight cap ≡ len p.spaces + 1) where
+      -- the part with the charge, and these dataspaces
+      abbrev pub charged_part : Part
+      charged_part = record { account = Some (charged (account_of p) n 1); spaces = spaces }
 
-  -- ---- a capability that goes
+      module _ (new : object_of charged_part cap ≡ Some object) (s : ℕ) (least : s ≡ new_selector space.caps) where
+        -- the new selector named nothing before
+        free_selector : get space.caps s ≡ None
+        free_selector = rw least (new_selector_free space.caps)
 
-  module _ (cap : Cap) (s : ℕ) (p' : Part) (regions' : Regions) (there : get space.caps s ≡ Some cap)
-      (still : (q : ℕ) (c : Cap) → get (remove space.caps s) q ≡ Some c → object_of p' c ≡ object_of p c)
-      (kept_user : (start : ℕ) (region : Region) → get regions'.user start ≡ Some region → get regions.user start ≡ Some region)
-      (apart : (q start : ℕ) (region : Region) → get regions'.user start ≡ Some region → selector_of space.caps region.of ≡ Some q → q ≢ s) where
-    -- a dataspace still has one selector at most
-    shrunk_one : IsOne (remove space.caps s)
-    shrunk_one q t a b first second same = sound.one q t a b (before_remove space.caps s q (Dataspace a) first) (before_remove space.caps s t (Dataspace b) second) same
+        -- what was named keeps its object
+        object_stays : (q : ℕ) (c : Cap) → get space.caps q ≡ Some c → object_of charged_part c ≡ object_of p c
+        object_stays q c there = object_alike p charged_part c (λ ds is. still ds.0 (is_held q ds (there ∙ ap (λ x. Some x) is)))
 
-    -- the selector of a dataspace whose region is left names what it did
-    left_apart : (q start : ℕ) (region : Region) → get regions'.user start ≡ Some region → selector_of space.caps region.of ≡ Some q → get (remove space.caps s) q ≡ get space.caps q
-    left_apart q start region here names = get-remove_other space.caps s q (apart q start region here names)
+        -- no selector named the new dataspace
+        unnamed : (q : ℕ) (a b : DsId) → a.0 ≡ b.0 → cap ≡ Dataspace a → get space.caps q ≢ Some (Dataspace b)
+        unnamed q a b e is there = apart_from_free p.spaces a.0 b.0 (fresh a is) (is_held q b there) (sym e)
 
-    -- each region that is left had a dataspace that a selector names
-    left_attached : (start : ℕ) (region : Region) → get regions'.user start ≡ Some region → IsSome (selector_of space.caps region.of)
-    left_attached start region here = sound.attached start region (kept_user start region here)
+        -- a dataspace still has one selector at most
+        grown_one : IsOne (insert space.caps s cap)
+        grown_one q t a b first second e = elim (after_insert space.caps s cap q (Dataspace a) first) [
+          | inl here ↦ elim (after_insert space.caps s cap t (Dataspace b) second) [
+            | inl too ↦ here.0 ∙ sym too.0
+            | inr old ↦ absurd (unnamed t a b e (sym here.1) old.1)
+          ]
+          | inr old ↦ elim (after_insert space.caps s cap t (Dataspace b) second) [
+            | inl here ↦ absurd (unnamed q b a (sym e) (sym here.1) old.1)
+            | inr too ↦ sound.named.one q t a b old.1 too.1 e
+          ]
+        ]
 
-    -- the own state has nothing under the selector
-    pub shrunk_own : own_of p' (remove space.caps s) regions'.user ≡ record before { account = account_of p'; selectors = remove before.selectors s; regions = regions_of space.caps regions'.user }
-    unfolding own_of
-    shrunk_own =
-        let names : picked (object_of p') (remove space.caps s) ≡ remove (picked (object_of p) space.caps) s
-        = picked_alike (object_of p') (object_of p) (remove space.caps s) still ∙ picked-remove (object_of p) space.caps s in
-        let attached = regions_alike space.caps (remove space.caps s) regions'.user shrunk_one left_attached left_apart in
-        λ i. record { account = account_of p'; selectors = names i; regions = attached i; gone = false }
+        -- each capability has an object, and so has the new one
+        grown_there : (q : ℕ) (c : Cap) → get (insert space.caps s cap) q ≡ Some c → IsSome (object_of charged_part c)
+        grown_there q c there = elim (after_insert space.caps s cap q c there) [
+          | inl here ↦ ap (λ x. is_some (object_of charged_part x)) here.1 ∙ ap is_some new
+          | inr old ↦ ap is_some (object_stays q c old.1) ∙ sound.named.there q c old.1
+        ]
 
-    -- the script stays sound with a capability less
-    pub shrunk : IsSome p'.account → len p'.spaces + 1 ≡ len p.spaces + rpc_weight cap → (account_of p').caps_used ≡ (account_of p).caps_used - 1 → (account_of p').caps_limit ≡ (account_of p).caps_limit →
-        (account_of p').ram_limit ≡ (account_of p).ram_limit → regions'.most ≡ regions.most → regions'.pages ≡ regions.pages →
-        ((key : ℕ) (bytes : List ℕ) → get p'.spaces key ≡ Some bytes → get p.spaces key ≡ Some bytes) →
-        IsSound (own_of p' (remove space.caps s) regions'.user) → IsScript p' (without_cap space s) regions'
-    shrunk opened counts used limit ram most pages few kept =
-        let shorter : len (remove space.caps s) ≡ len space.caps - 1 = len-remove_there space.caps s cap there in record {
-          is_open = opened;
-          there = λ q c here. ap is_some (still q c here) ∙ sound.there q c (before_remove space.caps s q c here);
-          one = shrunk_one;
-          paid = omega (arith, shorter, used, sound.paid);
-          spare = omega (arith, counts, used, sound.spare, total-remove rpc_weight space.caps s cap there);
-          within = omega (arith, used, limit, sound.within);
-          placed = omega (arith, limit, sound.placed);
-          attached = attached_alike space.caps (remove space.caps s) regions'.user shrunk_one left_attached left_apart;
-          most = most ∙ sound.most;
-          ram = subst (λ n. (account_of p').ram_limit ≤ n * 4096) (sym pages) (omega (arith, ram, sound.ram));
-          few = λ key bytes here. subst (λ n. length bytes ≤ n * 4096) (sym pages) (sound.few key bytes (few key bytes here));
-          sound = kept;
-        }
+        -- the selector of a region's dataspace names what it did
+        named_apart : (q start : ℕ) (region : Region) → get regions.user start ≡ Some region → selector_of space.caps region.of ≡ Some q → get (insert space.caps s cap) q ≡ get space.caps q
+        named_apart q start region there names =
+            get-insert_other space.caps s cap q (apart_from_free space.caps s q free_selector (ap is_some (is_named space.caps region.of q names).there))
 
-  -- ---- other regions
+        -- the own state has the object under its new selector
+        grown_own : own_of charged_part (insert space.caps s cap) regions.user
+            ≡ record before { account = charged before.account n 1; selectors = insert before.selectors (new_selector before.selectors) object }
+        unfolding own_of
+        grown_own =
+            let names = picked-insert_some (object_of charged_part) space.caps s cap object new
+            ∙ ap (λ m. insert m s object) (picked_alike (object_of charged_part) (object_of p) space.caps object_stays)
+            ∙ ap (λ k. insert (picked (object_of p) space.caps) k object) (least ∙ sym same_new_selector) in
+            let attached = regions_alike space.caps (insert space.caps s cap) regions.user grown_one sound.attached named_apart in
+            λ i. record { account = charged (account_of p) n 1; selectors = names i; regions = attached i; gone = false }
 
-  module _ (regions' : Regions) (most : regions'.most ≡ regions.most) (pages : regions'.pages ≡ regions.pages)
-      (attached : (start : ℕ) (region : Region) → get regions'.user start ≡ Some region → IsSome (selector_of space.caps region.of)) where
-    -- the script stays sound with other regions, if selectors name their dataspaces
-    pub remapped : IsSound (own_of p space.caps regions'.user) → IsScript p space regions'
-    remapped kept = record {
-      is_open = sound.is_open;
-      there = sound.there;
-      one = sound.one;
-      paid = sound.paid;
-      spare = sound.spare;
-      within = sound.within;
-      placed = sound.placed;
-      attached = attached;
-      most = most ∙ sound.most;
-      ram = subst (λ n. (account_of p).ram_limit ≤ n * 4096) (sym pages) sound.ram;
-      few = λ key bytes here. subst (λ n. length bytes ≤ n * 4096) (sym pages) (sound.few key bytes here);
-      sound = kept;
+        -- so a call that does this settles
+        pub grows : script_step call before ≡ record {
+          reply = Selected (new_selector before.selectors);
+          lines = [];
+          next = record before { account = charged before.account n 1; selectors = insert before.selectors (new_selector before.selectors) object };
+        } → Settles call p space regions (Selected s) charged_part (with_cap space s cap) regions
+        grows is =
+            let outcome : ◌≡◌ {A = Outcome} (record { reply = Selected s; lines = []; next = own_of charged_part (insert space.caps s cap) regions.user }) (script_step call before)
+            = (λ i. record { reply = Selected ((least ∙ sym same_new_selector) i); lines = []; next = grown_own i }) ∙ sym is in record {
+              outcome = outcome;
+              script = record {
+                named = record { there = grown_there; one = grown_one };
+                paid = record {
+                  is_open = refl;
+                  named = omega (arith, len-insert_new space.caps s cap free_selector, sound.paid.named);
+                  spare = omega (arith, counts, sound.paid.spare, total-insert_new rpc_weight space.caps s cap free_selector);
+                  within = fits.caps_fit;
+                  placed = sound.paid.placed;
+                };
+                fits = record { ram = sound.fits.ram; few = few };
+                attached = attached_alike space.caps (insert space.caps s cap) regions.user grown_one sound.attached named_apart;
+                most = sound.most;
+                sound = kept _ outcome;
+              };
+            }
+
+    -- ---- a capability that goes
+
+    module _ (n : ℕ) (spaces : NatMap (List ℕ)) (cap : Cap) (s : ℕ) (there : get space.caps s ≡ Some cap) (regions' : Regions)
+        (still : (q : ℕ) (ds : DsId) → get (remove space.caps s) q ≡ Some (Dataspace ds) → get spaces ds.0 ≡ get p.spaces ds.0)
+        (left : (start : ℕ) (region : Region) → get regions'.user start ≡ Some region → (get regions.user start ≡ Some region) × (selector_of space.caps region.of ≢ Some s))
+        (few : (key : ℕ) (bytes : List ℕ) → get spaces key ≡ Some bytes → get p.spaces key ≡ Some bytes)
+        (counts : len spaces + 1 ≡ len p.spaces + rpc_weight cap) (most : regions'.most ≡ regions.most) (pages : regions'.pages ≡ regions.pages) where
+      -- the part with the credit, and these dataspaces
+      abbrev pub credited_part : Part
+      credited_part = record { account = Some (credited (account_of p) n 1); spaces = spaces }
+
+      -- what is named still keeps its object
+      object_left : (q : ℕ) (c : Cap) → get (remove space.caps s) q ≡ Some c → object_of credited_part c ≡ object_of p c
+      object_left q c here = object_alike p credited_part c (λ ds is. still q ds (here ∙ ap (λ x. Some x) is))
+
+      -- a dataspace still has one selector at most
+      shrunk_one : IsOne (remove space.caps s)
+      shrunk_one q t a b first second e = sound.named.one q t a b (before_remove space.caps s q (Dataspace a) first) (before_remove space.caps s t (Dataspace b) second) e
+
+      -- each region that is left had a dataspace that a selector names
+      left_named : AreNamed space.caps regions'.user
+      left_named start region here = sound.attached start region (left start region here).0
+
+      -- and the selector names what it did
+      left_apart : (q start : ℕ) (region : Region) → get regions'.user start ≡ Some region → selector_of space.caps region.of ≡ Some q → get (remove space.caps s) q ≡ get space.caps q
+      left_apart q start region here names = get-remove_other space.caps s q (λ e. (left start region here).1 (names ∙ ap (λ k. Some k) e))
+
+      -- the own state has nothing under the selector
+      shrunk_own : own_of credited_part (remove space.caps s) regions'.user
+          ≡ record before { account = credited before.account n 1; selectors = remove before.selectors s; regions = regions_of space.caps regions'.user }
+      unfolding own_of
+      shrunk_own =
+          let names = picked_alike (object_of credited_part) (object_of p) (remove space.caps s) object_left ∙ picked-remove (object_of p) space.caps s in
+          let attached = regions_alike space.caps (remove space.caps s) regions'.user shrunk_one left_named left_apart in
+          λ i. record { account = credited (account_of p) n 1; selectors = names i; regions = attached i; gone = false }
+
+      -- so a call that does this settles
+      pub shrinks : script_step call before ≡ record {
+        reply = Done;
+        lines = [];
+        next = record before { account = credited before.account n 1; selectors = remove before.selectors s; regions = regions_of space.caps regions'.user };
+      } → Settles call p space regions Done credited_part (without_cap space s) regions'
+      shrinks is =
+          let outcome : ◌≡◌ {A = Outcome} (record { reply = Done; lines = []; next = own_of credited_part (remove space.caps s) regions'.user }) (script_step call before)
+          = (λ i. record { reply = Done; lines = []; next = shrunk_own i }) ∙ sym is in
+          let shorter = len-remove_at space.caps s cap there in record {
+            outcome = outcome;
+            script = record {
+              named = record { there = λ q c here. ap is_some (object_left q c here) ∙ sound.named.there q c (before_remove space.caps s q c here); one = shrunk_one };
+              paid = record {
+                is_open = refl;
+                named = omega (arith, shorter, sound.paid.named);
+                spare = omega (arith, counts, sound.paid.spare, total-remove rpc_weight space.caps s cap there);
+                within = omega (arith, sound.paid.within);
+                placed = sound.paid.placed;
+              };
+              fits = record {
+                ram = rw pages sound.fits.ram;
+                few = λ key bytes here. rw pages (sound.fits.few key bytes (few key bytes here));
+              };
+              attached = attached_alike space.caps (remove space.caps s) regions'.user shrunk_one left_named left_apart;
+              most = most ∙ sound.most;
+              sound = kept _ outcome;
+            };
+          }
+
+    -- ---- other regions
+
+    -- a call that changes the regions settles, if selectors name their dataspaces
+    pub remaps : (regions' : Regions) (reply : Reply) → regions'.most ≡ regions.most → regions'.pages ≡ regions.pages → AreNamed space.caps regions'.user →
+        ◌≡◌ {A = Outcome} (record { reply = reply; lines = []; next = own_of p space.caps regions'.user }) (script_step call before) → Settles call p space regions reply p space regions'
+    remaps regions' reply most pages attached is = record {
+      outcome = is;
+      script = record {
+        named = sound.named;
+        paid = sound.paid;
+        fits = record { ram = rw pages sound.fits.ram; few = λ key bytes here. rw pages (sound.fits.few key bytes here) };
+        attached = attached;
+        most = most ∙ sound.most;
+        sound = kept _ is;
+      };
     }
 
-  -- ---- other bytes
+    -- ---- other bytes
 
-  module _ (ds : DsId) (s : ℕ) (bytes over : List ℕ) (names : get space.caps s ≡ Some (Dataspace ds)) (has : get p.spaces ds.0 ≡ Some bytes) where
-    -- the part with other bytes of the dataspace
-    abbrev written : Part
-    written = record { account = p.account; spaces = insert p.spaces ds.0 over }
+    module _ (key s : ℕ) (over : List ℕ) (names : Names space.caps s key) (size : length over ≡ length (bytes_of p key)) where
+      -- the part has the bytes that are written over
+      has : get p.spaces key ≡ Some (bytes_of p key)
+      has = subst (λ k. get p.spaces k ≡ Some (bytes_of p k)) names.same (has_bytes s names.ds names.there)
 
-    -- other selectors keep their objects
-    other_object : (q : ℕ) (c : Cap) → q ≢ s → get space.caps q ≡ Some c → object_of written c ≡ object_of p c
-    other_object q (Dataspace d) apart there = ap (option_map ADataspace) (get-insert_other p.spaces ds.0 over d.0 (λ e. apart (sound.one q s d ds there names e)))
-    other_object q RpcObject apart there = refl
-    other_object q (Session server session) apart there = refl
+      -- the part with other bytes of the dataspace
+      abbrev pub written : Part
+      written = record p { spaces = insert p.spaces key over }
 
-    -- the dataspace's selector names the new bytes, and the others what they did
-    written_at : (q : ℕ) → get (picked (object_of written) space.caps) q ≡ get (insert (picked (object_of p) space.caps) s (ADataspace over)) q
-    written_at q = elim (cases_eq q s) [
-      | inl at ↦
-          get-picked (object_of written) space.caps q ∙ ap (λ k. option_and_then (object_of written) (get space.caps k)) at
-          ∙ ap (option_and_then (object_of written)) names ∙ ap (option_map ADataspace) (get-insert_same p.spaces ds.0 over ds.0 refl)
-          ∙ sym (get-insert_same (picked (object_of p) space.caps) s (ADataspace over) q at)
-      | inr apart ↦
-          get-picked (object_of written) space.caps q ∙ at_value (object_of written) (object_of p) (get space.caps q) (λ c there. other_object q c apart there)
-          ∙ sym (get-picked (object_of p) space.caps q) ∙ sym (get-insert_other (picked (object_of p) space.caps) s (ADataspace over) q apart)
-    ]
+      -- other selectors keep their objects
+      object_other : (q : ℕ) (c : Cap) → q ≢ s → get space.caps q ≡ Some c → object_of written c ≡ object_of p c
+      object_other q c apart there = object_alike p written c (λ d is.
+          get-insert_other p.spaces key over d.0 (λ e. apart (sound.named.one q s d names.ds (there ∙ ap (λ x. Some x) is) names.there (e ∙ sym names.same))))
 
-    -- the own state has the bytes under the selector
-    pub written_own : own_of written space.caps regions.user ≡ record before { selectors = insert before.selectors s (ADataspace over) }
-    unfolding own_of
-    written_own = let selectors = same _ _ written_at in λ i. record { account = account_of p; selectors = selectors i; regions = regions_of space.caps regions.user; gone = false }
+      -- the dataspace's selector names the new bytes
+      object_here : (q : ℕ) → q ≡ s → option_and_then (object_of written) (get space.caps q) ≡ Some (ADataspace over)
+      object_here q at =
+          ap (option_and_then (object_of written)) (ap (get space.caps) at ∙ names.there) ∙ ap (option_map ADataspace) (get-insert_same p.spaces key over names.ds.0 names.same)
 
-    -- a capability that had an object has one still
-    written_there : (c : Cap) → IsSome (object_of p c) → IsSome (object_of written c)
-    written_there (Dataspace d) h = elim (cases_eq d.0 ds.0) [
-      | inl at ↦ ap (λ o. is_some (option_map ADataspace o)) (get-insert_same p.spaces ds.0 over d.0 at)
-      | inr apart ↦ ap (λ o. is_some (option_map ADataspace o)) (get-insert_other p.spaces ds.0 over d.0 apart) ∙ h
-    ]
-    written_there RpcObject h = h
-    written_there (Session server session) h = h
+      -- and the others what they did
+      written_at : (q : ℕ) → get (picked (object_of written) space.caps) q ≡ get (insert (picked (object_of p) space.caps) s (ADataspace over)) q
+      written_at q = get-picked (object_of written) space.caps q ∙ (elim (cases_eq q s) [
+        | inl at ↦ object_here q at ∙ sym (get-insert_same (picked (object_of p) space.caps) s (ADataspace over) q at)
+        | inr apart ↦
+            and_then_alike (object_of written) (object_of p) (get space.caps q) (λ c there. object_other q c apart there)
+            ∙ sym (get-picked (object_of p) space.caps q) ∙ sym (get-insert_other (picked (object_of p) space.caps) s (ADataspace over) q apart)
+      ])
 
-    -- no dataspace is larger than the machine
-    written_few : length over ≡ length bytes → (key : ℕ) (b : List ℕ) → get (insert p.spaces ds.0 over) key ≡ Some b → length b ≤ regions.pages * 4096
-    written_few size key b there = elim (inserted p.spaces ds.0 over key b there) [
-      | inl here ↦ omega (arith, ap length here.1, size, sound.few ds.0 bytes has)
-      | inr old ↦ sound.few key b old.1
-    ]
+      -- each capability has an object still
+      written_there : (q : ℕ) (c : Cap) → get space.caps q ≡ Some c → IsSome (object_of written c)
+      written_there q c there = elim (cases_eq q s) [
+        | inl at ↦ ap is_some (sym (ap (option_and_then (object_of written)) there) ∙ object_here q at)
+        | inr apart ↦ ap is_some (object_other q c apart there) ∙ sound.named.there q c there
+      ]
 
-    -- the script stays sound with as many other bytes
-    pub rewritten : length over ≡ length bytes → IsSound (own_of written space.caps regions.user) → IsScript written space regions
-    rewritten size kept = record {
-      is_open = sound.is_open;
-      there = λ q c here. written_there c (sound.there q c here);
-      one = sound.one;
-      paid = sound.paid;
-      spare = omega (arith, sound.spare, len-insert_at p.spaces ds.0 over bytes has);
-      within = sound.within;
-      placed = sound.placed;
-      attached = sound.attached;
-      most = sound.most;
-      ram = sound.ram;
-      few = written_few size;
-      sound = kept;
-    }
+      -- no dataspace is larger than the machine
+      written_few : (k : ℕ) (b : List ℕ) → get (insert p.spaces key over) k ≡ Some b → length b ≤ regions.pages * 4096
+      written_few k b there = elim (after_insert p.spaces key over k b there) [
+        | inl here ↦ omega (arith, ap length here.1, size, sound.fits.few key (bytes_of p key) has)
+        | inr old ↦ sound.fits.few k b old.1
+      ]
+
+      -- so a call that does this settles
+      pub rewrites : script_step call before ≡ record { reply = Done; lines = []; next = record before { selectors = insert before.selectors s (ADataspace over) } } →
+          Settles call p space regions Done written space regions
+      unfolding own_of
+      rewrites is =
+          let selectors = same _ _ written_at in
+          let outcome : ◌≡◌ {A = Outcome} (record { reply = Done; lines = []; next = own_of written space.caps regions.user }) (script_step call before)
+          = (λ i. record { reply = Done; lines = []; next = record before { selectors = selectors i } }) ∙ sym is in record {
+            outcome = outcome;
+            script = record {
+              named = record { there = written_there; one = sound.named.one };
+              paid = record {
+                is_open = sound.paid.is_open;
+                named = sound.paid.named;
+                spare = omega (arith, sound.paid.spare, len-insert_at p.spaces key over (bytes_of p key) has);
+                within = sound.paid.within;
+                placed = sound.paid.placed;
+              };
+              fits = record { ram = sound.fits.ram; few = written_few };
+              attached = sound.attached;
+              most = sound.most;
+              sound = kept _ outcome;
+            };
+          }
+
+-- ---- over the memory
+
+-- what a call that settles keeps
+pub keeps : {call : Call} {store store' : Store} {p' : Part} {script script' : Script} {reply : Reply} → PartBecomes script.account.0 p' store store' → script'.account ≡ script.account →
+    Settles call (part script.account.0 store) script.caps script.regions reply (part script.account.0 store') script'.caps script'.regions → Keeps store script store' script'
+keeps {store' = store'} {script' = script'} becomes same done = record {
+  sound = subst (λ (a : AccountId). IsScript (part a.0 store') script'.caps script'.regions) (sym same) done.script;
+  account = same;
+  root = becomes.root;
+  others = becomes.others;
+}
+
+-- what the payer's part becomes is what its account's part becomes
+pub for_payer : {payer account : ℕ} {old new : Store} (change : Part → Part) → payer ≡ account → PartBecomes payer (change (part payer old)) old new → PartBecomes account (change (part account old)) old new
+for_payer {old = old} {new} change same becomes = subst (λ a. PartBecomes a (change (part a old)) old new) same becomes
+
+-- the pages of a dataspace are those of its bytes in the part
+pub pages_are : (store : Store) (account ds : ℕ) → get (part account store).spaces ds ≡ Some (bytes_of (part account store) ds) → (n : ℕ) → n ≡ length (space_at store ds).bytes →
+    n / 4096 ≡ pages_in (bytes_of (part account store) ds)
+pages_are store account ds has n size = ap (λ k. k / 4096) (size ∙ ap length (paid_in_part account ds _ store has).bytes_are)

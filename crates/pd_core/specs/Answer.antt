@@ -1,13 +1,17 @@
 -- An answer as the model sees it.
+use Rattle.std.specs.Prelude.{ℕ, List, [], Result, Ok, Err}
+use Rattle.trade_base.specs.declared.refusal.Refusal.{Refusal}
 use Rattle.own_model.specs.Account.{Account}
-use Rattle.own_model.specs.Reply.{Reply as Modelled}
+use Rattle.own_model.specs.OwnState.{OwnState}
+use Rattle.own_model.specs.OwnStep.{Outcome}
+use Rattle.own_model.specs.Reply.{Reply as Modelled, LogLine, reply_text}
 use Rattle.own_model.specs.Reply.Reply.{Selected as ModelledSelected, Attached as ModelledAttached, Done as ModelledDone, Quotas as ModelledQuotas, Refused as ModelledRefused}
 use Rattle.pd_core.specs.declared.answer.Answer.{Answer}
-use Rattle.pd_core.specs.declared.answer.Answer.TheVariants.{Selected, Attached, Done, Quotas, Refused}
-use Rattle.pd_core.specs.declared.answer.Quotas.{Quotas as Told}
+use Rattle.pd_core.specs.declared.answer.Answer.TheVariants.{Selected, Attached, Done, Quotas}
+use Rattle.pd_core.specs.declared.answer.Quotas.{Quotas as QuotasTold}
 
 -- the account that has these quotas
-abbrev pub quotas_account : Told → Account
+abbrev pub quotas_account : QuotasTold → Account
 quotas_account quotas = record {
   ram_limit = quotas.ram_limit.0;
   ram_used = quotas.ram_used.0;
@@ -21,4 +25,26 @@ model_answer (Selected selector) = ModelledSelected selector.0
 model_answer (Attached address) = ModelledAttached address
 model_answer Done = ModelledDone
 model_answer (Quotas quotas) = ModelledQuotas (quotas_account quotas)
-model_answer (Refused refusal) = ModelledRefused refusal
+
+-- and for what a call gives back
+abbrev pub reply_of : Result Answer Refusal → Modelled
+reply_of (Ok answer) = model_answer answer
+reply_of (Err refusal) = ModelledRefused refusal
+
+-- the outcome of a call that gives this back and leaves this own state: no call finishes a log line yet
+abbrev pub outcome_of : Result Answer Refusal → OwnState → Outcome
+outcome_of result next = record { reply = reply_of result; lines = []; next = next }
+
+-- an outcome whose reply is told: the text of the reply, the log lines and the own state
+pub record Told : Type 0 where
+  pub text : List ℕ
+  pub lines : List LogLine
+  pub next : OwnState
+
+-- the reply of an outcome as its text
+abbrev pub told_of : Outcome → Told
+told_of outcome = record { text = reply_text outcome.reply; lines = outcome.lines; next = outcome.next }
+
+-- a call that tells this text and leaves this own state
+abbrev pub told : List ℕ → OwnState → Told
+told text next = record { text = text; lines = []; next = next }

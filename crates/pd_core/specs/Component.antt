@@ -1,58 +1,64 @@
 -- A component as the model sees it.
-use Rattle.std.specs.Prelude.{ℕ, Option, Some, None, IsSome}
+use Rattle.std.specs.Prelude.{◌≡◌, ◌≢◌, ℕ, Option, Some, None, IsSome}
 use Rattle.std.specs.FinMap.{empty}
-use Rattle.own_model.specs.NatMap.{NatMap}
 use Rattle.own_model.specs.OwnState.{OwnState}
-use Rattle.own_model.specs.Region.{Region}
 use Rattle.own_model.specs.StartList.{Entry, Kind}
 use Rattle.own_model.specs.StartList.Kind.{Script as AScript, Server as AServer}
-use Rattle.cap_space.specs.declared.cap.Cap.{Cap}
 use Rattle.cap_space.specs.Space.{Space}
 use Rattle.region_map.specs.Regions.{Regions}
-use Rattle.dataspace_core.specs.Store.{Store, Part, part}
-use Rattle.pd_core.specs.Own.{own_of, IsScriptAt}
+use Rattle.dataspace_core.specs.Store.{Store, Part, part, root_in}
+use Rattle.pd_core.specs.Own.{own_of}
+use Rattle.pd_core.specs.Sound.{IsScript}
 use Rattle.pd_core.specs.declared.component.Role.{Role}
 use Rattle.pd_core.specs.declared.component.Role.TheVariants.{Script, Server}
 use Rattle.pd_core.specs.declared.component.Component.{Component}
 
--- the capabilities by the selectors that name them
-abbrev pub caps_of : Role → NatMap Cap
-caps_of (Script tables) = tables.caps.caps
-caps_of Server = empty
+-- the key of the account that a role is charged on
+abbrev pub payer_in : Role → ℕ
+payer_in (Script script) = script.account.0
+payer_in (Server account) = account.0
 
--- the regions by their starts
-abbrev pub user_of : Role → NatMap Region
-user_of (Script tables) = tables.regions.user
-user_of Server = empty
+-- that of a component
+abbrev pub payer_of : Component → ℕ
+payer_of component = payer_in component.role
 
 abbrev pub kind_of : Role → Kind
-kind_of (Script tables) = AScript
-kind_of Server = AServer
+kind_of (Script script) = AScript
+kind_of (Server account) = AServer
 
 -- a script's capabilities and regions
 abbrev pub tables_in : Role → Option (Space × Regions)
-tables_in (Script tables) = Some (tables.caps, tables.regions)
-tables_in Server = None
+tables_in (Script script) = Some (script.caps, script.regions)
+tables_in (Server account) = None
 
 abbrev pub tables_of : Component → Option (Space × Regions)
 tables_of component = tables_in component.role
-
--- the key of the account that the component is charged on
-abbrev pub payer_of : Component → ℕ
-payer_of component = component.account.0
 
 -- what a start list says of the component
 abbrev pub entry_of : Component → Entry
 entry_of component = record { name = component.name.now; kind = kind_of component.role }
 
+-- the own state of a role with this part: a server has its account alone
+abbrev pub own_in : Part → Role → OwnState
+own_in part (Script script) = own_of part script.caps.caps script.regions.user
+own_in part (Server account) = own_of part empty empty
+
 -- the component's own state
 abbrev pub own : Store → Component → OwnState
-own store component = own_of (part (payer_of component) store) (caps_of component.role) (user_of component.role)
+own store component = own_in (part (payer_of component) store) component.role
 
--- a script's tables are sound; a server has an account
+-- a script is sound; a server has an account
 abbrev pub IsSoundRole : Part → Role → Type 0
-IsSoundRole part (Script tables) = IsScriptAt part tables
-IsSoundRole part Server = IsSome part.account
+IsSoundRole part (Script script) = IsScript part script.caps script.regions
+IsSoundRole part (Server account) = IsSome part.account
 
 abbrev pub IsSound : Store → Component → Type 0
 IsSound store component = IsSoundRole (part (payer_of component) store) component.role
+
+-- the component is sound after a call; its entry and account, the root's key and the parts of all other accounts stay
+pub record Keeps (old : Store) (before : Component) (new : Store) (after : Component) : Type 0 where
+  pub sound : IsSound new after
+  pub entry : entry_of after ≡ entry_of before
+  pub account : payer_of after ≡ payer_of before
+  pub root : root_in new ≡ root_in old
+  pub others : (other : ℕ) → other ≢ payer_of before → part other new ≡ part other old

@@ -2,12 +2,12 @@
 use Rattle.std.specs.Prelude.{◌≡◌, ◌≢◌, ℕ, ◌*◌, ◌≤◌, List, map, Some, IfSome}
 use Rattle.std.specs.List.{All, AllPairs}
 use Rattle.std.specs.FinMap.{empty}
-use Rattle.own_model.specs.Account.{opened}
 use Rattle.own_model.specs.StartList.{StartEntry, start_state}
 use Rattle.own_model.specs.World.{World}
 use Rattle.cap_space.specs.Space.{Space}
 use Rattle.region_map.specs.Regions.{Regions}
-use Rattle.dataspace_core.specs.Store.{Store, Part, part, account_in}
+use Rattle.dataspace_core.specs.Store.{Store, part, account_in, root_in}
+pub use Rattle.dataspace_core.specs.Store.{opened_part}
 use Rattle.pd_core.specs.Component.{entry_of, payer_of, tables_of}
 use Rattle.pd_core.specs.declared.component.Component.{Component}
 
@@ -23,10 +23,6 @@ start_of store component = record {
 abbrev pub starts_of : Store → List Component → List StartEntry
 starts_of store components = map (start_of store) components
 
--- an account with these limits, of which nothing is used, and which pays for no dataspace
-abbrev pub opened_part : ℕ → ℕ → Part
-opened_part ram caps = record { account = Some (opened ram caps); spaces = empty }
-
 -- tables of nothing, with a place for each capability of a budget, room for 128 user regions, and pages enough for its RAM
 pub record AreEmpty (ram caps : ℕ) (space : Space) (regions : Regions) : Type 0 where
   pub no_caps : space.caps ≡ empty
@@ -37,7 +33,7 @@ pub record AreEmpty (ram caps : ℕ) (space : Space) (regions : Regions) : Type 
 
 -- a component has an account that isn't init's, all of its budget, and nothing else
 pub record IsFresh (store : Store) (component : Component) : Type 0 where
-  pub not_init : payer_of component ≢ store.books.root
+  pub not_init : payer_of component ≢ root_in store
   pub unused : part (payer_of component) store ≡ opened_part (start_of store component).ram (start_of store component).caps
   pub tables : IfSome (tables_of component) (λ tables. AreEmpty (start_of store component).ram (start_of store component).caps tables.0 tables.1)
 
@@ -50,6 +46,6 @@ pub record AreFresh (store : Store) (components : List Component) : Type 0 where
 abbrev pub started_world : Store → List Component → World
 started_world store components = record {
   entries = map (λ start. start.entry) (starts_of store components);
-  init = account_in store store.books.root;
+  init = account_in store (root_in store);
   states = map start_state (starts_of store components);
 }

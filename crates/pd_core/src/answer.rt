@@ -1,13 +1,15 @@
 //! The answers to calls, and their texts.
-ghost use Rattle.std.specs.Prelude.{◌≡◌, ◌+◌, ◌≤◌, ◌++◌, length};
-ghost use Rattle.own_model.specs.Reply.{share_text};
+ghost use Rattle.std.specs.Prelude.{◌≡◌, ◌+◌, ◌*◌, ◌≤◌, ◌++◌, length};
+ghost use Rattle.own_model.specs.Reply.{reply_text, share_text};
+ghost use Rattle.pd_core.specs.Answer.{reply_of};
 
 use crate::reply::Reply;
+use crate::short_text::ShortText;
 use trade_base::{Caps, Ram, Refusal, Selector};
 
-/// What a call is answered.
+/// What a call that isn't refused is answered.
 #[derive(Clone, Copy)]
-pub enum Answer {
+pub(crate) enum Answer {
     /// A new capability has this selector.
     Selected(Selector),
     /// A new region starts at this address.
@@ -16,17 +18,25 @@ pub enum Answer {
     Done,
     /// The use and the limits of the caller's account.
     Quotas(Quotas),
-    /// It is refused, and nothing changed.
-    Refused(Refusal),
 }
 
 /// What of an account is used, and its limits.
 #[derive(Clone, Copy)]
-pub struct Quotas {
-    pub ram_used: Ram,
-    pub ram_limit: Ram,
-    pub caps_used: Caps,
-    pub caps_limit: Caps,
+pub(crate) struct Quotas {
+    pub(crate) ram_used: Ram,
+    pub(crate) ram_limit: Ram,
+    pub(crate) caps_used: Caps,
+    pub(crate) caps_limit: Caps,
+}
+
+/// Writes what a call is answered in place of what the reply was.
+pub(crate) fn tell(outcome: Result<Answer, Refusal>, reply: &mut Reply)
+    ensures { reply.new ≡ reply_text (reply_of outcome) }
+{
+    match outcome {
+        Ok(answer) => answer.tell(reply),
+        Err(refusal) => reply.set(refusal.name().as_bytes()),
+    }
 }
 
 impl Answer {
@@ -35,23 +45,23 @@ impl Answer {
     ghost use Rattle.pd_core.specs.Answer.{model_answer};
 
     /// Writes the answer in place of what the reply was.
-    pub fn tell(self, reply: &mut Reply)
+    fn tell(self, reply: &mut Reply)
         ensures { reply.new ≡ reply_text (model_answer self) }
     {
-        reply.clear();
+        let mut text = ShortText::new();
         match self {
             Answer::Selected(selector) => {
-                reply.add_text(b"cap ");
-                reply.add_number(u64::from(selector.0));
+                text.put_number(u64::from(selector.0));
+                text.put(b"cap ");
             }
             Answer::Attached(address) => {
-                reply.add_text(b"at ");
-                reply.add_address(address);
+                text.set_hex(address);
+                text.put(b"at 0x");
             }
-            Answer::Done => reply.add_text(b"ok"),
-            Answer::Quotas(quotas) => quotas.tell(reply),
-            Answer::Refused(refusal) => reply.add_text(refusal.name().as_bytes()),
+            Answer::Done => text.put(b"ok"),
+            Answer::Quotas(quotas) => quotas.put(&mut text),
         }
+        reply.set(text.as_bytes());
     }
 }
 
@@ -60,31 +70,31 @@ impl Quotas {
     ghost use Rattle.own_model.specs.Reply.{quota_text};
     ghost use Rattle.pd_core.specs.Answer.{quotas_account};
 
-    /// Appends use and limit of each.
-    fn tell(self, reply: &mut Reply)
-        requires { reply.old ≡ [] }
-        ensures { reply.new ≡ quota_text (quotas_account self) }
+    /// Puts use and limit of each.
+    fn put(self, text: &mut ShortText)
+        requires { text.old ≡ [] }
+        ensures { text.new ≡ quota_text (quotas_account self) }
     {
-        reply.add_text(b"ram ");
-        tell_share(reply, self.ram_used.0, self.ram_limit.0);
-        reply.add_text(b" caps ");
-        tell_share(
-            reply,
+        put_share(
+            text,
             u64::from(self.caps_used.0),
             u64::from(self.caps_limit.0),
         );
+        text.put(b" caps ");
+        put_share(text, self.ram_used.0, self.ram_limit.0);
+        text.put(b"ram ");
     }
 }
 
-/// Appends a use and a limit.
-fn tell_share(reply: &mut Reply, used: u64, limit: u64)
-    requires { length reply.old ≤ 100 }
-    ensures added { reply.new ≡ reply.old ++ share_text used limit }
-    ensures len { length reply.new ≤ length reply.old + 41 }
+/// Puts a use and a limit before a text.
+fn put_share(text: &mut ShortText, used: u64, limit: u64)
+    requires { length text.old ≤ 47 }
+    ensures put { text.new ≡ share_text used limit ++ text.old }
+    ensures len { length text.new ≤ length text.old + 41 }
 {
-    reply.add_number(used);
-    reply.add_text(b"/");
-    reply.add_number(limit);
+    text.put_number(limit);
+    text.put(b"/");
+    text.put_number(used);
 }
 
 #[cfg(test)]
@@ -95,19 +105,24 @@ mod tests {
     #[test]
     fn answers_are_told(rt: HostRuntime) -> Result<(), Fail> {
         let mut reply = Reply::boot(rt.alloc())?;
-        Answer::Selected(Selector(12)).tell(&mut reply);
+        tell(Ok(Answer::Selected(Selector(12))), &mut reply);
         assert_eq!(rt; reply.text(), b"cap 12".as_slice());
-        Answer::Done.tell(&mut reply);
+        tell(Ok(Answer::Done), &mut reply);
         assert_eq!(rt; reply.text(), b"ok".as_slice());
+        tell(Ok(Answer::Attached(u64::MAX)), &mut reply);
+        assert_eq!(rt; reply.text(), b"at 0xffffffffffffffff".as_slice());
         let quotas = Quotas {
             ram_used: Ram(8192),
-            ram_limit: Ram(65536),
+            ram_limit: Ram(u64::MAX),
             caps_used: Caps(1),
             caps_limit: Caps(16),
         };
-        Answer::Quotas(quotas).tell(&mut reply);
-        assert_eq!(rt; reply.text(), b"ram 8192/65536 caps 1/16".as_slice());
-        Answer::Refused(Refusal::OutOfRam).tell(&mut reply);
+        tell(Ok(Answer::Quotas(quotas)), &mut reply);
+        assert_eq!(rt;
+            reply.text(),
+            b"ram 8192/18446744073709551615 caps 1/16".as_slice()
+        );
+        tell(Err(Refusal::OutOfRam), &mut reply);
         assert_eq!(rt; reply.text(), b"Out_of_ram".as_slice());
         Ok(())
     }

@@ -5,6 +5,7 @@ use crate::call::Call;
 use crate::component::Component;
 use crate::reply::Reply;
 use dataspace_core::Memory;
+use std::boxed::BoxedSlice;
 use std::marker::Model;
 
 /// The machine's memory with its components. Contracts see the entries of the start list, what init keeps, and each
@@ -12,7 +13,8 @@ use std::marker::Model;
 #[derive(Drop)]
 pub struct Core {
     memory: Memory,
-    components: Vec<Component>,
+    /// A boxed slice, so that no call makes it longer.
+    components: BoxedSlice<Component>,
 }
 
 impl Model for Core {
@@ -24,10 +26,11 @@ impl Model for Core {
     ghost coded = { coded_world };
 
     ghost use Rattle.pd_core.specs.Core.{world_of, IsCore};
+    ghost use Rattle.std.specs.Box.{boxed_slice_items};
 
-    ghost view = { λ core. world_of core.memory core.components.items };
+    ghost view = { λ core. world_of core.memory (boxed_slice_items core.components) };
 
-    ghost invariant = { λ core. IsCore core.memory core.components.items };
+    ghost invariant = { λ core. IsCore core.memory (boxed_slice_items core.components) };
 }
 
 impl Core {
@@ -43,7 +46,10 @@ impl Core {
         requires fresh { AreFresh memory components.items }
         ensures started { result ≡ started_world memory components.items }
     {
-        Core { memory, components }
+        Core {
+            memory,
+            components: components.into_boxed_slice(),
+        }
     }
 
     /// Carries a call out, and writes what it is answered in place of what the reply was. No other component is

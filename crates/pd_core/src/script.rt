@@ -1,48 +1,224 @@
-//! The calls of a script: what each does to its account, its capabilities, its regions and the memory.
-ghost use Rattle.std.specs.Prelude.{◌≡◌, ◌≢◌, ℕ};
-ghost use Rattle.own_model.specs.Reply.{reply_text};
-ghost use Rattle.dataspace_core.specs.Store.{root_in, part};
-ghost use Rattle.pd_core.specs.Call.{model_call, IsWellFormed};
-ghost use Rattle.pd_core.specs.Own.{own_at, outcome_of, IsScriptAt};
+//! A script, and its calls: what each does to its account, its capabilities, its regions and the memory.
 
-use crate::accounts::{alloc, capalloc, capfree, free, quota};
-use crate::answer::Answer;
-use crate::bytes::{peek, poke};
+use crate::answer::{Answer, Quotas, tell};
+use crate::bytes::{MOST_BYTES, decode, tell_range};
 use crate::call::Call;
-use crate::regions::{attach, attach_at, detach};
 use crate::reply::Reply;
-use crate::tables::Tables;
+use cap_space::{Cap, CapSpace};
 use dataspace_core::Memory;
-use trade_base::AccountId;
+use region_map::RegionMap;
+use trade_base::{AccountId, DsId, PAGE, Refusal};
 
-/// Carries a script's call out, and writes what it is answered in place of what the reply was.
-pub fn script_step(
-    memory: &mut Memory,
-    account: AccountId,
-    tables: &mut Tables,
-    call: Call<'_>,
-    reply: &mut Reply,
-)
-    requires sound { IsScriptAt (part account.0 memory.old) tables.old }
-    requires call { IsWellFormed call }
-    ensures answered { reply.new ≡ reply_text (outcome_of (part account.0 memory.old) tables.old (model_call call.entry)).reply }
-    ensures next { own_at (part account.0 memory.new) tables.new ≡ (outcome_of (part account.0 memory.old) tables.old (model_call call.entry)).next }
-    ensures sound { IsScriptAt (part account.0 memory.new) tables.new }
-    ensures root { root_in memory.new ≡ root_in memory.old }
-    ensures others { (other : ℕ) → other ≢ account.0 → part other memory.new ≡ part other memory.old }
-{
-    match call {
-        Call::Alloc(bytes) => alloc(memory, account, tables, bytes).tell(reply),
-        Call::Free(selector) => free(memory, account, tables, selector).tell(reply),
-        Call::Attach(selector) => attach(memory, account, tables, selector).tell(reply),
-        Call::AttachAt { selector, address } => {
-            attach_at(memory, account, tables, selector, address).tell(reply)
+/// A script: the account that it is charged on, its capabilities and its regions.
+#[derive(Drop)]
+pub(crate) struct Script {
+    pub(crate) account: AccountId,
+    pub(crate) caps: CapSpace,
+    pub(crate) regions: RegionMap,
+}
+
+impl Script {
+    ghost use Rattle.std.specs.Prelude.{◌≡◌, Some, IfOk, IsSome};
+    ghost use Rattle.std.specs.Result.{result_err};
+    ghost use Rattle.std.specs.FinMap.{get};
+    ghost use Rattle.own_model.specs.Call.Call.{Alloc as ModelledAlloc, Free as ModelledFree, Attach as ModelledAttach};
+    ghost use Rattle.own_model.specs.Call.Call.{AttachAt as ModelledAttachAt, Detach as ModelledDetach, Peek as ModelledPeek};
+    ghost use Rattle.own_model.specs.Call.Call.{Poke as ModelledPoke, Capalloc as ModelledCapalloc, Capfree as ModelledCapfree};
+    ghost use Rattle.own_model.specs.OwnStep.{script_step};
+    ghost use Rattle.own_model.specs.Region.{resolved};
+    ghost use Rattle.own_model.specs.Text.{bytes_of_hex};
+    ghost use Rattle.dataspace_core.specs.Store.{account_in};
+    ghost use Rattle.pd_core.specs.Answer.{outcome_of, told, told_of, quotas_account};
+    ghost use Rattle.pd_core.specs.Call.{model_call, bytes_in, IsWellFormed};
+    ghost use Rattle.pd_core.specs.Own.{own_at, dataspace_at, is_rpc_object, range_refusal};
+    ghost use Rattle.pd_core.specs.Sound.{IsSoundScript, Keeps};
+
+    /// Carries a call out, and writes what it is answered in place of what the reply was.
+    pub(crate) fn step(&mut self, memory: &mut Memory, call: Call<'_>, reply: &mut Reply)
+        requires sound { IsSoundScript memory.old self.old }
+        requires call { IsWellFormed call }
+        ensures outcome { told reply.new (own_at memory.new self.new)
+            ≡ told_of (script_step (model_call call.entry) (own_at memory.old self.old)) }
+        ensures keeps { Keeps memory.old self.old memory.new self.new }
+    {
+        match call {
+            Call::Alloc(bytes) => tell(self.alloc(memory, bytes), reply),
+            Call::Free(selector) => tell(self.free(memory, selector), reply),
+            Call::Attach(selector) => tell(self.attach(memory, selector), reply),
+            Call::AttachAt { selector, address } => {
+                tell(self.attach_at(memory, selector, address), reply)
+            }
+            Call::Detach(address) => tell(self.detach(memory, address), reply),
+            Call::Peek { address, count } => self.peek(memory, address, count, reply),
+            Call::Poke { address, hex } => tell(self.poke(memory, address, hex), reply),
+            Call::Capalloc => tell(self.capalloc(memory), reply),
+            Call::Capfree(selector) => tell(self.capfree(memory, selector), reply),
+            Call::Quota => tell(Ok(Answer::Quotas(self.quota(memory))), reply),
         }
-        Call::Detach(address) => detach(memory, account, tables, address).tell(reply),
-        Call::Peek { address, count } => peek(memory, account, tables, address, count, reply),
-        Call::Poke { address, hex } => poke(memory, account, tables, address, hex).tell(reply),
-        Call::Capalloc => capalloc(memory, account, tables).tell(reply),
-        Call::Capfree(selector) => capfree(memory, account, tables, selector).tell(reply),
-        Call::Quota => Answer::Quotas(quota(memory, account)).tell(reply),
+    }
+
+    /// A dataspace under a new selector, or why not: `InvalidSize`, then `OutOfRam`, then `OutOfCaps`.
+    fn alloc(&mut self, memory: &mut Memory, bytes: u64) -> Result<Answer, Refusal>
+        requires { IsSoundScript memory.old self.old }
+        ensures outcome { outcome_of result (own_at memory.new self.new)
+            ≡ script_step (ModelledAlloc bytes) (own_at memory.old self.old) }
+        ensures keeps { Keeps memory.old self.old memory.new self.new }
+    {
+        let space = memory.alloc(self.account, bytes)?;
+        Ok(Answer::Selected(self.caps.insert(Cap::Dataspace(space))))
+    }
+
+    /// The dataspace that the selector names goes with its regions, or `InvalidCap` where it names none.
+    fn free(&mut self, memory: &mut Memory, selector: u64) -> Result<Answer, Refusal>
+        requires { IsSoundScript memory.old self.old }
+        ensures outcome { outcome_of result (own_at memory.new self.new)
+            ≡ script_step (ModelledFree selector) (own_at memory.old self.old) }
+        ensures keeps { Keeps memory.old self.old memory.new self.new }
+    {
+        let space = self.dataspace(selector)?;
+        self.caps.remove(selector);
+        self.regions.detach_all(space);
+        memory.free(space);
+        Ok(Answer::Done)
+    }
+
+    /// An RPC object under a new selector, or `OutOfCaps`.
+    fn capalloc(&mut self, memory: &mut Memory) -> Result<Answer, Refusal>
+        requires { IsSoundScript memory.old self.old }
+        ensures outcome { outcome_of result (own_at memory.new self.new)
+            ≡ script_step ModelledCapalloc (own_at memory.old self.old) }
+        ensures keeps { Keeps memory.old self.old memory.new self.new }
+    {
+        memory.charge_cap(self.account)?;
+        Ok(Answer::Selected(self.caps.insert(Cap::RpcObject)))
+    }
+
+    /// The RPC object that the selector names goes, or `InvalidCap` where it names none.
+    fn capfree(&mut self, memory: &mut Memory, selector: u64) -> Result<Answer, Refusal>
+        requires { IsSoundScript memory.old self.old }
+        ensures outcome { outcome_of result (own_at memory.new self.new)
+            ≡ script_step (ModelledCapfree selector) (own_at memory.old self.old) }
+        ensures keeps { Keeps memory.old self.old memory.new self.new }
+    {
+        if !self.has_rpc_object(selector) {
+            return Err(Refusal::InvalidCap);
+        }
+        self.caps.remove(selector);
+        memory.credit_cap(self.account);
+        Ok(Answer::Done)
+    }
+
+    /// The dataspace that a selector names is attached at the first gap, or why not: `InvalidCap`, then
+    /// `TooManyRegions`, then `RegionConflict`.
+    fn attach(&mut self, memory: &Memory, selector: u64) -> Result<Answer, Refusal>
+        requires { IsSoundScript memory.now self.old }
+        ensures outcome { outcome_of result (own_at memory.now self.new)
+            ≡ script_step (ModelledAttach selector) (own_at memory.now self.old) }
+        ensures keeps { Keeps memory.now self.old memory.now self.new }
+    {
+        let space = self.dataspace(selector)?;
+        let pages = memory.size(space) / PAGE;
+        let address = self.regions.attach(space, pages)?;
+        Ok(Answer::Attached(address))
+    }
+
+    /// The same at an address.
+    fn attach_at(&mut self, memory: &Memory, selector: u64, address: u64) -> Result<Answer, Refusal>
+        requires { IsSoundScript memory.now self.old }
+        ensures outcome { outcome_of result (own_at memory.now self.new)
+            ≡ script_step (ModelledAttachAt selector address) (own_at memory.now self.old) }
+        ensures keeps { Keeps memory.now self.old memory.now self.new }
+    {
+        let space = self.dataspace(selector)?;
+        let pages = memory.size(space) / PAGE;
+        let address = self.regions.attach_at(space, pages, address)?;
+        Ok(Answer::Attached(address))
+    }
+
+    /// The region that starts at an address goes, or `PageFault` where none does.
+    fn detach(&mut self, memory: &Memory, address: u64) -> Result<Answer, Refusal>
+        requires { IsSoundScript memory.now self.old }
+        ensures outcome { outcome_of result (own_at memory.now self.new)
+            ≡ script_step (ModelledDetach address) (own_at memory.now self.old) }
+        ensures keeps { Keeps memory.now self.old memory.now self.new }
+    {
+        self.regions.detach(address)?;
+        Ok(Answer::Done)
+    }
+
+    /// So many bytes from an address on are told, or why not: `InvalidSize` where they are none or more than 1,024, then
+    /// `PageFault` where no region holds them all.
+    fn peek(&self, memory: &Memory, address: u64, count: u64, reply: &mut Reply)
+        requires { IsSoundScript memory.now self.now }
+        ensures { told reply.new (own_at memory.now self.now)
+            ≡ told_of (script_step (ModelledPeek address count) (own_at memory.now self.now)) }
+    {
+        match self.range(address, count) {
+            Ok((space, offset)) => tell_range(reply, memory, space, offset, count as usize),
+            Err(refusal) => tell(Err(refusal), reply),
+        }
+    }
+
+    /// The bytes that a text of hexadecimal digits stands for are put from an address on, or why not, as with `peek`.
+    fn poke(&self, memory: &mut Memory, address: u64, hex: &[u8]) -> Result<Answer, Refusal>
+        requires hex { IsSome (bytes_of_hex hex.now) }
+        requires sound { IsSoundScript memory.old self.now }
+        ensures outcome { outcome_of result (own_at memory.new self.now)
+            ≡ script_step (ModelledPoke address (bytes_in hex.now)) (own_at memory.old self.now) }
+        ensures keeps { Keeps memory.old self.now memory.new self.now }
+    {
+        let count = hex.len() / 2;
+        let (space, offset) = self.range(address, count as u64)?;
+        let mut buffer = [0; MOST_BYTES];
+        let bytes = &mut buffer[..count];
+        decode(hex, bytes);
+        memory.write(space, offset, bytes);
+        Ok(Answer::Done)
+    }
+
+    /// The use and the limits of the account.
+    fn quota(&self, memory: &Memory) -> Quotas
+        requires { IsSoundScript memory.now self.now }
+        ensures { quotas_account result ≡ account_in memory.now self.now.account.0 }
+    {
+        let (ram_used, caps_used) = memory.used(self.account);
+        let (ram_limit, caps_limit) = memory.limits(self.account);
+        Quotas {
+            ram_used,
+            ram_limit,
+            caps_used,
+            caps_limit,
+        }
+    }
+
+    /// The dataspace that a selector names, or `InvalidCap` where it names none.
+    fn dataspace(&self, selector: u64) -> Result<DsId, Refusal>
+        ensures { result ≡ dataspace_at (get self.now.caps.caps selector) }
+    {
+        match self.caps.get(selector) {
+            Some(Cap::Dataspace(space)) => Ok(space),
+            _ => Err(Refusal::InvalidCap),
+        }
+    }
+
+    /// Whether a selector names an RPC object.
+    fn has_rpc_object(&self, selector: u64) -> bool
+        ensures { result ≡ is_rpc_object (get self.now.caps.caps selector) }
+    {
+        matches!(self.caps.get(selector), Some(Cap::RpcObject))
+    }
+
+    /// The dataspace whose region holds so many bytes from an address on, and the offset in it, or why not:
+    /// `InvalidSize`, then `PageFault`.
+    fn range(&self, address: u64, count: u64) -> Result<(DsId, u64), Refusal>
+        ensures refusal { result_err result ≡ range_refusal self.now.regions.user address count }
+        ensures found { IfOk result (λ at. resolved self.now.regions.user address count ≡ Some (at.0.0, at.1)) }
+    {
+        if count == 0 || count > MOST_BYTES as u64 {
+            return Err(Refusal::InvalidSize);
+        }
+        self.regions
+            .resolve(address, count)
+            .ok_or(Refusal::PageFault)
     }
 }

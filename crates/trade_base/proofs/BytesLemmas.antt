@@ -4,6 +4,10 @@ use Rattle.std.proofs.Math.Seq.{take-append-add, drop-append-add}
 use Rattle.std.proofs.lemmas.List.{same_lists, places, append-nil, drop_all, take-append-drop, take-append-le, drop-append-le, drop-drop, take_at, length-take-le}
 use Rattle.trade_base.specs.Bytes.{with_bytes}
 
+-- a range that lies within bytes has its length
+pub length-slice_range : (bytes : List ℕ) (from size : ℕ) → from + size ≤ length bytes → length (slice_range bytes from (from + size)) ≡ size
+length-slice_range bytes from size inside = grind (arith, length-take-le, length-drop)
+
 -- a part that fits leaves the length
 pub length-with_bytes : (bytes : List ℕ) (offset : ℕ) (part : List ℕ) → offset + length part ≤ length bytes → length (with_bytes bytes offset part) ≡ length bytes
 unfolding with_bytes

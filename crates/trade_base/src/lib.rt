@@ -6,5 +6,5 @@ mod page;
 mod refusal;
 
 pub use id::{AccountId, Caps, DsId, Ram, Selector, SessionId};
-pub use page::{PAGE, page_round};
+pub use page::{PAGE, page_round, page_rounding_is_least};
 pub use refusal::{NoMemory, Refusal};

@@ -1,6 +1,6 @@
 //! Page rounding.
 ghost use Rattle.std.specs.Prelude.{◌≡◌, ◌^◌, ◌<◌, ◌↔◌, IsSome, IfSome};
-ghost use Rattle.trade_base.specs.Page.{page_of, IsLeastPageSize};
+ghost use Rattle.trade_base.specs.Page.{page_of, IsLeastPageSize, PageRoundingIsLeast};
 
 /// The bytes of a page.
 pub const PAGE: u64 = 4096;
@@ -13,3 +13,8 @@ pub fn page_round(n: u64) -> Option<u64>
 {
     n.checked_next_multiple_of(PAGE)
 }
+
+/// Page rounding is the least multiple of a page that covers the bytes, however many they are.
+pub fn page_rounding_is_least()
+    ensures { PageRoundingIsLeast }
+{}

@@ -1,7 +1,7 @@
 -- The page is written through the slice of the vector.
 use Rattle.std.proofs.Common.{◌+◌, ◌-◌, sym, arith}
 use Rattle.page_pool.specs.Pages.{zero_page}
-use Rattle.page_pool.specs.PageLaws.{length-zero_page}
+use Rattle.page_pool.proofs.PageLaws.{length-zero_page}
 use Rattle.page_pool.proofs.ByteLemmas.{part_written, zeros_of_page, length-range}
 use Rattle.page_pool.proofs.pool.clear.Goals as goal
 

@@ -4,7 +4,7 @@ use Rattle.std.specs.FinMap.{len}
 use Rattle.own_model.specs.Account.{credited}
 use Rattle.dataspace_core.specs.Store.{Store, part, IsOpenIn, account_in, with_account_in}
 use Rattle.dataspace_core.specs.Layout.{store_of}
-use Rattle.dataspace_core.proofs.PartLemmas.{part-with_account, part-with_account_other}
+use Rattle.dataspace_core.proofs.PartLemmas.{becomes-with_account}
 use Rattle.dataspace_core.proofs.MemoryLemmas.{same_store}
 use Rattle.dataspace_core.proofs.CapsLemmas.{spaces_paid, IsSound-credit_cap}
 use Rattle.dataspace_core.proofs.memory.Memory.credit_cap.Goals as goal
@@ -26,12 +26,9 @@ after c =
 pub returns-clause-credited : goal.returns-clause-credited
 returns-clause-credited c = after c
 
-pub returns-clause-own : goal.returns-clause-own
-returns-clause-own c = ap (part c.args.account.0) (after c) ∙ part-with_account c.args.self.now c.args.account.0 _
-
-pub returns-clause-others : goal.returns-clause-others
-returns-clause-others c = λ other apart.
-    ap (part other) (after c) ∙ part-with_account_other c.args.self.now c.args.account.0 _ other apart
+pub returns-clause-part : goal.returns-clause-part
+unfolding part
+returns-clause-part c = rw (after c) (becomes-with_account c.args.self.now c.args.account.0 _)
 
 pub returns-clause-paid : goal.returns-clause-paid
 returns-clause-paid c = spaces_paid (invariant_of-self c) c.args.account.0

@@ -1,7 +1,7 @@
 -- The payer's use covers the dataspace, and only its part loses it.
 use Rattle.std.proofs.Common.{sym, ap, subst, ◌∙◌, arith}
-use Rattle.dataspace_core.specs.Store.{Store, Exists, space_at, without_space, part}
-use Rattle.dataspace_core.proofs.PartLemmas.{part-without_space, part-without_space_other}
+use Rattle.dataspace_core.specs.Store.{Store, Exists, without_space}
+use Rattle.dataspace_core.proofs.PartLemmas.{becomes-without_space}
 use Rattle.dataspace_core.proofs.MemoryLemmas.{key_there, size_small, payer_open, ram_covered, caps_covered, IsSound-free, store-free}
 use Rattle.own_model.proofs.NatMapLemmas.{value_at}
 use Rattle.dataspace_core.proofs.memory.Memory.free.Goals as goal
@@ -39,14 +39,7 @@ returns-clause-freed c =
     c.size_of.ensures c.credit.ensures c.give_chain.ensures c.remove-space.ensures.updates c.remove-space.ensures.capacity
     ∙ ap (λ (s : Store). without_space s c.args.ds.0) c.self.view_is
 
-pub returns-clause-own : goal.returns-clause-own
-returns-clause-own c =
+pub returns-clause-part : goal.returns-clause-part
+returns-clause-part c =
     let found = value_at c.args.self.now.spaces c.args.ds.0 c.requires in
-    ap (part (space_at c.args.self.now c.args.ds.0).payer) (returns-clause-freed c)
-    ∙ part-without_space c.args.self.now c.args.ds.0 found.0 found.1
-
-pub returns-clause-others : goal.returns-clause-others
-returns-clause-others c = λ other apart.
-    let found = value_at c.args.self.now.spaces c.args.ds.0 c.requires in
-    ap (part other) (returns-clause-freed c)
-    ∙ part-without_space_other c.args.self.now c.args.ds.0 found.0 found.1 other apart
+    rw (returns-clause-freed c) (becomes-without_space c.args.self.now c.args.ds.0 found.0 found.1)

@@ -1,8 +1,8 @@
 -- The range lies in the dataspace's chain, and only its payer's part has other bytes.
 use Rattle.std.proofs.Common.{◌+◌, ◌≤◌, length, sym, ap, subst, ◌∙◌, arith}
 use Rattle.own_model.proofs.NatMapLemmas.{value_at}
-use Rattle.dataspace_core.specs.Store.{Store, Exists, space_at, with_bytes_at, part}
-use Rattle.dataspace_core.proofs.PartLemmas.{part-with_bytes_at, part-with_bytes_at_other}
+use Rattle.dataspace_core.specs.Store.{Store, Exists, space_at, with_bytes_at}
+use Rattle.dataspace_core.proofs.PartLemmas.{becomes-with_bytes_at}
 use Rattle.dataspace_core.proofs.MemoryLemmas.{key_there, chain_there, size_small, size_is, IsSound-write, store-write}
 use Rattle.dataspace_core.proofs.memory.Memory.write.Goals as goal
 
@@ -36,14 +36,7 @@ returns-clause-written c =
     (subst (λ (s : Store). c.args.offset + length c.args.bytes.now ≤ length (space_at s c.args.ds.0).bytes) (sym c.self.view_is) c.requires.range) c.write_chain.ensures
     ∙ ap (λ (s : Store). with_bytes_at s c.args.ds.0 c.args.offset c.args.bytes.now) c.self.view_is
 
-pub returns-clause-own : goal.returns-clause-own
-returns-clause-own c =
+pub returns-clause-part : goal.returns-clause-part
+returns-clause-part c =
     let found = value_at c.args.self.now.spaces c.args.ds.0 c.requires.exists in
-    ap (part (space_at c.args.self.now c.args.ds.0).payer) (returns-clause-written c)
-    ∙ part-with_bytes_at c.args.self.now c.args.ds.0 found.0 found.1 c.args.offset c.args.bytes.now
-
-pub returns-clause-others : goal.returns-clause-others
-returns-clause-others c = λ other apart.
-    let found = value_at c.args.self.now.spaces c.args.ds.0 c.requires.exists in
-    ap (part other) (returns-clause-written c)
-    ∙ part-with_bytes_at_other c.args.self.now c.args.ds.0 found.0 found.1 c.args.offset c.args.bytes.now other apart
+    rw (returns-clause-written c) (becomes-with_bytes_at c.args.self.now c.args.ds.0 found.0 found.1 c.args.offset c.args.bytes.now)
