@@ -3,8 +3,8 @@ use Rattle.std.specs.Prelude.{ℕ, ◌^◌, ◌+◌, ◌-◌, ◌*◌, ◌==◌,
 use Rattle.std.specs.List.{list_all, slice_split}
 use Rattle.std.specs.Option.{option_map, option_and_then}
 use Rattle.std.specs.Char.{is_ascii_alphanumeric}
-use Rattle.std.specs.Str.{all_ascii_digits, bytes_eq}
-use Rattle.std.specs.Str.Parse.{digits_value}
+use Rattle.std.specs.Str.{bytes_eq}
+pub use Rattle.trade_base.specs.Amount.{number_of}
 
 -- the pieces of a text between its newlines, but for a last piece that is empty
 abbrev pub without_empty_end : List (List ℕ) → List (List ℕ)
@@ -35,13 +35,6 @@ is_name_byte b = is_ascii_alphanumeric b || (b == 95 || (b == 45 || b == 46))
 -- 1 to 32 bytes of names
 abbrev pub is_name : List ℕ → Bool
 is_name bs = (nat_le 1 (length bs) && nat_le (length bs) 32) && list_all is_name_byte bs
-
--- the number that one or more decimal digits stand for, if it is below 2^64
-abbrev pub number_of : List ℕ → Option ℕ
-number_of ds =
-    if (nat_lt 0 (length ds) && all_ascii_digits ds) && nat_lt (digits_value 10 ds) (2 ^ 64)
-    then Some (digits_value 10 ds)
-    else None
 
 -- the value of a hex digit of either case: `A` is 65, `a` is 97 and `0` is 48
 abbrev pub hex_digit_of : ℕ → Option ℕ

@@ -1,3 +1,4 @@
 pub mod BytesLemmas
 pub mod PageLemmas
 pub mod WordLemmas
+pub mod NumberLemmas

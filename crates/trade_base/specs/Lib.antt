@@ -1,3 +1,4 @@
+pub mod Amount
 pub mod Bytes
 pub mod Page
 pub mod Refusal

@@ -1,10 +1,12 @@
 //! The words that every layer shares: units, the numbers of things, refusals, and page rounding.
 #![tactic(auto)]
 
+mod amount;
 mod id;
 mod page;
 mod refusal;
 
+pub use amount::{read_amount, read_number};
 pub use id::{AccountId, Caps, DsId, Ram, Selector, SessionId};
 pub use page::{PAGE, page_round, page_rounding_is_least};
 pub use refusal::{NoMemory, Refusal};

@@ -1,0 +1,77 @@
+//! Numbers and amounts of text.
+ghost use Rattle.std.specs.Prelude.{◌≡◌};
+ghost use Rattle.trade_base.specs.Amount.{amount_of, number_of};
+
+/// The number that one or more decimal digits stand for, with any leading zeros, or `None` where another byte is
+/// among them or the number is past 64 bits.
+#[tactic(auto, using(crate::proofs::NumberLemmas::stops_at_other, crate::proofs::NumberLemmas::stops_past, crate::proofs::NumberLemmas::goes_on, crate::proofs::NumberLemmas::number_at_end, crate::proofs::NumberLemmas::number_of_some, crate::proofs::NumberLemmas::number_of_none))]
+pub fn read_number(digits: &[u8]) -> Option<u64>
+    ensures { result ≡ number_of digits.now }
+{
+    let mut number: u64 = 0;
+    for digit in digits {
+        if !digit.is_ascii_digit() {
+            return None;
+        }
+        number = number
+            .checked_mul(10)?
+            .checked_add(u64::from(*digit - b'0'))?;
+    }
+    if digits.is_empty() {
+        None
+    } else {
+        Some(number)
+    }
+}
+
+/// The amount that a text stands for: a number, or a number and one of the suffixes `K`, `M` and `G`, which stand for
+/// 1024, 1024² and 1024³. It is `None` where a text is neither, or the amount is past 64 bits.
+pub fn read_amount(text: &[u8]) -> Option<u64>
+    ensures { result ≡ amount_of text.now }
+{
+    match text {
+        [number @ .., b'K'] => read_number(number)?.checked_mul(1 << 10),
+        [number @ .., b'M'] => read_number(number)?.checked_mul(1 << 20),
+        [number @ .., b'G'] => read_number(number)?.checked_mul(1 << 30),
+        _ => read_number(text),
+    }
+}
+
+#[cfg(test)]
+mod tests {
+    use super::*;
+
+    #[test]
+    fn amounts_are_read(rt: HostRuntime) {
+        for (text, amount) in [
+            (b"0".as_slice(), 0),
+            (b"0042", 42),
+            (b"4K", 4096),
+            (b"16M", 16 << 20),
+            (b"00G", 0),
+            (b"18446744073709551615", u64::MAX),
+            (b"17179869183G", 18446744072635809792),
+        ] {
+            assert_eq!(rt; read_amount(text), Some(amount));
+        }
+    }
+
+    #[test]
+    fn other_texts_are_no_amounts(rt: HostRuntime) {
+        for text in [
+            b"".as_slice(),
+            b"K",
+            b"4k",
+            b"4KK",
+            b"4K ",
+            b"+4",
+            b"-4",
+            b"4K4",
+            b"18446744073709551616",
+            b"17179869184G",
+            b"18446744073709551616K",
+        ] {
+            assert_eq!(rt; read_amount(text), None);
+        }
+    }
+}
