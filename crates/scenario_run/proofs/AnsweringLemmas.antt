@@ -1,8 +1,7 @@
 -- What is told of a line, by what it says.
-use Rattle.std.proofs.Common.{◌≡◌, ℕ, ◌≤◌, true, List, [], length, Option, Some, None, refl, sym, ap, ◌∙◌, cond, subst, arith, Result, OnOk, OnErr}
+use Rattle.std.proofs.Common.{◌≡◌, ℕ, ◌≤◌, true, List, [], length, Option, Some, None, refl, sym, ap, ◌∙◌, cond, arith}
 use Rattle.std.proofs.lemmas.Bool.Decides.{nat_tests}
 use Rattle.std.specs.Prelude.{nat_le}
-use Rattle.std.specs.Io.KnownBytes.{Appends}
 use Rattle.std.specs.List.{position}
 use Rattle.std.specs.Str.{bytes_eq}
 use Rattle.trade_base.specs.declared.refusal.Refusal.{Refusal}
@@ -19,12 +18,12 @@ use Rattle.own_model.specs.Transcript.{heard, heard_spoken, heard_call, longest_
 use Rattle.own_model.specs.Transcript.Heard.{NoCall, Caller}
 use Rattle.own_model.specs.World.{World, outcome_at}
 use Rattle.scenario_run.specs.Answered.{told_of}
-use Rattle.scenario_run.specs.Gathered.{AppendsPart, line_with}
+use Rattle.scenario_run.specs.Gathered.{line_with}
 use Rattle.own_model.specs.Running.{told_now}
 use Rattle.std.specs.FinMap.{get}
 
 -- a line that isn't too long is heard as what it says
-heard_short : (entries : List Entry) (line : List ℕ) → length line ≤ 8192 → heard entries line ≡ heard_spoken entries (spoken line)
+heard_short : (entries : List Entry) (line : List ℕ) → length line ≤ longest_line → heard entries line ≡ heard_spoken entries (spoken line)
 heard_short entries line short =
     let e : nat_le (length line) longest_line ≡ true = grind (arith, nat_tests) in
     ap (λ b. cond b (heard_spoken entries (spoken line)) NoCall) e
@@ -102,7 +101,7 @@ told_outcome name outcome none = ap (λ lines. outcome_text name (record outcome
 
 -- a call of a name that the entries have is told with its reply
 pub told_call : (world : World) (line : List ℕ) (name : List ℕ) (call : Call) (component : ℕ) (entries : List Entry) (listed text : List ℕ)
-    → length line ≤ 8192
+    → length line ≤ longest_line
     → world.entries ≡ entries
     → spoken line ≡ Some (record { name = name; call = call })
     → position (λ entry. bytes_eq entry.name name) entries ≡ Some component
@@ -119,11 +118,3 @@ told_call world line name call component entries listed text short same says fou
     ∙ sym (told_outcome (entry_at world.entries component).name (outcome_at world component call)
     (no_lines (entry_at world.entries component) call (state_at world.states component)))
     ∙ ap (told_now world.entries world.states) (sym hears)
-
--- a clause on a call's outcome, at equal texts
-pub ok_told : {E : Type 0} (r : Result (Unit {0}) E) (old new : Option (List ℕ)) (a b : List ℕ) → a ≡ b → OnOk r (Appends old new a) → OnOk r (Appends old new b)
-ok_told r old new a b e h = subst (λ bytes. OnOk r (Appends old new bytes)) e h
-
--- the same of one that fails, where a part of the text is told
-pub err_told : {E : Type 0} (r : Result (Unit {0}) E) (old new : Option (List ℕ)) (a b : List ℕ) → a ≡ b → OnErr r (AppendsPart old new a) → OnErr r (AppendsPart old new b)
-err_told r old new a b e h = subst (λ bytes. OnErr r (AppendsPart old new bytes)) e h

@@ -23,9 +23,3 @@ pub Keeps-grown : (ahead read grown : List ℕ) (old new : Option (List ℕ)) �
 Keeps-grown ahead read grown None new is consumes = tt
 Keeps-grown ahead read grown (Some xs) None is consumes = absurd consumes
 Keeps-grown ahead read grown (Some xs) (Some ys) is consumes = rw (is, consumes) (append_assoc ahead read ys)
-
--- with nothing read too
-pub Keeps-same : (ahead same : List ℕ) (old new : Option (List ℕ)) → same ≡ ahead → Keeps old new → Keeps (to_come ahead old) (to_come same new)
-Keeps-same ahead same None new is keeps = tt
-Keeps-same ahead same (Some xs) None is keeps = absurd keeps
-Keeps-same ahead same (Some xs) (Some ys) is keeps = rw (is, keeps) refl

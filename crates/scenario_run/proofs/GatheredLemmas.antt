@@ -1,13 +1,8 @@
 -- How what is told grows.
-use Rattle.std.proofs.Common.{◌≡◌, ℕ, ◌+◌, ◌-◌, List, [], ◌++◌, length, take, drop, Option, Some, None, arith, rules, refl, sym, ◌∙◌, ap, append_assoc, append-nil, Bool, true, false, ◌||◌}
+use Rattle.std.proofs.Common.{◌≡◌, ℕ, ◌+◌, ◌-◌, List, [], ◌++◌, length, take, drop, Option, Some, None, Result, Ok, Err, IsErrAnd, arith, rules, refl, sym, ◌∙◌, ap, append_assoc, append-nil}
 use Rattle.std.proofs.lemmas.List.{places, same_lists, take_rest, take-append-drop}
-use Rattle.std.specs.Io.KnownBytes.{Appends, Keeps}
-use Rattle.scenario_run.specs.Gathered.{told_so_far, AppendsPart}
-
--- a call that went well changes no mark of failure
-pub or-false : (b : Bool) → (b || false) ≡ b
-or-false true = refl
-or-false false = refl
+use Rattle.std.specs.Io.KnownBytes.{Appends}
+use Rattle.scenario_run.specs.Gathered.{Tells, TellsPart, TellsUnless}
 
 -- with nothing more, nothing grows
 pub Appends-none : (known : Option (List ℕ)) → Appends known known []
@@ -21,51 +16,44 @@ Appends-more (Some ws) None c xs ys zs first then is = absurd first
 Appends-more (Some ws) (Some bs) None xs ys zs first then is = absurd then
 Appends-more (Some ws) (Some bs) (Some cs) xs ys zs first then is = rw (then, first, is) (append_assoc ws xs ys)
 
--- a growth that then stays
-pub Appends-kept : (a b c : Option (List ℕ)) (xs : List ℕ) → Appends a b xs → Keeps b c → Appends a c xs
-Appends-kept None b c xs grows stays = tt
-Appends-kept (Some ws) None c xs grows stays = absurd grows
-Appends-kept (Some ws) (Some bs) None xs grows stays = absurd stays
-Appends-kept (Some ws) (Some bs) (Some cs) xs grows stays = stays ∙ grows
-
--- a growth by the first n, which then stays
-pub AppendsPart-take : (a b c : Option (List ℕ)) (n : ℕ) (xs : List ℕ) → Appends a b (take n xs) → Keeps b c → AppendsPart a c xs
-AppendsPart-take a b c n xs grows stays =
-    record { part = take n xs; left = drop n xs; cut = sym (take-append-drop n xs); grows = Appends-kept a b c (take n xs) grows stays }
-
--- a growth by a part of what goes on
-pub AppendsPart-front : (a b : Option (List ℕ)) (xs ys zs : List ℕ) → AppendsPart a b xs → zs ≡ xs ++ ys → AppendsPart a b zs
-AppendsPart-front a b xs ys zs grows is = record {
-  part = grows.part;
-  left = grows.left ++ ys;
-  cut = is ∙ ap (λ front. front ++ ys) grows.cut ∙ append_assoc grows.part grows.left ys;
-  grows = grows.grows;
-}
-
--- a growth, and then one by a part
-pub AppendsPart-more : (a b c : Option (List ℕ)) (xs ys zs : List ℕ) → Appends a b xs → AppendsPart b c ys → zs ≡ xs ++ ys → AppendsPart a c zs
-AppendsPart-more a b c xs ys zs first then is = record {
-  part = xs ++ then.part;
-  left = then.left;
-  cut = is ∙ ap (λ back. xs ++ back) then.cut ∙ sym (append_assoc xs then.part then.left);
-  grows = Appends-more a b c xs then.part (xs ++ then.part) first then.grows refl;
-}
-
 -- what is gathered is told
-pub told-gathered : (contents : Option (List ℕ)) (gathered grown bytes : List ℕ) → grown ≡ gathered ++ bytes → Appends (told_so_far contents gathered) (told_so_far contents grown) bytes
-told-gathered None gathered grown bytes is = tt
-told-gathered (Some xs) gathered grown bytes is = rw is (sym (append_assoc xs gathered bytes))
+pub Tells-gathered : (written : Option (List ℕ)) (gathered grown bytes : List ℕ) → grown ≡ gathered ++ bytes → Tells written gathered written grown bytes
+Tells-gathered written gathered grown bytes is = record { out = []; grows = Appends-none written; parts = is }
 
--- what is written of it stays told
-pub told-written : (old new : Option (List ℕ)) (gathered part left : List ℕ) → gathered ≡ part ++ left → Appends old new part → Keeps (told_so_far old gathered) (told_so_far new left)
-told-written None new gathered part left is written = tt
-told-written (Some xs) None gathered part left is written = absurd written
-told-written (Some xs) (Some ys) gathered part left is written = rw (is, written) (append_assoc xs part left)
+-- and nothing more, if nothing is done
+pub Tells-none : (written : Option (List ℕ)) (gathered : List ℕ) → Tells written gathered written gathered []
+Tells-none written gathered = Tells-gathered written gathered gathered [] (sym (append-nil gathered))
 
--- the first n, and the next m
-take-next : (n m : ℕ) (xs : List ℕ) → take (n + m) xs ≡ take n xs ++ take m (drop n xs)
-take-next n m xs = same_lists _ _ (search (rules, places)) (λ k d h. grind (arith, places))
+-- one text is told after another
+pub Tells-more : {w w' w'' : Option (List ℕ)} {g g' g'' xs ys : List ℕ} → Tells w g w' g' xs → Tells w' g' w'' g'' ys → Tells w g w'' g'' (xs ++ ys)
+Tells-more {g = g} {g'' = g''} {xs = xs} {ys = ys} first then = record {
+  out = first.out ++ then.out;
+  grows = Appends-more _ _ _ first.out then.out (first.out ++ then.out) first.grows then.grows refl;
+  parts =
+      append_assoc first.out then.out g'' ∙ ap (λ back. first.out ++ back) then.parts
+      ∙ sym (append_assoc first.out _ ys) ∙ ap (λ front. front ++ ys) first.parts ∙ append_assoc g xs ys;
+}
+
+-- a write that fails loses what follows too
+pub Tells-front : {w w' : Option (List ℕ)} {g lost xs : List ℕ} (ys : List ℕ) → Tells w g w' lost xs → Tells w g w' (lost ++ ys) (xs ++ ys)
+Tells-front {g = g} {lost = lost} {xs = xs} ys tells = record {
+  out = tells.out;
+  grows = tells.grows;
+  parts = sym (append_assoc tells.out lost ys) ∙ ap (λ front. front ++ ys) tells.parts ∙ append_assoc g xs ys;
+}
 
 -- the first n, and the first m of the others
 pub take-rest : (n m : ℕ) (xs : List ℕ) → take (n + m) xs ≡ take n xs ++ take m (take (length xs - n) (drop n xs))
-take-rest n m xs = take-next n m xs ∙ ap (λ rest. take n xs ++ take m rest) (sym (take_rest xs n))
+take-rest n m xs =
+    let next : take (n + m) xs ≡ take n xs ++ take m (drop n xs) = same_lists _ _ (search (rules, places)) (λ k d h. grind (arith, places)) in
+    next ∙ ap (λ rest. take n xs ++ take m rest) (sym (take_rest xs n))
+
+-- a fault that is handed on tells of a part
+pub told_err : {T E : Type 0} (Q : E → Type 0) {w w' : Option (List ℕ)} {g xs : List ℕ} (g' : List ℕ) (r : Result T E) → IsErrAnd r Q → TellsPart w g w' xs → TellsUnless r w g w' g' xs
+told_err Q g' (Ok x) is part = absurd is
+told_err Q g' (Err e) is part = part
+
+-- a text is told, and then one unless a write fails
+pub told_more : {T E : Type 0} {w w' : Option (List ℕ)} {g g' xs : List ℕ} (w'' : Option (List ℕ)) (g'' ys : List ℕ) (r : Result T E) → Tells w g w' g' xs → TellsUnless r w' g' w'' g'' ys → TellsUnless r w g w'' g'' (xs ++ ys)
+told_more w'' g'' ys (Ok x) first then = Tells-more first then
+told_more w'' g'' ys (Err e) first then = (then.0, Tells-more first (then.1))

@@ -8,6 +8,9 @@ pub mod BlockLemmas
 pub mod SearchLemmas
 pub mod LineLemmas
 pub mod GatheredLemmas
+pub mod FaultLemmas
 pub mod ToCome
+pub mod PassedLines
 pub mod Serving
+pub mod Ending
 pub mod AnsweringLemmas

@@ -3,7 +3,7 @@ use Rattle.std.proofs.Common.{◌≡◌, ℕ, ◌+◌, ◌-◌, ◌<◌, ◌≤�
 use Rattle.std.proofs.lemmas.Bool.{cases_lt}
 use Rattle.std.proofs.lemmas.Bool.Decides.{nat_tests}
 use Rattle.std.proofs.lemmas.List.{drop_all, take_all, take_rest, take-append-drop}
-use Rattle.std.proofs.lemmas.List.Folds.{prefix_len-append}
+use Rattle.std.proofs.lemmas.List.Folds.{prefix_len-append, length-prefix_len}
 use Rattle.std.proofs.lemmas.List.Sums.{prefix_len-le-length, prefix_len_passes}
 use Rattle.std.proofs.lemmas.List.Splits.{slice_split_first, slice_split_none, length-slice_split}
 use Rattle.std.specs.List.{slice_split, All}
@@ -95,3 +95,7 @@ line_length-rest n xs le = ap (λ rest. n + line_length rest) (take_rest xs n) �
 
 -- how long a line is that was looked at in part
 pub ruleset line_lengths = (line_length-le, line_length-drop)
+
+-- a first line is as long as it reaches
+pub length-line_of : (bytes : List ℕ) → length (line_of bytes) ≡ line_length bytes
+length-line_of bytes = length-prefix_len (λ b. not (is_newline b)) bytes

@@ -1,72 +1,195 @@
--- The run as far as it has come: what was answered, and what is still to be answered, make up the whole.
-use Rattle.std.proofs.Common.{◌≡◌, ℕ, ◌+◌, Bool, true, false, List, ◌++◌, length, Option, Some, None, IfSome, arith, refl, sym, ◌∙◌, ap, subst}
+-- A run from line to line: what was answered, and what it leaves at its end.
+use Rattle.std.proofs.Common.{◌≡◌, ℕ, ◌+◌, ◌<◌, ◌≤◌, ◌⊎◌, nat_le, nat_lt, slice_index_or, take, drop, Bool, true, false, cond, List, [], ◌∷◌, ◌++◌, length, Option, Some, None, IfSome, Result, Ok, Err, inl, inr, arith, refl, sym, ◌∙◌, ap, subst, append_assoc, append-nil}
+use Rattle.std.proofs.lemmas.Bool.Decides.{nat_tests}
 use Rattle.std.specs.Io.KnownBytes.{Appends}
+use Rattle.own_model.specs.StartList.{Entry}
 use Rattle.own_model.specs.Text.{lines_of}
-use Rattle.own_model.specs.Transcript.{transcript, calls_of, state_at, state_after}
+use Rattle.own_model.specs.Call.{spoken}
+use Rattle.own_model.specs.Transcript.{Heard, heard, heard_spoken, longest_line}
+use Rattle.own_model.specs.Transcript.Heard.{NoCall}
 use Rattle.own_model.specs.World.{World}
-use Rattle.own_model.proofs.RunningLemmas.{transcript-running, states_running-at}
-use Rattle.scenario_run.specs.Answered.{told_of, told_of_all, after_all, AnswersLine, AnswersNext}
-use Rattle.scenario_run.specs.Lines.{line_of, after_line}
-use Rattle.scenario_run.proofs.GatheredLemmas.{Appends-more}
-use Rattle.scenario_run.proofs.LineLemmas.{lines_of-cons}
+use Rattle.scenario_run.specs.Answered.{Point, Answers, Ended, Halts, HaltsFor, AnswersNext, told_of, told_of_all, after_one, after_all, bad_line, more_unless_failed}
+use Rattle.scenario_run.specs.Gathered.{Tells, TellsUnless}
+use Rattle.scenario_run.specs.Lines.{line_length, line_of, after_line, longest_read, to_come, PassesLines, PassesSome}
+use Rattle.scenario_run.specs.Next.{BeginsWithLine, PassesLongLine, StopsBefore, TellsAt, is_read_fault}
+use Rattle.scenario_run.specs.Serves.{Serves, run_fault}
+use Rattle.scenario_run.specs.Stops.{IsWritten, StopsFor}
+use Rattle.scenario_run.specs.declared.lines.LineFault.{LineFault}
+use Rattle.scenario_run.specs.declared.lines.LineFault.TheVariants.{Read, Write, Endless}
+use Rattle.scenario_run.specs.declared.running.RunFault.{RunFault}
+use Rattle.scenario_run.specs.declared.running.RunFault.TheVariants.{TooManyLines}
+use Rattle.scenario_run.proofs.FaultLemmas.{told_at}
+use Rattle.scenario_run.proofs.GatheredLemmas.{Tells-none, Tells-more}
+use Rattle.scenario_run.proofs.LineLemmas.{line_length-le, lines_of-cons, length-line_of}
+use Rattle.scenario_run.proofs.PassedLines.{passes_line, passes_none, passes_more, read_to}
 
--- of all bytes some are still to come; with what is told of them the transcript is told, and after them each component's own state is that of its own run
-pub record Serves (first : World) (all : List ℕ) (old_told : Option (List ℕ))
-    (world : World) (come : Option (List ℕ)) (new_told : Option (List ℕ)) (count : ℕ) : Type 0 where
-  -- the bytes that are still to come
-  pub rest : List ℕ
-  -- they are known
-  pub is_rest : come ≡ Some rest
-  -- their lines and those that were answered are all lines
-  pub lines : count + length (lines_of rest) ≡ length (lines_of all)
-  -- after them each component's state is that of its own run
-  pub leaves : (component : ℕ) → state_at (after_all world (lines_of rest)).states component
-      ≡ state_after first.entries first.states (calls_of first.entries (lines_of all)) component
-  -- with what is told of them the transcript is told
-  pub tells : (more : Option (List ℕ)) → Appends new_told more (told_of_all world (lines_of rest)) → Appends old_told more (transcript first.entries first.states all)
+-- what lines leave, and then others
+after_all-append : (world : World) (xs ys : List (List ℕ)) → after_all (after_all world xs) ys ≡ after_all world (xs ++ ys)
+after_all-append world [] ys = refl
+after_all-append world (x ∷ xs) ys = after_all-append (after_one world x) xs ys
 
--- at the start all is to come
-pub Serves-none : (world : World) (come known : Option (List ℕ)) → IfSome come (λ all. Serves world all known world come known 0)
-Serves-none world None known = tt
-Serves-none world (Some all) known = record {
-  rest = all;
-  is_rest = refl;
-  lines = omega arith;
-  leaves = states_running-at world.entries world.states (lines_of all);
-  tells = λ more grows. subst (Appends known more) (sym (transcript-running world.entries world.states all)) grows;
+-- what is told of lines, and then of others
+told_of_all-append : (world : World) (xs ys : List (List ℕ)) → told_of_all world (xs ++ ys) ≡ told_of_all world xs ++ told_of_all (after_all world xs) ys
+told_of_all-append world [] ys = refl
+told_of_all-append world (x ∷ xs) ys =
+    ap (λ text. told_of world x ++ text) (told_of_all-append (after_one world x) xs ys)
+    ∙ sym (append_assoc (told_of world x) (told_of_all (after_one world x) xs) (told_of_all (after_all world (x ∷ xs)) ys))
+
+-- the same from the world that the first lines left
+told_of_both : (world mid : World) (xs ys : List (List ℕ)) → mid ≡ after_all world xs → told_of_all world xs ++ told_of_all mid ys ≡ told_of_all world (xs ++ ys)
+told_of_both world mid xs ys left = rw left (sym (told_of_all-append world xs ys))
+
+-- and the world that both leave
+left_by_both : (world mid last : World) (xs ys : List (List ℕ)) → mid ≡ after_all world xs → last ≡ after_all mid ys → last ≡ after_all world (xs ++ ys)
+left_by_both world mid last xs ys left then = then ∙ ap (λ w. after_all w ys) left ∙ after_all-append world xs ys
+
+-- a run that starts: nothing is read ahead or gathered
+abbrev pub start : World → Option (List ℕ) → Option (List ℕ) → Point
+start world rest written = record { world = world; ahead = []; rest = rest; written = written; gathered = [] }
+
+-- no line is answered at first
+pub answers_none : (world : World) (rest written : Option (List ℕ)) (ahead gathered : List ℕ) → ahead ≡ [] → gathered ≡ [] →
+    Answers [] (start world rest written) (record { world = world; ahead = ahead; rest = rest; written = written; gathered = gathered })
+answers_none world None written ahead gathered no_ahead no_gathered =
+    rw (no_ahead, no_gathered) (record { world = refl; tells = Tells-none written []; passes = tt })
+answers_none world (Some text) written ahead gathered no_ahead no_gathered =
+    rw (no_ahead, no_gathered) (record { world = refl; tells = Tells-none written []; passes = passes_none text })
+
+-- lines are answered after lines
+pub answers_more : {p q r : Point} {xs ys : List (List ℕ)} → Answers xs p q → Answers ys q r → Answers (xs ++ ys) p r
+answers_more {p = p} {q = q} {r = r} {xs = xs} {ys = ys} first then = record {
+  world = left_by_both p.world q.world r.world xs ys first.world then.world;
+  tells = rw (← told_of_both p.world q.world xs ys first.world) (Tells-more first.tells then.tells);
+  passes = passes_more (to_come p.ahead p.rest) (to_come q.ahead q.rest) (to_come r.ahead r.rest) xs ys first.passes then.passes;
 }
 
--- one more line
-serves_more : (first : World) (all : List ℕ) (old_told : Option (List ℕ))
-    (world : World) (come : Option (List ℕ)) (new_told : Option (List ℕ)) (count : ℕ) (next : World) (next_come next_told : Option (List ℕ))
-    → (serves : Serves first all old_told world come new_told count)
-    → AnswersLine world next serves.rest next_come new_told next_told
-    → Serves first all old_told next next_come next_told (count + 1)
-serves_more first all old_told world come new_told count next next_come next_told serves answers =
-    let cons = lines_of-cons serves.rest answers.some in
-    let parts : told_of_all world (lines_of serves.rest) ≡ told_of world (line_of serves.rest) ++ told_of_all next (lines_of (after_line serves.rest)) =
-    ap (told_of_all world) cons
-    ∙ ap (λ w. told_of world (line_of serves.rest) ++ told_of_all w (lines_of (after_line serves.rest))) (sym answers.world) in
-    record {
-      rest = after_line serves.rest;
-      is_rest = answers.left;
-      lines = omega (arith, serves.lines, ap length cons);
-      leaves = λ component. ap (λ w. state_at (after_all w (lines_of (after_line serves.rest))).states component) answers.world
-          ∙ sym (ap (λ lines. state_at (after_all world lines).states component) cons) ∙ serves.leaves component;
-      tells = λ more grows. serves.tells more (Appends-more new_told next_told more _ _ _ answers.tells grows parts);
-    }
+-- lines that were passed are the first, and others are left
+left_behind : (old come : Option (List ℕ)) (xs : List (List ℕ)) → IfSome old (λ text. PassesLines text come xs) → IfSome old (λ text. (left : List (List ℕ)) × (lines_of text ≡ xs ++ left))
+left_behind None come xs passes = tt
+left_behind (Some text) come xs passes = (lines_of passes.rest, passes.first)
 
--- the same where the bytes to come are known
-pub Serves-more : (first : World) (old old_told : Option (List ℕ))
-    (world : World) (come new_told : Option (List ℕ)) (count : ℕ) (next : World) (next_come next_told : Option (List ℕ)) (more : Bool)
-    → IfSome old (λ all. Serves first all old_told world come new_told count)
-    → IfSome come (λ before. AnswersNext world next before next_come new_told next_told more) → more ≡ true
-    → IfSome old (λ all. Serves first all old_told next next_come next_told (count + 1))
-Serves-more first old old_told world come new_told count next next_come next_told false serves answers is = absurd (cc)
-Serves-more first None old_told world come new_told count next next_come next_told true serves answers is = tt
-Serves-more first (Some all) old_told world None new_told count next next_come next_told true serves answers is =
-    absurd (let e : None ≡ Some serves.rest = serves.is_rest in cc)
-Serves-more first (Some all) old_told world (Some before) new_told count next next_come next_told true serves answers is =
-    let same : before ≡ serves.rest = let e : Some before ≡ Some serves.rest = serves.is_rest in cc in
-    serves_more first all old_told world (Some before) new_told count next next_come next_told serves
-    (subst (λ bytes. AnswersLine world next bytes next_come new_told next_told) same answers)
+-- a line is answered, unless a write fails
+pub answered_line : {E : Type 0} (p q : Point) (written : Option (List ℕ)) (gathered line : List ℕ) (answered : Result (Unit {0}) E) →
+    Tells p.written p.gathered written gathered [] → TellsUnless answered written gathered q.written q.gathered (told_of p.world line) →
+    q.world ≡ after_one p.world line → IfSome (to_come p.ahead p.rest) (λ text. PassesLines text (to_come q.ahead q.rest) (line ∷ [])) →
+    AnswersNext (more_unless_failed answered) p q
+answered_line p q written gathered line (Ok done) before tells world passes =
+    (line, record { world = world; tells = rw (append-nil (told_of p.world line)) (Tells-more before tells); passes = passes })
+answered_line p q written gathered line (Err fault) before tells world passes = record {
+  answered = line ∷ [];
+  world = world;
+  tells = (tells.0, rw (append-nil (told_of p.world line)) (Tells-more before (tells.1)));
+  lines = left_behind (to_come p.ahead p.rest) (to_come q.ahead q.rest) (line ∷ []) passes;
+}
+
+-- the line that lies ahead is passed
+pub passes_ahead : (old rest : Option (List ℕ)) (ahead left : List ℕ) (n : ℕ) → IfSome old (λ before. BeginsWithLine before ahead rest n) → left ≡ drop (n + 1) ahead →
+    IfSome old (λ text. PassesLines text (to_come left rest) (take n ahead ∷ []))
+passes_ahead None rest ahead left n begins is = tt
+passes_ahead (Some text) rest ahead left n begins is =
+    rw begins.line (passes_line text (to_come left rest) begins.some (ap (λ ahead. to_come ahead rest) is ∙ begins.after))
+
+-- a line that is too long is no call
+heard_long : (entries : List Entry) (line : List ℕ) → longest_line < length line → heard entries line ≡ NoCall
+heard_long entries line long =
+    let e : nat_le (length line) longest_line ≡ false = grind (arith, nat_tests) in
+    ap (λ b. cond b (heard_spoken entries (spoken line)) NoCall) e
+
+-- a line that is no call is told so, and changes nothing
+pub record IsUnheard (world : World) (line : List ℕ) : Type 0 where
+  pub tells : told_of world line ≡ bad_line
+  pub leaves : after_one world line ≡ world
+
+unheard : (world : World) (line : List ℕ) → heard world.entries line ≡ NoCall → IsUnheard world line
+unheard world line e = record { tells = rw e refl; leaves = rw e refl }
+
+-- a line that was too long, and is passed
+pub passes_long : (world : World) (old come : Option (List ℕ)) → IfSome old (λ before. PassesLongLine before come) →
+    (line : List ℕ) × IsUnheard world line × IfSome old (λ text. PassesLines text come (line ∷ []))
+passes_long world None come long = ([], unheard world [] refl, tt)
+passes_long world (Some text) come long = (
+  line_of text,
+  unheard world (line_of text) (heard_long world.entries (line_of text) (omega (arith, long.long, length-line_of text))),
+  passes_line text come (omega (arith, long.long, line_length-le text)) long.after,
+)
+
+-- a fault before a line is one before any is answered
+halts_for : (old rest : Option (List ℕ)) (fault : LineFault) → IfSome old (λ before. StopsBefore fault before rest) → IfSome old (λ text. HaltsFor fault [] text rest)
+halts_for None rest fault stops = tt
+halts_for (Some text) rest Read stops = (refl, stops)
+halts_for (Some text) rest Write stops = (lines_of text, refl)
+halts_for (Some text) rest Endless stops = (refl, stops)
+
+-- no line comes, so none is answered
+pub halts_before : (p q : Point) (fault : LineFault) → q.world ≡ p.world → TellsAt fault p.written p.gathered q.written [] →
+    IfSome (to_come p.ahead p.rest) (λ before. StopsBefore fault before q.rest) → Halts fault p q
+halts_before p q fault world tells stops = record { answered = []; world = world; tells = tells; lines = halts_for (to_come p.ahead p.rest) q.rest fault stops }
+
+-- all that was told is written
+all_written : {w w' : Option (List ℕ)} {told : List ℕ} → Tells w [] w' [] told → Appends w w' told
+all_written {w = w} {w' = w'} tells = subst (Appends w w') (sym (append-nil tells.out) ∙ tells.parts) tells.grows
+
+-- or a part, where a write failed
+written_at : (w w' : Option (List ℕ)) (told : List ℕ) (fault : LineFault) → TellsAt fault w [] w' told → IsWritten (run_fault fault) w w' told
+written_at w w' told Read tells = all_written tells
+written_at w w' told Write tells = record { part = tells.1.out; left = tells.0; parts = sym tells.1.parts; grows = tells.1.grows }
+written_at w w' told Endless tells = all_written tells
+
+-- what is known of the bytes to come is known of those behind the lines that were passed
+behind : (input come : Option (List ℕ)) (xs : List (List ℕ)) (P Q : List ℕ → Type 0) → IfSome (to_come [] input) (λ text. PassesLines text come xs) → IfSome come P →
+    ((text : List ℕ) → (p : PassesLines text come xs) → P p.rest → Q text) → IfSome input Q
+behind None come xs P Q passes holds then = tt
+behind (Some text) come xs P Q passes holds then = then text passes (subst (λ (m : Option (List ℕ)). IfSome m P) passes.is_rest holds)
+
+-- why the run stops, where a fault comes behind the lines answered
+stops_for : (fault : LineFault) (text : List ℕ) (come rest : Option (List ℕ)) (xs answered : List (List ℕ)) (max_lines : ℕ) (failed : Bool) →
+    failed ≡ is_read_fault {T = Bool} (Err fault) → (p : PassesLines text come xs) → HaltsFor fault answered p.rest rest →
+    (left : List (List ℕ)) × (lines_of text ≡ (xs ++ answered) ++ left) × StopsFor (run_fault fault) (xs ++ answered) left max_lines text rest failed
+stops_for Read text come rest xs answered max_lines failed fails p halts =
+    rw (halts.0, append-nil xs) (lines_of p.rest, p.first, inl (fails, read_to text come rest xs (halts.1.0) p (halts.1.1)))
+stops_for Write text come rest xs answered max_lines failed fails p halts =
+    (halts.0, p.first ∙ ap (λ lines. xs ++ lines) halts.1 ∙ sym (append_assoc xs answered halts.0), tt)
+stops_for Endless text come rest xs answered max_lines failed fails p halts =
+    let long : longest_read < length (slice_index_or (lines_of p.rest) 0 []) =
+    rw (lines_of-cons p.rest (omega (arith, halts.1, line_length-le p.rest))) (omega (arith, halts.1, length-line_of p.rest)) in
+    rw (halts.0, append-nil xs) (lines_of p.rest, p.first, inr long)
+
+-- a run ends behind the lines answered
+module _ {world : World} {input written : Option (List ℕ)} {xs : List (List ℕ)} {q : Point} (answers : Answers xs (start world input written) q) where
+  -- no more lines come
+  pub serves_all : (r : Point) (max_lines : ℕ) (failed : Bool) → length xs ≤ max_lines → Ended q r →
+      Serves (Ok (length xs)) max_lines world r.world input r.rest failed written r.written
+  serves_all r max_lines failed few ended = record {
+    answered = xs;
+    world = ended.world ∙ answers.world;
+    told = all_written (subst (Tells written [] r.written []) (append-nil (told_of_all world xs)) (Tells-more answers.tells ended.tells));
+    count = (few, refl);
+    lines = behind input (to_come q.ahead q.rest) xs _ _ answers.passes ended.none (λ text p none. (lines_of p.rest, p.first, ap lines_of none));
+  }
+
+  -- a fault comes
+  pub serves_to_fault : (r : Point) (max_lines : ℕ) (failed : Bool) (fault : LineFault) → failed ≡ is_read_fault {T = Bool} (Err fault) → Halts fault q r →
+      Serves (Err (run_fault fault)) max_lines world r.world input r.rest failed written r.written
+  serves_to_fault r max_lines failed fault fails halts = record {
+    answered = xs ++ halts.answered;
+    world = left_by_both world q.world r.world xs halts.answered answers.world halts.world;
+    told =
+        written_at written r.written _ fault (subst (TellsAt fault written [] r.written) (told_of_both world q.world xs halts.answered answers.world)
+        (told_at r.written (told_of_all q.world halts.answered) fault answers.tells halts.tells));
+    count = tt;
+    lines = behind input (to_come q.ahead q.rest) xs _ _ answers.passes halts.lines (λ text p for. stops_for fault text _ r.rest xs halts.answered max_lines failed fails p for);
+  }
+
+  -- there are more lines than are allowed
+  pub serves_too_many : (r : Point) (max_lines : ℕ) (failed : Bool) → length xs ≡ max_lines → r.world ≡ q.world →
+      Tells q.written q.gathered r.written [] [] → IfSome (to_come q.ahead q.rest) (λ before. true ≡ nat_lt 0 (length before)) →
+      Serves (Err TooManyLines) max_lines world r.world input r.rest failed written r.written
+  serves_too_many r max_lines failed full same tells more = record {
+    answered = xs;
+    world = same ∙ answers.world;
+    told = all_written (subst (Tells written [] r.written []) (append-nil (told_of_all world xs)) (Tells-more answers.tells tells));
+    count = tt;
+    lines = behind input (to_come q.ahead q.rest) xs _ _ answers.passes more (λ text p some.
+        let begun : 0 < length p.rest = grind (arith, nat_tests) in
+        (lines_of p.rest, p.first, (full, omega (arith, ap length (lines_of-cons p.rest begun)))));
+  }

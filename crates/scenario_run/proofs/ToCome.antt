@@ -1,24 +1,16 @@
 -- What was passed, and what is left to come.
-use Rattle.std.proofs.Common.{◌≡◌, ℕ, ◌+◌, ◌<◌, ◌≤◌, List, [], ◌∷◌, ◌++◌, length, take, drop, Option, Some, None, IfSome, arith, refl, sym, ◌∙◌, ap, length-append}
+use Rattle.std.proofs.Common.{◌≡◌, ℕ, ◌+◌, ◌<◌, ◌≤◌, List, [], ◌∷◌, ◌++◌, length, take, drop, Option, Some, None, IfSome, Err, arith, refl, sym, ◌∙◌, ap, length-append}
 use Rattle.std.proofs.lemmas.List.{drop-drop, drop_all, drop_at, drop-append-le, take-append-le}
 use Rattle.std.specs.Io.KnownBytes.{Keeps, IsAtEnd}
-use Rattle.scenario_run.specs.Lines.{line_length, after_line, to_come, PassesSome, Passes}
-use Rattle.scenario_run.specs.Next.{BeginsWithLine, PassesLongLine, StopsIn, StopsAtDevice, IsFlushedAt}
+use Rattle.scenario_run.specs.Lines.{line_length, after_line, longest_read, to_come, PassesSome}
+use Rattle.scenario_run.specs.Next.{BeginsWithLine, PassesLongLine, StopsBefore, GrowsOrStops}
 use Rattle.scenario_run.specs.declared.lines.LineFault.{LineFault}
 use Rattle.scenario_run.specs.declared.lines.LineFault.TheVariants.{Read, Write, Endless}
 use Rattle.scenario_run.proofs.LineLemmas.{line_length-le, line_length-append_in, line_length-append-le, line_length-drop}
 
--- what is known stays if nothing is done
-pub Keeps-refl : (known : Option (List ℕ)) → Keeps known known
-Keeps-refl None = tt
-Keeps-refl (Some xs) = refl
-
--- what stays twice stays
-pub Keeps-trans : (a b c : Option (List ℕ)) → Keeps a b → Keeps b c → Keeps a c
-Keeps-trans None b c first second = tt
-Keeps-trans (Some xs) None c first second = absurd first
-Keeps-trans (Some xs) (Some ys) None first second = absurd second
-Keeps-trans (Some xs) (Some ys) (Some zs) first second = second ∙ first
+-- the same where the bytes to come are known
+abbrev pub Passes : Option (List ℕ) → Option (List ℕ) → ℕ → Type 0
+Passes old new n = IfSome old (λ before. PassesSome before new n)
 
 -- nothing was passed yet
 pub Passes-none : (old : Option (List ℕ)) → Passes old old 0
@@ -86,17 +78,16 @@ pub IsLong-ahead : (old_ahead : List ℕ) (old_rest : Option (List ℕ)) → 819
 IsLong-ahead old_ahead None long = tt
 IsLong-ahead old_ahead (Some ys) long = omega (arith, line_length-append-le old_ahead ys)
 
--- the bytes ahead, all of the line, are passed, and what is to come then stays
-pub passed_on : (old mid_rest new : Option (List ℕ)) (ahead left : List ℕ) (n m : ℕ) → Passes old (to_come ahead mid_rest) n → m ≡ line_length ahead → length ahead ≤ m
-    → left ≡ drop (m + 1) ahead → Keeps (to_come left mid_rest) new → Passes old new (n + m)
-passed_on old mid_rest new ahead left n m passes is whole left_of keeps =
-    let on : Passes old (to_come (drop (line_length ahead + 1) ahead) mid_rest) (n + line_length ahead) = Passes-whole old mid_rest ahead n passes (omega arith) in
+-- the bytes ahead, all of the line, are passed
+pub passed_on : (old rest : Option (List ℕ)) (ahead left : List ℕ) (n : ℕ) {m : ℕ} → Passes old (to_come ahead rest) n → m ≡ line_length ahead → length ahead ≤ m
+    → left ≡ drop (m + 1) ahead → Passes old (to_come left rest) (n + m)
+passed_on old rest ahead left n {m} passes is whole left_of =
     let same : left ≡ drop (line_length ahead + 1) ahead = left_of ∙ ap (λ k. drop (k + 1) ahead) is in
-    Passes-kept old (to_come left mid_rest) new (n + m) (rw (same, is) on) keeps
+    rw (same, is) (Passes-whole old rest ahead n passes (omega arith))
 
 -- a long line that ends ahead is passed with its newline
 pub long_line-within : (old rest : Option (List ℕ)) (ahead left : List ℕ) (n m : ℕ) → IfSome old (λ before. 8192 < line_length before)
-    → Passes old (to_come ahead rest) n → m ≡ line_length ahead → m < length ahead → n + m ≤ 1048576 → left ≡ drop (m + 1) ahead
+    → Passes old (to_come ahead rest) n → m ≡ line_length ahead → m < length ahead → n + m ≤ longest_read → left ≡ drop (m + 1) ahead
     → IfSome old (λ before. PassesLongLine before (to_come left rest))
 long_line-within None rest ahead left n m long passes is within few left_of = tt
 long_line-within (Some before) rest ahead left n m long passes is within few left_of =
@@ -106,7 +97,7 @@ long_line-within (Some before) rest ahead left n m long passes is within few lef
 
 -- and so is one that ends with what is to come
 pub long_line-end : (old rest : Option (List ℕ)) (ahead : List ℕ) (n : ℕ) → IfSome old (λ before. 8192 < line_length before)
-    → Passes old (to_come ahead rest) n → n ≤ 1048576 → length ahead ≡ 0 → IsAtEnd rest → IfSome old (λ before. PassesLongLine before (to_come ahead rest))
+    → Passes old (to_come ahead rest) n → n ≤ longest_read → length ahead ≡ 0 → IsAtEnd rest → IfSome old (λ before. PassesLongLine before (to_come ahead rest))
 long_line-end None rest ahead n long passes few none end = tt
 long_line-end (Some before) rest [] n long passes few none end =
     let line = passed_end (Some before) rest n passes end in
@@ -114,26 +105,33 @@ long_line-end (Some before) rest [] n long passes few none end =
 long_line-end (Some before) rest (b ∷ bs) n long passes few none end = absurd (omega arith)
 
 -- a line of which too many bytes are passed or ahead is endless
-pub stops_endless : (old rest : Option (List ℕ)) (ahead : List ℕ) (n m : ℕ) → Passes old (to_come ahead rest) n → m ≡ line_length ahead → 1048576 < n + m
-    → IfSome old (λ before. StopsIn before (to_come ahead rest) Endless)
-stops_endless None rest ahead n m passes is many = tt
-stops_endless (Some before) None ahead n m passes is many = absurd (let e : None ≡ Some (drop n before) = passes.left in cc)
-stops_endless (Some before) (Some ys) ahead n m passes is many =
-    (omega (arith, left_length before (ahead ++ ys) n passes, line_length-append-le ahead ys), (n, passes))
+pub is_endless : (old rest : Option (List ℕ)) (ahead : List ℕ) (n m : ℕ) → Passes old (to_come ahead rest) n → m ≡ line_length ahead → longest_read < n + m
+    → IfSome old (λ before. longest_read < line_length before)
+is_endless None rest ahead n m passes is many = tt
+is_endless (Some before) None ahead n m passes is many = absurd (let e : None ≡ Some (drop n before) = passes.left in cc)
+is_endless (Some before) (Some ys) ahead n m passes is many =
+    omega (arith, left_length before (ahead ++ ys) n passes, line_length-append-le ahead ys)
 
--- a device that fails leaves what is to come
-pub stops_device : (old new : Option (List ℕ)) (n : ℕ) (fault : LineFault) (gathered : List ℕ) → Passes old new n → StopsAtDevice fault gathered
-    → IfSome old (λ before. StopsIn before new fault)
-stops_device None new n fault gathered passes stops = tt
-stops_device (Some before) new n Read gathered passes stops = (n, passes)
-stops_device (Some before) new n Write gathered passes stops = (n, passes)
-stops_device (Some before) new n Endless gathered passes stops = absurd stops
+-- a read that fails while all bytes ahead are of the line fails within the line
+pub fails_within : (old rest new : Option (List ℕ)) (ahead : List ℕ) (n : ℕ) → Passes old (to_come ahead rest) n → length ahead ≤ line_length ahead → Keeps rest new
+    → IfSome old (λ before. (k : ℕ) × PassesSome before new k)
+fails_within None rest new ahead n passes whole keeps = tt
+fails_within (Some before) None new ahead n passes whole keeps = absurd (let e : None ≡ Some (drop n before) = passes.left in cc)
+fails_within (Some before) (Some ys) None ahead n passes whole keeps = absurd keeps
+fails_within (Some before) (Some ys) (Some zs) ahead n passes whole keeps =
+    let k = n + line_length ahead in
+    let is : line_length ahead ≡ length ahead = omega (arith, line_length-le ahead) in
+    let behind : ys ≡ drop k before =
+    sym (drop_at ahead ys (line_length ahead) (sym is)) ∙ ap (drop (line_length ahead)) (left_is before (ahead ++ ys) n passes) ∙ drop-drop (line_length ahead) n before in
+    (k, record { of_line = omega (arith, left_length before (ahead ++ ys) n passes, line_length-append-le ahead ys); left = ap Some (keeps ∙ behind) })
 
--- nothing is left to be written, unless a write failed
-pub IsFlushedAt-device : (fault : LineFault) (gathered : List ℕ) → StopsAtDevice fault gathered → IsFlushedAt fault gathered
-IsFlushedAt-device Read gathered stops = stops
-IsFlushedAt-device Write gathered stops = tt
-IsFlushedAt-device Endless gathered stops = absurd stops
+-- so no line comes where a read or a write fails
+pub no_line : (old rest now_rest : Option (List ℕ)) (ahead now_ahead : List ℕ) (n : ℕ) (fault : LineFault) → Passes old (to_come ahead rest) n → length ahead ≤ line_length ahead
+    → GrowsOrStops (Err fault) ahead rest now_ahead now_rest → IfSome old (λ before. StopsBefore fault before now_rest)
+no_line old rest now_rest ahead now_ahead n Read passes whole stops = fails_within old rest now_rest ahead n passes whole (stops.1)
+no_line None rest now_rest ahead now_ahead n Write passes whole stops = tt
+no_line (Some before) rest now_rest ahead now_ahead n Write passes whole stops = tt
+no_line old rest now_rest ahead now_ahead n Endless passes whole stops = absurd stops
 
 -- a line that ends ahead is the next one
 pub begins_with_line : (old rest : Option (List ℕ)) (ahead : List ℕ) (m : ℕ) → Passes old (to_come ahead rest) 0 → m ≡ line_length ahead → m < length ahead

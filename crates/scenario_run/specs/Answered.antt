@@ -1,12 +1,20 @@
--- What a world tells of lines, and the world that they leave.
-use Rattle.std.specs.Prelude.{◌≡◌, ℕ, ◌<◌, Bool, true, false, List, [], length, Option, Some, codes}
-use Rattle.std.specs.Io.KnownBytes.{Appends, Keeps}
+-- What a world tells of lines, the world that they leave, and how far a run has come.
+use Rattle.std.specs.Prelude.{◌≡◌, ℕ, ◌<◌, ◌≤◌, Bool, true, false, List, [], ◌∷◌, ◌++◌, length, Option, Some, IfSome, IfOk, Result, Ok, Err, codes}
+use Rattle.std.specs.Io.KnownBytes.{Appends}
 use Rattle.trade_base.specs.declared.refusal.Refusal.TheVariants.{BadLine}
 use Rattle.own_model.specs.Running.{told_now, states_after_heard, told_running, states_running}
 use Rattle.own_model.specs.Reply.Reply.{Refused}
+use Rattle.own_model.specs.Text.{lines_of}
 use Rattle.own_model.specs.Transcript.{heard, reply_line}
 use Rattle.own_model.specs.World.{World}
-use Rattle.scenario_run.specs.Lines.{line_of, after_line}
+use Rattle.scenario_run.specs.Gathered.{Tells}
+use Rattle.scenario_run.specs.Lines.{line_length, longest_read, to_come, PassesSome, PassesLines}
+use Rattle.scenario_run.specs.Next.{TellsAt}
+use Rattle.scenario_run.specs.Stops.{IsWritten, StopsFor}
+use Rattle.scenario_run.specs.declared.lines.Buffers.{Buffers}
+use Rattle.scenario_run.specs.declared.lines.LineFault.{LineFault}
+use Rattle.scenario_run.specs.declared.lines.LineFault.TheVariants.{Read, Write, Endless}
+use Rattle.scenario_run.specs.declared.running.RunFault.{RunFault}
 
 -- what is told of a line that is no call
 abbrev pub bad_line : List ℕ
@@ -28,20 +36,51 @@ told_of_all world lines = told_running world.entries world.states lines
 abbrev pub after_all : World → List (List ℕ) → World
 after_all world lines = record world { states = states_running world.entries world.states lines }
 
--- the first line of what was to come is answered, and what comes after it is left
-pub record AnswersLine (old new : World) (before : List ℕ) (come : Option (List ℕ)) (old_told new_told : Option (List ℕ)) : Type 0 where
-  pub some : 0 < length before
-  pub left : come ≡ Some (after_line before)
-  pub world : new ≡ after_one old (line_of before)
-  pub tells : Appends old_told new_told (told_of old (line_of before))
+-- a run between two lines: the world, what is still to come, and what was told
+pub record Point : Type 0 where
+  pub world : World
+  pub ahead : List ℕ
+  pub rest : Option (List ℕ)
+  pub written : Option (List ℕ)
+  pub gathered : List ℕ
 
--- nothing was to come, and nothing is told
-pub record AnswersNothing (old new : World) (before : List ℕ) (old_told new_told : Option (List ℕ)) : Type 0 where
-  pub none : before ≡ []
-  pub world : new ≡ old
-  pub stays : Keeps old_told new_told
+-- the same, as its parts tell it
+abbrev pub point : World → Buffers → Option (List ℕ) → Option (List ℕ) → Point
+point world buffers rest written =
+    record { world = world; ahead = buffers.ahead; rest = rest; written = written; gathered = buffers.gathered }
 
--- a line is answered, unless there is none
-abbrev pub AnswersNext : World → World → List ℕ → Option (List ℕ) → Option (List ℕ) → Option (List ℕ) → Bool → Type 0
-AnswersNext old new before come old_told new_told true = AnswersLine old new before come old_told new_told
-AnswersNext old new before come old_told new_told false = AnswersNothing old new before old_told new_told
+-- these lines are answered; where the bytes to come are known, they are the first of them
+pub record Answers (lines : List (List ℕ)) (old new : Point) : Type 0 where
+  pub world : new.world ≡ after_all old.world lines
+  pub tells : Tells old.written old.gathered new.written new.gathered (told_of_all old.world lines)
+  pub passes : IfSome (to_come old.ahead old.rest) (λ text. PassesLines text (to_come new.ahead new.rest) lines)
+
+-- no line is left, and all that was told is written
+pub record Ended (old new : Point) : Type 0 where
+  pub world : new.world ≡ old.world
+  pub tells : Tells old.written old.gathered new.written [] []
+  pub none : IfSome (to_come old.ahead old.rest) (λ text. text ≡ [])
+
+-- why no more lines of a text are answered than these
+abbrev pub HaltsFor : LineFault → List (List ℕ) → List ℕ → Option (List ℕ) → Type 0
+HaltsFor Read answered text rest = (answered ≡ []) × ((n : ℕ) × PassesSome text rest n)
+HaltsFor Write answered text rest = (left : List (List ℕ)) × (lines_of text ≡ answered ++ left)
+HaltsFor Endless answered text rest = (answered ≡ []) × (longest_read < line_length text)
+
+-- a fault comes before a line is answered, or once it is
+pub record Halts (fault : LineFault) (old new : Point) : Type 0 where
+  pub answered : List (List ℕ)
+  pub world : new.world ≡ after_all old.world answered
+  pub tells : TellsAt fault old.written old.gathered new.written (told_of_all old.world answered)
+  pub lines : IfSome (to_come old.ahead old.rest) (λ text. HaltsFor fault answered text new.rest)
+
+-- a line is answered, unless there is none or a fault comes
+abbrev pub AnswersNext : Result Bool LineFault → Point → Point → Type 0
+AnswersNext (Ok true) old new = (line : List ℕ) × Answers (line ∷ []) old new
+AnswersNext (Ok false) old new = Ended old new
+AnswersNext (Err fault) old new = Halts fault old new
+
+-- there may be more lines, unless a write failed
+abbrev pub more_unless_failed : {T E : Type 0} → Result T E → Result Bool LineFault
+more_unless_failed (Ok done) = Ok true
+more_unless_failed (Err fault) = Err Write

@@ -1,17 +1,22 @@
--- What a run tells: what its sink holds, and then what is gathered for it.
-use Rattle.std.specs.Prelude.{◌≡◌, ℕ, List, [], ◌∷◌, ◌++◌, Option, codes}
-use Rattle.std.specs.Io.KnownBytes.{append_known, Appends}
+-- What a run tells: it is gathered, and then written.
+use Rattle.std.specs.Prelude.{◌≡◌, ℕ, List, [], ◌∷◌, ◌++◌, Option, Result, Ok, Err, codes}
+use Rattle.std.specs.Io.KnownBytes.{Appends}
 
--- what the sink holds, and then what is gathered
-abbrev pub told_so_far : Option (List ℕ) → List ℕ → Option (List ℕ)
-told_so_far contents gathered = append_known contents gathered
+-- bytes are told: from the front of what was gathered and of these some were written, and the others are gathered now
+pub record Tells (written : Option (List ℕ)) (gathered : List ℕ) (now_written : Option (List ℕ))
+    (now_gathered bytes : List ℕ) : Type 0 where
+  pub out : List ℕ
+  pub grows : Appends written now_written out
+  pub parts : out ++ now_gathered ≡ gathered ++ bytes
 
--- known bytes grow by a part of these, from the front
-pub record AppendsPart (old new : Option (List ℕ)) (bytes : List ℕ) : Type 0 where
-  pub part : List ℕ
-  pub left : List ℕ
-  pub cut : bytes ≡ part ++ left
-  pub grows : Appends old new part
+-- a write failed: from the front of what was gathered and of these bytes some were written
+abbrev pub TellsPart : Option (List ℕ) → List ℕ → Option (List ℕ) → List ℕ → Type 0
+TellsPart written gathered now_written bytes = (lost : List ℕ) × Tells written gathered now_written lost bytes
+
+-- bytes are told, unless a write fails
+abbrev pub TellsUnless : {T E : Type 0} → Result T E → Option (List ℕ) → List ℕ → Option (List ℕ) → List ℕ → List ℕ → Type 0
+TellsUnless (Ok done) written gathered now_written now_gathered bytes = Tells written gathered now_written now_gathered bytes
+TellsUnless (Err fault) written gathered now_written now_gathered bytes = TellsPart written gathered now_written bytes
 
 -- a name and its reply, as a line
 abbrev pub line_with : List ℕ → List ℕ → List ℕ

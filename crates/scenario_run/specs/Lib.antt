@@ -1,7 +1,10 @@
 pub mod Words
 pub mod Boot
 pub mod Device
+pub mod Gathered
 pub mod Lines
 pub mod Next
-pub mod Gathered
+pub mod Stops
 pub mod Answered
+pub mod Serves
+pub mod Program

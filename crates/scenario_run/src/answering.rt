@@ -1,12 +1,12 @@
 //! The answer to a line.
-ghost use Rattle.std.specs.Prelude.{◌≡◌, ℕ, ◌<◌, ◌≤◌, ◌||◌, List, length, OnOk, OnErr, is_err};
-ghost use Rattle.std.specs.Io.KnownBytes.{Appends};
+ghost use Rattle.std.specs.Prelude.{◌≡◌, ◌≤◌, false, length, is_err};
 ghost use Rattle.own_model.specs.Reply.Reply.{Refused};
 ghost use Rattle.own_model.specs.StartList.{entries_of, machine_a};
 ghost use Rattle.own_model.specs.Transcript.{reply_line};
 ghost use Rattle.scenario_run.specs.Answered.{told_of, after_one, bad_line};
-ghost use Rattle.scenario_run.specs.Gathered.{told_so_far, AppendsPart};
+ghost use Rattle.scenario_run.specs.Gathered.{TellsUnless};
 
+use crate::block::LONGEST_LINE;
 use crate::device::{DeviceFault, Sink};
 use crate::gather::Gather;
 use crate::line::read_line;
@@ -24,51 +24,47 @@ pub fn answer_line<K: Sink>(
     list: &FixedNames,
     line: &[u8],
     reply: &mut Reply,
-    gather: &mut Gather,
+    gathered: &mut Gather,
     sink: &mut K,
 ) -> Result<(), DeviceFault>
-    requires short { length line.now ≤ 8192 }
+    requires short { length line.now ≤ LONGEST_LINE }
+    requires writes { K.has_failed sink.old ≡ false }
     requires listed { core.old.entries ≡ entries_of machine_a }
     ensures world { core.new ≡ after_one core.old line.now }
-    ensures ok { OnOk result (Appends (told_so_far (K.contents sink.old) gather.old)
-        (told_so_far (K.contents sink.new) gather.new) (told_of core.old line.now)) }
-    ensures err { OnErr result (AppendsPart (told_so_far (K.contents sink.old) gather.old)
-        (told_so_far (K.contents sink.new) gather.new) (told_of core.old line.now)) }
-    ensures failing { K.has_failed sink.new ≡ (K.has_failed sink.old || is_err result) }
+    ensures told { TellsUnless result (K.contents sink.old) gathered.old (K.contents sink.new) gathered.new
+        (told_of core.old line.now) }
+    ensures failing { K.has_failed sink.new ≡ is_err result }
 {
     let Ok((name, call)) = read_line(line) else {
-        return tell_refusal(NOBODY, Refusal::BadLine, gather, sink);
+        return tell_refusal(NOBODY, Refusal::BadLine, gathered, sink);
     };
     let Some(component) = list.find(name) else {
-        return tell_refusal(name, Refusal::UnknownComponent, gather, sink);
+        return tell_refusal(name, Refusal::UnknownComponent, gathered, sink);
     };
     core.step(component, call, reply);
-    gather.put_reply(sink, list.name(component), reply.text())
+    gathered.put_reply(sink, list.name(component), reply.text())
 }
 
 /// Answers a longer line, of which no byte was kept.
-pub fn answer_long_line<K: Sink>(gather: &mut Gather, sink: &mut K) -> Result<(), DeviceFault>
-    ensures ok { OnOk result (Appends (told_so_far (K.contents sink.old) gather.old)
-        (told_so_far (K.contents sink.new) gather.new) bad_line) }
-    ensures err { OnErr result (AppendsPart (told_so_far (K.contents sink.old) gather.old)
-        (told_so_far (K.contents sink.new) gather.new) bad_line) }
-    ensures failing { K.has_failed sink.new ≡ (K.has_failed sink.old || is_err result) }
+pub fn answer_long_line<K: Sink>(gathered: &mut Gather, sink: &mut K) -> Result<(), DeviceFault>
+    requires { K.has_failed sink.old ≡ false }
+    ensures told { TellsUnless result (K.contents sink.old) gathered.old (K.contents sink.new) gathered.new bad_line }
+    ensures failing { K.has_failed sink.new ≡ is_err result }
 {
-    tell_refusal(NOBODY, Refusal::BadLine, gather, sink)
+    tell_refusal(NOBODY, Refusal::BadLine, gathered, sink)
 }
 
 // Gathers a refusal under a name.
 fn tell_refusal<K: Sink>(
     name: &[u8],
     refusal: Refusal,
-    gather: &mut Gather,
+    gathered: &mut Gather,
     sink: &mut K,
 ) -> Result<(), DeviceFault>
-    ensures ok { OnOk result (Appends (told_so_far (K.contents sink.old) gather.old)
-        (told_so_far (K.contents sink.new) gather.new) (reply_line name.now (Refused refusal))) }
-    ensures err { OnErr result (AppendsPart (told_so_far (K.contents sink.old) gather.old)
-        (told_so_far (K.contents sink.new) gather.new) (reply_line name.now (Refused refusal))) }
-    ensures failing { K.has_failed sink.new ≡ (K.has_failed sink.old || is_err result) }
+    requires { K.has_failed sink.old ≡ false }
+    ensures told { TellsUnless result (K.contents sink.old) gathered.old (K.contents sink.new) gathered.new
+        (reply_line name.now (Refused refusal)) }
+    ensures failing { K.has_failed sink.new ≡ is_err result }
 {
-    gather.put_reply(sink, name, refusal.name().as_bytes())
+    gathered.put_reply(sink, name, refusal.name().as_bytes())
 }

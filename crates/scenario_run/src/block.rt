@@ -1,9 +1,9 @@
 //! The bytes that were read ahead.
-ghost use Rattle.std.specs.Prelude.{◌≡◌, ℕ, ◌+◌, ◌-◌, ◌<◌, ◌≤◌, ◌||◌, List, [], length, take, drop, slice_range, IfOk, OnErr, is_err, position};
-ghost use Rattle.std.specs.Io.KnownBytes.{Keeps, IsAtEnd};
-ghost use Rattle.scenario_run.specs.Lines.{is_newline, line_length, to_come};
+ghost use Rattle.std.specs.Prelude.{◌≡◌, ℕ, ◌+◌, ◌-◌, ◌<◌, ◌≤◌, List, [], false, length, drop, slice_range, is_err, position};
+ghost use Rattle.scenario_run.specs.Lines.{is_newline, line_length, GrowsUnless};
 
 use crate::device::{DeviceFault, Source};
+use crate::gather::Gather;
 use memchr::memchr;
 use std::marker::Model;
 
@@ -81,15 +81,18 @@ impl Block {
         }
     }
 
-    /// Reads once, behind the bytes ahead, and answers how many bytes came: none at the end alone.
-    pub fn fill<S: Source>(&mut self, source: &mut S) -> Result<usize, DeviceFault>
-        requires { length self.old ≤ LONGEST_LINE }
-        ensures kept { take (length self.old) self.new ≡ self.old }
-        ensures count { IfOk result (λ n. length self.new ≡ length self.old + n) }
-        ensures come { Keeps (to_come self.old (S.remaining source.old)) (to_come self.new (S.remaining source.new)) }
-        ensures end { IfOk result (λ n. n ≡ 0 → IsAtEnd (S.remaining source.new)) }
-        ensures err { OnErr result (self.new ≡ self.old) }
-        ensures failing { S.has_failed source.new ≡ (S.has_failed source.old || is_err result) }
+    /// Reads once, behind the bytes ahead, and answers how many bytes came: none at the end alone. All that was gathered
+    /// is written by then.
+    pub fn fill<S: Source>(
+        &mut self,
+        source: &mut S,
+        gathered: &Gather,
+    ) -> Result<usize, DeviceFault>
+        requires room { length self.old ≤ LONGEST_LINE }
+        requires written { gathered.now ≡ [] }
+        requires reads { S.has_failed source.old ≡ false }
+        ensures grows { GrowsUnless result self.old (S.remaining source.old) self.new (S.remaining source.new) }
+        ensures failing { S.has_failed source.new ≡ is_err result }
     {
         (self.start, self.end) = move_to_front(&mut self.bytes, self.start, self.end);
         let count = source.read(&mut self.bytes[self.end..])?;

@@ -1,7 +1,7 @@
 //! Bytes that are gathered before they are written.
-ghost use Rattle.std.specs.Prelude.{◌≡◌, ℕ, ◌-◌, ◌<◌, ◌≤◌, ◌||◌, List, [], ◌++◌, length, nat_lt, take, OnOk, OnErr, is_err};
-ghost use Rattle.std.specs.Io.KnownBytes.{Keeps, Appends};
-ghost use Rattle.scenario_run.specs.Gathered.{told_so_far, AppendsPart, line_with};
+ghost use Rattle.std.specs.Prelude.{◌≡◌, ℕ, ◌-◌, ◌<◌, ◌≤◌, List, [], ◌++◌, length, nat_lt, take, false, OnOk, is_err};
+ghost use Rattle.std.specs.Io.KnownBytes.{Appends};
+ghost use Rattle.scenario_run.specs.Gathered.{TellsUnless, line_with};
 
 use crate::device::{DeviceFault, Sink};
 use std::marker::Model;
@@ -40,12 +40,12 @@ impl Gather {
     }
 
     /// Gathers `bytes`, and writes out what is gathered each time there is no more room.
-    /// A fault leaves gathered what was not written, and nothing is written twice.
+    /// Where a write fails, a part is written from the front.
     #[inline]
     pub fn put<K: Sink>(&mut self, sink: &mut K, bytes: &[u8]) -> Result<(), DeviceFault>
-        ensures ok { OnOk result (Appends (told_so_far (K.contents sink.old) self.old) (told_so_far (K.contents sink.new) self.new) bytes.now) }
-        ensures err { OnErr result (AppendsPart (told_so_far (K.contents sink.old) self.old) (told_so_far (K.contents sink.new) self.new) bytes.now) }
-        ensures failing { K.has_failed sink.new ≡ (K.has_failed sink.old || is_err result) }
+        requires { K.has_failed sink.old ≡ false }
+        ensures told { TellsUnless result (K.contents sink.old) self.old (K.contents sink.new) self.new bytes.now }
+        ensures failing { K.has_failed sink.new ≡ is_err result }
     {
         if bytes.len() > CAPACITY - self.end {
             return self.put_in_pieces(sink, bytes);
@@ -56,18 +56,17 @@ impl Gather {
         Ok(())
     }
 
-    /// Gathers a name and its reply, as a line of their own. A fault leaves it as `put` does.
+    /// Gathers a name and its reply, as a line of their own. A write fails as in `put`.
     pub fn put_reply<K: Sink>(
         &mut self,
         sink: &mut K,
         name: &[u8],
         reply: &[u8],
     ) -> Result<(), DeviceFault>
-        ensures ok { OnOk result (Appends (told_so_far (K.contents sink.old) self.old) (told_so_far (K.contents sink.new) self.new)
-            (line_with name.now reply.now)) }
-        ensures err { OnErr result (AppendsPart (told_so_far (K.contents sink.old) self.old) (told_so_far (K.contents sink.new) self.new)
-            (line_with name.now reply.now)) }
-        ensures failing { K.has_failed sink.new ≡ (K.has_failed sink.old || is_err result) }
+        requires { K.has_failed sink.old ≡ false }
+        ensures told { TellsUnless result (K.contents sink.old) self.old (K.contents sink.new) self.new
+            (line_with name.now reply.now) }
+        ensures failing { K.has_failed sink.new ≡ is_err result }
     {
         self.put(sink, name)?;
         self.put(sink, b": ")?;
@@ -78,9 +77,9 @@ impl Gather {
     // Gathers bytes for which there is no room yet.
     #[inline(never)]
     fn put_in_pieces<K: Sink>(&mut self, sink: &mut K, bytes: &[u8]) -> Result<(), DeviceFault>
-        ensures ok { OnOk result (Appends (told_so_far (K.contents sink.old) self.old) (told_so_far (K.contents sink.new) self.new) bytes.now) }
-        ensures err { OnErr result (AppendsPart (told_so_far (K.contents sink.old) self.old) (told_so_far (K.contents sink.new) self.new) bytes.now) }
-        ensures failing { K.has_failed sink.new ≡ (K.has_failed sink.old || is_err result) }
+        requires { K.has_failed sink.old ≡ false }
+        ensures told { TellsUnless result (K.contents sink.old) self.old (K.contents sink.new) self.new bytes.now }
+        ensures failing { K.has_failed sink.new ≡ is_err result }
     {
         let mut done = self.take_in(bytes);
         while done < bytes.len() {
@@ -103,11 +102,11 @@ impl Gather {
     }
 
     /// Writes out all that is gathered, and resumes a write that took only a part.
-    /// A fault leaves gathered what was not written.
     pub fn flush<K: Sink>(&mut self, sink: &mut K) -> Result<(), DeviceFault>
-        ensures ok { OnOk result (self.new ≡ []) }
-        ensures told { Keeps (told_so_far (K.contents sink.old) self.old) (told_so_far (K.contents sink.new) self.new) }
-        ensures failing { K.has_failed sink.new ≡ (K.has_failed sink.old || is_err result) }
+        requires { K.has_failed sink.old ≡ false }
+        ensures told { TellsUnless result (K.contents sink.old) self.old (K.contents sink.new) self.new [] }
+        ensures empty { OnOk result (self.new ≡ []) }
+        ensures failing { K.has_failed sink.new ≡ is_err result }
     {
         let count = write_out(sink, &self.bytes[self.start..self.end]);
         self.start += count;
@@ -122,9 +121,10 @@ impl Gather {
 
 // Writes bytes until all are written or a write fails, and answers how many were written.
 fn write_out<K: Sink>(sink: &mut K, bytes: &[u8]) -> usize
+    requires { K.has_failed sink.old ≡ false }
     ensures count { result ≤ length bytes.now }
     ensures written { Appends (K.contents sink.old) (K.contents sink.new) (take result bytes.now) }
-    ensures failing { K.has_failed sink.new ≡ (K.has_failed sink.old || nat_lt result (length bytes.now)) }
+    ensures failing { K.has_failed sink.new ≡ nat_lt result (length bytes.now) }
 {
     let mut done = 0;
     while done < bytes.len() {

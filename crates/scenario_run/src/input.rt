@@ -22,6 +22,13 @@ impl<R: Read> Input<R> {
             failed: false,
         }
     }
+
+    /// The reader, with what it has left.
+    pub fn into_inner(self) -> R
+        ensures { R.remaining result ≡ ⟦<Input<R> as Source>⟧.remaining self }
+    {
+        self.reader
+    }
 }
 
 impl<R: Read> Source for Input<R> {

@@ -226,8 +226,8 @@ mod tests {
         );
         assert!(rt;
             matches!(
-                call_of_alice(b"alice detach 0xaBcDeF"),
-                Some(Call::Detach(0xabcdef))
+                call_of_alice(b"alice detach 0xABCDEFabcdef0123"),
+                Some(Call::Detach(0xabcdefabcdef0123))
             )
         );
         assert!(rt;
@@ -238,9 +238,9 @@ mod tests {
         );
         assert!(rt;
             matches!(
-                call_of_alice(b"alice peek 0x0 1"),
+                call_of_alice(b"alice peek 0x0000000000000010 0001"),
                 Some(Call::Peek {
-                    address: 0,
+                    address: 16,
                     count: 1
                 })
             )

@@ -1,9 +1,7 @@
 //! The lines of a source, one after another.
-ghost use Rattle.std.specs.Prelude.{◌≡◌, ℕ, ◌+◌, ◌<◌, ◌≤◌, ◌||◌, List, [], length, take, IfSome, IfOk, IfErr, OnOk};
-ghost use Rattle.std.specs.Io.KnownBytes.{Keeps, IsAtEnd};
-ghost use Rattle.scenario_run.specs.Gathered.{told_so_far};
-ghost use Rattle.scenario_run.specs.Lines.{line_length, to_come};
-ghost use Rattle.scenario_run.specs.Next.{IsNext, FitsAhead, PassesLongLine, is_read_fault, is_write_fault, IsFlushedAt, StopsAtDevice, StopsIn};
+ghost use Rattle.std.specs.Prelude.{◌≡◌, ◌<◌, ◌≤◌, false, [], length, IfOk, OnOk};
+ghost use Rattle.scenario_run.specs.Lines.{line_length};
+ghost use Rattle.scenario_run.specs.Next.{FindsNextIn, BeginsIn, GrowsOrStops, TellsOrStops, IsReady, is_read_fault, is_write_fault};
 
 use crate::block::{Block, LONGEST_LINE};
 use crate::device::{DeviceFault, Sink, Source};
@@ -11,6 +9,15 @@ use crate::gather::Gather;
 
 /// The longest line that is read to its end, in bytes and without its newline.
 const LONGEST_READ: usize = 1_048_576;
+
+/// What a run keeps beside its devices.
+#[derive(Drop)]
+pub struct Buffers {
+    /// Bytes that were read and not yet passed.
+    pub ahead: Block,
+    /// Bytes that were told and are still to be written.
+    pub gathered: Gather,
+}
 
 /// What comes next.
 pub enum Next {
@@ -32,101 +39,127 @@ pub enum LineFault {
     Endless,
 }
 
-/// Reads once more, after what is gathered was written, and answers how many bytes came.
-pub fn read_more<S: Source, K: Sink>(
-    block: &mut Block,
-    source: &mut S,
-    gather: &mut Gather,
-    sink: &mut K,
-) -> Result<usize, LineFault>
-    requires { length block.old ≤ LONGEST_LINE }
-    ensures kept { take (length block.old) block.new ≡ block.old }
-    ensures count { IfOk result (λ n. length block.new ≡ length block.old + n) }
-    ensures come { Keeps (to_come block.old (S.remaining source.old)) (to_come block.new (S.remaining source.new)) }
-    ensures end { IfOk result (λ n. n ≡ 0 → IsAtEnd (S.remaining source.new)) }
-    ensures reading { S.has_failed source.new ≡ (S.has_failed source.old || is_read_fault result) }
-    ensures told { Keeps (told_so_far (K.contents sink.old) gather.old) (told_so_far (K.contents sink.new) gather.new) }
-    ensures flushed { OnOk result (gather.new ≡ []) }
-    ensures err { IfErr result (λ fault. StopsAtDevice fault gather.new) }
-    ensures writing { K.has_failed sink.new ≡ (K.has_failed sink.old || is_write_fault result) }
-{
-    match gather.flush(sink) {
-        Ok(()) => match block.fill(source) {
-            Ok(count) => Ok(count),
-            Err(DeviceFault) => Err(LineFault::Read),
-        },
-        Err(DeviceFault) => Err(LineFault::Write),
-    }
-}
-
-/// Finds what comes next, and reads as often as that takes. What is gathered is written before each read.
-pub fn next_line<S: Source, K: Sink>(
-    block: &mut Block,
-    source: &mut S,
-    gather: &mut Gather,
-    sink: &mut K,
-) -> Result<Next, LineFault>
-    ensures next { IfOk result (λ next. IfSome (to_come block.old (S.remaining source.old))
-        (λ before. IsNext before block.new (S.remaining source.new) next)) }
-    ensures fits { IfOk result (λ next. FitsAhead block.new next) }
-    ensures stops { IfErr result (λ fault. IfSome (to_come block.old (S.remaining source.old))
-        (λ before. StopsIn before (to_come block.new (S.remaining source.new)) fault)) }
-    ensures reading { S.has_failed source.new ≡ (S.has_failed source.old || is_read_fault result) }
-    ensures told { Keeps (told_so_far (K.contents sink.old) gather.old) (told_so_far (K.contents sink.new) gather.new) }
-    ensures err { IfErr result (λ fault. IsFlushedAt fault gather.new) }
-    ensures writing { K.has_failed sink.new ≡ (K.has_failed sink.old || is_write_fault result) }
-{
-    let mut seen = 0;
-    loop {
-        seen = block.line_length(seen);
-        if seen > LONGEST_LINE {
-            pass_long_line(block, source, gather, sink)?;
-            return Ok(Next::TooLong);
-        }
-        if seen < block.len() {
-            return Ok(Next::Line(seen));
-        }
-        if read_more(block, source, gather, sink)? == 0 {
-            return Ok(if seen == 0 {
-                Next::End
-            } else {
-                Next::Line(seen)
-            });
+impl Buffers {
+    /// Nothing read ahead, and nothing gathered.
+    pub fn new() -> Self
+        ensures ahead { result.ahead ≡ [] }
+        ensures gathered { result.gathered ≡ [] }
+    {
+        Buffers {
+            ahead: Block::new(),
+            gathered: Gather::new(),
         }
     }
-}
 
-// Passes a line of more than `LONGEST_LINE` bytes, and keeps none of them.
-fn pass_long_line<S: Source, K: Sink>(
-    block: &mut Block,
-    source: &mut S,
-    gather: &mut Gather,
-    sink: &mut K,
-) -> Result<(), LineFault>
-    requires { LONGEST_LINE < line_length block.old }
-    ensures next { OnOk result (IfSome (to_come block.old (S.remaining source.old))
-        (λ before. PassesLongLine before (to_come block.new (S.remaining source.new)))) }
-    ensures stops { IfErr result (λ fault. IfSome (to_come block.old (S.remaining source.old))
-        (λ before. StopsIn before (to_come block.new (S.remaining source.new)) fault)) }
-    ensures reading { S.has_failed source.new ≡ (S.has_failed source.old || is_read_fault result) }
-    ensures told { Keeps (told_so_far (K.contents sink.old) gather.old) (told_so_far (K.contents sink.new) gather.new) }
-    ensures err { IfErr result (λ fault. IsFlushedAt fault gather.new) }
-    ensures writing { K.has_failed sink.new ≡ (K.has_failed sink.old || is_write_fault result) }
-{
-    let mut passed = 0;
-    loop {
-        let length = block.line_length(0);
-        let is_whole = length < block.len();
-        if passed + length > LONGEST_READ {
-            return Err(LineFault::Endless);
+    /// Writes what is gathered, then reads once, and answers how many bytes came.
+    pub fn read_more<S: Source, K: Sink>(
+        &mut self,
+        source: &mut S,
+        sink: &mut K,
+    ) -> Result<usize, LineFault>
+        requires room { length self.old.ahead ≤ LONGEST_LINE }
+        requires reads { S.has_failed source.old ≡ false }
+        requires writes { K.has_failed sink.old ≡ false }
+        ensures grows { GrowsOrStops result self.old.ahead (S.remaining source.old) self.new.ahead (S.remaining source.new) }
+        ensures told { TellsOrStops result (K.contents sink.old) self.old.gathered (K.contents sink.new) self.new.gathered [] }
+        ensures empty { OnOk result (self.new.gathered ≡ []) }
+        ensures reading { S.has_failed source.new ≡ is_read_fault result }
+        ensures writing { K.has_failed sink.new ≡ is_write_fault result }
+    {
+        match self.gathered.flush(sink) {
+            Ok(()) => match self.ahead.fill(source, &self.gathered) {
+                Ok(count) => Ok(count),
+                Err(DeviceFault) => Err(LineFault::Read),
+            },
+            Err(DeviceFault) => Err(LineFault::Write),
         }
-        passed += length;
-        block.pass(length + 1);
-        if is_whole {
-            return Ok(());
+    }
+
+    /// Finds what comes next, and reads as often as that takes. What is gathered is written before each read.
+    pub fn next_line<S: Source, K: Sink>(
+        &mut self,
+        source: &mut S,
+        sink: &mut K,
+    ) -> Result<Next, LineFault>
+        requires reads { S.has_failed source.old ≡ false }
+        requires writes { K.has_failed sink.old ≡ false }
+        ensures next { FindsNextIn result self.old.ahead (S.remaining source.old) self.new.ahead (S.remaining source.new) }
+        ensures ready { IfOk result (λ next. IsReady next self.new.ahead self.new.gathered) }
+        ensures told { TellsOrStops result (K.contents sink.old) self.old.gathered (K.contents sink.new) self.new.gathered [] }
+        ensures reading { S.has_failed source.new ≡ is_read_fault result }
+        ensures writing { K.has_failed sink.new ≡ is_write_fault result }
+    {
+        let mut seen = 0;
+        loop {
+            seen = self.ahead.line_length(seen);
+            if seen > LONGEST_LINE {
+                return self.pass_long_line(source, sink);
+            }
+            if seen < self.ahead.len() {
+                return Ok(Next::Line(seen));
+            }
+            if self.read_more(source, sink)? == 0 {
+                return Ok(if seen == 0 {
+                    Next::End
+                } else {
+                    Next::Line(seen)
+                });
+            }
         }
-        if read_more(block, source, gather, sink)? == 0 {
-            return Ok(());
+    }
+
+    /// Whether one more line begins. What is gathered is written before.
+    pub fn begins_line<S: Source, K: Sink>(
+        &mut self,
+        source: &mut S,
+        sink: &mut K,
+    ) -> Result<bool, LineFault>
+        requires reads { S.has_failed source.old ≡ false }
+        requires writes { K.has_failed sink.old ≡ false }
+        ensures begins { BeginsIn result self.old.ahead (S.remaining source.old) (S.remaining source.new) }
+        ensures told { TellsOrStops result (K.contents sink.old) self.old.gathered (K.contents sink.new) [] [] }
+        ensures reading { S.has_failed source.new ≡ is_read_fault result }
+        ensures writing { K.has_failed sink.new ≡ is_write_fault result }
+    {
+        if self.ahead.len() > 0 {
+            return match self.gathered.flush(sink) {
+                Ok(()) => Ok(true),
+                Err(DeviceFault) => Err(LineFault::Write),
+            };
+        }
+        Ok(self.read_more(source, sink)? > 0)
+    }
+
+    // Passes a line of more than `LONGEST_LINE` bytes, and keeps none of them.
+    fn pass_long_line<S: Source, K: Sink>(
+        &mut self,
+        source: &mut S,
+        sink: &mut K,
+    ) -> Result<Next, LineFault>
+        requires long { LONGEST_LINE < line_length self.old.ahead }
+        requires reads { S.has_failed source.old ≡ false }
+        requires writes { K.has_failed sink.old ≡ false }
+        ensures next { FindsNextIn result self.old.ahead (S.remaining source.old) self.new.ahead (S.remaining source.new) }
+        ensures ready { IfOk result (λ next. IsReady next self.new.ahead self.new.gathered) }
+        ensures told { TellsOrStops result (K.contents sink.old) self.old.gathered (K.contents sink.new) self.new.gathered [] }
+        ensures reading { S.has_failed source.new ≡ is_read_fault result }
+        ensures writing { K.has_failed sink.new ≡ is_write_fault result }
+    {
+        let mut passed = 0;
+        loop {
+            let length = self.ahead.line_length(0);
+            let is_whole = length < self.ahead.len();
+            if passed + length > LONGEST_READ {
+                return Err(LineFault::Endless);
+            }
+            passed += length;
+            self.ahead.pass(length + 1);
+            if is_whole {
+                return Ok(Next::TooLong);
+            }
+            if self.read_more(source, sink)? == 0 {
+                return Ok(Next::TooLong);
+            }
         }
     }
 }

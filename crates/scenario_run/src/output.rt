@@ -22,6 +22,13 @@ impl<W: Write> Output<W> {
             failed: false,
         }
     }
+
+    /// The writer, with what it holds by now.
+    pub fn into_inner(self) -> W
+        ensures { W.contents result ≡ ⟦<Output<W> as Sink>⟧.contents self }
+    {
+        self.writer
+    }
 }
 
 impl<W: Write> Sink for Output<W> {

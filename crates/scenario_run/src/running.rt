@@ -1,18 +1,23 @@
 //! The run: lines are read, answered and written.
-ghost use Rattle.std.specs.Prelude.{◌≡◌, ℕ, ◌+◌, ◌<◌, ◌≤◌, length, nat_lt, IfSome, IfOk, OnOk};
-ghost use Rattle.std.specs.Io.KnownBytes.{Appends, Keeps};
+ghost use Rattle.std.specs.Prelude.{◌≡◌, ℕ, ◌+◌, ◌≤◌, ◌||◌, List, true, false, length, take, drop, is_err, IfSome, IfOk, IfErr, OnOk, Err, if◌then◌else◌};
+ghost use Rattle.std.specs.List.{All};
+ghost use Rattle.std.specs.Io.KnownBytes.{Appends};
 ghost use Rattle.own_model.specs.StartList.{entries_of, machine_a};
 ghost use Rattle.own_model.specs.Text.{lines_of};
 ghost use Rattle.own_model.specs.Transcript.{transcript, calls_of, state_at, state_after};
-ghost use Rattle.scenario_run.specs.Answered.{AnswersNext};
-ghost use Rattle.scenario_run.specs.Gathered.{told_so_far};
-ghost use Rattle.scenario_run.specs.Lines.{to_come};
+ghost use Rattle.own_model.specs.World.{IsBalanced};
+ghost use Rattle.scenario_run.specs.Answered.{AnswersNext, point, told_of, after_one, more_unless_failed};
+ghost use Rattle.scenario_run.specs.Gathered.{TellsUnless};
+ghost use Rattle.scenario_run.specs.Lines.{longest_read};
+ghost use Rattle.scenario_run.specs.Next.{is_read_fault, is_write_fault as is_line_write_fault};
+ghost use Rattle.scenario_run.specs.Serves.{Serves, run_fault};
+ghost use Rattle.scenario_run.specs.Stops.{Stops, is_write_fault};
+ghost use Rattle.scenario_run.specs.declared.running.RunFault.TheVariants.{ReadFault, WriteFault};
 
 use crate::answering::{answer_line, answer_long_line};
-use crate::block::Block;
-use crate::device::{Sink, Source};
-use crate::gather::Gather;
-use crate::lines::{LineFault, Next, next_line, read_more};
+use crate::block::LONGEST_LINE;
+use crate::device::{DeviceFault, Sink, Source};
+use crate::lines::{Buffers, LineFault, Next};
 use crate::names::FixedNames;
 use pd_core::{Core, Reply};
 use thiserror::Error;
@@ -39,6 +44,8 @@ pub enum RunFault {
 }
 
 impl From<LineFault> for RunFault {
+    ghost from_gives = { λ fault result. result ≡ run_fault fault };
+
     fn from(fault: LineFault) -> RunFault {
         match fault {
             LineFault::Read | LineFault::Endless => RunFault::ReadFault,
@@ -48,12 +55,12 @@ impl From<LineFault> for RunFault {
 }
 
 /// Answers each line of the reader in turn, at most `max_lines`, by the components that the list names. All that is
-/// told is written before each read and before the run returns, with a fault too. It returns `WriteFault` where the
-/// writer failed, after which nothing more is written; else `ReadFault` where the reader failed or a line was too long,
-/// and `TooManyLines` where a line began after the last that is allowed.
+/// told is written before each read and before the run returns, with a fault too. A device that has failed is never
+/// tried again: also one that had failed before, which is told with the writer first.
 ///
 /// What is written is the transcript: each call is answered as its caller's own run on its own part of the calls before
-/// it answers it, whatever other components called.
+/// it answers it, whatever other components called. At a fault the same holds of the lines answered by then; after a
+/// write that failed, a part of their transcript is written.
 pub fn run<S: Source, K: Sink>(
     core: &mut Core,
     list: &FixedNames,
@@ -72,26 +79,29 @@ pub fn run<S: Source, K: Sink>(
         ≡ state_after core.old.entries core.old.states (calls_of core.old.entries (lines_of input)) component)) }
     ensures entries { core.new.entries ≡ core.old.entries }
     ensures init { core.new.init ≡ core.old.init }
+    ensures count { length core.new.states ≡ length core.old.states }
+    ensures balance { (pages caps : ℕ) → IsBalanced pages caps core.old → IsBalanced pages caps core.new }
+    ensures writing { K.has_failed writer.new ≡ is_write_fault result }
+    ensures reading { OnOk result (S.has_failed reader.new ≡ false) }
+    ensures stops { IfErr result (λ fault. IfSome (S.remaining reader.old) (λ input.
+        Stops fault max_lines core.old core.new input (S.remaining reader.new) (S.has_failed reader.new)
+        (K.contents writer.old) (K.contents writer.new))) }
+    ensures ok { IfErr result (λ fault. IfSome (S.remaining reader.old) (λ input.
+        S.has_failed reader.new ≡ false → K.has_failed writer.new ≡ false
+        → All (λ line. length line ≤ longest_read) (lines_of input) → length (lines_of input) ≤ max_lines → ⊥)) }
+    ensures before { (K.has_failed writer.old || S.has_failed reader.old) ≡ true →
+        (result ≡ Err (if K.has_failed writer.old then WriteFault else ReadFault))
+        × (core.new ≡ core.old) × (reader.new ≡ reader.old) × (writer.new ≡ writer.old) }
 {
-    let mut block = Block::new();
-    let mut gather = Gather::new();
-    let answered = answer_all(
-        core,
-        list,
-        reply,
-        &mut block,
-        reader,
-        &mut gather,
-        writer,
-        max_lines,
-    );
-    // What a failed write left is not tried again.
-    if let Err(RunFault::WriteFault) = answered {
+    if writer.failed() {
         return Err(RunFault::WriteFault);
     }
-    match gather.flush(writer) {
-        Ok(()) => answered.map(|lines| Summary { lines }),
-        Err(_) => Err(RunFault::WriteFault),
+    if reader.failed() {
+        return Err(RunFault::ReadFault);
+    }
+    match answer_all(core, list, reply, reader, writer, max_lines) {
+        Ok(lines) => Ok(Summary { lines }),
+        Err(fault) => Err(fault),
     }
 }
 
@@ -100,30 +110,26 @@ fn answer_all<S: Source, K: Sink>(
     core: &mut Core,
     list: &FixedNames,
     reply: &mut Reply,
-    block: &mut Block,
     reader: &mut S,
-    gather: &mut Gather,
     writer: &mut K,
     max_lines: u64,
 ) -> Result<u64, RunFault>
     requires listed { core.old.entries ≡ entries_of machine_a }
-    ensures lines { IfOk result (λ count. IfSome (to_come block.old (S.remaining reader.old)) (λ all. count ≡ length (lines_of all))) }
-    ensures few { IfOk result (λ count. count ≤ max_lines) }
-    ensures told { OnOk result (IfSome (to_come block.old (S.remaining reader.old)) (λ all.
-        Appends (told_so_far (K.contents writer.old) gather.old) (told_so_far (K.contents writer.new) gather.new)
-        (transcript core.old.entries core.old.states all))) }
-    ensures states { OnOk result (IfSome (to_come block.old (S.remaining reader.old)) (λ all. (component : ℕ) →
-        state_at core.new.states component
-        ≡ state_after core.old.entries core.old.states (calls_of core.old.entries (lines_of all)) component)) }
-    ensures entries { core.new.entries ≡ core.old.entries }
-    ensures init { core.new.init ≡ core.old.init }
+    requires reads { S.has_failed reader.old ≡ false }
+    requires writes { K.has_failed writer.old ≡ false }
+    ensures serves { Serves result max_lines core.old core.new
+        (S.remaining reader.old) (S.remaining reader.new) (S.has_failed reader.new)
+        (K.contents writer.old) (K.contents writer.new) }
+    ensures reading { OnOk result (S.has_failed reader.new ≡ false) }
+    ensures writing { K.has_failed writer.new ≡ is_write_fault result }
 {
+    let mut buffers = Buffers::new();
     for count in 0..max_lines {
-        if !answer_next(core, list, reply, block, reader, gather, writer)? {
+        if !answer_next(core, list, reply, &mut buffers, reader, writer)? {
             return Ok(count);
         }
     }
-    if begins_line(block, reader, gather, writer)? {
+    if buffers.begins_line(reader, writer)? {
         return Err(RunFault::TooManyLines);
     }
     Ok(max_lines)
@@ -134,46 +140,59 @@ fn answer_next<S: Source, K: Sink>(
     core: &mut Core,
     list: &FixedNames,
     reply: &mut Reply,
-    block: &mut Block,
+    buffers: &mut Buffers,
     reader: &mut S,
-    gather: &mut Gather,
     writer: &mut K,
-) -> Result<bool, RunFault>
+) -> Result<bool, LineFault>
     requires listed { core.old.entries ≡ entries_of machine_a }
-    ensures next { IfOk result (λ more. IfSome (to_come block.old (S.remaining reader.old)) (λ before.
-        AnswersNext core.old core.new before (to_come block.new (S.remaining reader.new))
-        (told_so_far (K.contents writer.old) gather.old) (told_so_far (K.contents writer.new) gather.new) more)) }
-    ensures entries { core.new.entries ≡ core.old.entries }
-    ensures init { core.new.init ≡ core.old.init }
+    requires reads { S.has_failed reader.old ≡ false }
+    requires writes { K.has_failed writer.old ≡ false }
+    ensures next { AnswersNext result
+        (point core.old buffers.old (S.remaining reader.old) (K.contents writer.old))
+        (point core.new buffers.new (S.remaining reader.new) (K.contents writer.new)) }
+    ensures reading { S.has_failed reader.new ≡ is_read_fault result }
+    ensures writing { K.has_failed writer.new ≡ is_line_write_fault result }
 {
-    let answered = match next_line(block, reader, gather, writer)? {
-        Next::Line(length) => {
-            let line = &block.ahead()[..length];
-            let answered = answer_line(core, list, line, reply, gather, writer);
-            block.pass(length + 1);
-            answered
+    match buffers.next_line(reader, writer)? {
+        Next::Line(count) => {
+            more_unless_failed(answer_ahead(core, list, reply, buffers, count, writer))
         }
-        Next::TooLong => answer_long_line(gather, writer),
-        Next::End => return Ok(false),
-    };
-    match answered {
-        Ok(()) => Ok(true),
-        Err(_) => Err(RunFault::WriteFault),
+        Next::TooLong => more_unless_failed(answer_long_line(&mut buffers.gathered, writer)),
+        Next::End => Ok(false),
     }
 }
 
-// Whether one more line has begun.
-fn begins_line<S: Source, K: Sink>(
-    block: &mut Block,
-    reader: &mut S,
-    gather: &mut Gather,
+// Answers the line of so many bytes with which the bytes ahead begin, and passes it with its newline.
+fn answer_ahead<K: Sink>(
+    core: &mut Core,
+    list: &FixedNames,
+    reply: &mut Reply,
+    buffers: &mut Buffers,
+    count: usize,
     writer: &mut K,
-) -> Result<bool, RunFault>
-    ensures more { IfOk result (λ more. IfSome (to_come block.old (S.remaining reader.old)) (λ before. more ≡ nat_lt 0 (length before))) }
-    ensures told { OnOk result (Keeps (told_so_far (K.contents writer.old) gather.old) (told_so_far (K.contents writer.new) gather.new)) }
+) -> Result<(), DeviceFault>
+    requires inside { count ≤ length buffers.old.ahead }
+    requires short { count ≤ LONGEST_LINE }
+    requires listed { core.old.entries ≡ entries_of machine_a }
+    requires writes { K.has_failed writer.old ≡ false }
+    ensures world { core.new ≡ after_one core.old (take count buffers.old.ahead) }
+    ensures passed { buffers.new.ahead ≡ drop (count + 1) buffers.old.ahead }
+    ensures told { TellsUnless result (K.contents writer.old) buffers.old.gathered
+        (K.contents writer.new) buffers.new.gathered (told_of core.old (take count buffers.old.ahead)) }
+    ensures failing { K.has_failed writer.new ≡ is_err result }
 {
-    if block.len() > 0 {
-        return Ok(true);
+    let line = &buffers.ahead.ahead()[..count];
+    let answered = answer_line(core, list, line, reply, &mut buffers.gathered, writer);
+    buffers.ahead.pass(count + 1);
+    answered
+}
+
+// There may be more lines, unless a write failed.
+fn more_unless_failed(answered: Result<(), DeviceFault>) -> Result<bool, LineFault>
+    ensures { result ≡ more_unless_failed answered }
+{
+    match answered {
+        Ok(()) => Ok(true),
+        Err(DeviceFault) => Err(LineFault::Write),
     }
-    Ok(read_more(block, reader, gather, writer)? > 0)
 }

@@ -28,6 +28,41 @@ impl Read for Unreadable {
     }
 }
 
+/// Gives its bytes but for one read, which fails. Each read gives one piece.
+#[derive(Drop)]
+pub struct FailsOnce<'a> {
+    pub pieces: Pieces<'a>,
+    pub failing: usize,
+    pub reads: usize,
+}
+
+impl Read for FailsOnce<'_> {
+    fn read(&mut self, buffer: &mut [u8]) -> io::Result<usize> {
+        self.reads = self.reads.saturating_add(1);
+        if self.reads == self.failing {
+            return Err(Error::from(ErrorKind::Interrupted));
+        }
+        self.pieces.read(buffer)
+    }
+}
+
+/// Counts the bytes that it takes.
+#[derive(Drop)]
+pub struct Counter {
+    pub bytes: usize,
+}
+
+impl Write for Counter {
+    fn write(&mut self, buffer: &[u8]) -> io::Result<usize> {
+        self.bytes = self.bytes.saturating_add(buffer.len());
+        Ok(buffer.len())
+    }
+
+    fn flush(&mut self) -> io::Result<()> {
+        Ok(())
+    }
+}
+
 /// Takes nothing, with an error.
 #[derive(Drop)]
 pub struct Unwritable(pub ErrorKind);

@@ -1,6 +1,6 @@
 //! Runs over readers and writers that fail, or take and give little at a time.
 
-use super::devices::{Trickle, Unreadable, Unwritable};
+use super::devices::{Counter, FailsOnce, Trickle, Unreadable, Unwritable};
 use super::*;
 use std::io::{ErrorKind, Read, repeat};
 
@@ -119,13 +119,98 @@ fn nothing_is_written_after_a_failed_write(rt: HostRuntime) -> Result<(), Fail> 
 }
 
 #[test]
+fn writer_that_takes_nothing(rt: HostRuntime) -> Result<(), Fail> {
+    let (ran, failed, writer) = trickled(rt.alloc(), 100, 100, 5, 10)?;
+    assert_eq!(rt; ran, Err(RunFault::WriteFault));
+    assert!(rt; failed);
+    assert_eq!(rt; writer.bytes.as_slice(), b"alice".as_slice());
+    assert_eq!(rt; writer.writes, 2, "the second took nothing");
+    Ok(())
+}
+
+#[test]
 fn answers_are_written_before_the_next_read(rt: HostRuntime) -> Result<(), Fail> {
     let (_, _, writer) = trickled(rt.alloc(), 12, 100, 1000, 10)?;
     assert_eq!(rt; writer.writes, 2, "each line comes alone");
     let (_, _, writer) = trickled(rt.alloc(), 100, 100, 1000, 10)?;
     assert_eq!(rt; writer.writes, 1, "both lines come at once");
+    Ok(())
+}
+
+// Alice takes a capability, tells her account so often, and takes another.
+fn cap_quotas_cap(alloc: Global, quotas: usize) -> Result<Vec<u8>, NoMemory> {
+    let mut input = Vec::new(alloc);
+    let _ = input.extend_from_slice(b"alice capalloc\n");
+    for _ in 0..quotas {
+        let _ = input.extend_from_slice(b"alice quota\n");
+    }
+    let _ = input.extend_from_slice(b"alice capalloc\n");
+    Ok(input)
+}
+
+// A read that fails is not tried again, though the next would give the rest.
+#[test]
+fn reader_that_fails_once(rt: HostRuntime) -> Result<(), Fail> {
+    for (failing, caps, told) in [
+        (1, b'0', b"".as_slice()),
+        (2, b'1', b"alice: cap 1\n"),
+        (3, b'2', b"alice: cap 1\nalice: cap 2\n"),
+    ] {
+        let input = cap_quotas_cap(rt.alloc(), 0)?;
+        let mut source = Input::new(FailsOnce {
+            pieces: Pieces {
+                bytes: &input,
+                size: 16,
+            },
+            failing,
+            reads: 0,
+        });
+        let mut sink = Output::new(Vec::new(rt.alloc()));
+        let (ran, quota) = run_then_quota(rt.alloc(), &mut source, &mut sink)?;
+        assert_eq!(rt; ran, Err(RunFault::ReadFault));
+        assert!(rt; source.failed());
+        assert_eq!(rt; source.into_inner().reads, failing);
+        assert_eq!(rt; sink.into_inner().as_slice(), told);
+        assert!(rt; quota.ends_with(&[b' ', caps, b'/', b'1', b'6', b'\n']));
+    }
+    Ok(())
+}
+
+// The replies of a block fill more than is gathered at once, so a line is answered whose reply is cut; and none after it.
+#[test]
+fn writer_fails_while_more_is_gathered(rt: HostRuntime) -> Result<(), Fail> {
+    let input = cap_quotas_cap(rt.alloc(), 400)?;
+    let mut writer = Trickle {
+        bytes: Vec::new(rt.alloc()),
+        size: 70,
+        room: 100,
+        writes: 0,
+    };
+    let (ran, quota) = run_then_quota(
+        rt.alloc(),
+        &mut input.as_slice(),
+        &mut Output::new(&mut writer),
+    )?;
+    assert_eq!(rt; ran, Err(RunFault::WriteFault));
+    assert_eq!(rt; writer.writes, 3, "and not a fourth");
+    assert_eq!(rt; writer.bytes.len(), 100);
+    assert!(rt;
+        writer
+            .bytes
+            .starts_with(b"alice: cap 1\nalice: ram 0/65536 caps 1/16\nalice: ram")
+    );
+    assert_eq!(rt;
+        quota.as_slice(),
+        b"alice: ram 0/65536 caps 1/16\n".as_slice()
+    );
+    Ok(())
+}
+
+// The answer is written before the read that would fail, so that read isn't tried.
+#[test]
+fn cut_line_over_a_failing_writer(rt: HostRuntime) -> Result<(), Fail> {
     let mut source = Input::new(
-        b"alice quota\n"
+        b"alice quota\nalice al"
             .as_slice()
             .chain(Unreadable(ErrorKind::Other)),
     );
@@ -136,12 +221,53 @@ fn answers_are_written_before_the_next_read(rt: HostRuntime) -> Result<(), Fail>
         writes: 0,
     };
     let ran = run_over(rt.alloc(), &mut source, &mut Output::new(&mut writer), 10)?;
-    assert_eq!(rt;
-        ran,
-        Err(RunFault::WriteFault),
-        "the write comes before the read"
-    );
+    assert_eq!(rt; ran, Err(RunFault::WriteFault));
     assert!(rt; !source.failed());
+    Ok(())
+}
+
+// With a device that had failed before, neither is touched.
+#[test]
+fn failed_devices_are_not_tried(rt: HostRuntime) -> Result<(), Fail> {
+    let mut source = Input::new(FailsOnce {
+        pieces: Pieces {
+            bytes: b"alice quota\n",
+            size: 100,
+        },
+        failing: 1,
+        reads: 0,
+    });
+    let mut written = Output::new(Vec::new(rt.alloc()));
+    for _ in 0..2 {
+        let ran = run_over(rt.alloc(), &mut source, &mut written, 10)?;
+        assert_eq!(rt; ran, Err(RunFault::ReadFault));
+    }
+    let mut unwritable = Output::new(Unwritable(ErrorKind::Other));
+    let ran = run_over(
+        rt.alloc(),
+        &mut b"alice quota\n".as_slice(),
+        &mut unwritable,
+        10,
+    )?;
+    assert_eq!(rt; ran, Err(RunFault::WriteFault));
+    let ran = run_over(rt.alloc(), &mut source, &mut unwritable, 10)?;
+    assert_eq!(rt; ran, Err(RunFault::WriteFault), "the writer is told first");
+    assert_eq!(rt; source.into_inner().reads, 1);
+    assert_eq!(rt; written.into_inner().as_slice(), b"".as_slice());
+    Ok(())
+}
+
+#[test]
+fn a_million_lines_and_no_more(rt: HostRuntime) -> Result<(), Fail> {
+    for (lines, want) in [
+        (1_000_000, Ok(Summary { lines: 1_000_000 })),
+        (1_000_001, Err(Failure::Run(RunFault::TooManyLines))),
+    ] {
+        let mut source = Input::new(repeat(b'\n').take(lines));
+        let mut sink = Output::new(Counter { bytes: 0 });
+        assert_eq!(rt; boot_and_run(rt.alloc(), &mut source, &mut sink), want);
+        assert_eq!(rt; sink.into_inner().bytes, 12_000_000, "?: Bad_line for each");
+    }
     Ok(())
 }
 
@@ -156,14 +282,15 @@ fn one_line_too_many(rt: HostRuntime) -> Result<(), Fail> {
 }
 
 #[test]
-fn faults_have_names(rt: HostRuntime) -> Result<(), Fail> {
+fn failures_have_texts(rt: HostRuntime) -> Result<(), Fail> {
     let alloc = rt.alloc();
-    for (fault, name) in [
-        (RunFault::ReadFault, "Read_fault"),
-        (RunFault::WriteFault, "Write_fault"),
-        (RunFault::TooManyLines, "Too_many_lines"),
+    for (failure, text) in [
+        (Failure::Run(RunFault::ReadFault), "run: Read_fault"),
+        (Failure::Run(RunFault::WriteFault), "run: Write_fault"),
+        (Failure::Run(RunFault::TooManyLines), "run: Too_many_lines"),
+        (Failure::NoMemory, "boot: No_memory"),
     ] {
-        assert_eq!(rt; format!(in alloc; "{fault}")?.as_str(), name);
+        assert_eq!(rt; format!(in alloc; "{failure}")?.as_str(), text);
     }
     Ok(())
 }

@@ -16,6 +16,10 @@ fn check<R: Abort + AllocGlobal>(
         assert_eq!(rt; ran, Ok(Summary { lines }));
         assert_eq!(rt; written.as_slice(), transcript);
     }
+    match run_bytes(rt.alloc(), input) {
+        Ok(written) => assert_eq!(rt; written.as_slice(), transcript),
+        Err(stopped) => assert!(rt; false, "{:?}", stopped.failure),
+    }
     Ok(())
 }
 
@@ -42,6 +46,39 @@ fn ram_is_exact_at_the_limit(rt: HostRuntime) -> Result<(), Fail> {
         b"alice alloc 65536\nalice alloc 1\nalice free 1\nalice quota\n",
         4,
         b"alice: cap 1\nalice: Out_of_ram\nalice: ok\nalice: ram 0/65536 caps 0/16\n",
+    )
+}
+
+#[test]
+fn selectors_come_again(rt: HostRuntime) -> Result<(), Fail> {
+    check(
+        &rt,
+        b"alice alloc 1\nalice alloc 1\nalice alloc 1\nalice free 2\nalice alloc 1\nalice quota\n",
+        6,
+        b"alice: cap 1\nalice: cap 2\nalice: cap 3\nalice: ok\nalice: cap 2\nalice: ram 12288/65536 caps 3/16\n",
+    )
+}
+
+#[test]
+fn arguments_are_read(rt: HostRuntime) -> Result<(), Fail> {
+    let bad = b"?: Bad_line\n?: Bad_line\n?: Bad_line\n?: Bad_line\n?: Bad_line\n";
+    check(
+        &rt,
+        b"alice detach 0X10\nalice detach 0x\nalice detach 10\nalice detach 0x1g\nalice detach 0x00000000000000001\n",
+        5,
+        bad,
+    )?;
+    check(
+        &rt,
+        b"alice poke 0x0 a\nalice poke 0x0 ag\nalice poke 0x0 \nalice poke 0x0\nalice peek 0x0  1\n",
+        5,
+        bad,
+    )?;
+    check(
+        &rt,
+        b"alice peek 0x0 1 \nalice peek 0x0\nalice capalloc \nalice attach\nalice attach_at 1\n",
+        5,
+        bad,
     )
 }
 
@@ -77,10 +114,10 @@ fn numbers_that_are_no_selectors(rt: HostRuntime) -> Result<(), Fail> {
     check(
         &rt,
         b"alice alloc 1\nalice free 0\nalice free 4294967297\nalice free 18446744073709551615\n\
-          alice free 0001\nbob free 1\n",
-        6,
-        b"alice: cap 1\nalice: Invalid_cap\nalice: Invalid_cap\nalice: Invalid_cap\nalice: ok\n\
-          bob: Invalid_cap\n",
+          bob free 1\nalice free 0001\nalice free 1\n",
+        7,
+        b"alice: cap 1\nalice: Invalid_cap\nalice: Invalid_cap\nalice: Invalid_cap\n\
+          bob: Invalid_cap\nalice: ok\nalice: Invalid_cap\n",
     )
 }
 

@@ -9,5 +9,5 @@ pub loop-done-preserved : goal.loop-done-preserved
 loop-done-preserved g c = record {
   within = grind (arith, common_steps, c.in-Ok.ensures.bound);
   written = Appends-more _ _ _ _ _ _ c.loop-done.invariant.written c.in-Ok.ensures.bytes (take-rest c.loop-done.done c.in-Ok.count c.args.bytes.now);
-  steady = grind (arith, nat_tests, c.in-Ok.ensures.failing);
+  works = grind (arith, nat_tests, c.in-Ok.ensures.failing);
 }

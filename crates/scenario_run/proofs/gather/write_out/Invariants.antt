@@ -1,5 +1,5 @@
 -- So much was written, and nothing failed yet.
-use Rattle.std.proofs.Common.{◌≡◌, ◌-◌, ◌≤◌, length, take}
+use Rattle.std.proofs.Common.{◌≡◌, ◌-◌, ◌≤◌, false, length, take}
 use Rattle.std.specs.Io.KnownBytes.{Appends}
 use Rattle.scenario_run.proofs.gather.write_out.Given as goal
 
@@ -7,7 +7,7 @@ abbrev pub invariant-loop-done : goal.invariant-loop-done
 invariant-loop-done g l = record {
   within : l.done ≤ length l.bytes;
   written : Appends (g.K.Sink.contents l.initial.sink) (g.K.Sink.contents l.sink) (take l.done l.bytes);
-  steady : g.K.Sink.has_failed l.sink ≡ g.K.Sink.has_failed l.initial.sink;
+  works : g.K.Sink.has_failed l.sink ≡ false;
 }
 
 abbrev pub decreases-loop-done : goal.decreases-loop-done

@@ -2,14 +2,14 @@
 use Rattle.std.proofs.Common.{◌≡◌, ◌++◌, ◌∙◌, ap, take, length, arith}
 use Rattle.std.proofs.lemmas.List.{take_all}
 use Rattle.scenario_run.proofs.BlockLemmas.{slice_range-grown}
-use Rattle.scenario_run.proofs.GatheredLemmas.{told-gathered}
+use Rattle.scenario_run.proofs.GatheredLemmas.{Tells-gathered}
 use Rattle.scenario_run.proofs.gather.Gather.put.Goals as goal
 
-pub returns-clause-ok : goal.returns-clause-ok
-returns-clause-ok g c =
+pub returns-clause-told : goal.returns-clause-told
+returns-clause-told g c =
     let copied : take (length c.args.bytes.now) c.copy_from_slice.new.self ≡ c.args.bytes.now =
     ap (take (length c.args.bytes.now)) c.copy_from_slice.ensures.after ∙ take_all (length c.args.bytes.now) c.args.bytes.now (omega arith) in
-    told-gathered _ _ _ _ (
+    Tells-gathered _ _ _ _ (
     slice_range-grown c.self.inside.bytes c.copy_from_slice.new.self _ c.self.inside.start c.self.inside.end (length c.args.bytes.now)
     (omega arith) (omega arith) (omega (arith, ap length c.copy_from_slice.ensures.after))
     ∙ ap (λ ahead. ahead ++ take (length c.args.bytes.now) c.copy_from_slice.new.self) c.self.view_is

@@ -1,0 +1,105 @@
+-- What a run that has ended promises, whether at the end of its input or at a fault.
+use Rattle.std.proofs.Common.{◌≡◌, ℕ, ◌+◌, ◌<◌, ◌≤◌, Bool, true, false, List, [], ◌∷◌, ◌++◌, length, get_or, Option, Some, None, IfSome, Result, Ok, Err, ⊎_elim, arith, refl, sym, ◌∙◌, ap, subst, append-nil, length-append}
+use Rattle.std.proofs.lemmas.List.{get_or-append-add}
+use Rattle.std.specs.List.{All}
+use Rattle.std.specs.Io.KnownBytes.{Appends}
+use Rattle.own_model.specs.Text.{lines_of}
+use Rattle.own_model.specs.Transcript.{transcript, told_after, calls_of, state_at, state_after}
+use Rattle.own_model.specs.World.{World, IsBalanced}
+use Rattle.own_model.proofs.LimitLemmas.{lines_balanced}
+use Rattle.own_model.proofs.RunningLemmas.{Tracks-none, told_after-running, length-states_running, states_running-at}
+use Rattle.scenario_run.specs.Answered.{told_of_all, after_all}
+use Rattle.scenario_run.specs.Lines.{longest_read}
+use Rattle.scenario_run.specs.Serves.{Serves}
+use Rattle.scenario_run.specs.Stops.{Stops, StopsFor, IsWritten, is_write_fault}
+use Rattle.scenario_run.specs.declared.running.RunFault.{RunFault}
+use Rattle.scenario_run.specs.declared.running.RunFault.TheVariants.{ReadFault, WriteFault, TooManyLines}
+
+-- what is told of lines by the running states is what is told of them by the history
+told_same : (world : World) (lines : List (List ℕ)) → told_of_all world lines ≡ told_after world.entries world.states [] lines
+told_same world lines = sym (told_after-running world.entries world.states world.states [] lines (Tracks-none world.entries world.states))
+
+-- each own state is that of the component's own run on its own part of the lines answered
+states_at : (old new : World) (lines : List (List ℕ)) → new ≡ after_all old lines → (component : ℕ) →
+    state_at new.states component ≡ state_after old.entries old.states (calls_of old.entries lines) component
+states_at old new lines left component = ap (λ w. state_at w.states component) left ∙ states_running-at old.entries old.states lines component
+
+module _ {result : Result ℕ RunFault} {max_lines : ℕ} {old new : World} {input rest : Option (List ℕ)} {failed : Bool} {written now_written : Option (List ℕ)}
+    (serves : Serves result max_lines old new input rest failed written now_written) where
+  -- there are as many own states as before
+  pub as_many_states : length new.states ≡ length old.states
+  as_many_states = ap (λ w. length w.states) serves.world ∙ length-states_running old.entries old.states serves.answered
+
+  -- and the balance stays
+  pub still_balanced : (pages caps : ℕ) → IsBalanced pages caps old → IsBalanced pages caps new
+  still_balanced pages caps balanced = subst (IsBalanced pages caps) (sym serves.world) (lines_balanced pages caps old serves.answered balanced)
+
+-- where no line is left, those answered are all
+all_answered : (text : List ℕ) (answered left : List (List ℕ)) → lines_of text ≡ answered ++ left → left ≡ [] → answered ≡ lines_of text
+all_answered text answered left parts none = sym (parts ∙ ap (λ l. answered ++ l) none ∙ append-nil answered)
+
+-- a run that answers Ok has written the transcript
+pub transcript_written : {count max_lines : ℕ} {old new : World} {input rest : Option (List ℕ)} {failed : Bool} {written now_written : Option (List ℕ)} →
+    Serves (Ok count) max_lines old new input rest failed written now_written →
+    IfSome input (λ text. Appends written now_written (transcript old.entries old.states text))
+transcript_written {input = None} serves = tt
+transcript_written {old = old} {input = Some text} {written = written} {now_written = now_written} serves =
+    subst (Appends written now_written)
+    (told_same old serves.answered ∙ ap (told_after old.entries old.states []) (all_answered text serves.answered serves.lines.0 serves.lines.1 serves.lines.2))
+    serves.told
+
+-- and each own state is that after all lines
+pub states_after_all : {count max_lines : ℕ} {old new : World} {input rest : Option (List ℕ)} {failed : Bool} {written now_written : Option (List ℕ)} →
+    Serves (Ok count) max_lines old new input rest failed written now_written →
+    IfSome input (λ text. (component : ℕ) → state_at new.states component ≡ state_after old.entries old.states (calls_of old.entries (lines_of text)) component)
+states_after_all {input = None} serves = tt
+states_after_all {old = old} {new = new} {input = Some text} serves =
+    λ component. states_at old new serves.answered serves.world component
+    ∙ ap (λ lines. state_after old.entries old.states (calls_of old.entries lines) component)
+    (all_answered text serves.answered serves.lines.0 serves.lines.1 serves.lines.2)
+
+-- what is written at a fault, by the history
+written_same : (fault : RunFault) (written now_written : Option (List ℕ)) (a b : List ℕ) → a ≡ b → IsWritten fault written now_written a → IsWritten fault written now_written b
+written_same fault written now_written a b same told = subst (IsWritten fault written now_written) same told
+
+-- a run that stops has answered the first lines
+pub stops_at : {fault : RunFault} {max_lines : ℕ} {old new : World} {input rest : Option (List ℕ)} {failed : Bool} {written now_written : Option (List ℕ)} →
+    Serves (Err fault) max_lines old new input rest failed written now_written →
+    IfSome input (λ text. Stops fault max_lines old new text rest failed written now_written)
+stops_at {input = None} serves = tt
+stops_at {fault = fault} {old = old} {new = new} {input = Some text} {written = written} {now_written = now_written} serves = record {
+  answered = serves.answered;
+  left = serves.lines.0;
+  lines = serves.lines.1;
+  cause = serves.lines.2;
+  told = written_same fault written now_written _ _ (told_same old serves.answered) serves.told;
+  states = states_at old new serves.answered serves.world;
+}
+
+-- a first line that is left is among all
+first_inside : (all answered left : List (List ℕ)) (n : ℕ) → all ≡ answered ++ left → n < length (get_or left 0 []) → length answered + 0 < length all
+first_inside all answered [] n parts long = absurd (omega arith)
+first_inside all answered (line ∷ left) n parts long = omega (arith, ap length parts, length-append answered (line ∷ left))
+
+-- within the bounds, and with no failed device, there is no cause to stop
+no_cause : (fault : RunFault) (answered left : List (List ℕ)) (max_lines : ℕ) (text : List ℕ) (rest : Option (List ℕ)) (failed write_failed : Bool) →
+    lines_of text ≡ answered ++ left → StopsFor fault answered left max_lines text rest failed → write_failed ≡ is_write_fault {T = ℕ} (Err fault) →
+    failed ≡ false → write_failed ≡ false → All (λ line. length line ≤ longest_read) (lines_of text) → length (lines_of text) ≤ max_lines → ⊥
+no_cause ReadFault answered left max_lines text rest failed write_failed parts cause fails reads writes short few =
+    ⊎_elim (λ cut. let e : failed ≡ true = cut.0 in cc)
+    (λ long.
+    let within : length answered + 0 < length (lines_of text) = first_inside (lines_of text) answered left longest_read parts long in
+    let at : get_or (lines_of text) (length answered + 0) [] ≡ get_or left 0 [] = ap (λ lines. get_or lines (length answered + 0) []) parts ∙ get_or-append-add answered left 0 [] in
+    omega (arith, short (length answered + 0) [] within, ap length at, long))
+    cause
+no_cause WriteFault answered left max_lines text rest failed write_failed parts cause fails reads writes short few = let e : write_failed ≡ true = fails in cc
+no_cause TooManyLines answered left max_lines text rest failed write_failed parts cause fails reads writes short few =
+    omega (arith, cause.0, cause.1, ap length parts, length-append answered left)
+
+-- so it answers Ok
+pub not_stopped : {fault : RunFault} {max_lines : ℕ} {old new : World} {input rest : Option (List ℕ)} {failed : Bool} {written now_written : Option (List ℕ)} (write_failed : Bool) →
+    Serves (Err fault) max_lines old new input rest failed written now_written → write_failed ≡ is_write_fault {T = ℕ} (Err fault) →
+    IfSome input (λ text. failed ≡ false → write_failed ≡ false → All (λ line. length line ≤ longest_read) (lines_of text) → length (lines_of text) ≤ max_lines → ⊥)
+not_stopped {input = None} write_failed serves fails = tt
+not_stopped {fault = fault} {max_lines = max_lines} {input = Some text} {rest = rest} {failed = failed} write_failed serves fails =
+    no_cause fault serves.answered serves.lines.0 max_lines text rest failed write_failed serves.lines.1 serves.lines.2 fails

@@ -1,0 +1,35 @@
+-- A line that was found is answered and passed.
+use Rattle.std.proofs.Common.{◌∷◌, [], ℕ, List, Ok, subst, sym, IfSome, take}
+use Rattle.scenario_run.specs.Answered.{Point, point}
+use Rattle.scenario_run.specs.Gathered.{TellsUnless}
+use Rattle.scenario_run.specs.Lines.{to_come}
+use Rattle.scenario_run.specs.Next.{FindsNextIn}
+use Rattle.scenario_run.specs.declared.lines.Next.{Next}
+use Rattle.scenario_run.proofs.Serving.{answered_line, passes_ahead, passes_long}
+use Rattle.scenario_run.proofs.running.answer_next.Goals as goal
+
+pub returns-in-Line-clause-next : goal.returns-in-Line-clause-next
+returns-in-Line-clause-next g c =
+    let before = g.S.Source.remaining c.args.reader.now in
+    let rest = g.S.Source.remaining c.next_line.new.source in
+    let found = subst (λ (next : Next). FindsNextIn (Ok next) c.args.buffers.now.ahead before c.next_line.new.self.ahead rest) c.in-Line.is c.in_ok-count.ensures.next in
+    rw c.more_unless_failed.ensures (answered_line
+    (point c.args.core.now c.args.buffers.now before (g.K.Sink.contents c.args.writer.now))
+    (point c.answer_ahead.new.core c.answer_ahead.new.buffers rest (g.K.Sink.contents c.answer_ahead.new.writer))
+    (g.K.Sink.contents c.next_line.new.sink) c.next_line.new.self.gathered (take c.in-Line.count c.next_line.new.self.ahead) c.answer_ahead.result
+    c.in_ok-count.ensures.told c.answer_ahead.ensures.told c.answer_ahead.ensures.world
+    (passes_ahead (to_come c.args.buffers.now.ahead before) rest c.next_line.new.self.ahead c.answer_ahead.new.buffers.ahead c.in-Line.count found c.answer_ahead.ensures.passed))
+
+pub returns-in-TooLong-clause-next : goal.returns-in-TooLong-clause-next
+returns-in-TooLong-clause-next g c =
+    let before = g.S.Source.remaining c.args.reader.now in
+    let rest = g.S.Source.remaining c.next_line.new.source in
+    let found = subst (λ (next : Next). FindsNextIn (Ok next) c.args.buffers.now.ahead before c.next_line.new.self.ahead rest) c.in-TooLong.is c.in_ok-count.ensures.next in
+    let long = passes_long c.args.core.now (to_come c.args.buffers.now.ahead before) (to_come c.next_line.new.self.ahead rest) found in
+    let told = subst (TellsUnless c.answer_long_line.result (g.K.Sink.contents c.next_line.new.sink) c.next_line.new.self.gathered
+    (g.K.Sink.contents c.answer_long_line.new.sink) c.answer_long_line.new.gathered) (sym long.1.tells) c.answer_long_line.ensures.told in
+    rw c.more_unless_failed-in-TooLong.ensures (answered_line
+    (point c.args.core.now c.args.buffers.now before (g.K.Sink.contents c.args.writer.now))
+    (point c.args.core.now (record { ahead = c.next_line.new.self.ahead; gathered = c.answer_long_line.new.gathered }) rest (g.K.Sink.contents c.answer_long_line.new.sink))
+    (g.K.Sink.contents c.next_line.new.sink) c.next_line.new.self.gathered long.0 c.answer_long_line.result
+    c.in_ok-count.ensures.told told (sym long.1.leaves) long.2)
