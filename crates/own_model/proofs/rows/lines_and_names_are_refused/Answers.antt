@@ -10,6 +10,3 @@ returns-clause-forms c = refl
 
 pub returns-clause-sizes : goal.returns-clause-sizes
 returns-clause-sizes c = refl
-
-pub returns-clause-blocks : goal.returns-clause-blocks
-returns-clause-blocks c = refl
