@@ -1,10 +1,11 @@
 -- A new sliced block is zeros at a gap, and what a machine's RAM holds leaves one.
-use Rattle.std.proofs.Common.{◌≡◌, ℕ, ◌+◌, ◌-◌, ◌*◌, ◌≤◌, Option, Some, None, refl, sym, subst, IsSome, arith}
+use Rattle.std.proofs.Common.{◌≡◌, ℕ, ◌+◌, ◌-◌, ◌*◌, ◌/◌, ◌≤◌, Option, Some, None, refl, sym, subst, IsSome, arith, ap, ◌∙◌}
 use Rattle.std.specs.FinMap.{get}
 use Rattle.trade_base.specs.declared.refusal.Refusal.{Refusal}
 use Rattle.own_model.proofs.HeapGapLemmas.{heap_gap_is_there, heap_gaps_agree}
 use Rattle.own_model.proofs.HeapRangeLemmas.{ranges_some, total-ranges, gap_free, new_page}
-use Rattle.own_model.proofs.NatMapLemmas.{get-insert_same}
+use Rattle.own_model.proofs.NatMapLemmas.{get-insert_same, some_of}
+use Rattle.own_model.proofs.StepLemmas.{covers, accepted_block}
 use Rattle.own_model.proofs.Totals.{total_times_le}
 use Rattle.own_model.specs.Call.Call.{Snew}
 use Rattle.own_model.specs.HeapWindow.{heap_gap, largest_machine, FitMachine}
@@ -46,11 +47,26 @@ fits_machine machine s h uses covered = record {
 
 -- so that machine has a gap, which is the largest machine's
 pub machine_gap : (machine : ℕ) (s : OwnState) (pages : ℕ) → IsSound s → UsesWhatItHolds s → machine ≤ largest_machine →
-    s.account.ram_used + pages * 4096 ≤ machine * 4096 →
+    s.account.ram_used ≤ machine * 4096 → pages ≤ machine →
     IsSome (heap_gap machine (heap_ranges s) pages)
     × (heap_gap machine (heap_ranges s) pages ≡ heap_gap largest_machine (heap_ranges s) pages)
-machine_gap machine s pages h uses small covered =
-    let fits = fits_machine machine s h uses (omega arith) in (
-      heap_gap_is_there machine (heap_ranges s) pages fits (omega arith),
-      heap_gaps_agree machine largest_machine (heap_ranges s) pages fits (omega arith) small,
+machine_gap machine s pages h uses small covered few =
+    let fits = fits_machine machine s h uses covered in (
+      heap_gap_is_there machine (heap_ranges s) pages fits few,
+      heap_gaps_agree machine largest_machine (heap_ranges s) pages fits few small,
     )
+
+-- a block is given where nothing refuses it and there is a gap
+given_at : (s : OwnState) (n start : ℕ) → sliced_refusal n s.account ≡ None → own_heap_gap (sliced_size n) s ≡ Some start →
+    (script_step (Snew n) s).reply ≡ Attached (start + sliced_header)
+given_at s n start accepted gap =
+    ap (λ why. (unless why s (sliced_in n (own_heap_gap (sliced_size n) s) s)).reply) accepted ∙ ap (λ o. (sliced_in n o s).reply) gap
+
+-- so a block that the account covers is given
+pub covered_given : (machine : ℕ) (s : OwnState) (n : ℕ) → IsSound s → UsesWhatItHolds s → machine ≤ largest_machine →
+    s.account.ram_limit ≤ machine * 4096 → sliced_refusal n s.account ≡ None → (block : ℕ) × ((script_step (Snew n) s).reply ≡ Attached block)
+covered_given machine s n h uses small limit accepted =
+    let fits = (covers s.account (sliced_size n) 1 (accepted_block n s.account accepted)).ram_fits in
+    let agree = machine_gap machine s (sliced_size n / 4096) h uses small (omega arith) (omega arith) in
+    let gap = some_of (own_heap_gap (sliced_size n) s) (subst IsSome agree.1 agree.0) in
+    (gap.0 + sliced_header, given_at s n gap.0 accepted gap.1)

@@ -13,7 +13,8 @@ use Rattle.own_model.proofs.CallLemmas.{found_payload, peeks_payload, pokes_payl
 use Rattle.own_model.proofs.EntryLemmas.{sizes_alike, find-sized, sized, found_in_map, finds_in_map, finds_none_in_map}
 use Rattle.own_model.proofs.HeapRangeLemmas.{range_of, range_at}
 use Rattle.own_model.proofs.NatMapLemmas.{natmaps, get-insert_same, before_remove, get-remove_same}
-use Rattle.own_model.proofs.RangeLemmas.{slice_range-with_part, resolved_holds, ReadsBack, read_after}
+use Rattle.own_model.proofs.RegionLemmas.{resolved_facts}
+use Rattle.own_model.proofs.RangeLemmas.{slice_range-with_part, ReadsBack, read_after}
 use Rattle.own_model.proofs.ByteLemmas.{length-with_part}
 use Rattle.own_model.specs.HeapWindow.{heap_low, heap_high, largest_machine}
 use Rattle.own_model.specs.NatMap.{NatMap}
@@ -208,10 +209,9 @@ module _ (s : OwnState) (h : IsSound s) where
   above_user address count high some = elim (resolved s.regions address count) as (λ o. resolved s.regions address count ≡ o → o ≡ None) [
     | None ↦ λ _. refl
     | Some (of, offset) ↦ λ is.
-        let holds = resolved_holds s.regions address count of offset is in
-        let to = holds.to in
-        let window = (h.mapped.lie.within holds.start holds.region holds.there).to_high in
-        absurd (omega arith)
+        let at = resolved_facts s.regions address count of offset is in
+        let window = (h.mapped.lie.within at.0.0 at.0.1 at.2).to_high in
+        absurd (omega (arith, at.4, at.5))
   ] refl
 
   module _ (address count block : ℕ) (payload : List ℕ) (there : get s.sliced block ≡ Some payload) (some : 0 < count) (from : block ≤ address) (to : address + count ≤ block + length payload) where

@@ -1,73 +1,29 @@
 -- The range of addresses that a region holds, and the bytes that are read and written there.
-use Rattle.std.proofs.Common.{◌≡◌, ℕ, ◌+◌, ◌-◌, ◌*◌, ◌≤◌, ◌&&◌, true, List, Some, length, nat_le, refl, sym, ap, subst, ◌∙◌, arith}
-use Rattle.std.proofs.lemmas.Bool.Decides.{nat_tests}
-use Rattle.std.proofs.lemmas.Option.{none-some, same_Some}
-use Rattle.std.specs.Prelude.{Option, None}
-use Rattle.std.specs.Option.{option_map}
+use Rattle.std.proofs.Common.{◌≡◌, ℕ, ◌+◌, ◌*◌, ◌≤◌, List, Some, length, refl, sym, ap, subst, ◌∙◌}
+use Rattle.std.specs.Prelude.{None}
 use Rattle.std.specs.FinMap.{get}
 pub use Rattle.own_model.proofs.ByteLemmas.{with_part-within, slice_range-with_part}
 use Rattle.own_model.proofs.CallLemmas.{peeks, pokes}
 use Rattle.own_model.proofs.NatMapLemmas.{get-insert_same}
-use Rattle.own_model.proofs.EntryLemmas.{found_in_map}
-use Rattle.own_model.specs.NatMap.{NatMap}
+use Rattle.own_model.proofs.RegionLemmas.{resolved_facts}
 use Rattle.own_model.specs.OwnState.{OwnState, with_part}
 use Rattle.own_model.specs.OwnState.Object.{Dataspace}
 use Rattle.own_model.specs.Call.Call.{Peek, Poke}
 use Rattle.own_model.specs.OwnStep.{count_refusal, poked_at, script_step}
 use Rattle.own_model.specs.Reply.Reply.{Bytes}
-use Rattle.own_model.specs.Region.{Region, holds, region_at, resolved}
+use Rattle.own_model.specs.Region.{resolved}
 use Rattle.own_model.specs.Sound.{IsSound}
 
--- a region, with its start, that holds a range
-pub record Holds (regions : NatMap Region) (address count : ℕ) (of offset : ℕ) : Type 0 where
-  -- where it starts
-  pub start : ℕ
-  -- the region itself
-  pub region : Region
-  -- it is one of the regions
-  pub there : get regions start ≡ Some region
-  -- it is of this thing
-  pub same : region.of ≡ of
-  -- the range starts within it
-  pub from : start ≤ address
-  -- and ends within it
-  pub to : address + count ≤ start + region.pages * 4096
-  -- the range starts so many bytes into it
-  pub into : offset ≡ address - start
-
--- a range that passes the test of a region starts and ends within it
-both_tests : (start address count pages : ℕ) → nat_le start address && nat_le (address + count) (start + pages * 4096) ≡ true → (start ≤ address) × (address + count ≤ start + pages * 4096)
-both_tests start address count pages h = grind (arith, nat_tests)
-
--- an entry that is found is a region that holds the range, of the thing and from the offset that it gives
-found_region : (regions : NatMap Region) (address count of offset : ℕ) (o : Option (ℕ × Region)) → region_at regions address count ≡ o →
-    option_map {U = ℕ × ℕ} (λ e. (e.1.of, address - e.0)) o ≡ Some (of, offset) → Holds regions address count of offset
-found_region regions address count of offset None at is = absurd (none-some (of, offset) is)
-found_region regions address count of offset (Some e) at is =
-    let found = found_in_map (holds address count) regions e at in
-    let tests = both_tests e.0 address count e.1.pages found.0 in
-    let pair = same_Some (e.1.of, address - e.0) (of, offset) is in
-    record { start = e.0; region = e.1; there = found.1; same = ap (λ (p : ℕ × ℕ). p.0) pair; from = tests.0; to = tests.1; into = ap (λ (p : ℕ × ℕ). p.1) (sym pair) }
-
--- what a range finds is a region that holds it
-pub resolved_holds : (regions : NatMap Region) (address count of offset : ℕ) → resolved regions address count ≡ Some (of, offset) → Holds regions address count of offset
-resolved_holds regions address count of offset is = found_region regions address count of offset (region_at regions address count) refl is
-
--- so the range lies within the dataspace that the region's selector names
+-- a range that a region holds lies within the dataspace that the region's selector names
 pub range_fits : (s : OwnState) (address count selector offset : ℕ) → IsSound s → resolved s.regions address count ≡ Some (selector, offset) →
     (bytes : List ℕ) × (get s.selectors selector ≡ Some (Dataspace bytes)) × (offset + count ≤ length bytes)
 range_fits s address count selector offset h is =
-    let found = resolved_holds s.regions address count selector offset is in
-    let named = h.mapped.named found.start found.region found.there in
-    let pages = h.whole found.region.of named.bytes named.there in
-    let from = found.from in
-    let to = found.to in
-    let into = found.into in
-    let size = named.pages in
-    let whole = pages.whole in (
+    let at = resolved_facts s.regions address count selector offset is in
+    let named = h.mapped.named at.0.0 at.0.1 at.2 in
+    let whole = (h.whole at.0.1.of named.bytes named.there).whole in (
       named.bytes,
-      subst (λ k. get s.selectors k ≡ Some (Dataspace named.bytes)) found.same named.there,
-      subst (λ n. address + count ≤ found.start + n * 4096 → offset + count ≤ length named.bytes) (sym size) (λ end. omega arith) to,
+      subst (λ k. get s.selectors k ≡ Some (Dataspace named.bytes)) at.3 named.there,
+      subst (λ n. offset + count ≤ n) (sym whole) (subst (λ n. offset + count ≤ n * 4096) named.pages at.5),
     )
 
 -- ---- what was put is read back

@@ -43,7 +43,7 @@ digits_read (suc k) n after small =
     ] refl
 
 -- a number that is not 0 is below no power but of a positive exponent
-positive_power : (j m : ℕ) → m < 16 ^ j → (m ≡ 0 → ⊥) → 0 < j
+pub positive_power : (j m : ℕ) → m < 16 ^ j → (m ≡ 0 → ⊥) → 0 < j
 positive_power zero m small some = absurd (some (omega arith))
 positive_power (suc j) m small some = omega arith
 

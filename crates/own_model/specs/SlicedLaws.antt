@@ -8,7 +8,7 @@ use Rattle.own_model.specs.OwnStep.{script_step}
 use Rattle.own_model.specs.Place.{found}
 use Rattle.own_model.specs.Place.Place.{InPayload}
 use Rattle.own_model.specs.Reply.Reply.{Attached}
-use Rattle.own_model.specs.Sliced.{sliced_header, sliced_size}
+use Rattle.own_model.specs.Sliced.{sliced_header, sliced_size, sliced_refusal}
 use Rattle.own_model.specs.Sound.{IsSound}
 use Rattle.own_model.specs.Use.{UsesWhatItHolds}
 
@@ -51,10 +51,18 @@ FreedBlocksAreGone =
     0 < count → block ≤ address → address + count ≤ block + length payload →
     found (script_step (Sdel block) s).next address count ≡ None
 
--- for what fits a machine, the heap window of that machine has a gap, and its first one is that of the largest machine's
+-- where the RAM in use fits a machine, the heap window of that machine has a gap for as many pages as the machine has,
+-- and its first one is that of the largest machine's window
 abbrev pub GapsFitTheMachine : Type 0
 GapsFitTheMachine =
     (machine : ℕ) (s : OwnState) (pages : ℕ) → IsSound s → UsesWhatItHolds s → machine ≤ largest_machine →
-    s.account.ram_used + pages * 4096 ≤ machine * 4096 →
+    s.account.ram_used ≤ machine * 4096 → pages ≤ machine →
     IsSome (heap_gap machine (heap_ranges s) pages)
     × (heap_gap machine (heap_ranges s) pages ≡ heap_gap largest_machine (heap_ranges s) pages)
+
+-- so a block that the account covers is given, where the account's limit is within some machine's RAM
+abbrev pub CoveredBlocksAreGiven : Type 0
+CoveredBlocksAreGiven =
+    (machine : ℕ) (s : OwnState) (n : ℕ) → IsSound s → UsesWhatItHolds s → machine ≤ largest_machine →
+    s.account.ram_limit ≤ machine * 4096 → sliced_refusal n s.account ≡ None →
+    (block : ℕ) × ((script_step (Snew n) s).reply ≡ Attached block)

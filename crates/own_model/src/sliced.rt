@@ -1,5 +1,5 @@
 //! Laws of sliced blocks: their payloads lie apart, are all zero when new, and are found until they are freed.
-ghost use Rattle.own_model.specs.SlicedLaws.{PayloadsLieInWindow, PayloadsLieApart, NewBlocksAreZero, FoundPayloadsFit, PayloadsAreFound, FreedBlocksAreGone, GapsFitTheMachine};
+ghost use Rattle.own_model.specs.SlicedLaws.{PayloadsLieInWindow, PayloadsLieApart, NewBlocksAreZero, FoundPayloadsFit, PayloadsAreFound, FreedBlocksAreGone, GapsFitTheMachine, CoveredBlocksAreGiven};
 
 /// Payloads lie apart within the heap window, each behind its own header.
 pub fn payloads_lie_apart()
@@ -20,6 +20,8 @@ pub fn payloads_are_found()
 {}
 
 /// What fits a machine has a gap in that machine's heap window, and the first one is that of the largest machine's window.
+/// So a block that the account covers is never refused for want of one.
 pub fn gaps_fit_the_machine()
-    ensures { GapsFitTheMachine }
+    ensures same { GapsFitTheMachine }
+    ensures given { CoveredBlocksAreGiven }
 {}
