@@ -1,11 +1,15 @@
 -- A search by a test among entries whose keys differ, and in a finite map.
-use Rattle.std.proofs.Common.{◌≡◌, ℕ, Bool, true, false, cond, eqb, ◌||◌, T, List, [], ◌∷◌, is_some, Some, refl, sym, ap, subst, ◌∙◌, eqb-true, true≢false, nat_cmp}
+use Rattle.std.proofs.Common.{◌≡◌, ℕ, Bool, true, false, cond, eqb, ◌||◌, T, List, [], ◌∷◌, is_some, Some, refl, sym, ap, subst, ◌∙◌, eqb-true, true≢false, nat_cmp, map, length, is_lt, ◌&&◌}
 use Rattle.std.proofs.lemmas.Bool.{eq-eqb}
 use Rattle.std.proofs.lemmas.Option.{none-some, same_Some}
 use Rattle.std.specs.Prelude.{None}
-use Rattle.std.specs.Cmp.{unsigned_tied}
+use Rattle.std.specs.Cmp.{unsigned_tied, nat_cmp_total}
 use Rattle.std.specs.List.{find, list_any}
-use Rattle.std.specs.FinMap.{get, entries, entries_sorted, get-entries, is_sorted}
+use Rattle.std.specs.Option.{option_map}
+use Rattle.std.specs.Ordering.{eq_by_cmp}
+use Rattle.std.specs.FinMap.{get, entries, entries_sorted, get-entries, is_sorted, len, len-entries, nat_cmp-IsAntisymmetric}
+use Rattle.std.specs.FinMap.Entries.{below_all, same_entries}
+use Rattle.std.proofs.lemmas.List.{length-map}
 use Rattle.own_model.specs.NatMap.{NatMap}
 use Rattle.own_model.proofs.NatMapLemmas.{both_parts, none_below}
 pub use Rattle.own_model.specs.Entries.{value_of, KeysDiffer}
@@ -38,7 +42,7 @@ module _ {X : Type 0} where
   ] refl
 
   -- what later entries have under a key, all have
-  later_value : (k : ℕ) (v : X) (e : ℕ × X) (es : List (ℕ × X)) → value_of e.0 es ≡ None → value_of k es ≡ Some v → value_of k (e ∷ es) ≡ Some v
+  pub later_value : (k : ℕ) (v : X) (e : ℕ × X) (es : List (ℕ × X)) → value_of e.0 es ≡ None → value_of k es ≡ Some v → value_of k (e ∷ es) ≡ Some v
   later_value k v e es free there = value_of_later k e es (later_key k v e es free there) ∙ there
 
   module _ (test : ℕ × X → Bool) where
@@ -111,3 +115,49 @@ module _ {X : Type 0} where
               let entry : ◌≡◌ {A = ℕ × X} e (k, v) = λ i. (key i, value i) in
               ap (λ y. Some y) entry
         ] refl
+
+-- ---- entries by their keys and the sizes of their values
+
+module _ {X : Type 0} (size : X → ℕ) where
+  -- a key, and the size of its value
+  abbrev pub sized : ℕ × X → ℕ × ℕ
+  sized e = (e.0, size e.1)
+
+  -- a key is below all sizes where it is below all of their entries
+  below_all-sized : (k : ℕ) (es : List (ℕ × X)) → below_all nat_cmp k (map sized es) ≡ below_all nat_cmp k es
+  below_all-sized k [] = refl
+  below_all-sized k (e ∷ es) = ap (λ b. is_lt (nat_cmp k e.0) && b) (below_all-sized k es)
+
+  -- sizes rise where their entries do
+  is_sorted-sized : (es : List (ℕ × X)) → is_sorted nat_cmp (map sized es) ≡ is_sorted nat_cmp es
+  is_sorted-sized [] = refl
+  is_sorted-sized (e ∷ es) = ap (λ b. b && is_sorted nat_cmp (map sized es)) (below_all-sized e.0 es) ∙ ap (λ b. below_all nat_cmp e.0 es && b) (is_sorted-sized es)
+
+  -- under a key is the size of the value there
+  value_of-sized : (q : ℕ) (es : List (ℕ × X)) → value_of q (map sized es) ≡ option_map size (value_of q es)
+  value_of-sized q [] = refl
+  value_of-sized q (e ∷ es) = elim (eq_by_cmp nat_cmp q e.0) as (λ b. cond b (Some (size e.1)) (value_of q (map sized es)) ≡ option_map size (cond b (Some e.1) (value_of q es))) [ true ↦ refl | false ↦ value_of-sized q es ]
+
+  module _ (xs ys : NatMap X) (alike : (q : ℕ) → option_map size (get xs q) ≡ option_map size (get ys q)) where
+    -- maps whose values have equal sizes have the same sizes in the same order
+    pub sizes_alike : map sized (entries xs) ≡ map sized (entries ys)
+    sizes_alike =
+        same_entries nat_cmp nat_cmp_total nat_cmp-IsAntisymmetric (map sized (entries xs)) (map sized (entries ys))
+        (subst (λ b. T b) (sym (is_sorted-sized (entries xs))) (entries_sorted xs))
+        (subst (λ b. T b) (sym (is_sorted-sized (entries ys))) (entries_sorted ys))
+        (λ q. value_of-sized q (entries xs) ∙ ap (option_map size) (sym (get-entries xs q)) ∙ alike q
+        ∙ ap (option_map size) (get-entries ys q) ∙ sym (value_of-sized q (entries ys)))
+
+    -- and as many values
+    pub len-sizes : len xs ≡ len ys
+    len-sizes = len-entries xs ∙ sym (length-map (entries xs) sized) ∙ ap length sizes_alike ∙ length-map (entries ys) sized ∙ sym (len-entries ys)
+
+  -- some entry's size passes a test where one of the sizes does
+  pub list_any-sized : (test : ℕ × ℕ → Bool) (es : List (ℕ × X)) → list_any (λ e. test (sized e)) es ≡ list_any test (map sized es)
+  list_any-sized test [] = refl
+  list_any-sized test (e ∷ es) = ap (λ b. test (sized e) || b) (list_any-sized test es)
+
+  -- the first entry whose size passes has the first size that passes
+  pub find-sized : (test : ℕ × ℕ → Bool) (es : List (ℕ × X)) → option_map sized (find (λ e. test (sized e)) es) ≡ find test (map sized es)
+  find-sized test [] = refl
+  find-sized test (e ∷ es) = elim (test (sized e)) as (λ b. option_map sized (cond b (Some e) (find (λ x. test (sized x)) es)) ≡ cond b (Some (sized e)) (find test (map sized es))) [ true ↦ refl | false ↦ find-sized test es ]

@@ -7,7 +7,8 @@ use Rattle.std.specs.List.{AllByRecursion}
 use Rattle.trade_base.specs.Page.{page_of}
 use Rattle.trade_base.specs.declared.refusal.Refusal.{Refusal}
 use Rattle.trade_base.specs.declared.refusal.Refusal.TheVariants.{OutOfCaps}
-use Rattle.own_model.proofs.StepLemmas.{KeptByEffects, step_keeps, covers, short_of_caps, accepted_size}
+use Rattle.own_model.proofs.StepLemmas.{KeptByEffects, step_keeps, covers, short_of_caps, accepted_size, accepted_block}
+use Rattle.own_model.specs.Sliced.{sliced_size}
 use Rattle.own_model.specs.Account.{WithinLimits, shortage}
 use Rattle.own_model.specs.Call.{Call}
 use Rattle.own_model.specs.Call.Call.{Capalloc}
@@ -43,6 +44,9 @@ effects_within s within = record {
   attaches = λ selector address bytes there stands room. within;
   detaches = λ address. within;
   pokes = λ selector offset bytes object there. within;
+  pokes_payload = λ address offset bytes payload there. within;
+  slices = λ n start accepted gap. let fits = covers s.account (sliced_size n) 1 (accepted_block n s.account accepted) in record { ram = fits.ram_fits; caps = fits.caps_fit };
+  unslices = λ address payload there. record { ram = omega (arith, within.ram); caps = omega (arith, within.caps) };
   allocates_cap = λ accepted. let fits = covers s.account 0 1 accepted in record { ram = fits.ram_fits; caps = fits.caps_fit };
   frees_cap = λ selector there. record { ram = omega (arith, within.ram); caps = omega (arith, within.caps) };
 }
@@ -87,6 +91,9 @@ effects_stay s = record {
   attaches = λ selector address bytes there stands room. (refl, refl);
   detaches = λ address. (refl, refl);
   pokes = λ selector offset bytes object there. (refl, refl);
+  pokes_payload = λ address offset bytes payload there. (refl, refl);
+  slices = λ n start accepted gap. (refl, refl);
+  unslices = λ address payload there. (refl, refl);
   allocates_cap = λ accepted. (refl, refl);
   frees_cap = λ selector there. (refl, refl);
 }

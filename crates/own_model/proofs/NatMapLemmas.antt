@@ -157,6 +157,11 @@ find-cons_option q k None es = elim (eq_by_cmp nat_cmp q k) as (λ b. find nat_c
 find_ended : {X : Type 0} (q k : ℕ) (es : List (ℕ × X)) → T (below_all nat_cmp k es) → eqb q k ≡ true → find nat_cmp q es ≡ None
 find_ended q k es h e = rw (eqb-true q k e) (none_below k es h)
 
+-- what is answered for an option is answered for what it has
+pub and_then_from : {X Y : Type 0} (f : X → Option Y) (o : Option X) (y : Y) → option_and_then f o ≡ Some y → (v : X) × (o ≡ Some v) × (f v ≡ Some y)
+and_then_from f None y is = absurd (none-some y is)
+and_then_from f (Some v) y is = (v, refl, is)
+
 module _ {X Y : Type 0} where
   -- what is picked of sorted entries has under each key f of what they have there
   find-filter_map : (f : X → Option Y) (q : ℕ) (es : List (ℕ × X)) → T (is_sorted nat_cmp es) → find nat_cmp q (filter_map (entry_of f) es) ≡ option_and_then f (find nat_cmp q es)
@@ -176,6 +181,10 @@ module _ {X Y : Type 0} where
   get-picked f m q =
       map.get-from_entries nat_cmp_total (filter_map (entry_of f) (entries m)) q
       ∙ find-filter_map f q (entries m) (entries_sorted m) ∙ ap (option_and_then f) (sym (get-entries m q))
+
+  -- what is picked is f of what the map has
+  pub picked_from : (f : X → Option Y) (m : NatMap X) (q : ℕ) (y : Y) → get (picked f m) q ≡ Some y → (v : X) × (get m q ≡ Some v) × (f v ≡ Some y)
+  picked_from f m q y there = and_then_from f (get m q) y (sym (get-picked f m q) ∙ there)
 
   -- functions that agree on what an option has answer alike for it
   pub and_then_alike : (f g : X → Option Y) (o : Option X) → ((x : X) → o ≡ Some x → f x ≡ g x) → option_and_then f o ≡ option_and_then g o

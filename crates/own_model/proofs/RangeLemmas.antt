@@ -1,13 +1,11 @@
 -- The range of addresses that a region holds, and the bytes that are read and written there.
-use Rattle.std.proofs.Common.{◌≡◌, ℕ, ◌+◌, ◌-◌, ◌*◌, ◌≤◌, ◌&&◌, Bool, true, false, List, [], ◌∷◌, Some, length, nat_le, refl, sym, ap, subst, ◌∙◌, true≢false, arith, slice_range}
+use Rattle.std.proofs.Common.{◌≡◌, ℕ, ◌+◌, ◌-◌, ◌*◌, ◌≤◌, ◌&&◌, true, List, [], ◌∷◌, Some, length, nat_le, refl, sym, ap, subst, ◌∙◌, arith, slice_range}
 use Rattle.std.proofs.lemmas.Bool.Decides.{nat_tests}
 use Rattle.std.proofs.lemmas.Option.{none-some, same_Some}
 use Rattle.std.specs.Prelude.{Option, None}
 use Rattle.std.specs.Option.{option_map}
 use Rattle.std.specs.FinMap.{get}
 use Rattle.trade_base.specs.Bytes.{with_bytes}
-use Rattle.trade_base.specs.declared.refusal.Refusal.{Refusal}
-use Rattle.trade_base.specs.declared.refusal.Refusal.TheVariants.{PageFault}
 use Rattle.trade_base.proofs.BytesLemmas.{slice_range-with_bytes}
 use Rattle.own_model.proofs.CallLemmas.{peeks, pokes}
 use Rattle.own_model.proofs.NatMapLemmas.{get-insert_same}
@@ -16,9 +14,8 @@ use Rattle.own_model.specs.NatMap.{NatMap}
 use Rattle.own_model.specs.OwnState.{OwnState, with_part}
 use Rattle.own_model.specs.OwnState.Object.{Dataspace}
 use Rattle.own_model.specs.Call.Call.{Peek, Poke}
-use Rattle.own_model.specs.OwnStep.{unless, count_refusal, poked, poked_at, script_step}
-use Rattle.own_model.specs.Reply.{Reply}
-use Rattle.own_model.specs.Reply.Reply.{Selected, Attached, Bytes, Done, Quotas, Refused}
+use Rattle.own_model.specs.OwnStep.{count_refusal, poked_at, script_step}
+use Rattle.own_model.specs.Reply.Reply.{Bytes}
 use Rattle.own_model.specs.Region.{Region, holds, region_at, resolved}
 use Rattle.own_model.specs.Reply.{hex_text}
 use Rattle.own_model.specs.Sound.{IsSound}
@@ -63,7 +60,7 @@ pub range_fits : (s : OwnState) (address count selector offset : ℕ) → IsSoun
     (bytes : List ℕ) × (get s.selectors selector ≡ Some (Dataspace bytes)) × (offset + count ≤ length bytes)
 range_fits s address count selector offset h is =
     let found = resolved_holds s.regions address count selector offset is in
-    let named = h.named found.start found.region found.there in
+    let named = h.mapped.named found.start found.region found.there in
     let pages = h.whole found.region.of named.bytes named.there in
     let from = found.from in
     let to = found.to in
@@ -98,25 +95,12 @@ slice_range-with_part bytes offset part fits =
     ap (λ l. slice_range l offset (offset + length part)) (with_part-within bytes offset part fits)
     ∙ slice_range-with_bytes bytes offset part fits
 
--- whether a reply says that the call is done
-abbrev is_done : Reply → Bool
-is_done (Selected selector) = false
-is_done (Attached address) = false
-is_done (Bytes bytes) = false
-is_done Done = true
-is_done (Quotas account) = false
-is_done (Refused refusal) = false
-
--- a refusal is no such reply
-not_done : (refusal : Refusal) → ¬ (Refused refusal ≡ Done)
-not_done refusal e = true≢false (sym (ap is_done e))
-
 -- a peek of as many bytes at the address tells these bytes
-abbrev ReadsBack : OwnState → ℕ → List ℕ → OwnState → Type 0
+abbrev pub ReadsBack : OwnState → ℕ → List ℕ → OwnState → Type 0
 ReadsBack s address bytes next = (script_step (Peek address (length bytes)) next).reply ≡ Bytes bytes
 
 -- what was poked is read back, where its size is accepted and its range lies in a region
-read_after : (s : OwnState) (address selector offset : ℕ) (bytes : List ℕ) → IsSound s → count_refusal (length bytes) ≡ None →
+pub read_after : (s : OwnState) (address selector offset : ℕ) (bytes : List ℕ) → IsSound s → count_refusal (length bytes) ≡ None →
     resolved s.regions address (length bytes) ≡ Some (selector, offset) → ReadsBack s address bytes (script_step (Poke address bytes) s).next
 read_after s address selector offset bytes h some found =
     let fits = range_fits s address (length bytes) selector offset h found in
@@ -126,16 +110,3 @@ read_after s address selector offset bytes h some found =
     ∙ ap (λ o. o.reply) (peeks next address (length bytes) selector offset (with_part old offset bytes) some found
     (get-insert_same s.selectors selector (Dataspace (with_part old offset bytes)) selector refl))
     ∙ ap (λ read. Bytes read) (slice_range-with_part old offset bytes fits.2)
-
--- what was poked is read back where the poke was done, whatever its tests gave
-read_by : (s : OwnState) (address : ℕ) (bytes : List ℕ) → IsSound s → (refusal : Option Refusal) (place : Option (ℕ × ℕ)) → count_refusal (length bytes) ≡ refusal →
-    resolved s.regions address (length bytes) ≡ place → (unless refusal s (poked bytes place s)).reply ≡ Done → ReadsBack s address bytes (script_step (Poke address bytes) s).next
-read_by s address bytes h (Some refusal) place counted found done = absurd (not_done refusal done)
-read_by s address bytes h None None counted found done = absurd (not_done PageFault done)
-read_by s address bytes h None (Some (selector, offset)) counted found done = read_after s address selector offset bytes h counted found
-
--- what was poked is what a peek tells
-pub poke_read : (s : OwnState) (address : ℕ) (bytes : List ℕ) → IsSound s → (script_step (Poke address bytes) s).reply ≡ Done →
-    (script_step (Peek address (length bytes)) (script_step (Poke address bytes) s).next).reply ≡ Bytes bytes
-poke_read s address bytes h done =
-    read_by s address bytes h (count_refusal (length bytes)) (resolved s.regions address (length bytes)) refl refl done

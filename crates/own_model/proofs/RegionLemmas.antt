@@ -1,20 +1,16 @@
 -- Where regions can be attached, and what stays when they change.
-use Rattle.std.proofs.Common.{◌≡◌, ℕ, ◌+◌, ◌-◌, ◌*◌, ◌%◌, ◌<◌, ◌≤◌, ◌&&◌, ◌||◌, is_lt, Bool, true, false, cond, not, T, List, [], ◌∷◌, length, is_some, IsSome, Some, refl, sym, ap, subst, ◌∙◌, true≢false, eqb, eqb-true, ◌==◌, nat_le, nat_cmp, zero, suc, map, arith, ◌≢◌}
+use Rattle.std.proofs.Common.{◌≡◌, ℕ, ◌+◌, ◌-◌, ◌*◌, ◌%◌, ◌<◌, ◌≤◌, ◌&&◌, Bool, true, false, cond, not, length, is_some, IsSome, Some, refl, sym, ap, subst, ◌∙◌, true≢false, eqb, eqb-true, ◌==◌, nat_le, zero, suc, map, arith, ◌≢◌}
 use Rattle.std.proofs.lemmas.Bool.Decides.{nat_tests}
 use Rattle.std.proofs.lemmas.Option.{none-some, same_Some, some_pair_parts}
-use Rattle.std.proofs.lemmas.List.{length-map}
 use Rattle.std.specs.Prelude.{Option, None, if◌then◌else◌}
 use Rattle.std.specs.Option.{option_map, option_and_then}
-use Rattle.std.specs.Ordering.{eq_by_cmp}
-use Rattle.std.specs.Cmp.{nat_cmp_total}
 use Rattle.std.specs.List.{find, list_any, range_with_len}
-use Rattle.std.specs.FinMap.{get, insert, remove, entries, entries_sorted, get-entries, len, len-entries, is_sorted, nat_cmp-IsAntisymmetric}
-use Rattle.std.specs.FinMap.Entries.{below_all, same_entries}
+use Rattle.std.specs.FinMap.{get, insert, remove, entries, len}
 use Rattle.trade_base.specs.declared.refusal.Refusal.TheVariants.{PageFault}
 use Rattle.own_model.specs.NatMap.{NatMap, picked}
 use Rattle.own_model.specs.Region.{Region, user_low, user_high, overlap, meets, can_stand, first_gap, IsPlace, IsFirstGap, region_at, resolved, without, holds, attach_refusal, attach_at_refusal, detach_refusal}
 use Rattle.own_model.proofs.NatMapLemmas.{same, get-picked, picked-insert_some, picked-remove, none_of}
-use Rattle.own_model.proofs.EntryLemmas.{value_of, list_any-find, found_in_map, not_found_in_map, finds_none_in_map}
+use Rattle.own_model.proofs.EntryLemmas.{sizes_alike, len-sizes, list_any-sized, find-sized, list_any-find, found_in_map, not_found_in_map, finds_none_in_map}
 use Rattle.own_model.proofs.Totals.{total-picked_le, len-total}
 use Rattle.std.proofs.lemmas.Bool.{eq-eqb, eqb-false}
 
@@ -237,56 +233,27 @@ first_gap_alike xs ys alike low high pages =
 abbrev pub shape : ℕ × Region → ℕ × ℕ
 shape e = (e.0, e.1.pages)
 
--- a number is below all shapes where it is below all of their regions
-below_all-shape : (k : ℕ) (es : List (ℕ × Region)) → below_all nat_cmp k (map shape es) ≡ below_all nat_cmp k es
-below_all-shape k [] = refl
-below_all-shape k (e ∷ es) = ap (λ b. is_lt (nat_cmp k e.0) && b) (below_all-shape k es)
-
--- shapes rise where their regions do
-is_sorted-shape : (es : List (ℕ × Region)) → is_sorted nat_cmp (map shape es) ≡ is_sorted nat_cmp es
-is_sorted-shape [] = refl
-is_sorted-shape (e ∷ es) = ap (λ b. b && is_sorted nat_cmp (map shape es)) (below_all-shape e.0 es) ∙ ap (λ b. below_all nat_cmp e.0 es && b) (is_sorted-shape es)
-
--- shapes have under a start the pages of the region there
-value_of-shape : (q : ℕ) (es : List (ℕ × Region)) → value_of q (map shape es) ≡ option_map (λ region. region.pages) (value_of q es)
-value_of-shape q [] = refl
-value_of-shape q (e ∷ es) = elim (eq_by_cmp nat_cmp q e.0) as (λ b. cond b (Some e.1.pages) (value_of q (map shape es)) ≡ option_map (λ region. region.pages) (cond b (Some e.1) (value_of q es))) [ true ↦ refl | false ↦ value_of-shape q es ]
-
 -- the same shapes in the same order
 pub shapes_alike : (xs ys : NatMap Region) → AreAlike xs ys → map shape (entries xs) ≡ map shape (entries ys)
-shapes_alike xs ys alike =
-    same_entries nat_cmp nat_cmp_total nat_cmp-IsAntisymmetric (map shape (entries xs)) (map shape (entries ys))
-    (subst (λ b. T b) (sym (is_sorted-shape (entries xs))) (entries_sorted xs))
-    (subst (λ b. T b) (sym (is_sorted-shape (entries ys))) (entries_sorted ys))
-    (λ q. value_of-shape q (entries xs) ∙ ap (option_map (λ region. region.pages)) (sym (get-entries xs q)) ∙ alike.pages q
-    ∙ ap (option_map (λ region. region.pages)) (get-entries ys q) ∙ sym (value_of-shape q (entries ys)))
+shapes_alike xs ys alike = sizes_alike (λ region. region.pages) xs ys alike.pages
 
 -- there are as many of them
 pub len_alike : (xs ys : NatMap Region) → AreAlike xs ys → len xs ≡ len ys
-len_alike xs ys alike =
-    len-entries xs ∙ sym (length-map (entries xs) shape) ∙ ap length (shapes_alike xs ys alike) ∙ length-map (entries ys) shape ∙ sym (len-entries ys)
-
--- some region's shape passes a test where one of the shapes does
-list_any-shape : (test : ℕ × ℕ → Bool) (es : List (ℕ × Region)) → list_any (λ e. test (shape e)) es ≡ list_any test (map shape es)
-list_any-shape test [] = refl
-list_any-shape test (e ∷ es) = ap (λ b. test (shape e) || b) (list_any-shape test es)
-
--- the first region whose shape passes has the first shape that passes
-find-shape : (test : ℕ × ℕ → Bool) (es : List (ℕ × Region)) → option_map shape (find (λ e. test (shape e)) es) ≡ find test (map shape es)
-find-shape test [] = refl
-find-shape test (e ∷ es) = elim (test (shape e)) as (λ b. option_map shape (cond b (Some e) (find (λ x. test (shape x)) es)) ≡ cond b (Some (shape e)) (find test (map shape es))) [ true ↦ refl | false ↦ find-shape test es ]
+len_alike xs ys alike = len-sizes (λ region. region.pages) xs ys alike.pages
 
 -- pages meet a region of the one where they meet a region of the other
 pub meets_alike : (xs ys : NatMap Region) → AreAlike xs ys → (address pages : ℕ) → meets xs address pages ≡ meets ys address pages
 meets_alike xs ys alike address pages =
     let test : ℕ × ℕ → Bool = λ s. overlap s.0 s.1 address pages in
-    list_any-shape test (entries xs) ∙ ap (list_any test) (shapes_alike xs ys alike) ∙ sym (list_any-shape test (entries ys))
+    let pages : Region → ℕ = λ region. region.pages in
+    list_any-sized pages test (entries xs) ∙ ap (list_any test) (shapes_alike xs ys alike) ∙ sym (list_any-sized pages test (entries ys))
 
 -- regions of the same start and pages hold a range in either
 pub region_at_alike : (xs ys : NatMap Region) → AreAlike xs ys → (address length : ℕ) → option_map shape (region_at xs address length) ≡ option_map shape (region_at ys address length)
 region_at_alike xs ys alike address length =
     let test : ℕ × ℕ → Bool = λ s. nat_le s.0 address && nat_le (address + length) (s.0 + s.1 * 4096) in
-    find-shape test (entries xs) ∙ ap (find test) (shapes_alike xs ys alike) ∙ sym (find-shape test (entries ys))
+    let pages : Region → ℕ = λ region. region.pages in
+    find-sized pages test (entries xs) ∙ ap (find test) (shapes_alike xs ys alike) ∙ sym (find-sized pages test (entries ys))
 
 -- ---- refusals depend on starts and pages alone
 

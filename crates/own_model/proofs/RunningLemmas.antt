@@ -1,5 +1,5 @@
 -- The running states are own runs, so what is told from them is what is told from the history.
-use Rattle.std.proofs.Common.{◌≡◌, ◌≢◌, ℕ, ◌+◌, ◌≤◌, ◌++◌, ◌==◌, Bool, true, false, List, [], ◌∷◌, Option, Some, None, length, nat_lt, refl, ap, sym, ◌∙◌, cond, subst, inl, inr, arith, append_assoc, slice_set, nat_cmp}
+use Rattle.std.proofs.Common.{◌≡◌, ◌≢◌, ℕ, ◌+◌, ◌≤◌, ◌++◌, ◌==◌, ◌&&◌, Bool, true, false, List, [], ◌∷◌, Option, Some, None, length, nat_lt, refl, ap, sym, ◌∙◌, cond, subst, inl, inr, arith, append_assoc, slice_set, nat_cmp}
 use Rattle.std.proofs.lemmas.List.{get_or-set_same, get_or-set_other, get_or_past, length-set, set_past, append-nil}
 use Rattle.std.proofs.lemmas.Bool.{cases_lt}
 use Rattle.std.proofs.lemmas.Bool.Decides.{nat_tests}
@@ -11,10 +11,11 @@ use Rattle.own_model.specs.Account.{opened}
 use Rattle.own_model.proofs.NatMapLemmas.{entries-empty}
 use Rattle.own_model.proofs.RunLemmas.{own_run-append, own_part-append}
 use Rattle.own_model.specs.Call.{Call}
-use Rattle.own_model.specs.Call.Call.{Alloc, Free, Attach, AttachAt, Detach, Peek, Poke, Capalloc, Capfree, Quota}
+use Rattle.own_model.specs.Call.Call.{Alloc, Free, Attach, AttachAt, Detach, Peek, Poke, Capalloc, Capfree, Snew, Sdel, Quota}
 use Rattle.own_model.specs.OwnState.{OwnState}
-use Rattle.own_model.specs.Region.{resolved}
-use Rattle.own_model.specs.OwnStep.{Outcome, own_run, own_step, unless, alloc_refusal, allocated, freed, count_refusal, peeked, poked, script_step, turned_away, is_valid_size}
+use Rattle.own_model.specs.Place.{found}
+use Rattle.own_model.specs.Sliced.{sliced_header, sliced_size}
+use Rattle.own_model.specs.OwnStep.{Outcome, own_run, own_step, unless, alloc_refusal, allocated, freed, count_refusal, peeked, poked, sliced_in, own_heap_gap, script_step, turned_away, is_valid_size}
 use Rattle.own_model.specs.Running.{running_step, states_after_call, states_after_heard, told_now, states_running, told_running}
 use Rattle.own_model.specs.StartList.{Entry, Kind}
 use Rattle.own_model.specs.StartList.Kind.{Script, Server}
@@ -33,9 +34,17 @@ refusal_stays false covered a b c s accepted = refl
 no_regions : entries nothing.regions ≡ []
 no_regions = entries-empty
 
+-- nor sliced blocks
+no_blocks : entries nothing.sliced ≡ []
+no_blocks = entries-empty
+
 -- no bytes at all cover no allocation
 alloc_refused : (n : ℕ) → (unless (alloc_refusal n (opened 0 0)) nothing (allocated n nothing)).next ≡ nothing
 alloc_refused n = refusal_stays (is_valid_size n) (nat_lt 0 (0 + page_of n)) OutOfRam OutOfCaps InvalidSize nothing (allocated n nothing)
+
+-- nor a sliced block
+sliced_refused : (n : ℕ) → (script_step (Snew n) nothing).next ≡ nothing
+sliced_refused n = refusal_stays (nat_lt 0 n && is_valid_size (sliced_header + n)) (nat_lt 0 (0 + sliced_size n)) OutOfRam OutOfCaps InvalidSize nothing (sliced_in n (own_heap_gap (sliced_size n) nothing) nothing)
 
 -- a selector names nothing there
 free_refused : (selector : ℕ) → (freed selector (get nothing.selectors selector) nothing).next ≡ nothing
@@ -46,16 +55,16 @@ tested_stays : (refusal : Option Refusal) (outcome : Outcome) → outcome.next �
 tested_stays (Some refusal) outcome same = refl
 tested_stays None outcome same = same
 
--- no range lies in a region there
-nowhere : (address count : ℕ) → resolved nothing.regions address count ≡ None
-nowhere address count = rw no_regions
+-- no range is found there
+nowhere : (address count : ℕ) → found nothing address count ≡ None
+nowhere address count = rw (no_regions, no_blocks)
 
 -- a peek leaves who has nothing as it is
-peek_stays : (address count : ℕ) → (peeked count (resolved nothing.regions address count) nothing).next ≡ nothing
+peek_stays : (address count : ℕ) → (peeked count (found nothing address count) nothing).next ≡ nothing
 peek_stays address count = rw (nowhere address count)
 
 -- so does a poke
-poke_stays : (address : ℕ) (bytes : List ℕ) → (poked bytes (resolved nothing.regions address (length bytes)) nothing).next ≡ nothing
+poke_stays : (address : ℕ) (bytes : List ℕ) → (poked bytes (found nothing address (length bytes)) nothing).next ≡ nothing
 poke_stays address bytes = rw (nowhere address (length bytes))
 
 -- so does any call of a script
@@ -65,11 +74,13 @@ script_stays (Free selector) = free_refused selector
 script_stays (Attach selector) = rw (get-empty nat_cmp selector)
 script_stays (AttachAt selector address) = rw (get-empty nat_cmp selector)
 script_stays (Detach address) = rw (get-empty nat_cmp address)
-script_stays (Peek address count) = tested_stays (count_refusal count) (peeked count (resolved nothing.regions address count) nothing) (peek_stays address count)
+script_stays (Peek address count) = tested_stays (count_refusal count) (peeked count (found nothing address count) nothing) (peek_stays address count)
 script_stays (Poke address bytes) =
-    tested_stays (count_refusal (length bytes)) (poked bytes (resolved nothing.regions address (length bytes)) nothing) (poke_stays address bytes)
+    tested_stays (count_refusal (length bytes)) (poked bytes (found nothing address (length bytes)) nothing) (poke_stays address bytes)
 script_stays Capalloc = refl
 script_stays (Capfree selector) = rw (get-empty nat_cmp selector)
+script_stays (Snew n) = sliced_refused n
+script_stays (Sdel address) = rw (get-empty nat_cmp address)
 script_stays Quota = refl
 
 -- and so does any call of a script or a server

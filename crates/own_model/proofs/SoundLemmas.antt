@@ -1,27 +1,32 @@
 -- Calls keep an own state sound: each region is of a dataspace that a selector names, and lies apart from the others.
-use Rattle.std.proofs.Common.{◌≡◌, ◌≢◌, ℕ, ◌+◌, ◌*◌, ◌/◌, ◌^◌, ◌<◌, ◌≤◌, ◌&&◌, Bool, true, false, cond, eqb, List, length, nat_lt, nat_le, Some, refl, sym, ap, subst, ◌∙◌, eqb-true, true≢false, nat_cmp, arith}
+use Rattle.std.proofs.Common.{◌≡◌, ◌≢◌, ℕ, ◌+◌, ◌-◌, ◌*◌, ◌/◌, ◌^◌, ◌<◌, ◌≤◌, ◌&&◌, Bool, true, false, cond, eqb, List, length, nat_lt, nat_le, Some, refl, sym, ap, subst, ◌∙◌, eqb-true, nat_cmp, arith}
 use Rattle.std.proofs.lemmas.Bool.Decides.{nat_tests}
 use Rattle.std.proofs.lemmas.Option.{none-some, same_Some}
 use Rattle.std.specs.Prelude.{Option, None, is_none}
-use Rattle.std.specs.FinMap.{get, insert, remove, len, len-empty}
+use Rattle.std.specs.Option.{option_and_then}
+use Rattle.std.specs.FinMap.{get, insert, remove, empty, len, len-empty}
 use Rattle.trade_base.specs.declared.refusal.Refusal.{Refusal}
 use Rattle.trade_base.specs.declared.refusal.Refusal.TheVariants.{InvalidSize, InvalidCap, TooManyRegions, RegionConflict}
 use Rattle.trade_base.specs.Page.{page_of}
 use Rattle.own_model.proofs.NatMapLemmas.{get-empty, get-remove_other, before_remove, apart_from_free, IsSome-at, get-insert_other, get-insert_same, each_after_insert}
 use Rattle.own_model.proofs.NewSelector.{new_selector_free}
-use Rattle.own_model.proofs.RegionLemmas.{place, left_without, len-without, overlap_sym, free_place}
+use Rattle.own_model.proofs.RegionLemmas.{place, left_without, len-without, free_place}
 use Rattle.own_model.proofs.StepLemmas.{KeptByEffects, step_keeps, run_keeps}
 use Rattle.own_model.proofs.Totals.{len-insert_new, len-remove_le}
-use Rattle.own_model.proofs.UseLemmas.{length-zeros, length-with_part}
+use Rattle.own_model.proofs.UseLemmas.{length-zeros, length-with_part, block_size-new}
 use Rattle.own_model.specs.Account.{Account, shortage}
 use Rattle.own_model.specs.Call.{Call}
 use Rattle.own_model.specs.Call.Call.{Free, Attach, AttachAt}
 use Rattle.own_model.specs.NatMap.{NatMap}
-use Rattle.own_model.specs.OwnState.{OwnState, Object, zeros, new_selector, pages_in, with_part, object_with}
+use Rattle.own_model.specs.OwnState.{OwnState, Object, zeros, new_selector, pages_in, with_part, object_with, heap_ranges}
 use Rattle.own_model.specs.OwnState.Object.{Dataspace, RpcObject}
-use Rattle.own_model.specs.OwnStep.{own_step, own_run, script_step, refused, unless, alloc_refusal, allocated, freed, with_region, attached_first, attached_at, region_detached, poked_at, cap_allocated, cap_freed}
-use Rattle.own_model.specs.Region.{Region, user_low, user_high, most_regions, overlap, can_stand, first_gap, user_gap}
-use Rattle.own_model.specs.Sound.{IsPages, NamesDataspace, IsInWindow, IsSound}
+use Rattle.own_model.specs.OwnStep.{own_step, own_run, script_step, refused, unless, alloc_refusal, allocated, freed, with_region, attached_first, attached_at, region_detached, poked_at, payload_poked, sliced_at, sliced_freed, own_heap_gap, cap_allocated, cap_freed}
+use Rattle.own_model.specs.Region.{Region, user_low, user_high, most_regions, can_stand, first_gap, user_gap, IsPlace, without}
+use Rattle.own_model.specs.Sound.{IsPages, NamesDataspace, LieApart, AreMapped, IsBlock, IsSound}
+use Rattle.own_model.specs.HeapWindow.{heap_low, heap_high, largest_machine}
+use Rattle.own_model.specs.Sliced.{sliced_header, sliced_size, block_pages, ranges_of_blocks}
+use Rattle.own_model.proofs.ApartLemmas.{LieApart-empty, LieApart-fewer, LieApart-insert}
+use Rattle.own_model.proofs.HeapRangeLemmas.{range_of, get-ranges, ranges-insert, ranges-remove, ranges-alike, gap_place, new_page}
 use Rattle.own_model.specs.StartList.{Entry, StartEntry, start_state}
 use Rattle.std.proofs.lemmas.Bool.{ltb-true, eqb-false}
 
@@ -110,53 +115,57 @@ pages_poked RpcObject offset part h = tt
 
 -- ---- what each effect keeps
 
+-- regions stay mapped where each dataspace that was named still is
+mapped_named : (xs ys : NatMap Object) (regions : NatMap Region) → ((region : Region) → NamesDataspace xs region → NamesDataspace ys region) → AreMapped xs regions → AreMapped ys regions
+mapped_named xs ys regions still h = record { named = λ start region is. still region (h.named start region is); lie = h.lie; few = h.few }
+
+-- and so do some of them
+mapped_fewer : (xs ys : NatMap Object) (all some : NatMap Region) →
+    ((start : ℕ) (region : Region) → get some start ≡ Some region → (get all start ≡ Some region) × (NamesDataspace xs region → NamesDataspace ys region)) →
+    len some ≤ len all → AreMapped xs all → AreMapped ys some
+mapped_fewer xs ys all some left fewer h = record {
+  named = λ start region is. let was = left start region is in was.1 (h.named start region was.0);
+  lie = LieApart-fewer user_low user_high all some (λ start region is. (left start region is).0) h.lie;
+  few = omega (arith, h.few, fewer);
+}
+
 -- a new dataspace keeps an own state sound
 sound_allocated : (n : ℕ) (s : OwnState) → IsSound s → alloc_refusal n s.account ≡ None → IsSound (allocated n s).next
 sound_allocated n s h accepted =
     let key = new_selector s.selectors in
-    let free = new_selector_free s.selectors in
     let space = Dataspace (zeros (page_of n)) in
     record {
       whole = whole_after s.selectors key space h.whole (pages_of_length (zeros (page_of n)) n (length-zeros (page_of n)) (valid_some n s.account accepted));
-      named = λ start region is. named_new s.selectors key space region free (h.named start region is);
-      within = h.within;
-      apart = h.apart;
-      few = h.few;
+      mapped = mapped_named s.selectors (insert s.selectors key space) s.regions (λ region. named_new s.selectors key space region (new_selector_free s.selectors)) h.mapped;
+      blocks = h.blocks;
+      heap = h.heap;
     }
 
 -- so does a new RPC object
 sound_cap_allocated : (s : OwnState) → IsSound s → IsSound (cap_allocated s).next
 sound_cap_allocated s h =
     let key = new_selector s.selectors in
-    let free = new_selector_free s.selectors in
     record {
       whole = whole_after s.selectors key RpcObject h.whole tt;
-      named = λ start region is. named_new s.selectors key RpcObject region free (h.named start region is);
-      within = h.within;
-      apart = h.apart;
-      few = h.few;
+      mapped = mapped_named s.selectors (insert s.selectors key RpcObject) s.regions (λ region. named_new s.selectors key RpcObject region (new_selector_free s.selectors)) h.mapped;
+      blocks = h.blocks;
+      heap = h.heap;
     }
 
 -- so does a dataspace that is freed, whose regions go too
 sound_freed : (selector : ℕ) (bytes : List ℕ) (s : OwnState) → IsSound s → IsSound (freed selector (Some (Dataspace bytes)) s).next
 sound_freed selector bytes s h = record {
   whole = λ q b is. h.whole q b (before_remove s.selectors selector q (Dataspace b) is);
-  named = λ start region is.
-      let left = left_without selector s.regions start region is in
-      named_left s.selectors selector region left.1 (h.named start region left.0);
-  within = λ start region is. h.within start region (left_without selector s.regions start region is).0;
-  apart = λ a b r q x y. h.apart a b r q (left_without selector s.regions a r x).0 (left_without selector s.regions b q y).0;
-  few = omega (arith, h.few, len-without selector s.regions);
+  mapped = mapped_fewer s.selectors (remove s.selectors selector) s.regions (without selector s.regions)
+      (λ start region is. let left = left_without selector s.regions start region is in (left.0, named_left s.selectors selector region left.1))
+      (len-without selector s.regions) h.mapped;
+  blocks = h.blocks;
+  heap = h.heap;
 }
-
--- whether an object is an RPC object
-abbrev is_rpc : Object → Bool
-is_rpc (Dataspace bytes) = false
-is_rpc RpcObject = true
 
 -- an RPC object is no dataspace
 rpc_is_none : (bytes : List ℕ) → ¬ (RpcObject ≡ Dataspace bytes)
-rpc_is_none bytes e = true≢false (ap is_rpc e)
+rpc_is_none bytes e = cc
 
 -- who names an RPC object names no dataspace
 not_rpc : (selectors : NatMap Object) (k : ℕ) (region : Region) → get selectors k ≡ Some RpcObject → NamesDataspace selectors region → region.of ≢ k
@@ -166,22 +175,20 @@ not_rpc selectors k region there h at = rpc_is_none h.bytes (object_of (get sele
 sound_cap_freed : (selector : ℕ) (s : OwnState) → get s.selectors selector ≡ Some RpcObject → IsSound s → IsSound (cap_freed selector (Some RpcObject) s).next
 sound_cap_freed selector s there h = record {
   whole = λ q b is. h.whole q b (before_remove s.selectors selector q (Dataspace b) is);
-  named = λ start region is.
-      let before = h.named start region is in
-      named_left s.selectors selector region (not_rpc s.selectors selector region there before) before;
-  within = h.within;
-  apart = h.apart;
-  few = h.few;
+  mapped = mapped_named s.selectors (remove s.selectors selector) s.regions
+      (λ region before. named_left s.selectors selector region (not_rpc s.selectors selector region there before) before) h.mapped;
+  blocks = h.blocks;
+  heap = h.heap;
 }
 
 -- a region that is detached keeps an own state sound
 sound_detached : (address : ℕ) (s : OwnState) → IsSound s → IsSound (region_detached address s).next
 sound_detached address s h = record {
   whole = h.whole;
-  named = λ start region is. h.named start region (before_remove s.regions address start region is);
-  within = λ start region is. h.within start region (before_remove s.regions address start region is);
-  apart = λ a b r q x y. h.apart a b r q (before_remove s.regions address a r x) (before_remove s.regions address b q y);
-  few = omega (arith, h.few, len-remove_le s.regions address);
+  mapped = mapped_fewer s.selectors s.selectors s.regions (remove s.regions address)
+      (λ start region is. (before_remove s.regions address start region is, λ named. named)) (len-remove_le s.regions address) h.mapped;
+  blocks = h.blocks;
+  heap = h.heap;
 }
 
 -- so do bytes that are poked
@@ -190,34 +197,15 @@ sound_poked : (selector offset : ℕ) (bytes : List ℕ) (object : Object) (s : 
 sound_poked selector offset bytes object s there h = record {
   whole = whole_after s.selectors selector (object_with object offset bytes) h.whole
       (pages_poked object offset bytes (whole_objects s.selectors h.whole selector object there));
-  named = λ start region is. named_poked s.selectors selector offset bytes object region there (h.named start region is);
-  within = h.within;
-  apart = h.apart;
-  few = h.few;
+  mapped = mapped_named s.selectors (insert s.selectors selector (object_with object offset bytes)) s.regions
+      (λ region. named_poked s.selectors selector offset bytes object region there) h.mapped;
+  blocks = h.blocks;
+  heap = h.heap;
 }
-
--- each region has a page
-some_pages : (s : OwnState) → IsSound s → (start : ℕ) (region : Region) → get s.regions start ≡ Some region → 1 ≤ region.pages
-some_pages s h start region there =
-    let named = h.named start region there in
-    let pages = h.whole region.of named.bytes named.there in
-    subst (λ n. 1 ≤ n) (sym named.pages) pages.some
 
 -- below the most there is room for one more
 fewer : (most n : ℕ) → nat_le most n ≡ false → n + 1 ≤ most
 fewer most n h = grind (arith, nat_tests)
-
--- a region more lies apart from the others, where pages can stand
-apart_after : (regions : NatMap Region) (address : ℕ) (region : Region) →
-    ((a b : ℕ) (r q : Region) → get regions a ≡ Some r → get regions b ≡ Some q → a ≢ b → overlap a r.pages b q.pages ≡ false) →
-    ((start : ℕ) (r : Region) → get regions start ≡ Some r → overlap start r.pages address region.pages ≡ false) →
-    (a b : ℕ) (r q : Region) → get (insert regions address region) a ≡ Some r → get (insert regions address region) b ≡ Some q → a ≢ b → overlap a r.pages b q.pages ≡ false
-apart_after regions address region apart free a b r q x y =
-    each_after_insert regions address region (λ a r. (b : ℕ) (q : Region) → get (insert regions address region) b ≡ Some q → a ≢ b → overlap a r.pages b q.pages ≡ false)
-    (λ a r x. each_after_insert regions address region (λ b q. a ≢ b → overlap a r.pages b q.pages ≡ false) (λ b q y. apart a b r q x y) (λ _. free a r x))
-    (each_after_insert regions address region (λ b q. address ≢ b → overlap address region.pages b q.pages ≡ false)
-    (λ b q y _. overlap_sym address region.pages b q.pages ∙ free b q y) (λ same. absurd (same refl)))
-    a r x b q y
 
 -- a region more, where its pages can stand and there is room, keeps an own state sound
 sound_attached : (selector address : ℕ) (bytes : List ℕ) (s : OwnState) → get s.selectors selector ≡ Some (Dataspace bytes) →
@@ -226,14 +214,82 @@ sound_attached : (selector address : ℕ) (bytes : List ℕ) (s : OwnState) → 
 sound_attached selector address bytes s there can room h =
     let at = place user_low user_high s.regions (pages_in bytes) address can in
     let region : Region = record { of = selector; pages = pages_in bytes } in
-    let free = free_place user_low user_high s.regions (pages_in bytes) address (h.whole selector bytes there).some (some_pages s h) at in
+    let some = (h.whole selector bytes there).some in
+    let free = free_place user_low user_high s.regions (pages_in bytes) address some h.mapped.lie.some at in
     record {
       whole = h.whole;
-      named = each_after_insert s.regions address region (λ start r. NamesDataspace s.selectors r) h.named (record { bytes = bytes; there = there; pages = refl });
-      within = each_after_insert s.regions address region (λ start r. IsInWindow start r.pages) h.within
-          (record { aligned = at.aligned; from_low = at.from_low; to_high = at.to_high });
-      apart = apart_after s.regions address region h.apart at.free;
-      few = omega (arith, fewer most_regions (len s.regions) room, len-insert_new s.regions address region free);
+      mapped = record {
+        named = each_after_insert s.regions address region (λ start r. NamesDataspace s.selectors r) h.mapped.named (record { bytes = bytes; there = there; pages = refl });
+        lie = LieApart-insert user_low user_high s.regions address region some at h.mapped.lie;
+        few = omega (arith, fewer most_regions (len s.regions) room, len-insert_new s.regions address region free);
+      };
+      blocks = h.blocks;
+      heap = h.heap;
+    }
+
+-- ---- sliced blocks
+
+-- a block of whole pages is as many as its bytes
+whole_block : (size pages : ℕ) → size ≡ pages * 4096 → size ≡ page_of size / 4096 * 4096
+whole_block size pages e = omega arith
+
+-- as many bytes as page rounding gives are whole pages
+whole_new : (n : ℕ) → sliced_size n ≡ page_of (sliced_size n) / 4096 * 4096
+whole_new n = omega arith
+
+-- as many whole pages as are asked for
+pages_new : (n : ℕ) → page_of (sliced_size n) / 4096 ≡ sliced_size n / 4096
+pages_new n = omega arith
+
+-- a new block is whole pages
+new_block : (n start : ℕ) → IsBlock (start + sliced_header) (zeros (sliced_size n - sliced_header))
+new_block n start = record {
+  header = omega arith;
+  whole = subst (λ size. size ≡ page_of size / 4096 * 4096) (sym (block_size-new n)) (whole_new n);
+}
+
+-- so is one with other bytes, as many
+poked_block : (address : ℕ) (old new : List ℕ) → length new ≡ length old → IsBlock address old → IsBlock address new
+poked_block address old new e h = record {
+  header = h.header;
+  whole = subst (λ n. sliced_header + n ≡ page_of (sliced_header + n) / 4096 * 4096) (sym e) h.whole;
+}
+
+-- a new sliced block keeps an own state sound
+sound_sliced : (n start : ℕ) (s : OwnState) → own_heap_gap (sliced_size n) s ≡ Some start → IsSound s → IsSound (sliced_at n start s).next
+sound_sliced n start s gap h =
+    let payload = zeros (sliced_size n - sliced_header) in
+    let pages : block_pages payload ≡ sliced_size n / 4096 = ap (λ size. page_of size / 4096) (block_size-new n) ∙ pages_new n in
+    let at = subst (λ p. IsPlace heap_low (heap_high largest_machine) (heap_ranges s) p start) (sym pages) (gap_place s (sliced_size n) start gap) in
+    let some = subst (λ p. 1 ≤ p) (sym pages) (new_page n) in
+    record {
+      whole = h.whole;
+      mapped = h.mapped;
+      blocks = each_after_insert s.sliced (start + sliced_header) payload IsBlock h.blocks (new_block n start);
+      heap = subst (LieApart heap_low (heap_high largest_machine)) (sym (ranges-insert s.sliced start payload))
+          (LieApart-insert heap_low (heap_high largest_machine) (heap_ranges s) start (range_of payload) some at h.heap);
+    }
+
+-- so does one that is freed
+sound_unsliced : (address : ℕ) (payload : List ℕ) (s : OwnState) → IsSound s → IsSound (sliced_freed address (Some payload) s).next
+sound_unsliced address payload s h = record {
+  whole = h.whole;
+  mapped = h.mapped;
+  blocks = λ q other is. h.blocks q other (before_remove s.sliced address q other is);
+  heap = LieApart-fewer heap_low (heap_high largest_machine) (heap_ranges s) (ranges_of_blocks (remove s.sliced address)) (ranges-remove s.sliced address) h.heap;
+}
+
+-- and bytes put over a payload's
+sound_payload_poked : (address offset : ℕ) (bytes payload : List ℕ) (s : OwnState) → get s.sliced address ≡ Some payload → IsSound s →
+    IsSound (payload_poked address offset bytes (Some payload) s).next
+sound_payload_poked address offset bytes payload s there h =
+    let new = with_part payload offset bytes in
+    let size = length-with_part payload offset bytes in
+    record {
+      whole = h.whole;
+      mapped = h.mapped;
+      blocks = each_after_insert s.sliced address new IsBlock h.blocks (poked_block address payload new size (h.blocks address payload there));
+      heap = subst (LieApart heap_low (heap_high largest_machine)) (sym (ranges-alike s.sliced address payload new there size)) h.heap;
     }
 
 -- so nothing that a call can do makes it unsound
@@ -244,18 +300,28 @@ effects_sound s h = record {
   attaches = λ selector address bytes there can room. sound_attached selector address bytes s there can room h;
   detaches = λ address. sound_detached address s h;
   pokes = λ selector offset bytes object there. sound_poked selector offset bytes object s there h;
+  pokes_payload = λ address offset bytes payload there. sound_payload_poked address offset bytes payload s there h;
+  slices = λ n start accepted gap. sound_sliced n start s gap h;
+  unslices = λ address payload there. sound_unsliced address payload s h;
   allocates_cap = λ accepted. sound_cap_allocated s h;
   frees_cap = λ selector there. sound_cap_freed selector s there h;
 }
 
--- who starts has no regions and no dataspaces
+-- no blocks stand nowhere
+no_ranges : (q : ℕ) → get (ranges_of_blocks empty) q ≡ get (empty {R = nat_cmp}) q
+no_ranges q = get-ranges empty q ∙ ap (option_and_then (λ payload. Some (range_of payload))) (get-empty (q + sliced_header)) ∙ sym (get-empty q)
+
+-- who starts has nothing
 pub start_sound : (start : StartEntry) → IsSound (start_state start)
 start_sound start = record {
   whole = λ selector bytes is. absurd (none-some (Dataspace bytes) (sym (get-empty selector) ∙ is));
-  named = λ at region is. absurd (none-some region (sym (get-empty at) ∙ is));
-  within = λ at region is. absurd (none-some region (sym (get-empty at) ∙ is));
-  apart = λ a b r q x y. absurd (none-some r (sym (get-empty a) ∙ x));
-  few = omega (arith, len-empty nat_cmp Region);
+  mapped = record {
+    named = λ at region is. absurd (none-some region (sym (get-empty at) ∙ is));
+    lie = LieApart-empty user_low user_high empty (λ q. refl);
+    few = omega (arith, len-empty nat_cmp Region);
+  };
+  blocks = λ at payload is. absurd (none-some payload (sym (get-empty at) ∙ is));
+  heap = LieApart-empty heap_low (heap_high largest_machine) (ranges_of_blocks empty) no_ranges;
 }
 
 -- a call keeps it so

@@ -1,5 +1,5 @@
 -- What holds of an own state after a call, where it holds after each thing that a call can do.
-use Rattle.std.proofs.Common.{◌≡◌, ℕ, ◌+◌, Bool, true, false, cond, List, [], ◌∷◌, length, nat_le, nat_lt, unwrap_or, refl, sym, subst, true≢false, arith}
+use Rattle.std.proofs.Common.{◌≡◌, ℕ, ◌+◌, Bool, true, false, cond, List, [], ◌∷◌, length, nat_le, nat_lt, unwrap_or, refl, sym, subst, true≢false, arith, ◌&&◌}
 use Rattle.std.proofs.lemmas.Bool.Decides.{nat_tests}
 use Rattle.std.proofs.lemmas.Option.{none-some}
 use Rattle.std.specs.Prelude.{Option, Some, None, is_none}
@@ -10,12 +10,15 @@ use Rattle.trade_base.specs.Page.{page_of}
 use Rattle.own_model.proofs.RegionLemmas.{first_gap_least, stands}
 use Rattle.own_model.specs.Account.{Account, Fits, WithinLimits, shortage}
 use Rattle.own_model.specs.Call.{Call}
-use Rattle.own_model.specs.Call.Call.{Alloc, Free, Attach, AttachAt, Detach, Peek, Poke, Capalloc, Capfree, Quota}
+use Rattle.own_model.specs.Call.Call.{Alloc, Free, Attach, AttachAt, Detach, Peek, Poke, Capalloc, Capfree, Snew, Sdel, Quota}
 use Rattle.own_model.specs.NatMap.{NatMap}
 use Rattle.own_model.specs.OwnState.{OwnState, Object, pages_in}
 use Rattle.own_model.specs.OwnState.Object.{Dataspace, RpcObject}
-use Rattle.own_model.specs.OwnStep.{Outcome, own_step, own_run, unless, is_valid_size, alloc_refusal, allocated, freed, with_region, attached_first, attached_at, region_detached, count_refusal, peeked, poked_at, poked, cap_allocated, cap_freed, script_step, turned_away}
-use Rattle.own_model.specs.Region.{Region, most_regions, user_low, user_high, can_stand, first_gap, IsFirstGap, user_gap, resolved, attach_refusal, attach_at_refusal, detach_refusal}
+use Rattle.own_model.specs.OwnStep.{Outcome, own_step, own_run, unless, is_valid_size, alloc_refusal, allocated, freed, with_region, attached_first, attached_at, region_detached, count_refusal, peeked, poked_at, payload_poked, poked, sliced_at, sliced_in, sliced_freed, own_heap_gap, cap_allocated, cap_freed, script_step, turned_away}
+use Rattle.own_model.specs.Region.{Region, most_regions, user_low, user_high, can_stand, first_gap, IsFirstGap, user_gap, attach_refusal, attach_at_refusal, detach_refusal}
+use Rattle.own_model.specs.Place.{Place, found}
+use Rattle.own_model.specs.Place.Place.{InDataspace, InPayload}
+use Rattle.own_model.specs.Sliced.{sliced_header, sliced_size, sliced_refusal}
 use Rattle.own_model.specs.StartList.{Entry}
 use Rattle.std.proofs.lemmas.Bool.{ltb-false}
 
@@ -33,6 +36,12 @@ pub record KeptByEffects (P : OwnState → Type 0) (s : OwnState) : Type 0 where
   pub detaches : (address : ℕ) → P (region_detached address s).next
   -- bytes put over those of what a selector names
   pub pokes : (selector offset : ℕ) (bytes : List ℕ) (object : Object) → get s.selectors selector ≡ Some object → P (poked_at selector offset bytes (Some object) s).next
+  -- bytes put over those of a payload
+  pub pokes_payload : (address offset : ℕ) (bytes payload : List ℕ) → get s.sliced address ≡ Some payload → P (payload_poked address offset bytes (Some payload) s).next
+  -- a new sliced block that is accepted, at the first gap
+  pub slices : (n start : ℕ) → sliced_refusal n s.account ≡ None → own_heap_gap (sliced_size n) s ≡ Some start → P (sliced_at n start s).next
+  -- a free of a sliced block
+  pub unslices : (address : ℕ) (payload : List ℕ) → get s.sliced address ≡ Some payload → P (sliced_freed address (Some payload) s).next
   -- a new RPC object that the account covers
   pub allocates_cap : shortage s.account 0 1 ≡ None → P (cap_allocated s).next
   -- a free of an RPC object
@@ -92,6 +101,10 @@ size_tested : (valid : Bool) (o : Option Refusal) (x : Refusal) → cond valid o
 size_tested true o x accepted = accepted
 size_tested false o x accepted = absurd (none-some x (sym accepted))
 
+-- an account lacks nothing for a sliced block that is accepted
+pub accepted_block : (n : ℕ) (a : Account) → sliced_refusal n a ≡ None → shortage a (sliced_size n) 1 ≡ None
+accepted_block n a accepted = size_tested (nat_lt 0 n && is_valid_size (sliced_header + n)) (shortage a (sliced_size n) 1) InvalidSize accepted
+
 -- an account lacks nothing for an allocation that is accepted
 pub accepted_size : (n : ℕ) (a : Account) → alloc_refusal n a ≡ None → shortage a (page_of n) 1 ≡ None
 accepted_size n a accepted = size_tested (is_valid_size n) (shortage a (page_of n) 1) InvalidSize accepted
@@ -128,8 +141,8 @@ module _ (P : OwnState → Type 0) (s : OwnState) (h : P s) where
     attaches_any_at selector address None e = h
 
     -- a peek keeps it, whatever the range finds
-    peeks_any : (count : ℕ) (place : Option (ℕ × ℕ)) → P (peeked count place s).next
-    peeks_any count (Some (selector, offset)) = h
+    peeks_any : (count : ℕ) (place : Option Place) → P (peeked count place s).next
+    peeks_any count (Some place) = h
     peeks_any count None = h
 
     -- bytes that are poked keep it, whatever the selector names
@@ -137,10 +150,26 @@ module _ (P : OwnState → Type 0) (s : OwnState) (h : P s) where
     pokes_object selector offset bytes (Some object) e = k.pokes selector offset bytes object e
     pokes_object selector offset bytes None e = h
 
+    -- and whatever payload is at an address
+    pokes_any_payload : (address offset : ℕ) (bytes : List ℕ) (payload : Option (List ℕ)) → get s.sliced address ≡ payload → P (payload_poked address offset bytes payload s).next
+    pokes_any_payload address offset bytes (Some payload) e = k.pokes_payload address offset bytes payload e
+    pokes_any_payload address offset bytes None e = h
+
     -- a poke keeps it, whatever the range finds
-    pokes_any : (bytes : List ℕ) (place : Option (ℕ × ℕ)) → P (poked bytes place s).next
-    pokes_any bytes (Some (selector, offset)) = pokes_object selector offset bytes (get s.selectors selector) refl
+    pokes_any : (bytes : List ℕ) (place : Option Place) → P (poked bytes place s).next
+    pokes_any bytes (Some (InDataspace selector offset)) = pokes_object selector offset bytes (get s.selectors selector) refl
+    pokes_any bytes (Some (InPayload address offset)) = pokes_any_payload address offset bytes (get s.sliced address) refl
     pokes_any bytes None = h
+
+    -- a sliced block keeps it, whether or not there is a gap
+    slices_any : (n : ℕ) (gap : Option ℕ) → sliced_refusal n s.account ≡ None → own_heap_gap (sliced_size n) s ≡ gap → P (sliced_in n gap s).next
+    slices_any n (Some start) accepted e = k.slices n start accepted e
+    slices_any n None accepted e = h
+
+    -- a free of a sliced block keeps it, whatever is at the address
+    unslices_any : (address : ℕ) (payload : Option (List ℕ)) → get s.sliced address ≡ payload → P (sliced_freed address payload s).next
+    unslices_any address (Some payload) e = k.unslices address payload e
+    unslices_any address None e = h
 
     -- a free of an RPC object keeps it, whatever the selector names
     frees_any_cap : (selector : ℕ) (object : Option Object) → get s.selectors selector ≡ object → P (cap_freed selector object s).next
@@ -156,12 +185,16 @@ module _ (P : OwnState → Type 0) (s : OwnState) (h : P s) where
     script_keeps (AttachAt selector address) = attaches_any_at selector address (get s.selectors selector) refl
     script_keeps (Detach address) = unless_keeps (detach_refusal s.regions address) (region_detached address s) (λ accepted. k.detaches address)
     script_keeps (Peek address count) =
-        unless_keeps (count_refusal count) (peeked count (resolved s.regions address count) s) (λ accepted. peeks_any count (resolved s.regions address count))
+        unless_keeps (count_refusal count) (peeked count (found s address count) s) (λ accepted. peeks_any count (found s address count))
     script_keeps (Poke address bytes) =
-        unless_keeps (count_refusal (length bytes)) (poked bytes (resolved s.regions address (length bytes)) s)
-        (λ accepted. pokes_any bytes (resolved s.regions address (length bytes)))
+        unless_keeps (count_refusal (length bytes)) (poked bytes (found s address (length bytes)) s)
+        (λ accepted. pokes_any bytes (found s address (length bytes)))
     script_keeps Capalloc = unless_keeps (shortage s.account 0 1) (cap_allocated s) k.allocates_cap
     script_keeps (Capfree selector) = frees_any_cap selector (get s.selectors selector) refl
+    script_keeps (Snew n) =
+        unless_keeps (sliced_refusal n s.account) (sliced_in n (own_heap_gap (sliced_size n) s) s)
+        (λ accepted. slices_any n (own_heap_gap (sliced_size n) s) accepted refl)
+    script_keeps (Sdel address) = unslices_any address (get s.sliced address) refl
     script_keeps Quota = h
 
     -- so any call keeps it

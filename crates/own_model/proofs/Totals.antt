@@ -1,5 +1,5 @@
 -- Sums over what a map holds: after a change, compared, and by who pays.
-use Rattle.std.proofs.Common.{◌≡◌, ℕ, ◌+◌, ◌≤◌, ◌≢◌, true, false, cond, eqb, List, [], ◌∷◌, map, length, IsSome, is_some, Some, unwrap_or, refl, sym, ap, ◌∙◌, true≢false, nat_cmp, is_eq, Less, Equal, Greater, arith, add-zero}
+use Rattle.std.proofs.Common.{◌≡◌, ℕ, ◌+◌, ◌*◌, ◌≤◌, ◌≢◌, true, false, cond, eqb, List, [], ◌∷◌, map, length, IsSome, is_some, Some, unwrap_or, refl, sym, ap, ◌∙◌, true≢false, nat_cmp, is_eq, Less, Equal, Greater, arith, add-zero, add-mul}
 use Rattle.std.proofs.lemmas.Bool.Decides.{nat_tests}
 use Rattle.std.proofs.lemmas.List.Sums.{sum_by-cons}
 use Rattle.std.proofs.lemmas.Option.{none-some}
@@ -123,6 +123,15 @@ module _ {X : Type 0} where
       let before = rest (before_insert (λ q w. f w ≤ g w) m k v free each) in
       let here = each k v (get-insert_same m k v k refl) in
       omega (arith, total-insert_new f m k v free, total-insert_new g m k v free))
+
+  -- where each size so many times is within another, so are the sums
+  pub total_times_le : (f g : X → ℕ) (n : ℕ) (m : NatMap X) → ((k : ℕ) (v : X) → get m k ≡ Some v → f v * n ≤ g v) → total f m * n ≤ total g m
+  total_times_le f g n = by_insertions (λ m. ((k : ℕ) (v : X) → get m k ≡ Some v → f v * n ≤ g v) → total f m * n ≤ total g m)
+      (λ _. rw (total-empty f) (omega arith))
+      (λ m k v free rest each.
+      let before = rest (before_insert (λ q w. f w * n ≤ g w) m k v free each) in
+      let here = each k v (get-insert_same m k v k refl) in
+      rw (total-insert_new f m k v free, total-insert_new g m k v free, add-mul) (omega arith))
 
   -- values of equal sizes have equal sums
   pub total_same : (f g : X → ℕ) (m : NatMap X) → ((k : ℕ) (v : X) → get m k ≡ Some v → f v ≡ g v) → total f m ≡ total g m

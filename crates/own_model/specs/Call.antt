@@ -15,6 +15,8 @@ pub data Call : Type 0 where
   Poke : ℕ → List ℕ → Call
   Capalloc : Call
   Capfree : ℕ → Call
+  Snew : ℕ → Call
+  Sdel : ℕ → Call
   Quota : Call
 
 -- a call, and the name of the component that makes it
@@ -43,8 +45,10 @@ call_of form arguments =
     else (if bytes_eq form (codes "poke") then option_and_then (call_of_two Poke address_of some_bytes_of_hex) arguments
     else (if bytes_eq form (codes "capalloc") && is_none arguments then Some Capalloc
     else (if bytes_eq form (codes "capfree") then option_map Capfree (option_and_then number_of arguments)
+    else (if bytes_eq form (codes "snew") then option_map Snew (option_and_then number_of arguments)
+    else (if bytes_eq form (codes "sdel") then option_map Sdel (option_and_then address_of arguments)
     else (if bytes_eq form (codes "quota") && is_none arguments then Some Quota
-    else None)))))))))
+    else None)))))))))))
 
 -- what follows the name: a form, and its arguments
 abbrev pub form_of : List ℕ → Option Call

@@ -5,7 +5,9 @@ pub mod Text
 pub mod Call
 pub mod Region
 pub mod HeapWindow
+pub mod Sliced
 pub mod OwnState
+pub mod Place
 pub mod Reply
 pub mod OwnStep
 pub mod StartList
@@ -15,4 +17,5 @@ pub mod Running
 pub mod Use
 pub mod Sound
 pub mod Laws
+pub mod SlicedLaws
 pub mod Rows

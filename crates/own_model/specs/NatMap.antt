@@ -1,5 +1,5 @@
 -- Finite maps from numbers.
-use Rattle.std.specs.Prelude.{ℕ, ◌+◌, ◌==◌, cond, List, [], ◌∷◌, if◌then◌else◌, Option, sum_by}
+use Rattle.std.specs.Prelude.{ℕ, ◌+◌, ◌-◌, ◌==◌, nat_le, cond, List, [], ◌∷◌, if◌then◌else◌, Option, Some, None, sum_by}
 use Rattle.std.specs.Ordering.{nat_cmp}
 use Rattle.std.specs.List.{filter_map}
 use Rattle.std.specs.Option.{option_map}
@@ -12,6 +12,10 @@ NatMap X = FinMap nat_cmp X
 -- what f picks of a map: each value that f answers, as f answers it
 unfoldable pub picked : {X Y : Type 0} → (X → Option Y) → NatMap X → NatMap Y
 picked f m = from_entries (filter_map (λ e. option_map (λ y. (e.0, y)) (f e.1)) (entries m))
+
+-- what a map has, each under a key that is so much lower; what has a key below that is left out
+unfoldable pub moved_down : {X : Type 0} → ℕ → NatMap X → NatMap X
+moved_down by m = from_entries (filter_map (λ e. if nat_le by e.0 then Some (e.0 - by, e.1) else None) (entries m))
 
 -- the sum of f over what a map holds
 unfoldable pub total : {X : Type 0} → (X → ℕ) → NatMap X → ℕ

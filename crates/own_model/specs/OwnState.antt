@@ -5,6 +5,7 @@ use Rattle.trade_base.specs.Bytes.{with_bytes}
 use Rattle.own_model.specs.NatMap.{NatMap, least_gap}
 use Rattle.own_model.specs.Account.{Account}
 use Rattle.own_model.specs.Region.{Region}
+use Rattle.own_model.specs.Sliced.{ranges_of_blocks}
 
 -- what a selector names: a dataspace, by its bytes, or an RPC object, which is a capability alone
 pub data Object : Type 0 where
@@ -12,12 +13,18 @@ pub data Object : Type 0 where
   RpcObject : Object
 
 -- a component's account, what its selectors name, its regions by their start addresses, each of a selector,
--- and whether it has exited. A server has its account alone
+-- its sliced blocks by the addresses of their payloads, each by its payload's bytes, and whether it has exited.
+-- A server has its account alone
 pub record OwnState : Type 0 where
   pub account : Account
   pub selectors : NatMap Object
   pub regions : NatMap Region
+  pub sliced : NatMap (List ℕ)
   pub gone : Bool
+
+-- what stands in the heap window, as ranges of pages by their starts
+abbrev pub heap_ranges : OwnState → NatMap Region
+heap_ranges s = ranges_of_blocks s.sliced
 
 -- so many zero bytes
 unfoldable pub zeros : ℕ → List ℕ

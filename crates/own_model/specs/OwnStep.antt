@@ -1,17 +1,21 @@
 -- What a call does to its caller's own state, and what it is answered; and runs of calls.
-use Rattle.std.specs.Prelude.{ℕ, ◌+◌, ◌&&◌, List, [], ◌∷◌, length, slice_range, nat_lt, nat_le, if◌then◌else◌, Option, Some, None}
+use Rattle.std.specs.Prelude.{ℕ, ◌+◌, ◌-◌, ◌/◌, ◌&&◌, List, [], ◌∷◌, length, nat_lt, nat_le, if◌then◌else◌, Option, Some, None}
 use Rattle.std.specs.FinMap.{get, insert, remove}
 use Rattle.trade_base.specs.declared.refusal.Refusal.{Refusal}
-use Rattle.trade_base.specs.declared.refusal.Refusal.TheVariants.{NotAScript, Gone, InvalidSize, InvalidCap, PageFault}
+use Rattle.trade_base.specs.declared.refusal.Refusal.TheVariants.{NotAScript, Gone, InvalidSize, InvalidCap, OutOfRam, PageFault}
 use Rattle.trade_base.specs.Page.{page_of}
 use Rattle.own_model.specs.Account.{shortage, charged, credited}
 pub use Rattle.own_model.specs.Account.{alloc_refusal}
 pub use Rattle.trade_base.specs.Page.{is_valid_size}
 use Rattle.own_model.specs.Call.{Call}
-use Rattle.own_model.specs.Call.Call.{Alloc, Free, Attach, AttachAt, Detach, Peek, Poke, Capalloc, Capfree, Quota}
-use Rattle.own_model.specs.OwnState.{OwnState, Object, zeros, new_selector, pages_in, bytes_named, object_with}
+use Rattle.own_model.specs.Call.Call.{Alloc, Free, Attach, AttachAt, Detach, Peek, Poke, Capalloc, Capfree, Snew, Sdel, Quota}
+use Rattle.own_model.specs.OwnState.{OwnState, Object, zeros, new_selector, pages_in, with_part, object_with, heap_ranges}
 use Rattle.own_model.specs.OwnState.Object.{Dataspace, RpcObject}
-use Rattle.own_model.specs.Region.{most_regions, resolved, without, user_gap, attach_refusal, attach_at_refusal, detach_refusal}
+use Rattle.own_model.specs.HeapWindow.{heap_gap, largest_machine}
+use Rattle.own_model.specs.Place.{Place, found, bytes_from}
+use Rattle.own_model.specs.Place.Place.{InDataspace, InPayload}
+use Rattle.own_model.specs.Sliced.{sliced_header, sliced_size, sliced_refusal, block_size}
+use Rattle.own_model.specs.Region.{most_regions, without, user_gap, attach_refusal, attach_at_refusal, detach_refusal}
 use Rattle.own_model.specs.Reply.{Reply, LogLine}
 use Rattle.own_model.specs.Reply.Reply.{Selected, Attached, Bytes, Done, Quotas, Refused}
 use Rattle.own_model.specs.StartList.{Entry, Kind}
@@ -98,13 +102,9 @@ most_bytes = 1024
 abbrev pub count_refusal : ℕ → Option Refusal
 count_refusal count = if nat_lt 0 count && nat_le count most_bytes then None else Some InvalidSize
 
--- so many bytes are told from an offset of the selector that a range of addresses finds
-abbrev pub peeked : ℕ → Option (ℕ × ℕ) → OwnState → Outcome
-peeked count (Some (selector, offset)) s = record {
-  reply = Bytes (slice_range (bytes_named (get s.selectors selector)) offset (offset + count));
-  lines = [];
-  next = s;
-}
+-- so many bytes are told from the place that a range of addresses finds
+abbrev pub peeked : ℕ → Option Place → OwnState → Outcome
+peeked count (Some place) s = record { reply = Bytes (bytes_from s place count); lines = []; next = s }
 peeked count None s = refused s PageFault
 
 -- what a selector names has other bytes from an offset on
@@ -116,9 +116,19 @@ poked_at selector offset bytes (Some object) s = record {
 }
 poked_at selector offset bytes None s = refused s PageFault
 
--- bytes are put at an offset of the selector that a range of addresses finds
-abbrev pub poked : List ℕ → Option (ℕ × ℕ) → OwnState → Outcome
-poked bytes (Some (selector, offset)) s = poked_at selector offset bytes (get s.selectors selector) s
+-- the payload at an address has other bytes from an offset on
+abbrev pub payload_poked : ℕ → ℕ → List ℕ → Option (List ℕ) → OwnState → Outcome
+payload_poked address offset bytes (Some payload) s = record {
+  reply = Done;
+  lines = [];
+  next = record s { sliced = insert s.sliced address (with_part payload offset bytes) };
+}
+payload_poked address offset bytes None s = refused s PageFault
+
+-- bytes are put at the place that a range of addresses finds
+abbrev pub poked : List ℕ → Option Place → OwnState → Outcome
+poked bytes (Some (InDataspace selector offset)) s = poked_at selector offset bytes (get s.selectors selector) s
+poked bytes (Some (InPayload address offset)) s = payload_poked address offset bytes (get s.sliced address) s
 poked bytes None s = refused s PageFault
 
 -- an RPC object under the new selector
@@ -142,6 +152,35 @@ cap_freed selector (Some RpcObject) s = record {
 cap_freed selector (Some (Dataspace bytes)) s = refused s InvalidCap
 cap_freed selector None s = refused s InvalidCap
 
+-- a sliced block of n bytes, all zero, whose pages start at an address
+abbrev pub sliced_at : ℕ → ℕ → OwnState → Outcome
+sliced_at n start s = record {
+  reply = Attached (start + sliced_header);
+  lines = [];
+  next = record s {
+    account = charged s.account (sliced_size n) 1;
+    sliced = insert s.sliced (start + sliced_header) (zeros (sliced_size n - sliced_header));
+  };
+}
+
+-- the same at a gap of the heap window. It has none only where more RAM is in use than the largest machine has
+abbrev pub sliced_in : ℕ → Option ℕ → OwnState → Outcome
+sliced_in n (Some start) s = sliced_at n start s
+sliced_in n None s = refused s OutOfRam
+
+-- the sliced block whose payload starts at an address goes, with a credit
+abbrev pub sliced_freed : ℕ → Option (List ℕ) → OwnState → Outcome
+sliced_freed address (Some payload) s = record {
+  reply = Done;
+  lines = [];
+  next = record s { account = credited s.account (block_size payload) 1; sliced = remove s.sliced address };
+}
+sliced_freed address None s = refused s PageFault
+
+-- the first gap of the heap window for so many bytes in whole pages
+abbrev pub own_heap_gap : ℕ → OwnState → Option ℕ
+own_heap_gap bytes s = heap_gap largest_machine (heap_ranges s) (bytes / 4096)
+
 -- the use and the limits of the caller's account
 abbrev pub told_quota : OwnState → Outcome
 told_quota s = record { reply = Quotas s.account; lines = []; next = s }
@@ -153,11 +192,13 @@ script_step (Free selector) s = freed selector (get s.selectors selector) s
 script_step (Attach selector) s = attached_first selector (get s.selectors selector) s
 script_step (AttachAt selector address) s = attached_at selector address (get s.selectors selector) s
 script_step (Detach address) s = unless (detach_refusal s.regions address) s (region_detached address s)
-script_step (Peek address count) s = unless (count_refusal count) s (peeked count (resolved s.regions address count) s)
+script_step (Peek address count) s = unless (count_refusal count) s (peeked count (found s address count) s)
 script_step (Poke address bytes) s =
-    unless (count_refusal (length bytes)) s (poked bytes (resolved s.regions address (length bytes)) s)
+    unless (count_refusal (length bytes)) s (poked bytes (found s address (length bytes)) s)
 script_step Capalloc s = unless (shortage s.account 0 1) s (cap_allocated s)
 script_step (Capfree selector) s = cap_freed selector (get s.selectors selector) s
+script_step (Snew n) s = unless (sliced_refusal n s.account) s (sliced_in n (own_heap_gap (sliced_size n) s) s)
+script_step (Sdel address) s = sliced_freed address (get s.sliced address) s
 script_step Quota s = told_quota s
 
 -- what a call of a component does

@@ -1,10 +1,12 @@
--- What is true of every own state: of its dataspaces and of its regions.
+-- What is true of every own state: of its dataspaces, of its regions and of what stands in the heap window.
 use Rattle.std.specs.Prelude.{◌≡◌, ◌≢◌, ℕ, ◌+◌, ◌*◌, ◌%◌, ◌≤◌, false, List, length, Some}
 use Rattle.std.specs.FinMap.{get, len}
+use Rattle.own_model.specs.HeapWindow.{heap_low, heap_high, largest_machine}
 use Rattle.own_model.specs.NatMap.{NatMap}
-use Rattle.own_model.specs.OwnState.{OwnState, Object, pages_in}
+use Rattle.own_model.specs.OwnState.{OwnState, Object, pages_in, heap_ranges}
 use Rattle.own_model.specs.OwnState.Object.{Dataspace}
 use Rattle.own_model.specs.Region.{Region, user_low, user_high, most_regions, overlap}
+use Rattle.own_model.specs.Sliced.{sliced_header, block_size, block_pages}
 
 -- the bytes are whole pages, and at least one
 pub record IsPages (bytes : List ℕ) : Type 0 where
@@ -17,17 +19,32 @@ pub record NamesDataspace (selectors : NatMap Object) (region : Region) : Type 0
   pub there : get selectors region.of ≡ Some (Dataspace bytes)
   pub pages : region.pages ≡ pages_in bytes
 
--- so many pages from an address on are pages of the user window
-pub record IsInWindow (address pages : ℕ) : Type 0 where
+-- so many pages from an address on are pages of a window
+pub record IsInWindow (low high address pages : ℕ) : Type 0 where
   pub aligned : address % 4096 ≡ 0
-  pub from_low : user_low ≤ address
-  pub to_high : address + pages * 4096 ≤ user_high
+  pub from_low : low ≤ address
+  pub to_high : address + pages * 4096 ≤ high
 
--- each dataspace is pages, and each region is of a dataspace that a selector names, lies within the user window and
--- overlaps no other, and there are no more of them than the most
+-- each region has a page and lies within the window, and no two overlap
+pub record LieApart (low high : ℕ) (regions : NatMap Region) : Type 0 where
+  pub some : (start : ℕ) (region : Region) → get regions start ≡ Some region → 1 ≤ region.pages
+  pub within : (start : ℕ) (region : Region) → get regions start ≡ Some region → IsInWindow low high start region.pages
+  pub apart : (a b : ℕ) (r q : Region) → get regions a ≡ Some r → get regions b ≡ Some q → a ≢ b → overlap a r.pages b q.pages ≡ false
+
+-- a block with this payload fills whole pages, and its header stands before the payload's address
+pub record IsBlock (address : ℕ) (payload : List ℕ) : Type 0 where
+  pub header : sliced_header ≤ address
+  pub whole : block_size payload ≡ block_pages payload * 4096
+
+-- each region is of a dataspace that a selector names, they lie apart in the user window, and there are no more than the most
+pub record AreMapped (selectors : NatMap Object) (regions : NatMap Region) : Type 0 where
+  pub named : (start : ℕ) (region : Region) → get regions start ≡ Some region → NamesDataspace selectors region
+  pub lie : LieApart user_low user_high regions
+  pub few : len regions ≤ most_regions
+
+-- each dataspace is pages, regions are mapped, each sliced block is pages, and what stands in the heap window lies apart
 pub record IsSound (s : OwnState) : Type 0 where
   pub whole : (selector : ℕ) (bytes : List ℕ) → get s.selectors selector ≡ Some (Dataspace bytes) → IsPages bytes
-  pub named : (start : ℕ) (region : Region) → get s.regions start ≡ Some region → NamesDataspace s.selectors region
-  pub within : (start : ℕ) (region : Region) → get s.regions start ≡ Some region → IsInWindow start region.pages
-  pub apart : (a b : ℕ) (r q : Region) → get s.regions a ≡ Some r → get s.regions b ≡ Some q → a ≢ b → overlap a r.pages b q.pages ≡ false
-  pub few : len s.regions ≤ most_regions
+  pub mapped : AreMapped s.selectors s.regions
+  pub blocks : (address : ℕ) (payload : List ℕ) → get s.sliced address ≡ Some payload → IsBlock address payload
+  pub heap : LieApart heap_low (heap_high largest_machine) (heap_ranges s)

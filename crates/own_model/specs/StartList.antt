@@ -31,7 +31,7 @@ entries_of list = map (λ start. start.entry) list.starts
 
 -- a component starts with its budget and nothing else
 abbrev pub start_state : StartEntry → OwnState
-start_state start = record { account = opened start.ram start.caps; selectors = map.empty; regions = map.empty; gone = false }
+start_state start = record { account = opened start.ram start.caps; selectors = map.empty; regions = map.empty; sliced = map.empty; gone = false }
 
 abbrev pub start_states : StartList → List OwnState
 start_states list = map start_state list.starts

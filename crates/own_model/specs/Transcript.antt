@@ -34,7 +34,7 @@ abbrev pub entry_at : List Entry → ℕ → Entry
 entry_at entries component = slice_index_or entries component nobody
 
 abbrev pub nothing : OwnState
-nothing = record { account = opened 0 0; selectors = map.empty; regions = map.empty; gone = false }
+nothing = record { account = opened 0 0; selectors = map.empty; regions = map.empty; sliced = map.empty; gone = false }
 
 abbrev pub state_at : List OwnState → ℕ → OwnState
 state_at states component = slice_index_or states component nothing

@@ -10,6 +10,7 @@ mod limits;
 mod regions;
 mod rows;
 mod runs;
+mod sliced;
 mod start;
 
 pub use answers::{
@@ -30,4 +31,7 @@ pub use rows::{
     long_lines_are_no_calls, longest_line_is_read,
 };
 pub use runs::{own_part_over_append, own_run_over_append};
+pub use sliced::{
+    gaps_fit_the_machine, new_blocks_are_zero, payloads_are_found, payloads_lie_apart,
+};
 pub use start::{boots_balanced, machine_a_boots};
