@@ -15,7 +15,7 @@ pub has_gap : (user heap : Window) (machine pages : ℕ) → AreWindows user hea
 has_gap user heap machine pages is fits =
     let low = is.heap_from in
     let high = is.heap_to in
-    let fit : FitMachine machine heap.regions = record { some = is.heap_sound.laid.some; few = omega arith } in
+    let fit : FitMachine machine heap.regions = record { some = is.heap_sound.lie.some; few = omega arith } in
     let same : heap_gap machine heap.regions pages ≡ first_gap heap.low heap.high heap.regions pages = λ i. first_gap (sym low i) (sym high i) heap.regions pages in
     record {
       there = subst (λ (o : Option ℕ). IsSome o) same (heap_gap_is_there machine heap.regions pages fit (omega arith));

@@ -1,6 +1,6 @@
 pub mod RowLemmas
 pub mod SearchLemmas
 pub mod GapLemmas
-pub mod LaidLemmas
+pub mod ApartLemmas
 pub mod TableLemmas
 pub mod HeapLemmas

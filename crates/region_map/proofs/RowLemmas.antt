@@ -121,7 +121,7 @@ after_end start others address pages some before h = grind (arith, nat_tests)
 before_start : (start others address pages : ℕ) → 1 ≤ others → address < start → overlap start others address pages ≡ false → address + pages * 4096 ≤ start
 before_start start others address pages some after h = grind (arith, nat_tests)
 
--- of two tests each_fails passes
+-- of two tests of which none passes each fails
 pub each_fails : (a b : Bool) → (a || b) ≡ false → (a ≡ false) × (b ≡ false)
 each_fails true b h = absurd (true≢false h)
 each_fails false b h = (refl, h)

@@ -1,4 +1,4 @@
--- What is found among rows in order: the last one up to an address, and the first gap.
+-- What is found among rows in order: the last one up to an address, and what the maps have there.
 use Rattle.std.proofs.Common.{◌≡◌, ℕ, suc, zero, ◌+◌, ◌*◌, ◌<◌, ◌≤◌, ◌≢◌, ◌&&◌, ◌||◌, ◌⊎◌, Bool, true, false, cond, eqb, eqb-true, List, [], ◌∷◌, map, length, get_or, is_some, Some, refl, sym, ap, subst, ◌∙◌, inl, inr, nat_le, nat_lt, arith}
 use Rattle.std.proofs.Math.Bool.{or-false}
 use Rattle.std.proofs.lemmas.Bool.{cases_lt, le-leb, lt-leb}
@@ -165,10 +165,6 @@ same_starts f g (row ∷ rows) q =
 -- a row's entry, if its region holds the range
 abbrev pub held : ℕ → ℕ → Row → Option (ℕ × Region)
 held address length row = cond (holds address length (entry region_of row)) (Some (entry region_of row)) None
-
--- what holds a range ends past its start
-ends_past : (address length start pages : ℕ) → 1 ≤ length → nat_le start address && nat_le (address + length) (start + pages * 4096) ≡ true → address < start + pages * 4096
-ends_past address length start pages more h = grind (arith, nat_tests)
 
 -- only the last row up to the address can hold the range
 found_last : (address length low high : ℕ) (rows : List Row) → 1 ≤ length → AreInOrder low high rows → find (holds address length) (map (entry region_of) rows) ≡ option_and_then (held address length) (last_to address rows)

@@ -1,13 +1,14 @@
 -- What a contract sees of a region map.
-use Rattle.std.specs.Prelude.{◌≡◌, ◌≢◌, ℕ, ◌+◌, ◌*◌, ◌%◌, ◌≤◌, false, Option, Some, is_some}
+use Rattle.std.specs.Prelude.{◌≡◌, ℕ, ◌≤◌, Option, is_some}
 use Rattle.std.proofs.Common.{refl}
 use Rattle.std.specs.Coded.{Coded, code_by, coded×, coded_ℕ}
 use Rattle.std.specs.FinMap as map
 use Rattle.std.specs.FinMap.{get, insert, remove, empty}
 use Rattle.std.specs.Option.{option_map, option_and_then, option_or}
 use Rattle.own_model.specs.NatMap.{NatMap}
-use Rattle.own_model.specs.Region.{Region, user_low, user_high, overlap, region_at, resolved, without}
+use Rattle.own_model.specs.Region.{Region, user_low, user_high, region_at, resolved, without}
 use Rattle.own_model.specs.HeapWindow.{heap_low, heap_high, largest_machine}
+use Rattle.own_model.specs.Sound.{LieApart}
 
 -- each region of a dataspace's key: the user regions by their starts and how many of them there are at most; the heap
 -- regions likewise, and the number kept with each; and the machine's pages
@@ -79,18 +80,10 @@ either_resolved regions address length = option_or (resolved regions.user addres
 
 -- ---- what is so of every region map
 
--- each region has at least one page, starts at a multiple of a page and lies within the window, and no two overlap
-pub record AreLaid (low high : ℕ) (regions : NatMap Region) : Type 0 where
-  pub some : (start : ℕ) (region : Region) → get regions start ≡ Some region → 1 ≤ region.pages
-  pub aligned : (start : ℕ) (region : Region) → get regions start ≡ Some region → start % 4096 ≡ 0
-  pub from_low : (start : ℕ) (region : Region) → get regions start ≡ Some region → low ≤ start
-  pub to_high : (start : ℕ) (region : Region) → get regions start ≡ Some region → start + region.pages * 4096 ≤ high
-  pub apart : (a b : ℕ) (r s : Region) → get regions a ≡ Some r → get regions b ≡ Some s → a ≢ b → overlap a r.pages b s.pages ≡ false
-
--- the regions are laid in their windows, a number is kept with each heap region and with nothing else, and the machine
+-- the regions lie apart in their windows, a number is kept with each heap region and with nothing else, and the machine
 -- is none too large
 pub record AreSound (regions : Regions) : Type 0 where
-  pub user : AreLaid user_low user_high regions.user
-  pub heap : AreLaid heap_low (heap_high regions.pages) regions.heap
+  pub user : LieApart user_low user_high regions.user
+  pub heap : LieApart heap_low (heap_high regions.pages) regions.heap
   pub tagged : (start : ℕ) → is_some (get regions.tags start) ≡ is_some (get regions.heap start)
   pub pages : regions.pages ≤ largest_machine

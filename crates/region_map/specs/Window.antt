@@ -6,8 +6,9 @@ use Rattle.std.specs.FinMap as map
 use Rattle.std.specs.FinMap.{get, insert, remove, empty}
 use Rattle.own_model.specs.NatMap.{NatMap}
 use Rattle.own_model.specs.HeapWindow.{heap_low, heap_high, largest_machine}
+use Rattle.own_model.specs.Sound.{LieApart}
 use Rattle.own_model.specs.Region.{Region, user_low, user_high}
-use Rattle.region_map.specs.Regions.{coded_region, AreLaid}
+use Rattle.region_map.specs.Regions.{coded_region}
 
 -- a window of addresses: the first one, the one after the last, the regions in it and the number kept with each, by
 -- their starts, and how many there are at most
@@ -43,10 +44,10 @@ window_with window ds pages tag address = record window {
 abbrev pub window_without : Window → ℕ → Window
 window_without window address = record window { regions = remove window.regions address; tags = remove window.tags address }
 
--- what is so of every window: the regions are laid in it, a number is kept with each and with nothing else, and it is none
+-- what is so of every window: the regions lie apart in it, a number is kept with each and with nothing else, and it is none
 -- too large
 pub record IsWindow (window : Window) : Type 0 where
-  pub laid : AreLaid window.low window.high window.regions
+  pub lie : LieApart window.low window.high window.regions
   pub tagged : (start : ℕ) → is_some (get window.tags start) ≡ is_some (get window.regions start)
   pub small : window.high ≤ 2 ^ 40
 

@@ -3,7 +3,7 @@ use Rattle.std.proofs.Common.{◌≡◌, List, [], sym, ap, ◌∙◌, subst, ru
 use Rattle.std.specs.Prelude.{vec_capacity}
 use Rattle.region_map.specs.declared.row.Row.{Row}
 use Rattle.region_map.specs.Rows.{region_of, tag_of, map_of, IsTable}
-use Rattle.region_map.proofs.LaidLemmas.{is_window}
+use Rattle.region_map.proofs.ApartLemmas.{is_window}
 use Rattle.region_map.proofs.TableLemmas.{map_of-none, IsTable-none}
 use Rattle.region_map.proofs.table.Table.boot.Goals as goal
 

@@ -7,7 +7,7 @@ use Rattle.std.specs.List.{insert}
 use Rattle.own_model.specs.Region.{can_stand}
 use Rattle.region_map.specs.Rows.{region_of, tag_of, map_of, count_to, IsTable}
 use Rattle.region_map.specs.Window.{Window, window_with}
-use Rattle.region_map.proofs.LaidLemmas.{is_window}
+use Rattle.region_map.proofs.ApartLemmas.{is_window}
 use Rattle.region_map.proofs.RowLemmas.{len-map_of}
 use Rattle.region_map.proofs.SearchLemmas.{rising}
 use Rattle.region_map.proofs.TableLemmas.{Added, added}

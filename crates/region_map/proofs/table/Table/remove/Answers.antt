@@ -8,7 +8,7 @@ use Rattle.std.specs.Ordering.{nat_cmp}
 use Rattle.region_map.specs.declared.row.Row.{Row}
 use Rattle.region_map.specs.Rows.{region_of, tag_of, map_of, IsTable}
 use Rattle.region_map.specs.Window.{Window, IsWindow, window_without}
-use Rattle.region_map.proofs.LaidLemmas.{is_window}
+use Rattle.region_map.proofs.ApartLemmas.{is_window}
 use Rattle.region_map.proofs.TableLemmas.{Removed, removed, same_start, not_found}
 use Rattle.region_map.proofs.table.Table.remove.Goals as goal
 

@@ -6,7 +6,7 @@ use Rattle.std.specs.List.{filter}
 use Rattle.own_model.specs.Region.{without}
 use Rattle.region_map.specs.Rows.{region_of, map_of, IsTable}
 use Rattle.region_map.specs.Window.{Window}
-use Rattle.region_map.proofs.LaidLemmas.{is_window}
+use Rattle.region_map.proofs.ApartLemmas.{is_window}
 use Rattle.region_map.proofs.RowLemmas.{AreInOrder-filter, map_of-others}
 use Rattle.region_map.proofs.table.Table.remove_all.Goals as goal
 
