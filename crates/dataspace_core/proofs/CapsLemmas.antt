@@ -1,5 +1,5 @@
 -- An account's use of capabilities may change while it covers the account's dataspaces.
-use Rattle.std.proofs.Common.{◌≡◌, ℕ, ◌<◌, ◌≤◌, List, length, Some, Ok, Err, unwrap_or, refl, sym, ap, subst, ◌∙◌, arith, Bool, cond, eqb, true, false, inl, inr}
+use Rattle.std.proofs.Common.{◌≡◌, ℕ, ◌<◌, ◌≤◌, List, length, Some, Ok, Err, unwrap_or, refl, sym, subst, ◌∙◌, arith, Bool, cond, eqb, true, false}
 use Rattle.std.specs.Prelude.{⊤, Option, None, Result, IfErr, OnOk, OnErr}
 use Rattle.std.specs.Option.{option_map}
 use Rattle.std.specs.Result.{result_err}
@@ -11,12 +11,11 @@ use Rattle.trade_base.specs.declared.refusal.Refusal.{Refusal}
 use Rattle.trade_base.specs.declared.refusal.Refusal.TheVariants.{OutOfCaps}
 use Rattle.own_model.specs.NatMap.{owed}
 use Rattle.own_model.specs.Account.{Account, shortage, charged, credited, opened}
-use Rattle.own_model.proofs.NatMapLemmas.{IsSome-insert, after_insert}
-use Rattle.own_model.proofs.Totals.{len-total, total_same, total-picked, total-insert_same, owed-total, owed_nothing}
+use Rattle.own_model.proofs.Totals.{len-total, total_same, total-picked, owed-total, owed_nothing}
 use Rattle.own_model.proofs.StepLemmas.{covers, short_of_caps}
 use Rattle.quota_core.specs.Books.{Books, IsOpen, account_at, with_account}
 use Rattle.quota_core.proofs.BooksLemmas.{account_there}
-use Rattle.dataspace_core.specs.Store.{Store, part, bytes_paid_by, with_account_in, PartBecomes, charged_part}
+use Rattle.dataspace_core.specs.Store.{Store, part, bytes_paid_by, PartBecomes, charged_part}
 use Rattle.dataspace_core.specs.Layout.{store_of}
 use Rattle.dataspace_core.specs.Paid.{IsPaid, IsSound, payer_of}
 use Rattle.dataspace_core.specs.declared.dataspace.Dataspace.{Dataspace}

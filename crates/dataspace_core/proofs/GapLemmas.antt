@@ -15,7 +15,7 @@ module _ (start m from n : ℕ) (apart : (i k : ℕ) → i < n → k < m → fro
       ]
 
   -- one that starts behind its start starts behind its end
-  starts_behind : start < from → 0 < n → start + m ≤ from
+  pub starts_behind : start < from → 0 < n → start + m ≤ from
   starts_behind behind some =
       elim (cases_lt from (start + m)) [
         | inl inside ↦ absurd (apart 0 (from - start) some (omega arith) (omega arith))

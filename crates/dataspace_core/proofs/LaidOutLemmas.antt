@@ -1,8 +1,8 @@
 -- Dataspaces stay laid out while one comes, goes or is written, and the others keep their bytes.
-use Rattle.std.proofs.Common.{◌≡◌, ◌≢◌, ℕ, ◌+◌, ◌*◌, ◌<◌, ◌≤◌, true, List, length, get_or, Option, Some, None, refl, sym, ap, subst, ◌∙◌, inl, inr, ◌⊎◌, arith, true≢false}
+use Rattle.std.proofs.Common.{◌≡◌, ◌≢◌, ℕ, ◌+◌, ◌-◌, ◌*◌, ◌<◌, ◌≤◌, cond, true, List, length, get_or, Option, Some, None, refl, sym, ap, subst, ◌∙◌, inl, inr, ◌⊎◌, arith, true≢false}
 use Rattle.std.specs.Option.{option_map}
 use Rattle.std.specs.FinMap.{insert, remove}
-use Rattle.std.proofs.lemmas.Bool.{cases_eq}
+use Rattle.std.proofs.lemmas.Bool.{cases_eq, le-leb}
 use Rattle.std.proofs.lemmas.Option.{none-some, same_Some}
 use Rattle.trade_base.specs.Bytes.{with_bytes}
 use Rattle.page_pool.specs.Pages.{is_taken, page_bytes}
@@ -14,10 +14,11 @@ use Rattle.own_model.specs.OwnState.{zeros}
 use Rattle.own_model.proofs.NatMapLemmas.{same, get-insert_same, get-insert_other, get-remove_same, get-remove_other}
 use Rattle.quota_core.specs.SlabMap.{map_of}
 use Rattle.quota_core.proofs.SlabMap.{get-map_of}
-use Rattle.dataspace_core.specs.Layout.{page_in, run_bytes, IsOutside, IsRun, IsNewRun, IsGiven, IsClosed, IsWritten, IsLaidOut, HasMovedDown, moved_down, space_of}
+use Rattle.dataspace_core.specs.Layout.{page_in, run_bytes, IsOutside, IsRun, IsNewRun, IsGiven, IsClosed, IsWritten, IsLaidOut, HasMovedDown, NoneLiesBehind, moved_down, space_of}
 use Rattle.dataspace_core.specs.declared.dataspace.Dataspace.{Dataspace}
+use Rattle.dataspace_core.specs.declared.runs.Run.{Run}
 use Rattle.dataspace_core.proofs.RunLemmas.{is_taken-held, page_bytes_same, joined_same, joined-zero_page, length-run_bytes}
-use Rattle.dataspace_core.proofs.GapLemmas.{before_gap-moved, moved_within}
+use Rattle.dataspace_core.proofs.GapLemmas.{starts_behind, before_gap-moved, moved_within}
 
 -- ---- a slab after a change
 
@@ -30,7 +31,7 @@ after_insert old new key d updates q x there =
     ]
 
 -- what stands in a slab after a removal stood there before, elsewhere
-after_remove : (old new : Slab Dataspace) (key : ℕ) → Updates old new key None → (q : ℕ) (x : Dataspace) → slab.get new q ≡ Some x → (q ≢ key) × (slab.get old q ≡ Some x)
+pub after_remove : (old new : Slab Dataspace) (key : ℕ) → Updates old new key None → (q : ℕ) (x : Dataspace) → slab.get new q ≡ Some x → (q ≢ key) × (slab.get old q ≡ Some x)
 after_remove old new key updates q x there =
     elim (cases_eq q key) [
       | inl here ↦ absurd (none-some x (sym updates.changed ∙ ap (slab.get new) (sym here) ∙ there))
@@ -65,6 +66,24 @@ module _ (pages : List (Option (List ℕ))) (table : List PageNo) (spaces : Slab
   -- nor a place in its run
   no_place : (other : ℕ) (x : Dataspace) → slab.get spaces other ≡ Some x → other ≢ ds → (i k : ℕ) → i < x.run.count → k < d.run.count → x.run.start + i ≢ d.run.start + k
   no_place other x found apart i k below within e = IsOutside-other other x found apart i below k within (ap (page_in table) e)
+
+  -- one that has a page and starts behind its start ends behind its end
+  pub ends_behind : (other : ℕ) (x : Dataspace) → slab.get spaces other ≡ Some x → other ≢ ds → 0 < x.run.count → d.run.start < x.run.start → d.run.start + d.run.count < length table
+  ends_behind other x found apart some behind =
+      let past = starts_behind d.run.start d.run.count x.run.start x.run.count (no_place other x found apart) behind some in
+      omega (arith, past, some, laid_out.within other x found)
+
+-- where no dataspace lies behind the gap none moves
+module _ (gap : Run) (spaces : Slab Dataspace) (front : NoneLiesBehind gap spaces) where
+  -- a slot stays
+  slot_stays : (ds : ℕ) (o : Option Dataspace) → slab.get spaces ds ≡ o → o ≡ option_map (moved_down gap) o
+  slot_stays ds None there = refl
+  slot_stays ds (Some d) there =
+      ap (λ b. Some (record d { run = record { start = cond b d.run.start (d.run.start - gap.count); count = d.run.count } })) (sym (le-leb d.run.start gap.start (front ds d there)))
+
+  -- so do all
+  pub HasMovedDown-none : HasMovedDown gap spaces spaces
+  HasMovedDown-none = record { each = λ ds. slot_stays ds (slab.get spaces ds) refl }
 
 -- ---- a dataspace that is kept
 

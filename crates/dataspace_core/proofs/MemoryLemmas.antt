@@ -1,8 +1,9 @@
 -- A memory stays sound over each call, and is what the call's contract says.
-use Rattle.std.proofs.Common.{[], get_or, ◌≡◌, ◌≢◌, ℕ, ◌+◌, ◌*◌, ◌/◌, ◌^◌, ◌<◌, ◌≤◌, min, List, length, Some, Ok, Err, refl, sym, ap, subst, ◌∙◌, arith}
+use Rattle.std.proofs.Common.{[], get_or, ◌≡◌, ◌≢◌, ℕ, ◌+◌, ◌*◌, ◌/◌, ◌^◌, ◌<◌, ◌≤◌, min, List, length, Some, Ok, Err, refl, sym, ap, subst, ◌∙◌, arith, inl, inr}
 use Rattle.std.specs.Prelude.{Option, None, Result, IfOk, OnErr}
 use Rattle.std.specs.Result.{result_err}
 use Rattle.std.specs.FinMap.{get, insert, remove}
+use Rattle.std.proofs.lemmas.Bool.{cases_lt}
 use Rattle.std.proofs.lemmas.List.{length-replicate}
 use Rattle.std.proofs.lemmas.Option.{none-some}
 use Rattle.page_pool.specs.Pages.{free_count, fresh_pages}
@@ -23,11 +24,11 @@ use Rattle.quota_core.specs.SlabMap.{map_of}
 use Rattle.quota_core.proofs.BooksLemmas.{account_there}
 use Rattle.quota_core.proofs.SlabMap.{map_of-empty, get-map_of_at, get-map_of_none, ContainsKey-map_of, len-map_of}
 use Rattle.dataspace_core.specs.Store.{Store, Space, fresh_store, room_in, Exists, space_at, with_space, without_space, with_bytes_at, OpensPart}
-use Rattle.dataspace_core.specs.Layout.{IsNewRun, IsGiven, IsClosed, IsWritten, IsRun, HasMovedDown, run_bytes, space_of, store_of}
+use Rattle.dataspace_core.specs.Layout.{IsNewRun, IsGiven, IsClosed, IsWritten, IsRun, HasMovedDown, NoneLiesBehind, run_bytes, space_of, store_of}
 use Rattle.dataspace_core.specs.Paid.{IsPaid, IsSound, size_of}
 use Rattle.dataspace_core.specs.declared.dataspace.Dataspace.{Dataspace}
 use Rattle.dataspace_core.proofs.PartLemmas.{space_at-some, opens-with_child}
-use Rattle.dataspace_core.proofs.LaidOutLemmas.{IsRun-laid_out, length-space_of, IsLaidOut-insert, map_of-insert_space, IsLaidOut-remove, map_of-remove_space, IsLaidOut-written, map_of-written}
+use Rattle.dataspace_core.proofs.LaidOutLemmas.{IsRun-laid_out, length-space_of, IsLaidOut-insert, map_of-insert_space, IsLaidOut-remove, map_of-remove_space, IsLaidOut-written, map_of-written, after_remove, ends_behind}
 use Rattle.dataspace_core.proofs.PaidLemmas.{free_covers, places_cover, size_fits, use_covers, payer_apart, IsPaid-more, IsPaid-less, IsPaid-same, IsPaid-opened, IsPaid-fresh}
 
 -- the same facts of equal memories
@@ -119,6 +120,10 @@ module _ {books : Books} {pool : List (Option (List ℕ))} {table : List PageNo}
     pub caps_covered : 1 ≤ (account_at books d.payer.0).caps_used
     caps_covered = covered.1
 
+    -- a dataspace has a page at least
+    page_there : 0 < d.run.count
+    page_there = omega (arith, sound.paid.sized ds (space_of pool table d) space_there, size_there)
+
     module _ {new_books : Books} {new_pool : List (Option (List ℕ))} {new_table : List PageNo} {new_room : ℕ} {left new_spaces : Slab Dataspace} {size : ℕ} (is : size ≡ d.run.count * 4096) (credit : new_books ≡ with_account books d.payer.0 (credited (account_at books d.payer.0) size 1)) (given : IsGiven pool new_pool table d.run.start d.run.count) (closed : IsClosed table new_table d.run.start d.run.count) (updates : Updates spaces left ds None) (moves : HasMovedDown d.run left new_spaces) (places : new_spaces.capacity ≡ spaces.capacity) (same_room : new_room ≡ room) where
       -- the payer after the credit
       abbrev credited_payer : Account
@@ -180,6 +185,15 @@ module _ {books : Books} {pool : List (Option (List ℕ))} {table : List PageNo}
             ∙ ap (λ (s : Space). record store { spaces = insert store.spaces ds (record { payer = s.payer; bytes = with_bytes s.bytes offset bytes }) })
             (sym space_at-there);
       }
+
+  -- where a dataspace that goes was the last in the table, none of those that are left lies behind it
+  pub none_behind : (ds : ℕ) (d : Dataspace) → slab.get spaces ds ≡ Some d → {left : Slab Dataspace} → Updates spaces left ds None → {new_table : List PageNo} → IsClosed table new_table d.run.start d.run.count → length new_table ≤ d.run.start → NoneLiesBehind d.run left
+  none_behind ds d there {left} updates closed last = λ q x found.
+      let old = after_remove spaces left ds updates q x found in
+      elim (cases_lt d.run.start x.run.start) [
+        | inl behind ↦ absurd (omega (arith, closed.shorter, last, ends_behind pool table spaces sound.laid_out ds d there q x old.1 old.0 (page_there q x old.1) behind))
+        | inr front ↦ front
+      ]
 
   -- ---- a dataspace comes
 

@@ -1,15 +1,14 @@
 -- Dataspaces stay paid for, and what an account has left the machine has.
-use Rattle.std.proofs.Common.{◌≡◌, ◌≢◌, ℕ, ◌+◌, ◌*◌, ◌≤◌, min, Some, unwrap_or, refl, sym, ap, subst, ◌∙◌, ◌⊎◌, inl, inr, arith, eqb, cond, zero-add}
-use Rattle.std.proofs.lemmas.Bool.{cases_eq}
+use Rattle.std.proofs.Common.{◌≡◌, ◌≢◌, ℕ, ◌+◌, ◌*◌, ◌≤◌, min, Some, unwrap_or, refl, sym, ap, subst, ◌∙◌, inl, inr, arith, zero-add}
 use Rattle.std.proofs.lemmas.Bool.Decides.{nat_tests}
-use Rattle.std.proofs.lemmas.Option.{none-some, same_Some}
+use Rattle.std.proofs.lemmas.Option.{none-some}
 use Rattle.std.specs.Prelude.{Option, None}
 use Rattle.std.specs.Ordering.{nat_cmp}
 use Rattle.std.specs.FinMap.{get, insert, remove, empty, len, len-empty}
 use Rattle.own_model.specs.NatMap.{NatMap, total, owed}
 use Rattle.own_model.specs.Account.{Account, Fits, charged, credited, opened, parted_with}
 use Rattle.own_model.specs.OwnState.{zeros}
-use Rattle.own_model.proofs.NatMapLemmas.{get-empty, get-insert_same, get-insert_other, IsSome-insert, IsSome-at, after_insert, apart_from_free, before_remove, by_insertions}
+use Rattle.own_model.proofs.NatMapLemmas.{get-empty, IsSome-insert, IsSome-at, after_insert, apart_from_free, before_remove, by_insertions}
 use Rattle.own_model.proofs.UseLemmas.{length-zeros}
 use Rattle.own_model.proofs.Totals.{total-empty, total-insert_new, total-insert_same, total-remove, total_spare, total_le, len-insert_new, len-total, owed-empty, owed-insert_new, owed-insert_same, owed-remove, owed_nothing, owed_at_le, total_owed_le, total-owed, total_at_le}
 use Rattle.quota_core.specs.Books.{Books, account_at, with_child, ram_limits, caps_limits}

@@ -71,6 +71,10 @@ moved_down gap d = record d {
 pub record HasMovedDown (gap : Run) (spaces new_spaces : Slab Dataspace) : Type 0 where
   pub each : (ds : ℕ) → get new_spaces ds ≡ option_map (moved_down gap) (get spaces ds)
 
+-- no dataspace lies behind the gap
+abbrev pub NoneLiesBehind : Run → Slab Dataspace → Type 0
+NoneLiesBehind gap spaces = (ds : ℕ) (d : Dataspace) → get spaces ds ≡ Some d → d.run.start ≤ gap.start
+
 -- a part was put into the bytes of a run, and no other page changed
 pub record IsWritten (pages new_pages : List (Option (List ℕ))) (table : List PageNo) (start count offset : ℕ) (part : List ℕ) : Type 0 where
   pub size : length new_pages ≡ length pages

@@ -1,7 +1,7 @@
 //! What the memory keeps of a dataspace.
 ghost use Rattle.std.specs.Prelude.{◌≡◌, ◌^◌, ◌*◌, ◌<◌, ◌≤◌, [], Some, IfOk};
 ghost use Rattle.slab.specs.Slab.{ContainsKey, get};
-ghost use Rattle.dataspace_core.specs.Layout.{HasMovedDown};
+ghost use Rattle.dataspace_core.specs.Layout.{HasMovedDown, NoneLiesBehind};
 
 use crate::runs::{Run, start_after};
 use slab::Slab;
@@ -31,11 +31,15 @@ pub(crate) fn space_under(spaces: &Slab<Dataspace>, ds: DsId) -> Dataspace
     *spaces.get(ds.0).unwrap()
 }
 
-/// Moves the starts of the runs that lie behind a gap in the table.
-pub(crate) fn move_down(spaces: &mut Slab<Dataspace>, gap: Run)
+/// Moves the starts of the runs that lie behind a gap, now that the table has so many entries.
+pub(crate) fn move_down(spaces: &mut Slab<Dataspace>, gap: Run, entries: usize)
+    requires { entries ≤ gap.start → NoneLiesBehind gap spaces.old }
     ensures moved { HasMovedDown gap spaces.old spaces.new }
     ensures capacity { spaces.new.capacity ≡ spaces.old.capacity }
 {
+    if entries <= gap.start {
+        return;
+    }
     spaces.retain(|_key, space| {
         space.run.start = start_after(space.run.start, gap);
         true

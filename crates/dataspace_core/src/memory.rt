@@ -95,9 +95,11 @@ impl Memory {
         ensures part { IfOk result (λ ds.
             PartBecomes account.0 (part_with_space (part account.0 self.old) ds.0 bytes) self.old self.new) }
         ensures err { OnErr result (self.new ≡ self.old) }
-        ensures paid { IfOk result (λ _. len (part account.0 self.new).spaces ≤ (account_in self.new account.0).caps_used) }
+        ensures paid { IfOk result (λ _.
+            len (part account.0 self.new).spaces ≤ (account_in self.new account.0).caps_used) }
         ensures key { IfOk result (λ ds. ds.0 + 1 < 2 ^ 64) }
-        ensures within { IfOk result (λ _. total (λ space. length space.bytes) self.new.spaces ≤ ram_limits_in self.new) }
+        ensures within { IfOk result (λ _.
+            total (λ space. length space.bytes) self.new.spaces ≤ ram_limits_in self.new) }
     {
         let size = valid_size(bytes).ok_or(Refusal::InvalidSize)?;
         self.books.charge(account, Ram(size), Caps(1))?;
@@ -121,7 +123,7 @@ impl Memory {
         let space = self.spaces.remove(ds.0);
         give_run(&mut self.pool, &self.table, space.run);
         close_gap(&mut self.table, space.run);
-        move_down(&mut self.spaces, space.run);
+        move_down(&mut self.spaces, space.run, self.table.len());
         self.books.credit(space.payer, Ram(size_of(space)), Caps(1));
     }
 
@@ -145,7 +147,8 @@ impl Memory {
     pub fn read(&self, ds: DsId, offset: u64, buffer: &mut [u8])
         requires exists { Exists self.now ds.0 }
         requires range { offset + length buffer.old ≤ length (space_at self.now ds.0).bytes }
-        ensures { buffer.new ≡ slice_range (space_at self.now ds.0).bytes offset (offset + length buffer.old) }
+        ensures { let end = offset + length buffer.old in
+            buffer.new ≡ slice_range (space_at self.now ds.0).bytes offset end }
     {
         let run = space_under(&self.spaces, ds).run;
         read_run(&self.pool, &self.table, run, offset as usize, buffer);
@@ -157,7 +160,8 @@ impl Memory {
         requires range { offset + length bytes.now ≤ length (space_at self.old ds.0).bytes }
         ensures written { self.new ≡ with_bytes_at self.old ds.0 offset bytes.now }
         ensures part { let payer = (space_at self.old ds.0).payer in
-            PartBecomes payer (part_with_bytes (part payer self.old) ds.0 offset bytes.now) self.old self.new }
+            let after = part_with_bytes (part payer self.old) ds.0 offset bytes.now in
+            PartBecomes payer after self.old self.new }
     {
         let run = space_under(&self.spaces, ds).run;
         write_run(&mut self.pool, &self.table, run, offset as usize, bytes);
@@ -181,7 +185,8 @@ impl Memory {
         requires range { offset + 8 ≤ length (space_at self.old ds.0).bytes }
         ensures written { self.new ≡ with_bytes_at self.old ds.0 offset (word_bytes word) }
         ensures part { let payer = (space_at self.old ds.0).payer in
-            PartBecomes payer (part_with_bytes (part payer self.old) ds.0 offset (word_bytes word)) self.old self.new }
+            let after = part_with_bytes (part payer self.old) ds.0 offset (word_bytes word) in
+            PartBecomes payer after self.old self.new }
     {
         let run = space_under(&self.spaces, ds).run;
         store_run(&mut self.pool, &self.table, run, offset as usize, word);
@@ -194,7 +199,8 @@ impl Memory {
         requires { IsOpenIn self.old account.0 }
         ensures refusal { result_err result ≡ shortage (account_in self.old account.0) 0 1 }
         ensures only { IfErr result (λ refusal. refusal ≡ OutOfCaps) }
-        ensures ok { OnOk result (self.new ≡ with_account_in self.old account.0 (charged (account_in self.old account.0) 0 1)) }
+        ensures ok { OnOk result (
+            self.new ≡ with_account_in self.old account.0 (charged (account_in self.old account.0) 0 1)) }
         ensures part { OnOk result (
             PartBecomes account.0 (charged_part (part account.0 self.old) 1) self.old self.new) }
         ensures err { OnErr result (self.new ≡ self.old) }

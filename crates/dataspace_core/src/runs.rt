@@ -77,7 +77,8 @@ pub(crate) fn read_run(pool: &Pool, table: &Vec<PageNo>, run: Run, offset: usize
     requires run { IsRun pool.now table.now.items run.start run.count }
     requires small { run.count * 4096 < 2 ^ 64 }
     requires range { offset + length buffer.old ≤ run.count * 4096 }
-    ensures { buffer.new ≡ slice_range (run_bytes pool.now table.now.items run.start run.count) offset (offset + length buffer.old) }
+    ensures { let bytes = run_bytes pool.now table.now.items run.start run.count in
+        buffer.new ≡ slice_range bytes offset (offset + length buffer.old) }
 {
     let mut done = 0;
     while done < buffer.len() {
@@ -111,7 +112,8 @@ pub(crate) fn load_run(pool: &Pool, table: &Vec<PageNo>, run: Run, offset: usize
     requires run { IsRun pool.now table.now.items run.start run.count }
     requires aligned { offset % 8 ≡ 0 }
     requires range { offset + 8 ≤ run.count * 4096 }
-    ensures { result ≡ word_of (slice_range (run_bytes pool.now table.now.items run.start run.count) offset (offset + 8)) }
+    ensures { let bytes = run_bytes pool.now table.now.items run.start run.count in
+        result ≡ word_of (slice_range bytes offset (offset + 8)) }
 {
     let page = table[run.start + offset / PAGE_BYTES];
     pool.load(page, offset % PAGE_BYTES)

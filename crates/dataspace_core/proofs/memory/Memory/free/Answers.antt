@@ -3,7 +3,7 @@ use Rattle.std.proofs.Common.{ap, ◌∙◌, arith}
 use Rattle.own_model.proofs.NatMapLemmas.{value_at}
 use Rattle.dataspace_core.specs.Store.{Store, without_space}
 use Rattle.dataspace_core.proofs.PartLemmas.{becomes-without_space}
-use Rattle.dataspace_core.proofs.MemoryLemmas.{key_there, is_found, payer_open, ram_covered, caps_covered, leaves-free}
+use Rattle.dataspace_core.proofs.MemoryLemmas.{key_there, is_found, payer_open, ram_covered, caps_covered, none_behind, leaves-free}
 use Rattle.dataspace_core.proofs.memory.Memory.free.Goals as goal
 
 pub remove-space-requires : goal.remove-space-requires
@@ -15,6 +15,10 @@ give_run-requires c = (is_found c.self.invariant c.args.ds.0 c.remove-space.resu
 pub close_gap-requires : goal.close_gap-requires
 close_gap-requires c =
     omega (arith, (is_found c.self.invariant c.args.ds.0 c.remove-space.result c.remove-space.ensures.value c.self.view_is).run.within, c.self.inside.table.ok)
+
+pub move_down-requires : goal.move_down-requires
+move_down-requires c = λ last.
+    none_behind c.self.invariant c.args.ds.0 c.remove-space.result c.remove-space.ensures.value c.remove-space.ensures.updates c.close_gap.ensures.closed (omega (arith, last, c.close_gap.new.table.ok))
 
 pub size_of-requires : goal.size_of-requires
 size_of-requires c = (is_found c.self.invariant c.args.ds.0 c.remove-space.result c.remove-space.ensures.value c.self.view_is).small
