@@ -17,7 +17,7 @@ use denote.Exit.{yes}
 use denote.Laws.{Is, shows}
 use denote.Memory.{cell_at, hidden_shr}
 use denote.Opens.{Opens, unhide, hide}
-use denote.RattleType.{RattleType, owns}
+use denote.RattleType.{owns}
 use denote.RawPtr.{Ptr, InBlock, block_ptr, block_of, count_of, at_block}
 use denote.Ref.{shr_vals, shr_Tells}
 use denote.Signature.{types_at, plain}
@@ -26,7 +26,6 @@ use denote.Steps.{nothing, peeks, heard, looks, shuts}
 use denote.Struct.Laws.{RawPtr-copy, usize-copy}
 use denote.Struct.Lending.{lent_at, lent_out, in_block_says}
 use denote.Struct.Owning.{shape}
-use denote.Struct.Struct.{Struct}
 use denote.Triple.Walked.{Stays, stay_dropped, walk_of, Goes-dropped}
 use Rattle.core.proofs.alloc.Shapes.{after}
 use Rattle.std.proofs.raw_atomic.Walks.{proved, leaves}

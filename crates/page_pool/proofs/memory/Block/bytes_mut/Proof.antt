@@ -29,8 +29,6 @@ use denote.Ref.{mut_vals, mut_Tells}
 use denote.Signature.{mut_ref_to, types_at, plain}
 use denote.Slice.{MutSlice, slice_val}
 use denote.Steps.{nothing, opens, peeks}
-use denote.Struct.Owning.{shape}
-use denote.Struct.Struct.{Struct}
 use denote.Triple.Walked.{Stays, stay_dropped, walk_of, Goes-spent_ref}
 use Rattle.core.proofs.alloc.Shapes.{after}
 use Rattle.std.proofs.raw_atomic.Walks.{proved, leaves}
