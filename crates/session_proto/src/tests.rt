@@ -111,22 +111,33 @@ fn log_requests_are_read(rt: HostRuntime) {
 
 #[test]
 fn long_requests_are_none(rt: HostRuntime) {
-    let mut text = [b'0'; 8194];
-    text[..6].copy_from_slice(b"WRITE ");
-    assert!(rt; LogRequest::read(&text[..8192]).is_some());
-    assert!(rt; LogRequest::read(&text).is_none());
-    text[..6].copy_from_slice(b"CREATE");
-    text[6] = b' ';
-    assert!(rt; FileRequest::read(&text[..8192]).is_some());
-    assert!(rt; FileRequest::read(&text[..8193]).is_none());
+    let mut text = [b'0'; 8192];
+    text[0] = b'S';
+    text[1] = b'I';
+    text[2] = b'Z';
+    text[3] = b'E';
+    text[4] = b' ';
+    assert!(rt; FileRequest::read(&text).is_some());
+    let mut text = [b'0'; 8193];
+    text[0] = b'S';
+    text[1] = b'I';
+    text[2] = b'Z';
+    text[3] = b'E';
+    text[4] = b' ';
+    assert!(rt; FileRequest::read(&text).is_none());
 }
 
 #[test]
 fn log_replies_are_written(rt: HostRuntime) {
-    let mut text = ArrayVec::<u8, 64>::new();
-    LogReply::Wrote(4096).write(&mut text);
-    LogReply::BadRequest.write(&mut text);
-    assert_eq!(rt; text.as_slice(), b"OK 4096ERR BAD_REQUEST".as_slice());
+    for (reply, want) in [
+        (LogReply::Wrote(0), b"OK 0".as_slice()),
+        (LogReply::Wrote(4096), b"OK 4096"),
+        (LogReply::BadRequest, b"ERR BAD_REQUEST"),
+    ] {
+        let mut text = ArrayVec::<u8, 24>::new();
+        reply.write(&mut text);
+        assert_eq!(rt; text.as_slice(), want);
+    }
 }
 
 #[test]
