@@ -1,5 +1,4 @@
 pub mod WordLemmas
-pub mod NumberLemmas
 pub mod AddressLemmas
 pub mod HexLemmas
 pub mod BootLemmas

@@ -7,10 +7,10 @@ use Rattle.own_model.specs.StartList.{StartEntry, machine_a, start_state}
 use Rattle.own_model.specs.World.{IsBalanced, start_world}
 use Rattle.own_model.proofs.NatMapLemmas.{get-insert_same}
 use Rattle.own_model.proofs.StartLemmas.{start_balanced}
-use Rattle.dataspace_core.specs.Store.{Store, fresh_store, account_in}
+use Rattle.dataspace_core.specs.Store.{Store, fresh_store, root_in, room_in}
 use Rattle.pd_core.specs.Fresh.{starts_of, started_world, AreFresh}
 use Rattle.pd_core.specs.declared.component.Component.{Component}
-use Rattle.scenario_run.specs.Boot.{CanStart, HasStarted}
+use Rattle.scenario_run.specs.Boot.{CanStart, HasStarted, init_in}
 
 -- these have started so far: the parts are fresh, init has so much left, and there is room for so many accounts more
 pub record SoFar (store : Store) (components : List Component) (list : List StartEntry) (ram caps places : ℕ) : Type 0 where
@@ -19,19 +19,20 @@ pub record SoFar (store : Store) (components : List Component) (list : List Star
   -- they start with what the list says
   pub starts : starts_of store components ≡ list
   -- init has so much left, and uses nothing
-  pub init : account_in store store.books.root ≡ opened ram caps
+  pub init : init_in store ≡ opened ram caps
   -- there is room for so many accounts more
-  pub room : store.books.room ≡ places
+  pub room : places ≤ room_in store
 
 -- nothing has started in a memory that has just booted
-pub nothing_yet : (store : Store) (components : List Component) → store ≡ fresh_store store.books.root 64 64 5 → components ≡ [] → SoFar store components [] 262144 64 4
-nothing_yet store components booted none = record {
+pub nothing_yet : {store : Store} {accounts places : ℕ} {components : List Component} → store ≡ fresh_store (root_in store) 64 64 accounts places → 5 ≤ accounts →
+    components ≡ [] → SoFar store components [] 262144 64 4
+nothing_yet {store = store} {accounts = accounts} booted enough none = record {
   fresh = subst (AreFresh store) (sym none) (record { each = λ k d h. absurd (omega (arith, h)); apart = λ j k d before h. absurd (omega (arith, h)) });
   starts = ap (starts_of store) none;
   init =
-      ap (λ s. account_in s store.books.root) booted
-      ∙ ap (λ o. unwrap_or o (opened 0 0)) (get-insert_same empty store.books.root (opened 262144 64) store.books.root refl);
-  room = ap (λ s. s.books.room) booted;
+      ap (λ s. init_in s) booted
+      ∙ ap (λ o. unwrap_or o (opened 0 0)) (get-insert_same empty (root_in store) (opened 262144 64) (root_in store) refl);
+  room = omega (arith, ap room_in booted);
 }
 
 module _ {store : Store} {components : List Component} {list : List StartEntry} {ram_left caps_left places : ℕ} where

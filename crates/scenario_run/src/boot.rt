@@ -1,8 +1,11 @@
 //! How the built-in machine starts: init opens an account for each component, and keeps what is left.
-ghost use Rattle.std.specs.Prelude.{◌≡◌, OnOk, IfOk};
+ghost use Rattle.std.specs.Prelude.{◌≡◌, ◌<◌, OnOk, IfOk, None};
+ghost use Rattle.std.specs.FinMap.{get};
+ghost use Rattle.own_model.specs.Account.{Fits};
 ghost use Rattle.own_model.specs.StartList.{machine_a};
 ghost use Rattle.own_model.specs.World.{start_world, IsBalanced};
-ghost use Rattle.scenario_run.specs.Boot.{CanStart, HasStarted, server_start, script_start};
+ghost use Rattle.scenario_run.specs.Boot.{CanStart, HasStarted, init_in, server_start, script_start};
+ghost use Rattle.dataspace_core.specs.Store.{accounts_in, root_in, room_in, IsOpenIn, OpensPart};
 
 use crate::names::{ALICE, BOB, FILES, LOG};
 use cap_space::CapSpace;
@@ -10,7 +13,7 @@ use dataspace_core::Memory;
 use pd_core::{Component, Core};
 use region_map::RegionMap;
 use std::alloc::Global;
-use trade_base::{Caps, NoMemory, Ram};
+use trade_base::{AccountId, Caps, NoMemory, Ram};
 
 /// The pages of the machine.
 const PAGES: usize = 64;
@@ -60,7 +63,19 @@ pub fn boot_fixed(alloc: Global) -> Result<Core, NoMemory>
     Ok(Core::from_parts(memory, components))
 }
 
-/// Starts one more server, or tells that the host has no room for it.
+// Opens a component's account with a part of init's limits.
+fn open_account(memory: &mut Memory, budget: Budget) -> AccountId
+    requires covered { Fits (init_in memory.old) budget.ram.0 budget.caps.0 }
+    requires room { 0 < room_in memory.old }
+    ensures fresh { get (accounts_in memory.old) result.0 ≡ None }
+    ensures part { OpensPart (root_in memory.old) result.0 budget.ram.0 budget.caps.0 memory.old memory.new }
+    ensures root { IsOpenIn memory.old (root_in memory.old) }
+{
+    let init = memory.root();
+    memory.open(init, budget.ram, budget.caps).unwrap()
+}
+
+// Starts one more server, or tells that the host has no room for it.
 fn start_server(
     memory: &mut Memory,
     components: &mut Vec<Component>,
@@ -70,14 +85,13 @@ fn start_server(
     ensures started { OnOk result (HasStarted memory.old components.old.items memory.new components.new.items
         (server_start name.now SERVER.ram.0 SERVER.caps.0)) }
 {
-    let init = memory.root();
-    let account = memory.open(init, SERVER.ram, SERVER.caps).unwrap();
+    let account = open_account(memory, SERVER);
     components
         .push(Component::server(name, account))
         .map_err(|_| NoMemory)
 }
 
-/// Starts one more script, or tells that the host has no room for it.
+// Starts one more script, or tells that the host has no room for it.
 fn start_script(
     memory: &mut Memory,
     components: &mut Vec<Component>,
@@ -90,8 +104,7 @@ fn start_script(
 {
     let caps = CapSpace::boot(alloc, PLACES)?;
     let regions = RegionMap::boot(alloc, REGIONS, PAGES, PAGES)?;
-    let init = memory.root();
-    let account = memory.open(init, SCRIPT.ram, SCRIPT.caps).unwrap();
+    let account = open_account(memory, SCRIPT);
     components
         .push(Component::script(name, account, caps, regions))
         .map_err(|_| NoMemory)

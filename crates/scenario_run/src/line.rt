@@ -11,10 +11,9 @@ ghost use Rattle.scenario_run.specs.Words.{is_space};
 
 use crate::address::read_address;
 use crate::hex_text::is_hex;
-use crate::number::read_number;
 use memchr::memchr;
 use pd_core::Call;
-use trade_base::Refusal;
+use trade_base::{Refusal, read_number};
 
 /// The most bytes of a name.
 const LONGEST_NAME: usize = 32;

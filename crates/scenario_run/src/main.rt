@@ -13,7 +13,6 @@ mod input;
 mod line;
 mod lines;
 mod names;
-mod number;
 mod output;
 mod program;
 mod running;
