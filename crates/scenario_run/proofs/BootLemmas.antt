@@ -1,6 +1,6 @@
 -- The parts when a component starts.
-use Rattle.std.proofs.Common.{◌≡◌, ◌≢◌, ℕ, ◌+◌, ◌<◌, List, [], ◌∷◌, ◌++◌, map, None, IsSome, subst, refl, sym, ap, ◌∙◌, arith}
-use Rattle.std.specs.Prelude.{IfSome}
+use Rattle.std.proofs.Common.{◌≡◌, ◌≢◌, ℕ, ◌+◌, ◌<◌, List, [], ◌∷◌, ◌++◌, get_or, map, cond, None, IsSome, Result, Ok, Err, subst, refl, sym, ap, ◌∙◌, arith}
+use Rattle.std.specs.Prelude.{IfSome, OnOk, is_ok}
 use Rattle.std.specs.List.{All}
 use Rattle.std.specs.FinMap.{get}
 use Rattle.std.proofs.lemmas.List.{map_push}
@@ -66,7 +66,7 @@ module _ {store store' : Store} {child ram caps : ℕ} (free : get (accounts_in 
     tables = subst (λ (s : StartEntry). IfSome (tables_of c) (λ tables. AreEmpty s.ram s.caps tables.0 tables.1)) (sym (start_stays c fresh)) fresh.tables;
   }
 
-  module _ {after : Component} (root_open : IsOpenIn store (root_in store)) (payer : payer_of after ≡ child)
+  module _ (after : Component) (root_open : IsOpenIn store (root_in store)) (payer : payer_of after ≡ child)
       (tables : IfSome (tables_of after) (λ tables. AreEmpty ram caps tables.0 tables.1)) where
     -- the new one has the new part
     part_after : part (payer_of after) store' ≡ opened_part ram caps
@@ -85,16 +85,14 @@ module _ {store store' : Store} {child ram caps : ℕ} (free : get (accounts_in 
     }
 
     -- so one more component has started, and comes last
-    pub has_started : (components items : List Component) (start : StartEntry) → AreFresh store components → items ≡ components ++ after ∷ [] →
-        record { entry = entry_of after; ram = ram; caps = caps } ≡ start → HasStarted store components store' items start
-    has_started components items start fresh pushed is =
-        subst (λ (s : StartEntry). HasStarted store components store' items s) is
-        (subst (λ (xs : List Component). HasStarted store components store' xs (record { entry = entry_of after; ram = ram; caps = caps })) (sym pushed)
-        (record {
+    pub has_started : (components : List Component) (start : StartEntry) → AreFresh store components → record { entry = entry_of after; ram = ram; caps = caps } ≡ start →
+        HasStarted store components store' (components ++ after ∷ []) start
+    has_started components start fresh is =
+        subst (HasStarted store components store' (components ++ after ∷ [])) is (record {
           fresh = record {
             each = All-push (IsFresh store') components after (All-weaker (IsFresh store) (IsFresh store') fresh_stays components fresh.each) fresh_after;
             apart = all_pairs_push (λ c d. payer_of c ≢ payer_of d) components after fresh.apart
-                (λ k d h e. apart (payer_of _) (fresh_open store _ (fresh.each k d h)) (e ∙ payer));
+                (λ k d h e. let c = get_or components k d in apart (payer_of c) (fresh_open store c (fresh.each k d h)) (e ∙ payer));
           };
           starts =
               map_push (start_of store') components after
@@ -102,7 +100,14 @@ module _ {store store' : Store} {child ram caps : ℕ} (free : get (accounts_in 
               ∙ ap (λ start. starts_of store components ++ start ∷ []) start_after;
           init = init_after;
           room = opens.room;
-        }))
+        })
+
+-- what is true once the component is pushed is true where the host has room for it
+pub on_push : {E F : Type 0} (P : List Component → Type 0) (pushing : Result (Unit {0}) E) (told : Result (Unit {0}) F) (items all few : List Component) →
+    is_ok told ≡ is_ok pushing → items ≡ cond (is_ok pushing) all few → P all → OnOk told (P items)
+on_push P pushing (Err fault) items all few alike pushed holds = tt
+on_push P (Err want) (Ok done) items all few alike pushed holds = absurd (cc)
+on_push P (Ok pushed_it) (Ok done) items all few alike pushed holds = subst P (sym pushed) holds
 
 -- the tables of a script that has just booted are empty, and have room for its budget
 pub script_empty : (space : Space) (regions : Regions) → space ≡ fresh_space 64 → regions ≡ fresh_regions 128 64 → AreEmpty 65536 16 space regions

@@ -86,10 +86,9 @@ fn start_server(
         (server_start name.now SERVER.ram.0 SERVER.caps.0)) }
 {
     let account = open_account(memory, SERVER);
-    match components.push(Component::server(name, account)) {
-        Ok(()) => Ok(()),
-        Err(_) => Err(NoMemory),
-    }
+    components
+        .push(Component::server(name, account))
+        .map_err(|_| NoMemory)
 }
 
 // Starts one more script, or tells that the host has no room for it.
@@ -106,8 +105,7 @@ fn start_script(
     let caps = CapSpace::boot(alloc, PLACES)?;
     let regions = RegionMap::boot(alloc, REGIONS, PAGES, PAGES)?;
     let account = open_account(memory, SCRIPT);
-    match components.push(Component::script(name, account, caps, regions)) {
-        Ok(()) => Ok(()),
-        Err(_) => Err(NoMemory),
-    }
+    components
+        .push(Component::script(name, account, caps, regions))
+        .map_err(|_| NoMemory)
 }

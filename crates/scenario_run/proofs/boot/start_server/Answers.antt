@@ -1,13 +1,20 @@
 -- A server's account opens, and the server comes last.
 use Rattle.std.proofs.Common.{subst, sym}
 use Rattle.std.specs.Prelude.{IfSome}
+use Rattle.own_model.specs.StartList.{StartEntry}
 use Rattle.pd_core.specs.Fresh.{AreEmpty}
-use Rattle.scenario_run.proofs.BootLemmas.{has_started}
+use Rattle.scenario_run.specs.Boot.{HasStarted, server_start}
+use Rattle.scenario_run.proofs.BootLemmas.{has_started, on_push}
 use Rattle.scenario_run.proofs.boot.start_server.Goals as goal
 
-pub returns-in-Ok : goal.returns-in-Ok
-returns-in-Ok c =
+pub returns : goal.returns
+returns c =
+    let opened = c.open_account-account.ensures in
     let tables = subst (λ tables. IfSome tables (λ t. AreEmpty 16384 8 t.0 t.1)) (sym c.server.ensures.tables) tt in
-    record { started = has_started c.open_account-account.ensures.fresh c.open_account-account.ensures.part c.open_account-account.ensures.root c.server.ensures.account tables
-        c.args.components.now.items c.push.new.self.items _ c.requires.ready.fresh c.in-Ok.ensures.items
-        (λ j. record { entry = c.server.ensures.entry j; ram = 16384; caps = 8 }) }
+    let start : StartEntry = server_start c.args.name.now 16384 8 in
+    let started = has_started opened.fresh opened.part c.server.result opened.root c.server.ensures.account tables c.args.components.now.items start c.requires.ready.fresh
+    (λ j. record { entry = c.server.ensures.entry j; ram = 16384; caps = 8 }) in
+    record {
+      started = on_push (λ items. HasStarted c.args.memory.now c.args.components.now.items c.open_account-account.new.memory items start)
+          c.push.result c.map_err.result c.push.new.self.items _ _ c.map_err.ensures.variant c.push.ensures.items started;
+    }
