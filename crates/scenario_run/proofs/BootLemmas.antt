@@ -110,7 +110,7 @@ on_push P (Err want) (Ok done) items all few alike pushed holds = absurd (cc)
 on_push P (Ok pushed_it) (Ok done) items all few alike pushed holds = subst P (sym pushed) holds
 
 -- the tables of a script that has just booted are empty, and have room for its budget
-pub script_empty : (space : Space) (regions : Regions) → space ≡ fresh_space 64 → regions ≡ fresh_regions 128 64 → AreEmpty 65536 16 space regions
+pub script_empty : (space : Space) (regions : Regions) → space ≡ fresh_space 64 → regions ≡ fresh_regions 128 64 64 → AreEmpty 65536 16 space regions
 script_empty space regions caps_booted regions_booted = record {
   no_caps = ap (λ s. s.caps) caps_booted;
   places = omega (arith, ap (λ s. s.places) caps_booted);
