@@ -32,7 +32,7 @@ nothing_yet {store = store} {accounts = accounts} booted enough none = record {
   init =
       ap (λ s. init_in s) booted
       ∙ ap (λ o. unwrap_or o (opened 0 0)) (get-insert_same empty (root_in store) (opened 262144 64) (root_in store) refl);
-  room = omega (arith, ap room_in booted);
+  room = omega (arith, ap room_in booted, enough);
 }
 
 module _ {store : Store} {components : List Component} {list : List StartEntry} {ram_left caps_left places : ℕ} where
