@@ -1,5 +1,5 @@
 -- Laws for callers: the limits of a memory after a call for one account, and the pages that a heap window shows of it.
-use Rattle.std.proofs.Common.{◌≡◌, ◌≢◌, ◌≤◌, ◌+◌, ◌*◌, ℕ, Some, IsSome, length, refl, sym, ap, subst, ◌∙◌, ⊎_elim, arith}
+use Rattle.std.proofs.Common.{◌≡◌, ◌≢◌, ◌≤◌, ◌*◌, ℕ, Some, length, refl, sym, ap, ◌∙◌, ⊎_elim, arith}
 use Rattle.std.proofs.lemmas.Bool.{cases_eq}
 use Rattle.std.proofs.lemmas.Option.{none-some}
 use Rattle.std.specs.Prelude.{Option, None, unwrap_or}
@@ -8,7 +8,7 @@ use Rattle.own_model.specs.NatMap.{NatMap, total}
 use Rattle.own_model.specs.Account.{Account, opened}
 use Rattle.own_model.specs.Region.{Region}
 use Rattle.own_model.specs.HeapWindow.{pages_of_all}
-use Rattle.own_model.proofs.NatMapLemmas.{same, natmaps, by_insertions, get-insert_same, get-insert_other, get-remove_other, value_at}
+use Rattle.own_model.proofs.NatMapLemmas.{same, by_insertions, get-insert_same, get-insert_other, get-remove_other, value_at}
 use Rattle.own_model.proofs.Totals.{total-empty, total-insert_new, total-insert_same, total-remove, total_le, len-total}
 use Rattle.dataspace_core.specs.Share.{IsShown}
 use Rattle.dataspace_core.specs.Store.{Store, Space, Part, part, account_in, accounts_in, IsOpenIn, PartBecomes, ram_limits_in}
@@ -18,9 +18,9 @@ accounts_after : (account : ℕ) (after : Part) (old new : Store) (a : Account) 
 unfolding part
 accounts_after account after old new a becomes is = same _ _ (λ k. ⊎_elim
     (λ (own : k ≡ account).
-        ap (get (accounts_in new)) own ∙ ap (λ (p : Part). p.account) becomes.own ∙ is ∙ sym (get-insert_same (accounts_in old) account a k own))
+    ap (get (accounts_in new)) own ∙ ap (λ (p : Part). p.account) becomes.own ∙ is ∙ sym (get-insert_same (accounts_in old) account a k own))
     (λ (other : k ≢ account).
-        ap (λ (p : Part). p.account) (becomes.others k other) ∙ sym (get-insert_other (accounts_in old) account a k other))
+    ap (λ (p : Part). p.account) (becomes.others k other) ∙ sym (get-insert_other (accounts_in old) account a k other))
     (cases_eq k account))
 
 -- a call that leaves the limit of its account leaves the limits of all
@@ -47,12 +47,12 @@ held_more heap k r free rest spaces shown once =
     let mine = shown k r (get-insert_same heap k r k refl) in
     let apart : (s : ℕ) (q : Region) → get heap s ≡ Some q → (s ≢ k) × (get (insert heap k r) s ≡ Some q) = λ s q h. let e : s ≢ k = λ w. none-some q (sym free ∙ ap (get heap) (sym w) ∙ h) in (e, get-insert_other heap k r s e ∙ h) in
     let fewer = rest (remove spaces r.of)
-      (λ s q h.
-        let a = apart s q h in
-        let its = shown s q a.1 in
-        let other : q.of ≢ r.of = λ e. a.0 (once s k q r a.1 (get-insert_same heap k r k refl) e) in
-        record { space = its.space; there = get-remove_other spaces r.of q.of other ∙ its.there; some = its.some; whole = its.whole })
-      (λ s t q w h g e. once s t q w (apart s q h).1 (apart t w g).1 e) in
+    (λ s q h.
+    let a = apart s q h in
+    let its = shown s q a.1 in
+    let other : q.of ≢ r.of = λ e. a.0 (once s k q r a.1 (get-insert_same heap k r k refl) e) in
+    record { space = its.space; there = get-remove_other spaces r.of q.of other ∙ its.there; some = its.some; whole = its.whole })
+    (λ s t q w h g e. once s t q w (apart s q h).1 (apart t w g).1 e) in
     let pages = total-insert_new (λ (x : Region). x.pages) heap k r free in
     let bytes = total-remove (λ (x : Space). length x.bytes) spaces r.of mine.space mine.there in
     let w = mine.whole in

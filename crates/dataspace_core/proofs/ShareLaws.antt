@@ -1,5 +1,5 @@
 -- Laws for callers: the shares of a memory and a heap window when a region is attached, or goes.
-use Rattle.std.proofs.Common.{◌≡◌, ◌≢◌, ℕ, Bool, true, false, cond, eqb, ◌||◌, List, Some, is_some, refl, sym, ap, ◌∙◌, ⊎_elim, arith}
+use Rattle.std.proofs.Common.{◌≡◌, ◌≢◌, ℕ, true, cond, eqb, ◌||◌, List, Some, is_some, refl, sym, ap, ◌∙◌, ⊎_elim, arith}
 use Rattle.std.proofs.lemmas.Bool.{cases_eq}
 use Rattle.std.proofs.lemmas.Bool.Decides.{nat_tests}
 use Rattle.std.specs.Prelude.{Option, None}
@@ -52,9 +52,9 @@ module _ (heap : NatMap Region) (tags : NatMap ℕ) (start : ℕ) (region : Regi
       let hidden : shown p.spaces region ≡ None = ap (λ o. cond (is_some o) (Some region) None) none in
       let regions = picked-insert_hidden (shown p.spaces) heap start region hidden (nothing_shown p.spaces heap start free) in
       same_share p _ _ _ _ regions (rw regions (same _ _ (λ s.
-        get-tags_of (picked (shown p.spaces) heap) (insert tags start tag) s
-        ∙ grind (arith, natmaps, nothing_shown p.spaces heap start free)
-        ∙ sym (get-tags_of (picked (shown p.spaces) heap) tags s))))
+      get-tags_of (picked (shown p.spaces) heap) (insert tags start tag) s
+      ∙ grind (arith, natmaps, nothing_shown p.spaces heap start free)
+      ∙ sym (get-tags_of (picked (shown p.spaces) heap) tags s))))
 
   -- the part that has it, and whose dataspace no other region shows, shows one region more
   pub share_attached : (p q : Part) → ((k : ℕ) → is_some (get q.spaces k) ≡ (eqb k region.of || is_some (get p.spaces k))) → ((s : ℕ) (r : Region) → get heap s ≡ Some r → r.of ≢ region.of) → share_in q (insert heap start region) (insert tags start tag) ≡ record { part = q; heap = insert (picked (shown p.spaces) heap) start region; tags = insert (tags_of (picked (shown p.spaces) heap) tags) start tag }
@@ -66,8 +66,8 @@ module _ (heap : NatMap Region) (tags : NatMap ℕ) (start : ℕ) (region : Regi
       let before : picked (shown q.spaces) heap ≡ picked (shown p.spaces) heap = same _ _ (λ s. get-picked (shown q.spaces) heap s ∙ each_shown p.spaces q.spaces (get heap s) (λ r there. let other = apart s r there in let e = more r.of in grind (arith, nat_tests)) ∙ sym (get-picked (shown p.spaces) heap s)) in
       let regions : picked (shown q.spaces) (insert heap start region) ≡ insert (picked (shown p.spaces) heap) start region = picked-insert_some (shown q.spaces) heap start region region seen ∙ ap (λ m. insert m start region) before in
       same_share q _ _ _ _ regions (rw regions (same _ _ (λ s.
-        get-tags_of (insert (picked (shown p.spaces) heap) start region) (insert tags start tag) s
-        ∙ grind (arith, natmaps, get-tags_of (picked (shown p.spaces) heap) tags s))))
+      get-tags_of (insert (picked (shown p.spaces) heap) start region) (insert tags start tag) s
+      ∙ grind (arith, natmaps, get-tags_of (picked (shown p.spaces) heap) tags s))))
 
 module _ (heap : NatMap Region) (tags : NatMap ℕ) (start : ℕ) (region : Region) (there : get heap start ≡ Some region) where
   -- a part that hasn't the dataspace of the region that goes shows as much as before
@@ -77,23 +77,23 @@ module _ (heap : NatMap Region) (tags : NatMap ℕ) (start : ℕ) (region : Regi
       let hidden : get (picked (shown p.spaces) heap) start ≡ None = get-picked (shown p.spaces) heap start ∙ ap (option_and_then (shown p.spaces)) there ∙ ap (λ o. cond (is_some o) (Some region) None) none in
       let regions = picked-remove_hidden (shown p.spaces) heap start hidden in
       same_share p _ _ _ _ regions (rw regions (same _ _ (λ s.
-        get-tags_of (picked (shown p.spaces) heap) (remove tags start) s
-        ∙ grind (arith, natmaps, hidden)
-        ∙ sym (get-tags_of (picked (shown p.spaces) heap) tags s))))
+      get-tags_of (picked (shown p.spaces) heap) (remove tags start) s
+      ∙ grind (arith, natmaps, hidden)
+      ∙ sym (get-tags_of (picked (shown p.spaces) heap) tags s))))
 
   -- the part that loses it, and shows it at no other place, shows one region less
   pub share_detached : (p q : Part) → ((k : ℕ) → k ≢ region.of → is_some (get q.spaces k) ≡ is_some (get p.spaces k)) → ((s : ℕ) (r : Region) → get heap s ≡ Some r → r.of ≡ region.of → s ≡ start) → share_in q (remove heap start) (remove tags start) ≡ record { part = q; heap = remove (picked (shown p.spaces) heap) start; tags = remove (tags_of (picked (shown p.spaces) heap) tags) start }
   unfolding share_in
   share_detached p q less once =
       let regions : picked (shown q.spaces) (remove heap start) ≡ remove (picked (shown p.spaces) heap) start = picked-remove (shown q.spaces) heap start ∙ same _ _ (λ s. ⊎_elim
-        (λ (same_place : s ≡ start). grind (arith, natmaps))
-        (λ (other : s ≢ start).
-            get-remove_other (picked (shown q.spaces) heap) start s other
-            ∙ get-picked (shown q.spaces) heap s
-            ∙ each_shown p.spaces q.spaces (get heap s) (λ r here. less r.of (λ e. other (once s r here e)))
-            ∙ sym (get-picked (shown p.spaces) heap s)
-            ∙ sym (get-remove_other (picked (shown p.spaces) heap) start s other))
-        (cases_eq s start)) in
+      (λ (same_place : s ≡ start). grind (arith, natmaps))
+      (λ (other : s ≢ start).
+      get-remove_other (picked (shown q.spaces) heap) start s other
+      ∙ get-picked (shown q.spaces) heap s
+      ∙ each_shown p.spaces q.spaces (get heap s) (λ r here. less r.of (λ e. other (once s r here e)))
+      ∙ sym (get-picked (shown p.spaces) heap s)
+      ∙ sym (get-remove_other (picked (shown p.spaces) heap) start s other))
+      (cases_eq s start)) in
       same_share q _ _ _ _ regions (rw regions (same _ _ (λ s.
-        get-tags_of (remove (picked (shown p.spaces) heap) start) (remove tags start) s
-        ∙ grind (arith, natmaps, get-tags_of (picked (shown p.spaces) heap) tags s))))
+      get-tags_of (remove (picked (shown p.spaces) heap) start) (remove tags start) s
+      ∙ grind (arith, natmaps, get-tags_of (picked (shown p.spaces) heap) tags s))))

@@ -1,11 +1,11 @@
 -- What a map with moved keys answers.
-use Rattle.std.proofs.Common.{◌≡◌, ◌≢◌, ◌≤◌, ◌<◌, ◌+◌, ◌-◌, ℕ, Bool, true, false, cond, eqb, nat_le, List, [], ◌∷◌, refl, sym, ap, ◌∙◌, ⊎_elim, nat_cmp, arith}
+use Rattle.std.proofs.Common.{◌≡◌, ◌≤◌, ◌<◌, ◌+◌, ◌-◌, ℕ, false, cond, eqb, List, [], ◌∷◌, refl, sym, ap, ◌∙◌, ⊎_elim, arith}
 use Rattle.std.proofs.lemmas.Bool.{cases_lt}
 use Rattle.std.proofs.lemmas.Bool.Decides.{nat_tests}
-use Rattle.std.specs.Prelude.{Option, None, Some, map}
+use Rattle.std.specs.Prelude.{None, Some, map}
 use Rattle.std.specs.Cmp.{nat_cmp_total}
 use Rattle.std.specs.FinMap as finmap
-use Rattle.std.specs.FinMap.{get, insert, remove, empty, entries, get-entries}
+use Rattle.std.specs.FinMap.{get, insert, remove, entries, get-entries}
 use Rattle.own_model.specs.NatMap.{NatMap}
 use Rattle.own_model.specs.Moved.{moved_up}
 use Rattle.own_model.proofs.NatMapLemmas.{same, natmaps}

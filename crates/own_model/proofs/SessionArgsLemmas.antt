@@ -1,5 +1,5 @@
 -- The canonical writing of session arguments is read again.
-use Rattle.std.proofs.Common.{◌≡◌, ℕ, zero, suc, ◌+◌, ◌-◌, ◌^◌, ◌<◌, ◌≤◌, ◌&&◌, ◌||◌, not, Bool, true, false, cond, List, [], ◌∷◌, ◌++◌, length, take, drop, get_or, Option, Some, None, refl, sym, ap, ◌∙◌, arith, inl, inr, codes, append_assoc}
+use Rattle.std.proofs.Common.{◌≡◌, ℕ, zero, suc, ◌+◌, ◌-◌, ◌^◌, ◌<◌, ◌&&◌, ◌||◌, not, Bool, true, false, cond, List, [], ◌∷◌, ◌++◌, length, take, get_or, Option, Some, None, refl, sym, ap, ◌∙◌, arith, codes, append_assoc}
 use Rattle.std.specs.Prelude.{nat_eq, nat_lt, nat_le, reverse, decimal}
 use Rattle.std.specs.List.{list_all, before_first, after_first}
 use Rattle.std.proofs.Math.Bool.{and-false}
@@ -7,7 +7,6 @@ use Rattle.std.specs.Char.{is_ascii_digit}
 use Rattle.std.specs.Str.{all_ascii_digits}
 use Rattle.std.specs.Str.Parse.{digits_value}
 use Rattle.std.specs.Option.{option_map, option_and_then}
-use Rattle.std.proofs.lemmas.Bool.{cases_eq}
 use Rattle.std.proofs.lemmas.Bool.Decides.{nat_tests}
 use Rattle.std.proofs.lemmas.Fmt.{decimal_nonempty, digits_decimal, digits_value-decimal}
 use Rattle.std.proofs.lemmas.Str.Parse.{numerals_by_value, tells_all_ascii_digits}
@@ -15,7 +14,7 @@ use Rattle.std.proofs.lemmas.List.{length-append, reverse-append, reverse-revers
 use Rattle.std.proofs.lemmas.List.Folds.{list_all-append}
 use Rattle.trade_base.specs.Amount.{number_of, unit_of, amount_in, amount_of}
 use Rattle.own_model.specs.Text.{is_name_byte}
-use Rattle.own_model.specs.SessionArgs.{is_space, is_equals, is_quotable, onto_first, pieces_of, skip_spaces, trimmed, Pair, is_key, inner, is_bare, value_of, pair_of, each, Arguments, value_under, arguments_in, arguments_of, arguments_text, HasText}
+use Rattle.own_model.specs.SessionArgs.{is_equals, is_quotable, onto_first, pieces_of, skip_spaces, trimmed, Pair, is_key, inner, is_bare, value_of, pair_of, each, Arguments, arguments_in, arguments_of, arguments_text, HasText}
 use Rattle.own_model.specs.SessionArgs.Value.{Bare, Quoted}
 
 -- ---- tests

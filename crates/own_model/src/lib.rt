@@ -10,8 +10,8 @@ mod limits;
 mod regions;
 mod rows;
 mod runs;
-mod sliced;
 mod session_args;
+mod sliced;
 mod start;
 
 pub use answers::{
@@ -35,8 +35,8 @@ pub use rows::{
     long_lines_are_no_calls, longest_line_is_read,
 };
 pub use runs::{own_part_over_append, own_run_over_append};
+pub use session_args::arguments_are_read_back;
 pub use sliced::{
     gaps_fit_the_machine, new_blocks_are_zero, payloads_are_found, payloads_lie_apart,
 };
-pub use session_args::arguments_are_read_back;
 pub use start::{boots_balanced, machine_a_boots};

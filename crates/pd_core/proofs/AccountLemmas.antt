@@ -1,6 +1,6 @@
 -- A script's calls on its account and its capabilities.
-use Rattle.std.proofs.Common.{◌≡◌, ◌≢◌, ℕ, ◌*◌, ◌<◌, ◌≤◌, true, false, List, [], length, Option, Some, None, is_some, IsSome, true≢false, refl, sym, ap, ◌∙◌, arith, inl, inr, subst}
-use Rattle.std.specs.Prelude.{Result, Ok, Err}
+use Rattle.std.proofs.Common.{◌≡◌, ◌≢◌, ℕ, ◌<◌, true, false, List, [], length, Option, Some, None, is_some, true≢false, refl, sym, ap, ◌∙◌, arith}
+use Rattle.std.specs.Prelude.{Ok, Err}
 use Rattle.std.specs.Option.{option_map, option_and_then}
 use Rattle.std.specs.FinMap.{get, insert, remove, len}
 use Rattle.trade_base.specs.Page.{page_of}
@@ -15,11 +15,10 @@ use Rattle.own_model.specs.OwnState.Object.{Dataspace as ADataspace, RpcObject a
 use Rattle.own_model.specs.OwnStep.{Outcome, refused, allocated, freed, cap_allocated, cap_freed, unless, script_step}
 use Rattle.own_model.specs.Region.{Region, without}
 use Rattle.own_model.specs.Reply.Reply.{Selected, Done}
-use Rattle.own_model.proofs.NatMapLemmas.{get-insert_other, get-insert_same, get-remove_other, get-remove_same, apart_from_free, before_remove, after_insert, some_of}
+use Rattle.own_model.proofs.NatMapLemmas.{get-insert_other, get-insert_same, get-remove_other, get-remove_same, apart_from_free, before_remove}
 use Rattle.own_model.proofs.RegionLemmas.{renamed-without, left_without}
 use Rattle.own_model.proofs.StepLemmas.{covers, accepted_size}
 use Rattle.own_model.proofs.Totals.{len-insert_new, len-remove_at, total_at_le}
-use Rattle.own_model.proofs.UseLemmas.{length-zeros}
 use Rattle.cap_space.specs.Space.{Space, with_cap, without_cap}
 use Rattle.cap_space.specs.declared.cap.Cap.{Cap}
 use Rattle.cap_space.specs.declared.cap.Cap.TheVariants.{Dataspace, RpcObject, Session}

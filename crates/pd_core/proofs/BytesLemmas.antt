@@ -22,7 +22,6 @@ use Rattle.own_model.proofs.RegionLemmas.{resolved_renamed, resolved_facts}
 use Rattle.own_model.proofs.UseLemmas.{length-with_part}
 use Rattle.own_model.proofs.NatMapLemmas.{some_of, entries-empty}
 use Rattle.cap_space.specs.Space.{Space}
-use Rattle.cap_space.specs.declared.cap.Cap.TheVariants.{Dataspace}
 use Rattle.region_map.specs.Regions.{Regions}
 use Rattle.dataspace_core.specs.Store.{Part, bytes_of, part_with_bytes}
 use Rattle.pd_core.specs.Own.{selector_of, regions_of, own_of, range_refusal}

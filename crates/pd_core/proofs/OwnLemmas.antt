@@ -35,7 +35,7 @@ use Rattle.dataspace_core.proofs.PartLaws.{paid_in_part}
 use Rattle.pd_core.specs.declared.answer.Answer.{Answer}
 use Rattle.pd_core.specs.Answer.{outcome_of}
 use Rattle.pd_core.specs.Own.{object_of, selector_of, regions_of, own_of}
-use Rattle.pd_core.specs.Sound.{rpc_weight, IsOne, AreNamed, IsNamed, IsLawful, IsScript, Keeps}
+use Rattle.pd_core.specs.Sound.{rpc_weight, IsOne, AreNamed, IsLawful, IsScript, Keeps}
 use Rattle.pd_core.specs.declared.script.Script.{Script}
 use Rattle.pd_core.proofs.NameLemmas.{Names, is_named, regions_alike, attached_alike}
 

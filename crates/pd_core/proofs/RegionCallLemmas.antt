@@ -1,15 +1,15 @@
 -- A script's calls on its regions.
-use Rattle.std.proofs.Common.{◌≡◌, ℕ, ◌/◌, ◌≤◌, List, [], Option, Some, None, is_some, IsSome, refl, sym, ap, subst, ◌∙◌, arith, inl, inr}
+use Rattle.std.proofs.Common.{◌≡◌, ℕ, ◌≤◌, List, [], Some, None, is_some, refl, sym, ap, subst, ◌∙◌, arith, inl, inr}
 use Rattle.std.specs.Prelude.{Err}
 use Rattle.std.specs.Option.{unwrap_or}
-use Rattle.std.specs.FinMap.{get, insert, remove}
+use Rattle.std.specs.FinMap.{get}
 use Rattle.trade_base.specs.declared.id.DsId.{DsId}
 use Rattle.trade_base.specs.declared.refusal.Refusal.{Refusal}
 use Rattle.own_model.specs.Call.{Call}
 use Rattle.own_model.specs.Call.Call.{Attach, AttachAt, Detach}
 use Rattle.own_model.specs.NatMap.{NatMap}
 use Rattle.own_model.specs.OwnState.{pages_in}
-use Rattle.own_model.specs.OwnStep.{Outcome, refused, unless, attached_first, attached_at, with_region, region_detached, script_step}
+use Rattle.own_model.specs.OwnStep.{refused, unless, attached_first, attached_at, with_region, region_detached, script_step}
 use Rattle.own_model.specs.Region.{Region, user_low, user_high, first_gap, user_gap, attach_refusal, attach_at_refusal, detach_refusal, most_regions}
 use Rattle.own_model.specs.Reply.Reply.{Attached, Done}
 use Rattle.own_model.specs.Sound.{IsPages}

@@ -1,5 +1,5 @@
 -- The parts of a core before its first call, and the world that starts with them.
-use Rattle.std.specs.Prelude.{◌≡◌, ◌≢◌, ℕ, ◌*◌, ◌≤◌, List, map, Some, IfSome}
+use Rattle.std.specs.Prelude.{◌≡◌, ◌≢◌, ℕ, ◌*◌, ◌≤◌, List, map, IfSome}
 use Rattle.std.specs.List.{All, AllPairs}
 use Rattle.std.specs.FinMap.{empty}
 use Rattle.own_model.specs.StartList.{StartEntry, start_state}

@@ -1,5 +1,5 @@
 -- What stands in a part of an array after a part behind it was written.
-use Rattle.std.proofs.Common.{◌≡◌, ℕ, ◌+◌, ◌≤◌, List, ◌++◌, length, take, drop, slice_range, arith, rules, refl, append_assoc, Option, Some, None}
+use Rattle.std.proofs.Common.{◌≡◌, ℕ, ◌+◌, ◌≤◌, List, ◌++◌, length, take, drop, slice_range, arith, rules, append_assoc, Option, Some, None}
 use Rattle.std.specs.Io.KnownBytes.{Consumes, Keeps}
 use Rattle.scenario_run.specs.Lines.{to_come}
 use Rattle.std.proofs.lemmas.List.{places, same_lists}

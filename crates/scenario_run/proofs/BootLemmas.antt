@@ -1,17 +1,17 @@
 -- The parts when a component starts.
-use Rattle.std.proofs.Common.{◌≡◌, ◌≢◌, ℕ, ◌+◌, ◌<◌, List, [], ◌∷◌, ◌++◌, get_or, map, cond, None, IsSome, Result, Ok, Err, subst, refl, sym, ap, ◌∙◌, arith}
+use Rattle.std.proofs.Common.{◌≡◌, ◌≢◌, ℕ, List, [], ◌∷◌, ◌++◌, get_or, map, cond, None, IsSome, Result, Ok, Err, subst, refl, sym, ap, ◌∙◌, arith}
 use Rattle.std.specs.Prelude.{IfSome, OnOk, is_ok}
 use Rattle.std.specs.List.{All}
 use Rattle.std.specs.FinMap.{get}
 use Rattle.std.proofs.lemmas.List.{map_push}
 use Rattle.std.proofs.lemmas.List.Elements.{All-head, All-tail, All-weaker, All-push}
 use Rattle.std.proofs.lemmas.List.Quantifiers.{all_pairs_push}
-use Rattle.own_model.specs.Account.{Account, opened, parted_with}
+use Rattle.own_model.specs.Account.{Account, parted_with}
 use Rattle.own_model.specs.StartList.{StartEntry}
 use Rattle.own_model.proofs.NatMapLemmas.{apart_from_free}
 use Rattle.cap_space.specs.Space.{Space, fresh_space}
 use Rattle.region_map.specs.Regions.{Regions, fresh_regions}
-use Rattle.dataspace_core.specs.Store.{Store, Part, part, IsOpenIn, OpensPart, accounts_in, account_in, account_of, root_in, room_in, opened_part}
+use Rattle.dataspace_core.specs.Store.{Store, Part, part, IsOpenIn, OpensPart, accounts_in, account_in, account_of, root_in, opened_part}
 use Rattle.dataspace_core.proofs.PartLaws.{account_of-part, open_in_part}
 use Rattle.pd_core.specs.Component.{entry_of, payer_of, tables_of}
 use Rattle.pd_core.specs.Fresh.{start_of, starts_of, AreEmpty, IsFresh, AreFresh}

@@ -1,6 +1,6 @@
 -- How what is told grows.
 use Rattle.std.proofs.Common.{◌≡◌, ℕ, ◌+◌, ◌-◌, List, [], ◌++◌, length, take, drop, Option, Some, None, Result, Ok, Err, IsErrAnd, arith, rules, refl, sym, ◌∙◌, ap, append_assoc, append-nil}
-use Rattle.std.proofs.lemmas.List.{places, same_lists, take_rest, take-append-drop}
+use Rattle.std.proofs.lemmas.List.{places, same_lists, take_rest}
 use Rattle.std.specs.Io.KnownBytes.{Appends}
 use Rattle.scenario_run.specs.Gathered.{Tells, TellsPart, TellsUnless}
 

@@ -1,5 +1,5 @@
 -- Lines that were passed, and what is left of a text behind them.
-use Rattle.std.proofs.Common.{◌≡◌, ℕ, zero, suc, ◌+◌, ◌-◌, ◌<◌, ◌≤◌, ◌⊎◌, not, nat_lt, Bool, true, false, cond, List, [], ◌∷◌, ◌++◌, length, take, drop, get_or, Option, Some, None, IfSome, inl, inr, ⊎_elim, arith, refl, sym, ◌∙◌, ap, subst, append_assoc, append-nil, length-append}
+use Rattle.std.proofs.Common.{◌≡◌, ℕ, zero, suc, ◌+◌, ◌<◌, ◌≤◌, ◌⊎◌, cond, List, [], ◌∷◌, ◌++◌, length, take, drop, Option, Some, None, IfSome, inl, inr, ⊎_elim, arith, refl, sym, ◌∙◌, ap, subst, append_assoc, append-nil, length-append}
 use Rattle.std.specs.List.{count_by}
 use Rattle.std.proofs.lemmas.Bool.{cases_lt}
 use Rattle.std.proofs.lemmas.Bool.Decides.{nat_tests}
@@ -7,7 +7,7 @@ use Rattle.std.proofs.lemmas.List.{drop_all, take-append-drop}
 use Rattle.std.proofs.lemmas.List.Sums.{sum_by-cons, sum_by-append, count_by_more_yes, passes_at_first}
 use Rattle.own_model.specs.Text.{lines_of}
 use Rattle.scenario_run.specs.Lines.{is_newline, line_length, line_of, after_line, PassesSome, PassesLines, IsReadTo}
-use Rattle.scenario_run.proofs.LineLemmas.{line_length-le, lines_of-cons}
+use Rattle.scenario_run.proofs.LineLemmas.{lines_of-cons}
 
 -- no newline stands within a line
 no_newlines : (n : ℕ) (xs : List ℕ) → n ≤ line_length xs → count_by is_newline (take n xs) ≡ 0

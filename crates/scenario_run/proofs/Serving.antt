@@ -1,22 +1,21 @@
 -- A run from line to line: what was answered, and what it leaves at its end.
-use Rattle.std.proofs.Common.{◌≡◌, ℕ, ◌+◌, ◌<◌, ◌≤◌, ◌⊎◌, nat_le, nat_lt, slice_index_or, take, drop, Bool, true, false, cond, List, [], ◌∷◌, ◌++◌, length, Option, Some, None, IfSome, Result, Ok, Err, inl, inr, arith, refl, sym, ◌∙◌, ap, subst, append_assoc, append-nil}
+use Rattle.std.proofs.Common.{◌≡◌, ℕ, ◌+◌, ◌<◌, ◌≤◌, nat_le, nat_lt, slice_index_or, take, drop, Bool, true, false, cond, List, [], ◌∷◌, ◌++◌, length, Option, Some, None, IfSome, Result, Ok, Err, inl, inr, arith, refl, sym, ◌∙◌, ap, subst, append_assoc, append-nil}
 use Rattle.std.proofs.lemmas.Bool.Decides.{nat_tests}
 use Rattle.std.specs.Io.KnownBytes.{Appends}
 use Rattle.own_model.specs.StartList.{Entry}
 use Rattle.own_model.specs.Text.{lines_of}
 use Rattle.own_model.specs.Call.{spoken}
-use Rattle.own_model.specs.Transcript.{Heard, heard, heard_spoken, longest_line}
+use Rattle.own_model.specs.Transcript.{heard, heard_spoken, longest_line}
 use Rattle.own_model.specs.Transcript.Heard.{NoCall}
 use Rattle.own_model.specs.World.{World}
 use Rattle.scenario_run.specs.Answered.{Point, Answers, Ended, Halts, HaltsFor, AnswersNext, told_of, told_of_all, after_one, after_all, bad_line, more_unless_failed}
 use Rattle.scenario_run.specs.Gathered.{Tells, TellsUnless}
-use Rattle.scenario_run.specs.Lines.{line_length, line_of, after_line, longest_read, to_come, PassesLines, PassesSome}
+use Rattle.scenario_run.specs.Lines.{line_of, longest_read, to_come, PassesLines}
 use Rattle.scenario_run.specs.Next.{BeginsWithLine, PassesLongLine, StopsBefore, TellsAt, is_read_fault}
 use Rattle.scenario_run.specs.Serves.{Serves, run_fault}
 use Rattle.scenario_run.specs.Stops.{IsWritten, StopsFor}
 use Rattle.scenario_run.specs.declared.lines.LineFault.{LineFault}
 use Rattle.scenario_run.specs.declared.lines.LineFault.TheVariants.{Read, Write, Endless}
-use Rattle.scenario_run.specs.declared.running.RunFault.{RunFault}
 use Rattle.scenario_run.specs.declared.running.RunFault.TheVariants.{TooManyLines}
 use Rattle.scenario_run.proofs.FaultLemmas.{told_at}
 use Rattle.scenario_run.proofs.GatheredLemmas.{Tells-none, Tells-more}

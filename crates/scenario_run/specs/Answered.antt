@@ -1,6 +1,5 @@
 -- What a world tells of lines, the world that they leave, and how far a run has come.
-use Rattle.std.specs.Prelude.{◌≡◌, ℕ, ◌<◌, ◌≤◌, Bool, true, false, List, [], ◌∷◌, ◌++◌, length, Option, Some, IfSome, IfOk, Result, Ok, Err, codes}
-use Rattle.std.specs.Io.KnownBytes.{Appends}
+use Rattle.std.specs.Prelude.{◌≡◌, ℕ, ◌<◌, Bool, true, false, List, [], ◌∷◌, ◌++◌, Option, IfSome, Result, Ok, Err, codes}
 use Rattle.trade_base.specs.declared.refusal.Refusal.TheVariants.{BadLine}
 use Rattle.own_model.specs.Running.{told_now, states_after_heard, told_running, states_running}
 use Rattle.own_model.specs.Reply.Reply.{Refused}
@@ -10,11 +9,9 @@ use Rattle.own_model.specs.World.{World}
 use Rattle.scenario_run.specs.Gathered.{Tells}
 use Rattle.scenario_run.specs.Lines.{line_length, longest_read, to_come, PassesSome, PassesLines}
 use Rattle.scenario_run.specs.Next.{TellsAt}
-use Rattle.scenario_run.specs.Stops.{IsWritten, StopsFor}
 use Rattle.scenario_run.specs.declared.lines.Buffers.{Buffers}
 use Rattle.scenario_run.specs.declared.lines.LineFault.{LineFault}
 use Rattle.scenario_run.specs.declared.lines.LineFault.TheVariants.{Read, Write, Endless}
-use Rattle.scenario_run.specs.declared.running.RunFault.{RunFault}
 
 -- what is told of a line that is no call
 abbrev pub bad_line : List ℕ

@@ -1,5 +1,5 @@
 -- The lines of what is still to come from a source.
-use Rattle.std.specs.Prelude.{◌≡◌, ℕ, ◌+◌, ◌<◌, ◌≤◌, ◌==◌, ◌⊎◌, Bool, List, [], ◌++◌, Option, Result, Some, Ok, Err, drop, take, length}
+use Rattle.std.specs.Prelude.{◌≡◌, ℕ, ◌+◌, ◌≤◌, ◌==◌, ◌⊎◌, Bool, List, [], ◌++◌, Option, Result, Some, Ok, Err, drop, take, length}
 use Rattle.std.specs.List.{count_by, position_or_len}
 use Rattle.std.specs.Io.KnownBytes.{prepend_known, Keeps, IsAtEnd}
 use Rattle.own_model.specs.Text.{lines_of}

@@ -1,9 +1,9 @@
 -- What is known after pairs, and the arguments that they make.
-use Rattle.std.proofs.Common.{◌≡◌, ℕ, Bool, true, false, not, ◌&&◌, cond, List, [], ◌∷◌, Option, Some, None, refl, sym, ap, ◌∙◌, codes}
-use Rattle.std.specs.Prelude.{find, is_none}
+use Rattle.std.proofs.Common.{◌≡◌, ℕ, Bool, true, false, cond, List, [], ◌∷◌, Option, Some, None, refl, sym, ap, ◌∙◌, codes}
+use Rattle.std.specs.Prelude.{find}
 use Rattle.std.specs.Option.{option_map, option_and_then, unwrap_or}
 use Rattle.std.specs.Str.{bytes_eq}
-use Rattle.own_model.specs.SessionArgs.{Arguments, Pair, Value, pair_of, pieces_of, each, value_under, ram_of, caps_of, label_of, arguments_in, arguments_of}
+use Rattle.own_model.specs.SessionArgs.{Arguments, Pair, Value, pair_of, pieces_of, each, value_under, ram_of, caps_of, label_of}
 use Rattle.session_proto.specs.Found.{Known, known_with, with_pair, told}
 use Rattle.session_proto.specs.Pieces.{pieces_after}
 

@@ -1,8 +1,8 @@
 -- Where a text is cut.
-use Rattle.std.proofs.Common.{◌≡◌, ℕ, suc, ◌+◌, ◌&&◌, not, ◌-◌, ◌<◌, ◌≤◌, Bool, true, false, cond, List, [], ◌∷◌, length, take, drop, get_or, Option, Some, None, refl, sym, ap, ◌∙◌, arith}
+use Rattle.std.proofs.Common.{◌≡◌, ℕ, suc, ◌+◌, ◌&&◌, not, ◌-◌, ◌<◌, ◌≤◌, Bool, true, false, cond, List, [], ◌∷◌, length, take, drop, Option, Some, None, refl, sym, ap, ◌∙◌, arith}
 use Rattle.std.specs.Prelude.{nat_eq, nat_lt}
-use Rattle.std.specs.List.{position, position_or_len, before_first, after_first}
-use Rattle.std.proofs.lemmas.List.{take_all, drop_all, take_rest, at_drop_more, at_drop_all}
+use Rattle.std.specs.List.{position, before_first, after_first}
+use Rattle.std.proofs.lemmas.List.{take_all, drop_all, take_rest}
 use Rattle.std.proofs.lemmas.Bool.Decides.{nat_tests}
 use Rattle.own_model.specs.SessionArgs.{is_equals, is_quote, pieces_of, onto_first}
 use Rattle.session_proto.specs.Pieces.{first_len, pieces_after}

@@ -1,5 +1,5 @@
 -- The file service's requests and replies, as the model's words.
-use Rattle.std.specs.Prelude.{◌≡◌, List, Some}
+use Rattle.std.specs.Prelude.{◌≡◌, Some}
 use Rattle.own_model.specs.Text.{bytes_of_hex}
 use Rattle.own_model.specs.FileText as model
 use Rattle.session_proto.specs.Words.{bytes_in}

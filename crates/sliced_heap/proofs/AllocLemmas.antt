@@ -1,27 +1,26 @@
 -- A dataspace is allocated for a block, and can then be entered.
-use Rattle.std.proofs.Common.{◌≡◌, ◌≢◌, ◌<◌, ◌≤◌, ◌+◌, ◌-◌, ◌*◌, ◌/◌, ℕ, List, [], drop, length, Some, IsSome, is_some, refl, sym, ap, subst, ◌∙◌, unwrap_or, arith}
+use Rattle.std.proofs.Common.{◌≡◌, ◌≢◌, ◌≤◌, ◌+◌, ◌-◌, ◌/◌, ℕ, List, [], drop, length, Some, is_some, refl, sym, ap, subst, ◌∙◌, unwrap_or, arith}
 use Rattle.std.proofs.lemmas.List.{drop-replicate, length-replicate}
-use Rattle.std.proofs.lemmas.Option.{none-some, same_Some}
+use Rattle.std.proofs.lemmas.Option.{none-some}
 use Rattle.std.specs.Prelude.{Option, None}
 use Rattle.std.specs.Option.{option_map}
 use Rattle.std.specs.FinMap.{get, insert, len}
 use Rattle.trade_base.specs.Page.{page_of}
 use Rattle.own_model.specs.Account.{Account, charged}
-use Rattle.own_model.specs.HeapWindow.{pages_of_all}
-use Rattle.own_model.specs.NatMap.{NatMap, total}
+use Rattle.own_model.specs.NatMap.{total}
 use Rattle.own_model.specs.OwnState.{zeros}
 use Rattle.own_model.specs.Region.{Region}
-use Rattle.own_model.specs.Sliced.{sliced_header as header, sliced_size}
-use Rattle.own_model.proofs.NatMapLemmas.{get-insert_same, get-insert_other, get-picked}
+use Rattle.own_model.specs.Sliced.{sliced_header as header}
+use Rattle.own_model.proofs.NatMapLemmas.{get-insert_same, get-insert_other}
 use Rattle.own_model.proofs.Totals.{total-insert_new, len-insert_new}
 use Rattle.region_map.specs.Regions.{Regions}
-use Rattle.dataspace_core.specs.Store.{Store, Space, Part, part, bytes_of, account_in, account_of, IsOpenIn, PartBecomes, part_with_space, with_space, ram_limits_in}
-use Rattle.dataspace_core.specs.Share.{Share, IsShown, share_in}
+use Rattle.dataspace_core.specs.Store.{Store, Space, Part, part, bytes_of, account_in, IsOpenIn, PartBecomes, part_with_space, with_space, ram_limits_in}
+use Rattle.dataspace_core.specs.Share.{Share, share_in}
 use Rattle.dataspace_core.proofs.ShareLaws.{share_alike}
 use Rattle.dataspace_core.proofs.LimitLaws.{pages_held, regions_within_pages}
 use Rattle.dataspace_core.proofs.PartLaws.{account_of-part}
 use Rattle.dataspace_core.proofs.PartLemmas.{part-fresh}
-use Rattle.sliced_heap.specs.Sliced.{sliced_regions, sliced_of, IsLinked}
+use Rattle.sliced_heap.specs.Sliced.{sliced_of, IsLinked}
 use Rattle.sliced_heap.specs.Heap.{share_at, blocks_at, MapsMemory, IsNoBlock, CanEnter, Enters, TakesBlock}
 use Rattle.sliced_heap.proofs.EnterLemmas.{shown_in_map}
 use Rattle.sliced_heap.proofs.LinkedLemmas.{alike_linked, alike_payloads}
@@ -96,9 +95,9 @@ module _ (account first ds size : ℕ) (old new : Store) (regions : Regions) (op
       let held = pages_held regions.heap old.spaces maps.shown maps.once in
       let few = regions_within_pages regions.heap (λ s r h. (maps.shown s r h).some) in
       let more : total (λ (s : Space). length s.bytes) new.spaces ≡ total (λ (s : Space). length s.bytes) old.spaces + page_of size =
-          ap (λ (s : Store). total (λ (x : Space). length x.bytes) s.spaces) now
-          ∙ total-insert_new (λ (x : Space). length x.bytes) old.spaces ds _ fresh
-          ∙ ap (λ n. total (λ (x : Space). length x.bytes) old.spaces + n) (length-zeros (page_of size)) in
+      ap (λ (s : Store). total (λ (x : Space). length x.bytes) s.spaces) now
+      ∙ total-insert_new (λ (x : Space). length x.bytes) old.spaces ds _ fresh
+      ∙ ap (λ n. total (λ (x : Space). length x.bytes) old.spaces + n) (length-zeros (page_of size)) in
       let limits = limits_then.1 in
       let machine = maps.pages in
       let most = maps.most in

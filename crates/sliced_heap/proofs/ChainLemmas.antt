@@ -1,5 +1,5 @@
 -- A chain after a block is put before it, and after one is taken out.
-use Rattle.std.proofs.Common.{◌≡◌, ◌≢◌, ◌<◌, ◌+◌, ◌==◌, ℕ, Bool, true, false, cond, eqb, ◌||◌, ◌&&◌, not, List, [], ◌∷◌, ◌++◌, refl, sym, ap, ◌∙◌, ⊎_elim, true≢false, arith}
+use Rattle.std.proofs.Common.{◌≡◌, ◌≢◌, ℕ, true, false, cond, eqb, List, [], ◌∷◌, refl, sym, ap, ◌∙◌, ⊎_elim, true≢false, arith}
 use Rattle.std.proofs.lemmas.Bool.{cases_eq}
 use Rattle.std.proofs.lemmas.Bool.Decides.{nat_tests}
 use Rattle.sliced_heap.specs.Chain.{link_to, is_listed, has_no_repeat, Linked, IsChain, taken_out}
@@ -35,13 +35,13 @@ pub listed_before : (block b : ℕ) (xs : List ℕ) → is_listed (taken_out blo
 listed_before block b [] there = there
 listed_before block b (x ∷ xs) there = ⊎_elim
     (λ (same : x ≡ block). let e : eqb x block ≡ true = grind (arith, nat_tests) in
-        listed_later x b xs (sym (ap (λ t. is_listed (cond t xs (x ∷ taken_out block xs)) b) e) ∙ there))
+    listed_later x b xs (sym (ap (λ t. is_listed (cond t xs (x ∷ taken_out block xs)) b) e) ∙ there))
     (λ (apart : x ≢ block). let e : eqb x block ≡ false = grind (arith, nat_tests) in
-        let h : is_listed (x ∷ taken_out block xs) b ≡ true = sym (ap (λ t. is_listed (cond t xs (x ∷ taken_out block xs)) b) e) ∙ there in
-        ⊎_elim
-        (λ (here : b ≡ x). rw here (listed_first x xs))
-        (λ (other : b ≢ x). listed_later x b xs (listed_before block b xs (grind (arith, nat_tests))))
-        (cases_eq b x))
+    let h : is_listed (x ∷ taken_out block xs) b ≡ true = sym (ap (λ t. is_listed (cond t xs (x ∷ taken_out block xs)) b) e) ∙ there in
+    ⊎_elim
+    (λ (here : b ≡ x). rw here (listed_first x xs))
+    (λ (other : b ≢ x). listed_later x b xs (listed_before block b xs (grind (arith, nat_tests))))
+    (cases_eq b x))
     (cases_eq x block)
 
 module _ (next previous new_next new_previous : ℕ → ℕ) where
@@ -58,7 +58,7 @@ module _ (next previous new_next new_previous : ℕ → ℕ) where
   linked_behind (x ∷ xs) before new_before link once ahead back h =
       let first : new_previous x ≡ new_before = let e = back x (listed_first x xs) in let l = h.0 in grind (arith, nat_tests) in
       let kept : (b : ℕ) → is_listed xs b ≡ true → new_previous b ≡ previous b =
-          λ b t. let e = back b (listed_later x b xs t) in let apart = unlisted xs x b (once_first x xs once) t in let l = h.0 in grind (arith, nat_tests) in
+      λ b t. let e = back b (listed_later x b xs t) in let apart = unlisted xs x b (once_first x xs once) t in let l = h.0 in grind (arith, nat_tests) in
       let rest = linked_kept xs (link_to x) (next x) (λ b t. ahead b (listed_later x b xs t)) kept h.1.1 in
       (h.0, (first, rw (ahead x (listed_first x xs)) rest))
 
@@ -96,10 +96,10 @@ module _ (next previous new_next new_previous : ℕ → ℕ) (block : ℕ) where
   once_without (x ∷ xs) once = ⊎_elim
       (λ (same : x ≡ block). let e : eqb x block ≡ true = grind (arith, nat_tests) in ap (λ t. has_no_repeat (cond t xs (x ∷ taken_out block xs))) e ∙ once_later x xs once)
       (λ (apart : x ≢ block).
-          let e : eqb x block ≡ false = grind (arith, nat_tests) in
-          let rest = once_without xs (once_later x xs once) in
-          let free : is_listed (taken_out block xs) x ≡ false = not_listed _ x (λ t. true≢false (sym (listed_before block x xs t) ∙ once_first x xs once)) in
-          ap (λ t. has_no_repeat (cond t xs (x ∷ taken_out block xs))) e ∙ grind (arith, nat_tests))
+      let e : eqb x block ≡ false = grind (arith, nat_tests) in
+      let rest = once_without xs (once_later x xs once) in
+      let free : is_listed (taken_out block xs) x ≡ false = not_listed _ x (λ t. true≢false (sym (listed_before block x xs t) ∙ once_first x xs once)) in
+      ap (λ t. has_no_repeat (cond t xs (x ∷ taken_out block xs))) e ∙ grind (arith, nat_tests))
       (cases_eq x block)
 
   -- its neighbours are linked to each other in its place
@@ -107,30 +107,30 @@ module _ (next previous new_next new_previous : ℕ → ℕ) (block : ℕ) where
   linked_without [] before link there once apart ahead back h = absurd (true≢false (sym there))
   linked_without (x ∷ xs) before link there once apart ahead back h = ⊎_elim
       (λ (same : x ≡ block).
-          let e : eqb x block ≡ true = grind (arith, nat_tests) in
-          let out : taken_out block (x ∷ xs) ≡ xs = ap (λ t. cond t xs (x ∷ taken_out block xs)) e in
-          let p : previous block ≡ before = ap previous (sym same) ∙ h.1.0 in
-          let t : eqb before (previous block) ≡ true = grind (arith, nat_tests) in
-          let rest : Linked next previous (link_to x) (next block) xs = rw (ap next (sym same)) h.1.1 in
-          rw (t, out) (linked_behind next previous new_next new_previous xs (link_to x) before (next block) (once_later x xs once)
-            (λ b l. let a = ahead b (rw out l) in let q = apart b (listed_later x b xs l) in grind (arith, nat_tests))
-            (λ b l. let a = back b (rw out l) in grind (arith, nat_tests))
-            rest))
+      let e : eqb x block ≡ true = grind (arith, nat_tests) in
+      let out : taken_out block (x ∷ xs) ≡ xs = ap (λ t. cond t xs (x ∷ taken_out block xs)) e in
+      let p : previous block ≡ before = ap previous (sym same) ∙ h.1.0 in
+      let t : eqb before (previous block) ≡ true = grind (arith, nat_tests) in
+      let rest : Linked next previous (link_to x) (next block) xs = rw (ap next (sym same)) h.1.1 in
+      rw (t, out) (linked_behind next previous new_next new_previous xs (link_to x) before (next block) (once_later x xs once)
+      (λ b l. let a = ahead b (rw out l) in let q = apart b (listed_later x b xs l) in grind (arith, nat_tests))
+      (λ b l. let a = back b (rw out l) in grind (arith, nat_tests))
+      rest))
       (λ (other : x ≢ block).
-          let e : eqb x block ≡ false = grind (arith, nat_tests) in
-          let out : taken_out block (x ∷ xs) ≡ x ∷ taken_out block xs = ap (λ t. cond t xs (x ∷ taken_out block xs)) e in
-          let later : is_listed xs block ≡ true = grind (arith, nat_tests) in
-          let x_once = once_first x xs once in
-          let not_first : previous block ≢ before = back_apart next previous block xs (link_to x) (next x) before later (apart x (listed_first x xs)) (λ b t. apart b (listed_later x b xs t)) h.1.1 in
-          let not_next : link_to x ≢ next block = ahead_apart next previous block xs (link_to x) (next x) x later x_once h.1.1 in
-          let keep : (b : ℕ) → is_listed (taken_out block xs) b ≡ true → is_listed (taken_out block (x ∷ xs)) b ≡ true = λ b t. rw out (listed_later x b (taken_out block xs) t) in
-          let first : is_listed (taken_out block (x ∷ xs)) x ≡ true = rw out (listed_first x (taken_out block xs)) in
-          let rest = linked_without xs (link_to x) (next x) later (once_later x xs once)
-            (λ b t l. true≢false (sym (listed_here b x xs (omega (arith, l)) t) ∙ x_once))
-            (λ b t. ahead b (keep b t)) (λ b t. back b (keep b t)) h.1.1 in
-          let u : eqb before (previous block) ≡ false = grind (arith, nat_tests) in
-          let begins : new_previous x ≡ before = let b = back x first in let l = h.1.0 in grind (arith, nat_tests) in
-          rw (u, out) (h.0, (begins, rw (ahead x first) rest)))
+      let e : eqb x block ≡ false = grind (arith, nat_tests) in
+      let out : taken_out block (x ∷ xs) ≡ x ∷ taken_out block xs = ap (λ t. cond t xs (x ∷ taken_out block xs)) e in
+      let later : is_listed xs block ≡ true = grind (arith, nat_tests) in
+      let x_once = once_first x xs once in
+      let not_first : previous block ≢ before = back_apart next previous block xs (link_to x) (next x) before later (apart x (listed_first x xs)) (λ b t. apart b (listed_later x b xs t)) h.1.1 in
+      let not_next : link_to x ≢ next block = ahead_apart next previous block xs (link_to x) (next x) x later x_once h.1.1 in
+      let keep : (b : ℕ) → is_listed (taken_out block xs) b ≡ true → is_listed (taken_out block (x ∷ xs)) b ≡ true = λ b t. rw out (listed_later x b (taken_out block xs) t) in
+      let first : is_listed (taken_out block (x ∷ xs)) x ≡ true = rw out (listed_first x (taken_out block xs)) in
+      let rest = linked_without xs (link_to x) (next x) later (once_later x xs once)
+      (λ b t l. true≢false (sym (listed_here b x xs (omega (arith, l)) t) ∙ x_once))
+      (λ b t. ahead b (keep b t)) (λ b t. back b (keep b t)) h.1.1 in
+      let u : eqb before (previous block) ≡ false = grind (arith, nat_tests) in
+      let begins : new_previous x ≡ before = let b = back x first in let l = h.1.0 in grind (arith, nat_tests) in
+      rw (u, out) (h.0, (begins, rw (ahead x first) rest)))
       (cases_eq x block)
 
 -- what is listed beside a block stays listed without it
@@ -138,12 +138,12 @@ pub still_listed : (block b : ℕ) (xs : List ℕ) → b ≢ block → is_listed
 still_listed block b [] apart there = there
 still_listed block b (x ∷ xs) apart there = ⊎_elim
     (λ (same : x ≡ block). let e : eqb x block ≡ true = grind (arith, nat_tests) in
-        ap (λ t. is_listed (cond t xs (x ∷ taken_out block xs)) b) e ∙ grind (arith, nat_tests))
+    ap (λ t. is_listed (cond t xs (x ∷ taken_out block xs)) b) e ∙ grind (arith, nat_tests))
     (λ (other : x ≢ block). let e : eqb x block ≡ false = grind (arith, nat_tests) in
-        ap (λ t. is_listed (cond t xs (x ∷ taken_out block xs)) b) e ∙ ⊎_elim
-        (λ (here : b ≡ x). rw here (listed_first x (taken_out block xs)))
-        (λ (later : b ≢ x). listed_later x b (taken_out block xs) (still_listed block b xs apart (grind (arith, nat_tests))))
-        (cases_eq b x))
+    ap (λ t. is_listed (cond t xs (x ∷ taken_out block xs)) b) e ∙ ⊎_elim
+    (λ (here : b ≡ x). rw here (listed_first x (taken_out block xs)))
+    (λ (later : b ≢ x). listed_later x b (taken_out block xs) (still_listed block b xs apart (grind (arith, nat_tests))))
+    (cases_eq b x))
     (cases_eq x block)
 
 -- a block that came once isn't listed without it
@@ -151,8 +151,8 @@ pub gone_from : (block : ℕ) (xs : List ℕ) → has_no_repeat xs ≡ true → 
 gone_from block [] once = refl
 gone_from block (x ∷ xs) once = ⊎_elim
     (λ (same : x ≡ block). let e : eqb x block ≡ true = grind (arith, nat_tests) in
-        ap (λ t. is_listed (cond t xs (x ∷ taken_out block xs)) block) e ∙ rw (← same) (once_first x xs once))
+    ap (λ t. is_listed (cond t xs (x ∷ taken_out block xs)) block) e ∙ rw (← same) (once_first x xs once))
     (λ (other : x ≢ block). let e : eqb x block ≡ false = grind (arith, nat_tests) in
-        let rest = gone_from block xs (once_later x xs once) in
-        ap (λ t. is_listed (cond t xs (x ∷ taken_out block xs)) block) e ∙ grind (arith, nat_tests))
+    let rest = gone_from block xs (once_later x xs once) in
+    ap (λ t. is_listed (cond t xs (x ∷ taken_out block xs)) block) e ∙ grind (arith, nat_tests))
     (cases_eq x block)

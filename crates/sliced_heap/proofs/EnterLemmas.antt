@@ -1,24 +1,24 @@
 -- A dataspace is entered as the first block.
-use Rattle.std.proofs.Common.{◌≡◌, ◌≢◌, ◌<◌, ◌≤◌, ◌+◌, ◌*◌, ◌^◌, ℕ, Bool, true, false, cond, eqb, ◌||◌, List, [], ◌∷◌, drop, length, Some, IsSome, is_some, refl, sym, ap, subst, ◌∙◌, ⊎_elim, true≢false, unwrap_or, arith}
+use Rattle.std.proofs.Common.{◌≡◌, ◌≢◌, ◌<◌, ◌+◌, ◌^◌, ℕ, true, false, cond, eqb, ◌||◌, List, [], ◌∷◌, drop, length, Some, is_some, refl, sym, ap, subst, ◌∙◌, ⊎_elim, true≢false, unwrap_or, arith}
 use Rattle.std.proofs.lemmas.Bool.{cases_eq}
 use Rattle.std.proofs.lemmas.Bool.Decides.{nat_tests}
 use Rattle.std.proofs.lemmas.Option.{none-some, same_Some}
 use Rattle.std.specs.Prelude.{Option, None}
 use Rattle.std.specs.Option.{option_map, option_and_then}
-use Rattle.std.specs.FinMap.{get, insert, len}
-use Rattle.own_model.specs.NatMap.{NatMap, picked}
+use Rattle.std.specs.FinMap.{get, insert}
+use Rattle.own_model.specs.NatMap.{NatMap}
 use Rattle.own_model.specs.Region.{Region, IsFirstGap}
 use Rattle.own_model.specs.Sliced.{sliced_header as header}
 use Rattle.own_model.specs.HeapWindow.{heap_low, heap_high, heap_gap, largest_machine}
 use Rattle.own_model.proofs.NatMapLemmas.{get-picked, get-insert_same, get-insert_other}
 use Rattle.own_model.proofs.RegionLemmas.{first_gap_least}
 use Rattle.region_map.specs.Regions.{Regions, heap_attached}
-use Rattle.dataspace_core.specs.Store.{Store, Part, part, bytes_of, account_in, IsOpenIn, PartBecomes}
-use Rattle.dataspace_core.specs.Share.{Share, IsShown, share_in, shown, tags_of}
+use Rattle.dataspace_core.specs.Store.{Store, Part, part, account_in, IsOpenIn, PartBecomes}
+use Rattle.dataspace_core.specs.Share.{Share, IsShown, share_in, shown}
 use Rattle.dataspace_core.proofs.ShareLaws.{share_attached, share_attached_other, nothing_shown}
 use Rattle.sliced_heap.specs.Chain.{link_to, is_listed}
-use Rattle.sliced_heap.specs.Sliced.{sliced_tag, sliced_regions, sliced_of, HasHeader, IsLinked, HeadersChange, PutFirst}
-use Rattle.sliced_heap.specs.Heap.{share_at, blocks_at, MapsMemory, IsNoBlock, KeepsOthers, CanEnter, Enters}
+use Rattle.sliced_heap.specs.Sliced.{sliced_tag, sliced_of, HasHeader, IsLinked, HeadersChange, PutFirst}
+use Rattle.sliced_heap.specs.Heap.{share_at, blocks_at, MapsMemory, KeepsOthers, CanEnter, Enters}
 use Rattle.sliced_heap.proofs.LinkedLemmas.{sliced_is_region, no_block_unlisted, first_is_listed, stands_header, put_linked, put_payloads}
 use Rattle.sliced_heap.proofs.WindowLemmas.{in_no_other, shown_of_part, shown_after, account_after, own_account}
 use Rattle.sliced_heap.proofs.HeaderLemmas.{length_some}
@@ -113,12 +113,12 @@ module _ (account first ds pages : ℕ) (old : Store) (regions : Regions) (opens
     shown_then : (s : ℕ) (r : Region) → get after.heap s ≡ Some r → IsShown new.spaces r
     shown_then s r h = ⊎_elim
         (λ (here : s ≡ start).
-            let is = same_Some region r (sym (get-insert_same regions.heap start region s here) ∙ h) in
-            let now = length_some (get (part account new).spaces ds) (length can.bytes) (headers.lengths ds ∙ ap (option_map length) can.there) in
-            subst (IsShown new.spaces) is (shown_of_part account new region now.0 now.1 can.some (now.2 ∙ can.whole)))
+        let is = same_Some region r (sym (get-insert_same regions.heap start region s here) ∙ h) in
+        let now = length_some (get (part account new).spaces ds) (length can.bytes) (headers.lengths ds ∙ ap (option_map length) can.there) in
+        subst (IsShown new.spaces) is (shown_of_part account new region now.0 now.1 can.some (now.2 ∙ can.whole)))
         (λ (other : s ≢ start).
-            shown_after account (part account new) old new becomes r (λ bytes has. headers.lengths r.of ∙ ap (option_map length) has)
-            (maps.shown s r (sym (get-insert_other regions.heap start region s other) ∙ h)))
+        shown_after account (part account new) old new becomes r (λ bytes has. headers.lengths r.of ∙ ap (option_map length) has)
+        (maps.shown s r (sym (get-insert_other regions.heap start region s other) ∙ h)))
         (cases_eq s start)
 
     -- what a region that isn't the new one was
@@ -132,13 +132,13 @@ module _ (account first ds pages : ℕ) (old : Store) (regions : Regions) (opens
     once_then : (s t : ℕ) (r q : Region) → get after.heap s ≡ Some r → get after.heap t ≡ Some q → r.of ≡ q.of → s ≡ t
     once_then s t r q h g e = ⊎_elim
         (λ (here : s ≡ start). ⊎_elim
-          (λ (there : t ≡ start). here ∙ sym there)
-          (λ (other : t ≢ start). absurd (can.unshown t q (was_there t q other g) (sym e ∙ of_new s r here h)))
-          (cases_eq t start))
+        (λ (there : t ≡ start). here ∙ sym there)
+        (λ (other : t ≢ start). absurd (can.unshown t q (was_there t q other g) (sym e ∙ of_new s r here h)))
+        (cases_eq t start))
         (λ (other : s ≢ start). ⊎_elim
-          (λ (there : t ≡ start). absurd (can.unshown s r (was_there s r other h) (e ∙ of_new t q there g)))
-          (λ (also : t ≢ start). maps.once s t r q (was_there s r other h) (was_there t q also g) e)
-          (cases_eq t start))
+        (λ (there : t ≡ start). absurd (can.unshown s r (was_there s r other h) (e ∙ of_new t q there g)))
+        (λ (also : t ≢ start). maps.once s t r q (was_there s r other h) (was_there t q also g) e)
+        (cases_eq t start))
         (cases_eq s start)
 
     -- the account stays as it is

@@ -1,11 +1,11 @@
 -- Headers after the stores that put a block first, and after those that take one out.
-use Rattle.std.proofs.Common.{◌≡◌, ◌≢◌, ◌+◌, ◌-◌, ◌==◌, ◌≤◌, ℕ, Bool, true, false, cond, eqb, ◌⊎◌, List, [], ◌∷◌, refl, sym, ap, ◌∙◌, ⊎_elim, inl, inr, arith}
+use Rattle.std.proofs.Common.{◌≡◌, ◌≢◌, ◌+◌, ◌-◌, ◌≤◌, ℕ, true, false, cond, eqb, List, [], ◌∷◌, refl, ap, ◌∙◌, ⊎_elim, inl, inr, arith}
 use Rattle.std.proofs.lemmas.Bool.{cases_eq}
 use Rattle.std.proofs.lemmas.Bool.Decides.{nat_tests}
 use Rattle.dataspace_core.specs.Store.{Part}
 use Rattle.sliced_heap.specs.Chain.{link_to, is_listed}
-use Rattle.sliced_heap.specs.Sliced.{word_at, next_in, previous_in, start_in, HeadersChange, IsStored, LinkedBack, LinkedAhead, PutFirst, TakenOut}
-use Rattle.sliced_heap.proofs.HeaderLemmas.{headers_wider, headers_then, one_listed}
+use Rattle.sliced_heap.specs.Sliced.{word_at, next_in, previous_in, HeadersChange, IsStored, LinkedBack, LinkedAhead, PutFirst, TakenOut}
+use Rattle.sliced_heap.proofs.HeaderLemmas.{headers_wider, one_listed}
 
 -- a store in a listed block changes headers of the list
 pub stored_in : (blocks : List ℕ) (ds offset word : ℕ) (p q : Part) → is_listed blocks ds ≡ true → IsStored ds offset word p q → HeadersChange blocks p q

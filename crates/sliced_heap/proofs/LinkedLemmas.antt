@@ -1,5 +1,5 @@
 -- The blocks of a share when a block is put first, and when one is taken out.
-use Rattle.std.proofs.Common.{◌≡◌, ◌≢◌, ◌<◌, ◌≤◌, ◌+◌, ◌*◌, ◌==◌, ℕ, Bool, true, false, cond, eqb, List, [], ◌∷◌, drop, length, refl, sym, ap, subst, ◌∙◌, ⊎_elim, true≢false, is_some, IsSome, arith}
+use Rattle.std.proofs.Common.{◌≡◌, ◌≢◌, ◌≤◌, ◌+◌, ◌*◌, ◌==◌, ℕ, Bool, true, false, cond, List, [], ◌∷◌, drop, length, refl, sym, ap, subst, ◌∙◌, ⊎_elim, true≢false, arith}
 use Rattle.std.proofs.lemmas.Bool.{cases_eq}
 use Rattle.std.proofs.lemmas.Bool.Decides.{nat_tests}
 use Rattle.std.proofs.lemmas.Option.{none-some, same_Some}
@@ -11,9 +11,9 @@ use Rattle.own_model.specs.NatMap.{NatMap, picked}
 use Rattle.own_model.specs.Region.{Region}
 use Rattle.own_model.specs.Moved.{moved_up}
 use Rattle.own_model.specs.Sliced.{sliced_header as header}
-use Rattle.own_model.proofs.NatMapLemmas.{same, natmaps, get-picked, get-insert_same, get-insert_other, get-remove_same, get-remove_other}
+use Rattle.own_model.proofs.NatMapLemmas.{same, get-picked, get-insert_same, get-insert_other, get-remove_same, get-remove_other}
 use Rattle.own_model.proofs.MovedLemmas.{moved_up-insert, moved_up-remove}
-use Rattle.dataspace_core.specs.Store.{Part, bytes_of}
+use Rattle.dataspace_core.specs.Store.{Part}
 use Rattle.dataspace_core.specs.Share.{Share}
 use Rattle.sliced_heap.specs.Chain.{link_to, is_listed, taken_out, IsChain}
 use Rattle.sliced_heap.specs.Sliced.{sliced_tag, is_sliced_tag, sliced_regions, payload_of, sliced_of, word_at, next_in, previous_in, start_in, HasHeader, Stands, IsLinked, HeadersChange, PutFirst, TakenOut}
@@ -66,15 +66,20 @@ module _ (S : Share) (first : ℕ) (new : Part) (linked : IsLinked S first) (ali
     blocks = linked.blocks;
     chain = record {
       linked = linked_kept (next_in S.part) (previous_in S.part) (next_in new) (previous_in new) linked.blocks 0 first
-        (λ b t. word_same S.part new 0 b (block_alike b t)) (λ b t. word_same S.part new 8 b (block_alike b t)) linked.chain.linked;
+          (λ b t. word_same S.part new 0 b (block_alike b t)) (λ b t. word_same S.part new 8 b (block_alike b t)) linked.chain.linked;
       once = linked.chain.once;
     };
     stands = λ b t.
         let s = linked.stands b t in
         let at = word_same S.part new 16 b (block_alike b t) in
         record {
-          bytes = s.bytes; pages = s.pages; there = block_alike b t ∙ s.there; some = s.some; whole = s.whole;
-          region = ap (get S.heap) at ∙ s.region; tag = ap (get S.tags) at ∙ s.tag;
+          bytes = s.bytes;
+          pages = s.pages;
+          there = block_alike b t ∙ s.there;
+          some = s.some;
+          whole = s.whole;
+          region = ap (get S.heap) at ∙ s.region;
+          tag = ap (get S.tags) at ∙ s.tag;
         };
     all = λ s r h. let was = linked.all s r h in (was.0, word_same S.part new 16 r.of (block_alike r.of was.0) ∙ was.1);
   }
@@ -165,24 +170,24 @@ module _ (S : Share) (first ds start pages : ℕ) (q : Part) (bytes : List ℕ) 
   put_linked = record {
     blocks = ds ∷ linked.blocks;
     chain = chain_pushed (next_in S.part) (previous_in S.part) (next_in q) (previous_in q) first ds linked.blocks
-      unlisted put.leads put.begins
-      (λ b t. put.others_next b (apart b t))
-      (λ b t. put.others_previous b (apart b t))
-      linked.chain;
+        unlisted put.leads put.begins
+        (λ b t. put.others_next b (apart b t))
+        (λ b t. put.others_previous b (apart b t))
+        linked.chain;
     stands = λ b t. ⊎_elim
-      (λ (same_block : b ≡ ds). subst (Stands after_put) (sym same_block) first_stands)
-      (λ (other : b ≢ ds). others_stand b (grind (arith, nat_tests)))
-      (cases_eq b ds);
+        (λ (same_block : b ≡ ds). subst (Stands after_put) (sym same_block) first_stands)
+        (λ (other : b ≢ ds). others_stand b (grind (arith, nat_tests)))
+        (cases_eq b ds);
     all = λ s r h. ⊎_elim
-      (λ (here : s ≡ start).
-          let is = same_Some _ r (sym (get-insert_same S.heap start (record { of = ds; pages = pages }) s here) ∙ sliced_is_region _ _ s r h) in
-          let of_ds : r.of ≡ ds = ap (λ (x : Region). x.of) (sym is) in
-          (rw of_ds (grind (arith, nat_tests)), ap (start_in q) of_ds ∙ put.starts ∙ sym here))
-      (λ (other : s ≢ start).
-          let was = linked.all s r (sym (sliced_alike _ S.heap _ S.tags s (get-insert_other S.heap start _ s other) (get-insert_other S.tags start _ s other)) ∙ h) in
-          let beside = apart r.of was.0 in
-          (let t = was.0 in grind (arith, nat_tests), put.others_start r.of beside ∙ was.1))
-      (cases_eq s start);
+        (λ (here : s ≡ start).
+        let is = same_Some _ r (sym (get-insert_same S.heap start (record { of = ds; pages = pages }) s here) ∙ sliced_is_region _ _ s r h) in
+        let of_ds : r.of ≡ ds = ap (λ (x : Region). x.of) (sym is) in
+        (rw of_ds (grind (arith, nat_tests)), ap (start_in q) of_ds ∙ put.starts ∙ sym here))
+        (λ (other : s ≢ start).
+        let was = linked.all s r (sym (sliced_alike _ S.heap _ S.tags s (get-insert_other S.heap start _ s other) (get-insert_other S.tags start _ s other)) ∙ h) in
+        let beside = apart r.of was.0 in
+        (let t = was.0 in grind (arith, nat_tests), put.others_start r.of beside ∙ was.1))
+        (cases_eq s start);
   }
 
   -- the payload of a region is what it was
@@ -194,16 +199,16 @@ module _ (S : Share) (first ds start pages : ℕ) (q : Part) (bytes : List ℕ) 
   payload_at : (s : ℕ) → get (picked (payload_of q.spaces) (sliced_regions (insert S.heap start (record { of = ds; pages = pages })) (insert S.tags start sliced_tag))) s ≡ get (insert (picked (payload_of S.part.spaces) (sliced_regions S.heap S.tags)) start (drop header bytes)) s
   payload_at s = ⊎_elim
       (λ (here : s ≡ start).
-          get-picked (payload_of q.spaces) _ s
-          ∙ ap (option_and_then (payload_of q.spaces)) (get-sliced_regions _ _ s ∙ ap (λ o. cond (is_sliced_tag o) (get (insert S.heap start (record { of = ds; pages = pages })) s) None) (get-insert_same S.tags start sliced_tag s here) ∙ get-insert_same S.heap start _ s here)
-          ∙ headers.payloads ds ∙ ap (option_map (drop header)) there
-          ∙ sym (get-insert_same _ start (drop header bytes) s here))
+      get-picked (payload_of q.spaces) _ s
+      ∙ ap (option_and_then (payload_of q.spaces)) (get-sliced_regions _ _ s ∙ ap (λ o. cond (is_sliced_tag o) (get (insert S.heap start (record { of = ds; pages = pages })) s) None) (get-insert_same S.tags start sliced_tag s here) ∙ get-insert_same S.heap start _ s here)
+      ∙ headers.payloads ds ∙ ap (option_map (drop header)) there
+      ∙ sym (get-insert_same _ start (drop header bytes) s here))
       (λ (other : s ≢ start).
-          get-picked (payload_of q.spaces) _ s
-          ∙ ap (option_and_then (payload_of q.spaces)) (sliced_alike _ S.heap _ S.tags s (get-insert_other S.heap start _ s other) (get-insert_other S.tags start _ s other))
-          ∙ each_payload (get (sliced_regions S.heap S.tags) s)
-          ∙ sym (get-picked (payload_of S.part.spaces) _ s)
-          ∙ sym (get-insert_other _ start (drop header bytes) s other))
+      get-picked (payload_of q.spaces) _ s
+      ∙ ap (option_and_then (payload_of q.spaces)) (sliced_alike _ S.heap _ S.tags s (get-insert_other S.heap start _ s other) (get-insert_other S.tags start _ s other))
+      ∙ each_payload (get (sliced_regions S.heap S.tags) s)
+      ∙ sym (get-picked (payload_of S.part.spaces) _ s)
+      ∙ sym (get-insert_other _ start (drop header bytes) s other))
       (cases_eq s start)
 
   -- so all are
@@ -272,10 +277,10 @@ module _ (S : Share) (first ds start : ℕ) (q after : Part) (linked : IsLinked 
     blocks = taken_out ds linked.blocks;
     chain = record {
       linked = linked_without (next_in S.part) (previous_in S.part) (next_in after) (previous_in after) ds linked.blocks 0 first listed linked.chain.once
-        (λ b t. omega arith)
-        (λ b t. word_same q after 0 b (others b (left_apart b t)) ∙ out.others_next b (left_apart b t))
-        (λ b t. word_same q after 8 b (others b (left_apart b t)) ∙ out.others_previous b (left_apart b t))
-        linked.chain.linked;
+          (λ b t. omega arith)
+          (λ b t. word_same q after 0 b (others b (left_apart b t)) ∙ out.others_next b (left_apart b t))
+          (λ b t. word_same q after 8 b (others b (left_apart b t)) ∙ out.others_previous b (left_apart b t))
+          linked.chain.linked;
       once = once_without (next_in S.part) (previous_in S.part) (next_in after) (previous_in after) ds linked.blocks linked.chain.once;
     };
     stands = left_stand;
@@ -295,15 +300,15 @@ module _ (S : Share) (first ds start : ℕ) (q after : Part) (linked : IsLinked 
   left_payload_at : (s : ℕ) → get (picked (payload_of after.spaces) (sliced_regions (remove S.heap start) (remove S.tags start))) s ≡ get (remove (picked (payload_of S.part.spaces) (sliced_regions S.heap S.tags)) start) s
   left_payload_at s = ⊎_elim
       (λ (here : s ≡ start).
-          get-picked (payload_of after.spaces) _ s
-          ∙ ap (option_and_then (payload_of after.spaces)) (get-sliced_regions _ _ s ∙ ap (λ o. cond (is_sliced_tag o) (get (remove S.heap start) s) None) (get-remove_same S.tags start s here))
-          ∙ sym (get-remove_same _ start s here))
+      get-picked (payload_of after.spaces) _ s
+      ∙ ap (option_and_then (payload_of after.spaces)) (get-sliced_regions _ _ s ∙ ap (λ o. cond (is_sliced_tag o) (get (remove S.heap start) s) None) (get-remove_same S.tags start s here))
+      ∙ sym (get-remove_same _ start s here))
       (λ (other : s ≢ start).
-          get-picked (payload_of after.spaces) _ s
-          ∙ ap (option_and_then (payload_of after.spaces)) (sliced_alike _ S.heap _ S.tags s (get-remove_other S.heap start s other) (get-remove_other S.tags start s other))
-          ∙ left_payload (get (sliced_regions S.heap S.tags) s) (λ r h. region_apart s r other h)
-          ∙ sym (get-picked (payload_of S.part.spaces) _ s)
-          ∙ sym (get-remove_other _ start s other))
+      get-picked (payload_of after.spaces) _ s
+      ∙ ap (option_and_then (payload_of after.spaces)) (sliced_alike _ S.heap _ S.tags s (get-remove_other S.heap start s other) (get-remove_other S.tags start s other))
+      ∙ left_payload (get (sliced_regions S.heap S.tags) s) (λ r h. region_apart s r other h)
+      ∙ sym (get-picked (payload_of S.part.spaces) _ s)
+      ∙ sym (get-remove_other _ start s other))
       (cases_eq s start)
 
   -- so the block's payload is gone, and no other

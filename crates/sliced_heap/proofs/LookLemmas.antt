@@ -1,27 +1,22 @@
 -- Which block holds an address.
-use Rattle.std.proofs.Common.{◌≡◌, ◌≢◌, ◌<◌, ◌≤◌, ◌+◌, ◌-◌, ◌*◌, ℕ, Bool, true, false, cond, eqb, ◌&&◌, List, drop, length, Some, IsSome, is_some, refl, sym, ap, subst, ◌∙◌, ⊎_elim, true≢false, arith}
-use Rattle.std.proofs.lemmas.Bool.{cases_eq, cases_lt}
+use Rattle.std.proofs.Common.{◌≡◌, ◌≢◌, ℕ, true, false, cond, eqb, List, Some, IsSome, is_some, refl, sym, ap, subst, ◌∙◌, ⊎_elim, true≢false, arith}
+use Rattle.std.proofs.lemmas.Bool.{cases_eq}
 use Rattle.std.proofs.lemmas.Bool.Decides.{nat_tests}
 use Rattle.std.proofs.lemmas.Option.{none-some, same_Some}
 use Rattle.std.specs.Prelude.{Option, None}
 use Rattle.std.specs.Option.{option_map, option_and_then}
-use Rattle.std.specs.List.{find}
-use Rattle.std.specs.FinMap.{get, entries}
-use Rattle.own_model.specs.NatMap.{NatMap, picked}
-use Rattle.own_model.specs.Region.{Region, overlap, holds, region_at}
-use Rattle.own_model.specs.Sliced.{sliced_header as header, holds_in_payload, block_found}
+use Rattle.std.specs.FinMap.{get}
+use Rattle.own_model.specs.NatMap.{NatMap}
+use Rattle.own_model.specs.Region.{Region, holds, region_at}
 use Rattle.own_model.proofs.NatMapLemmas.{get-picked}
-use Rattle.own_model.proofs.MovedLemmas.{get-moved_up, get-moved_up_below}
-use Rattle.own_model.proofs.EntryLemmas.{found_in_map, not_found_in_map, finds_in_map, finds_none_in_map}
+use Rattle.own_model.proofs.EntryLemmas.{found_in_map, not_found_in_map}
 use Rattle.region_map.specs.Regions.{Regions, AreSound, heap_found}
-use Rattle.dataspace_core.specs.Store.{Store, Part, part}
-use Rattle.dataspace_core.specs.Share.{Share, share_in, shown, tags_of}
+use Rattle.dataspace_core.specs.Store.{Store, part}
+use Rattle.dataspace_core.specs.Share.{share_in, shown}
 use Rattle.dataspace_core.proofs.ShareLaws.{get-tags_of}
-use Rattle.sliced_heap.specs.Sliced.{sliced_tag, is_sliced_tag, sliced_regions, payload_of, sliced_of, Stands, IsLinked}
-use Rattle.sliced_heap.specs.Heap.{share_at, MapsMemory, HoldsAddress, NoneHolds, HoldsRange}
-use Rattle.sliced_heap.proofs.EnterLemmas.{shown_in_map}
-use Rattle.sliced_heap.proofs.LinkedLemmas.{get-sliced_regions, sliced_is_region}
-use Rattle.sliced_heap.proofs.WindowLemmas.{in_part, in_memory}
+use Rattle.sliced_heap.specs.Sliced.{sliced_tag, is_sliced_tag, sliced_regions}
+use Rattle.sliced_heap.specs.Heap.{share_at}
+use Rattle.sliced_heap.proofs.LinkedLemmas.{get-sliced_regions}
 
 -- ---- what the map finds
 
@@ -53,9 +48,9 @@ numbered-map a b (Some t) = refl
 
 heap_found-of_region : (regions : Regions) (address : ℕ) → heap_found regions address ≡ of_region regions.tags (region_at regions.heap address 1)
 heap_found-of_region regions address = elim (region_at regions.heap address 1) as (λ o. option_and_then {U = ℕ × ℕ × ℕ} (λ e. option_map (λ tag. (e.0, e.1.of, tag)) (get regions.tags e.0)) o ≡ of_region regions.tags o) [
-    | None ↦ refl
-    | Some e ↦ numbered-map e.0 e.1.of (get regions.tags e.0)
-  ]
+  | None ↦ refl
+  | Some e ↦ numbered-map e.0 e.1.of (get regions.tags e.0)
+]
 
 -- a region that the map finds at an address is there, with its number, and holds it
 pub found_parts : (regions : Regions) (address start of tag : ℕ) → heap_found regions address ≡ Some (start, of, tag) →

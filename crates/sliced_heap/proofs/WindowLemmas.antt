@@ -1,16 +1,16 @@
 -- What a map shows of a memory after a call for one account.
-use Rattle.std.proofs.Common.{◌≡◌, ◌≢◌, ◌≤◌, ◌*◌, ℕ, List, length, Some, IsSome, is_some, refl, sym, ap, subst, ◌∙◌, ⊎_elim, unwrap_or}
+use Rattle.std.proofs.Common.{◌≡◌, ◌≢◌, ◌≤◌, ◌*◌, ℕ, List, length, Some, is_some, refl, sym, ap, subst, ◌∙◌, ⊎_elim, unwrap_or}
 use Rattle.std.proofs.lemmas.Bool.{cases_eq}
-use Rattle.std.proofs.lemmas.Option.{none-some, same_Some}
+use Rattle.std.proofs.lemmas.Option.{same_Some}
 use Rattle.std.specs.Prelude.{Option, None}
 use Rattle.std.specs.Option.{option_map}
 use Rattle.std.specs.FinMap.{get}
 use Rattle.own_model.specs.Account.{Account, opened}
 use Rattle.own_model.specs.Region.{Region}
-use Rattle.own_model.proofs.NatMapLemmas.{value_at, none_at}
-use Rattle.dataspace_core.specs.Store.{Store, Space, Part, part, account_in, IsOpenIn, PartBecomes, space_at, ram_limits_in}
+use Rattle.own_model.proofs.NatMapLemmas.{value_at}
+use Rattle.dataspace_core.specs.Store.{Store, Space, Part, part, account_in, IsOpenIn, PartBecomes, ram_limits_in}
 use Rattle.dataspace_core.specs.Share.{IsShown}
-use Rattle.dataspace_core.proofs.PartLaws.{paid_in_part, part_of_payer, part_paid, part_open, open_after}
+use Rattle.dataspace_core.proofs.PartLaws.{paid_in_part, part_of_payer, open_after}
 use Rattle.dataspace_core.proofs.PartLemmas.{space_at-some}
 use Rattle.dataspace_core.proofs.LimitLaws.{limits_after}
 use Rattle.sliced_heap.proofs.HeaderLemmas.{length_some}
@@ -55,12 +55,12 @@ module _ (account : ℕ) (after : Part) (old new : Store) (becomes : PartBecomes
   pub shown_after : (region : Region) → ((bytes : List ℕ) → get (part account old).spaces region.of ≡ Some bytes → option_map length (get after.spaces region.of) ≡ Some (length bytes)) → IsShown old.spaces region → IsShown new.spaces region
   shown_after region lengths shown = ⊎_elim
       (λ (own : shown.space.payer ≡ account).
-          let has = ap (λ a. get (part a old).spaces region.of) (sym own) ∙ in_part old region.of shown.space shown.there in
-          let now = length_some (get after.spaces region.of) (length shown.space.bytes) (lengths shown.space.bytes has) in
-          shown_of_part account new region now.0 (ap (λ (p : Part). get p.spaces region.of) becomes.own ∙ now.1) shown.some (now.2 ∙ shown.whole))
+      let has = ap (λ a. get (part a old).spaces region.of) (sym own) ∙ in_part old region.of shown.space shown.there in
+      let now = length_some (get after.spaces region.of) (length shown.space.bytes) (lengths shown.space.bytes has) in
+      shown_of_part account new region now.0 (ap (λ (p : Part). get p.spaces region.of) becomes.own ∙ now.1) shown.some (now.2 ∙ shown.whole))
       (λ (other : shown.space.payer ≢ account).
-          let has = ap (λ (p : Part). get p.spaces region.of) (becomes.others shown.space.payer other) ∙ in_part old region.of shown.space shown.there in
-          shown_of_part shown.space.payer new region shown.space.bytes has shown.some shown.whole)
+      let has = ap (λ (p : Part). get p.spaces region.of) (becomes.others shown.space.payer other) ∙ in_part old region.of shown.space shown.there in
+      shown_of_part shown.space.payer new region shown.space.bytes has shown.some shown.whole)
       (cases_eq shown.space.payer account)
 
   -- the account stays open, and the limits of all stay, where its own limit does

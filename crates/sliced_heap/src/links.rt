@@ -9,13 +9,7 @@ use dataspace_core::Memory;
 use trade_base::{AccountId, DsId};
 
 /// Puts a block, whose region starts at an address, before the one to which `first` leads. It tells the link to it.
-pub fn put_first(
-    memory: &mut Memory,
-    account: AccountId,
-    first: u64,
-    ds: DsId,
-    start: u64,
-) -> u64
+pub fn put_first(memory: &mut Memory, account: AccountId, first: u64, ds: DsId, start: u64) -> u64
     requires small { ds.0 + 1 < 2 ^ 64 }
     requires header { HasHeader (part account.0 memory.old) ds.0 }
     requires next { (b : ℕ) → first ≡ link_to b → HasHeader (part account.0 memory.old) b }

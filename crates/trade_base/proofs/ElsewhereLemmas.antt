@@ -1,5 +1,5 @@
 -- What bytes hold elsewhere than where a part was put over them.
-use Rattle.std.proofs.Common.{◌≡◌, ℕ, ◌+◌, ◌≤◌, List, ◌++◌, length, take, drop, arith, rules, length-append, length-drop, slice_range}
+use Rattle.std.proofs.Common.{◌≡◌, ℕ, ◌+◌, ◌≤◌, List, length, drop, arith, rules, slice_range}
 use Rattle.std.proofs.lemmas.List.{same_lists, places}
 use Rattle.trade_base.specs.Bytes.{with_bytes}
 

@@ -1,7 +1,7 @@
 -- One more line is answered, or the run ends behind those answered.
-use Rattle.std.proofs.Common.{◌≡◌, ◌∷◌, [], ◌++◌, ℕ, ◌+◌, Bool, Ok, Err, arith, refl, ◌∙◌, ap, subst, length, length-append}
+use Rattle.std.proofs.Common.{◌≡◌, ◌∷◌, [], ◌++◌, ◌+◌, Bool, Ok, arith, refl, ◌∙◌, ap, subst, length, length-append}
 use Rattle.std.proofs.lemmas.Result.{err_from_is_err_and}
-use Rattle.scenario_run.specs.Answered.{AnswersNext, Point, point}
+use Rattle.scenario_run.specs.Answered.{AnswersNext, point}
 use Rattle.scenario_run.specs.Next.{BeginsIn}
 use Rattle.scenario_run.proofs.Serving.{answers_none, answers_more, halts_before, serves_to_fault, serves_too_many}
 use Rattle.scenario_run.proofs.running.answer_all.Goals as goal

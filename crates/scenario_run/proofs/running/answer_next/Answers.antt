@@ -1,6 +1,6 @@
 -- A line that was found is answered and passed.
-use Rattle.std.proofs.Common.{◌∷◌, [], ℕ, List, Ok, subst, sym, IfSome, take}
-use Rattle.scenario_run.specs.Answered.{Point, point}
+use Rattle.std.proofs.Common.{Ok, subst, sym, take}
+use Rattle.scenario_run.specs.Answered.{point}
 use Rattle.scenario_run.specs.Gathered.{TellsUnless}
 use Rattle.scenario_run.specs.Lines.{to_come}
 use Rattle.scenario_run.specs.Next.{FindsNextIn}

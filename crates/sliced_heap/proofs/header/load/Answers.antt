@@ -1,6 +1,6 @@
 -- The account pays for the dataspace, so it is there and holds the header.
-use Rattle.std.proofs.Common.{◌≡◌, ◌+◌, ap, sym, ◌∙◌, arith}
-use Rattle.std.specs.Prelude.{Some, None, slice_range, List, [], ℕ, unwrap_or, Option}
+use Rattle.std.proofs.Common.{◌+◌, ap, sym, ◌∙◌, arith}
+use Rattle.std.specs.Prelude.{slice_range, List, [], ℕ, unwrap_or, Option}
 use Rattle.trade_base.specs.Word.{word_of}
 use Rattle.dataspace_core.proofs.PartLaws.{paid_in_part}
 use Rattle.sliced_heap.specs.Sliced.{word_at}

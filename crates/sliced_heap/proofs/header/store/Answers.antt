@@ -1,5 +1,5 @@
 -- The account pays for the dataspace, so it is there, holds the header, and the account's part is what becomes another.
-use Rattle.std.proofs.Common.{◌≡◌, ◌+◌, ap, sym, subst, ◌∙◌, arith, ℕ}
+use Rattle.std.proofs.Common.{◌≡◌, subst, arith, ℕ}
 use Rattle.dataspace_core.specs.Store.{part, PartBecomes, part_with_bytes}
 use Rattle.dataspace_core.proofs.PartLaws.{paid_in_part}
 use Rattle.std.proofs.Common.{refl}

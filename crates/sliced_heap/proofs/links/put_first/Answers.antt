@@ -1,5 +1,4 @@
 -- Three stores in the new block, and one in the block after it, change headers alone.
-use Rattle.std.proofs.Common.{◌≡◌}
 use Rattle.sliced_heap.proofs.HeaderLemmas.{headers_then, has_header_still}
 use Rattle.sliced_heap.proofs.LinkLemmas.{stored_in}
 use Rattle.sliced_heap.proofs.links.put_first.Goals as goal

@@ -1,5 +1,5 @@
 -- An RPC object that goes.
-use Rattle.std.proofs.Common.{sym, ◌∙◌, refl}
+use Rattle.std.proofs.Common.{sym, refl}
 use Rattle.dataspace_core.specs.Store.{part}
 use Rattle.dataspace_core.proofs.PartLaws.{open_in_part}
 use Rattle.pd_core.proofs.OwnLemmas.{settled, keeps}

@@ -1,6 +1,6 @@
 -- A free over the memory and the tables.
-use Rattle.std.proofs.Common.{◌∙◌, refl, sym, ap, subst}
-use Rattle.dataspace_core.specs.Store.{part, PartBecomes, part_without_space}
+use Rattle.std.proofs.Common.{◌∙◌, refl}
+use Rattle.dataspace_core.specs.Store.{part_without_space}
 use Rattle.dataspace_core.proofs.PartLaws.{paid_in_part}
 use Rattle.pd_core.proofs.OwnLemmas.{settled, keeps, refused_told, has_bytes, for_payer}
 use Rattle.pd_core.proofs.AccountLemmas.{found_dataspace, free_refused, free_settles}

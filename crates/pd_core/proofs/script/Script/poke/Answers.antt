@@ -1,5 +1,5 @@
 -- Bytes are put over those of a region.
-use Rattle.std.proofs.Common.{ap, ◌∙◌, ◌+◌, ◌/◌, ◌≤◌, length, subst, refl, arith}
+use Rattle.std.proofs.Common.{ap, ◌∙◌, ◌/◌, length, subst, refl, arith}
 use Rattle.dataspace_core.specs.Store.{part, space_at, part_with_bytes, PartBecomes}
 use Rattle.dataspace_core.proofs.PartLaws.{paid_in_part}
 use Rattle.pd_core.specs.Call.{bytes_in}

@@ -1,5 +1,5 @@
 -- What was written leaves the rest gathered.
-use Rattle.std.proofs.Common.{◌≡◌, ◌≤◌, ◌++◌, arith, length, ◌∙◌, ap, [], take, slice_range, append-nil, sym}
+use Rattle.std.proofs.Common.{◌≤◌, ◌++◌, arith, length, ◌∙◌, ap, [], take, slice_range, append-nil, sym}
 use Rattle.std.proofs.lemmas.List.{places, take_all, take-append-drop}
 use Rattle.scenario_run.proofs.BlockLemmas.{slice_range-start}
 use Rattle.scenario_run.proofs.gather.Gather.flush.Goals as goal

@@ -1,5 +1,5 @@
 -- What is taken in after a flush is told behind what was told before.
-use Rattle.std.proofs.Common.{◌++◌, arith, ap, ◌∙◌, sym, take, drop, subst, append-nil}
+use Rattle.std.proofs.Common.{◌++◌, arith, take, drop}
 use Rattle.std.proofs.lemmas.Grind.{common_steps}
 use Rattle.std.proofs.lemmas.List.{take-append-drop}
 use Rattle.scenario_run.specs.Gathered.{Tells}

@@ -1,5 +1,5 @@
 -- What is passed of a long line, and what is left behind it.
-use Rattle.std.proofs.Common.{◌≡◌, [], ℕ, ◌≤◌, ◌∙◌, length, arith, ap, length-drop}
+use Rattle.std.proofs.Common.{◌≡◌, [], ℕ, ◌≤◌, length, arith, ap, length-drop}
 use Rattle.std.proofs.lemmas.Result.{err_from_is_err_and}
 use Rattle.scenario_run.specs.Lines.{line_length}
 use Rattle.scenario_run.proofs.FaultLemmas.{told_at}

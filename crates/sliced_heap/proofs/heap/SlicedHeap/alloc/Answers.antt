@@ -1,6 +1,5 @@
 -- A new dataspace is shown nowhere, so it can be entered.
-use Rattle.sliced_heap.proofs.LookLemmas.{found_parts, found_none, held_once, paid_in_share, tag_in_share, shown_is_paid, tag_is_sliced}
-use Rattle.std.proofs.Common.{◌≡◌, ap, sym, ◌∙◌, ◌/◌, length, arith}
+use Rattle.std.proofs.Common.{ap, ◌∙◌, ◌/◌, length, arith}
 use Rattle.dataspace_core.proofs.PartLaws.{paid_in_part}
 use Rattle.sliced_heap.proofs.AllocLemmas.{new_there, alloc_open, alloc_maps, alloc_linked, can_enter, takes, length-zeros}
 use Rattle.sliced_heap.proofs.heap.SlicedHeap.alloc.Goals as goal

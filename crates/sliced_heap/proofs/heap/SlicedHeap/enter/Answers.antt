@@ -1,8 +1,5 @@
 -- The region is attached where there is a gap, and the headers link the block before the others.
-use Rattle.std.proofs.Common.{◌≡◌, arith}
-use Rattle.own_model.specs.HeapWindow.{heap_gap}
-use Rattle.region_map.specs.Regions.{Regions}
-use Rattle.sliced_heap.specs.Heap.{IsSound, KeepsOthers, Enters}
+use Rattle.std.proofs.Common.{arith}
 use Rattle.sliced_heap.proofs.EnterLemmas.{gap_small, first_header, first_apart, ds_touched, first_touched, enter_others, enter_open, enter_maps, enter_linked, enters}
 use Rattle.sliced_heap.proofs.heap.SlicedHeap.enter.Goals as goal
 
