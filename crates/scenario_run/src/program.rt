@@ -1,9 +1,10 @@
 //! The built-in machine, from its boot to the end of a scenario.
-ghost use Rattle.std.specs.Prelude.{◌≡◌, ◌≤◌, length, IfSome, IfOk, IfErr, OnOk, Err, false};
+ghost use Rattle.std.specs.Prelude.{◌≡◌, ◌≤◌, length, IfSome, IfOk, IfErr, OnOk, Err, false, true};
 ghost use Rattle.std.specs.Io.KnownBytes.{Appends};
 ghost use Rattle.own_model.specs.Text.{lines_of};
 ghost use Rattle.scenario_run.specs.Program.{transcript_a, FailsFor, FailsIn, status_of};
-ghost use Rattle.scenario_run.specs.declared.program.Failure.TheVariants.{NoMemory as NoRoom};
+ghost use Rattle.scenario_run.specs.declared.program.Failure.TheVariants.{NoMemory as NoRoom, Run as Stopping};
+ghost use Rattle.scenario_run.specs.declared.running.RunFault.TheVariants.{WriteFault as Unwritten};
 
 use crate::boot::boot_fixed;
 use crate::device::{Sink, Source};
@@ -52,6 +53,7 @@ pub fn boot_and_run<S: Source, K: Sink>(
         FailsFor failure MAX_LINES input (S.remaining reader.new) (S.has_failed reader.new)
         (K.contents writer.old) (K.contents writer.new))) }
     ensures no_memory { result ≡ Err NoRoom → (reader.new ≡ reader.old) × (writer.new ≡ writer.old) }
+    ensures writing { result ≡ Err (Stopping Unwritten) → K.has_failed writer.new ≡ true }
 {
     let mut core = boot_fixed(alloc)?;
     let mut reply = Reply::boot(alloc)?;
