@@ -1,0 +1,96 @@
+//! The search tree of the holes, by size and then by place. A tree is named by its root, and the
+//! tree without a node by 0.
+use super::memory::WordMemory;
+use super::node::{fork, open_node};
+use super::turns::balance;
+
+/// A tree's first node, and the root of what is left without it.
+#[derive(Clone, Copy)]
+struct Parted {
+    first: u64,
+    rest: u64,
+}
+
+/// Whether one hole comes before another: by its size, and by its place where the sizes are equal.
+fn comes_before(size: u64, node: u64, other_size: u64, other: u64) -> bool {
+    size < other_size || size == other_size && node < other
+}
+
+/// The first hole of at least `size` bytes, or 0 where there is none.
+pub fn find<M: WordMemory>(memory: &mut M, root: u64, size: u64) -> u64 {
+    let mut node = root;
+    let mut best = 0;
+    while node != 0 {
+        let under = open_node(memory, node);
+        if size <= under.size {
+            best = node;
+            node = under.left;
+        } else {
+            node = under.right;
+        }
+    }
+    best
+}
+
+/// The tree with a hole more, of which the size stands in its header.
+pub fn insert<M: WordMemory>(memory: &mut M, root: u64, node: u64, size: u64) -> u64 {
+    if root == 0 {
+        fork(memory, node, 0, 0, 0, 0);
+        return node;
+    }
+    let under = open_node(memory, root);
+    if comes_before(size, node, under.size, root) {
+        let left = insert(memory, under.left, node, size);
+        balance(memory, left, root, under.right)
+    } else {
+        let right = insert(memory, under.right, node, size);
+        balance(memory, under.left, root, right)
+    }
+}
+
+/// The tree without one of its holes.
+pub fn remove<M: WordMemory>(memory: &mut M, root: u64, node: u64, size: u64) -> u64 {
+    if root == 0 {
+        return 0;
+    }
+    let under = open_node(memory, root);
+    if comes_before(size, node, under.size, root) {
+        let left = remove(memory, under.left, node, size);
+        balance(memory, left, root, under.right)
+    } else if comes_before(under.size, root, size, node) {
+        let right = remove(memory, under.right, node, size);
+        balance(memory, under.left, root, right)
+    } else {
+        join(memory, under.left, under.right)
+    }
+}
+
+/// One tree of two, of which each hole of the left one comes before each of the right one.
+fn join<M: WordMemory>(memory: &mut M, left: u64, right: u64) -> u64 {
+    if left == 0 {
+        right
+    } else if right == 0 {
+        left
+    } else {
+        let parted = part_first(memory, right);
+        balance(memory, left, parted.first, parted.rest)
+    }
+}
+
+/// Takes the first hole out of a tree that has one.
+fn part_first<M: WordMemory>(memory: &mut M, root: u64) -> Parted {
+    let under = open_node(memory, root);
+    if under.left == 0 {
+        Parted {
+            first: root,
+            rest: under.right,
+        }
+    } else {
+        let parted = part_first(memory, under.left);
+        let rest = balance(memory, parted.rest, root, under.right);
+        Parted {
+            first: parted.first,
+            rest,
+        }
+    }
+}
