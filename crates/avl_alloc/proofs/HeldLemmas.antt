@@ -4,15 +4,16 @@ use Rattle.std.specs.Prelude.{nat_lt, nat_le, max, if◌then◌else◌, ◌==◌
 use Rattle.std.proofs.lemmas.Bool.{cases_lt}
 use Rattle.std.proofs.lemmas.Bool.Decides.{nat_tests}
 use Rattle.avl_alloc.specs.declared.node.Opened.{Opened}
+use Rattle.avl_alloc.specs.declared.node.Arms.{Arms}
 use Rattle.avl_alloc.specs.Words.{Words, with_word, IsWord, IsPlace, IsNode, within}
 use Rattle.avl_alloc.specs.Tree.{Tree, Leaf, Node, root_of, high, tally, forked, raised_left, raised_inner_left, raised_right, raised_inner_right, turned_right, turned_left, balanced, IsBalanced}
 use Rattle.avl_alloc.specs.Held.{IsHere, Holds, with_node, heads, links, cover, ChangesLinks, Becomes, IsPlot, Fits, IsSlope, IsOpened, AreArms}
 
 -- a test that holds, and one that doesn't
-leb-true : {m n : ℕ} → m ≤ n → nat_le m n ≡ true
+pub leb-true : {m n : ℕ} → m ≤ n → nat_le m n ≡ true
 leb-true {m} {n} le = grind (arith, nat_tests)
 
-leb-false : {m n : ℕ} → n < m → nat_le m n ≡ false
+pub leb-false : {m n : ℕ} → n < m → nat_le m n ≡ false
 leb-false {m} {n} lt = grind (arith, nat_tests)
 
 -- ---- places
@@ -136,8 +137,8 @@ module _ (bytes : ℕ → ℕ) (w : Words) (ll : Tree) (b t h : ℕ) (lr : Tree)
   inner_plot : IsPlot bytes w lr a s r
   inner_plot = record { left = plot.left.2; right = plot.right; node = plot.node; size = plot.size; apart = λ q. omega (arith, plot.apart q) }
 
-  outer_plot : (w1 : Words) → Becomes bytes w w1 (forked lr a s r) a → IsPlot bytes w1 ll b t (forked lr a s r)
-  outer_plot w1 made = record {
+  outer_plot : (w1 : Words) (x : ℕ) → Becomes bytes w w1 (forked lr a s r) x → IsPlot bytes w1 ll b t (forked lr a s r)
+  outer_plot w1 x made = record {
     left = holds_apart bytes w w1 ll (forked lr a s r) (λ q. omega (arith, plot.apart q)) made.same plot.left.1;
     right = made.holds;
     node = plot.left.0.node;
@@ -146,15 +147,15 @@ module _ (bytes : ℕ → ℕ) (w : Words) (ll : Tree) (b t h : ℕ) (lr : Tree)
   }
 
   -- the left tree's root comes to the top
-  pub turn_right-single : (w1 w2 : Words) → high lr ≤ high ll →
-      (IsPlot bytes w lr a s r → Becomes bytes w w1 (forked lr a s r) a) →
-      (IsPlot bytes w1 ll b t (forked lr a s r) → Becomes bytes w1 w2 (raised_left ll b t lr a s r) b) →
-      Becomes bytes w w2 (turned_right (Node ll b t h lr) a s r) b
+  pub turn_right-single : (w0 w1 w2 : Words) (x y : ℕ) → w0 ≡ w → high lr ≤ high ll →
+      (IsPlot bytes w0 lr a s r → Becomes bytes w0 w1 (forked lr a s r) x) →
+      (IsPlot bytes w1 ll b t (forked lr a s r) → Becomes bytes w1 w2 (raised_left ll b t lr a s r) y) →
+      Becomes bytes w w2 (turned_right (Node ll b t h lr) a s r) y
   unfolding turned_right
-  turn_right-single w1 w2 le first second =
-      let low = first inner_plot in
-      let top = second (outer_plot w1 low) in
-      subst (λ v. Becomes bytes w w2 (if v then raised_left ll b t lr a s r else raised_inner_left ll b t lr a s r) b)
+  turn_right-single w0 w1 w2 x y kept le first second =
+      let low = subst (λ v. IsPlot bytes v lr a s r → Becomes bytes v w1 (forked lr a s r) x) kept first inner_plot in
+      let top = second (outer_plot w1 x low) in
+      subst (λ v. Becomes bytes w w2 (if v then raised_left ll b t lr a s r else raised_inner_left ll b t lr a s r) y)
       (sym (leb-true le)) (record {
         root = top.root;
         holds = top.holds;
@@ -165,8 +166,8 @@ module _ (bytes : ℕ → ℕ) (w : Words) (ll : Tree) (b t h : ℕ) (m : Tree) 
   low_plot : IsPlot bytes w ll b t m
   low_plot = record { left = plot.left.1; right = plot.left.2.1; node = plot.left.0.node; size = plot.left.0.size; apart = λ q. omega (arith, plot.apart q) }
 
-  other_plot : (w1 : Words) → Becomes bytes w w1 (forked ll b t m) b → IsPlot bytes w1 n a s r
-  other_plot w1 made = record {
+  other_plot : (w1 : Words) (x : ℕ) → Becomes bytes w w1 (forked ll b t m) x → IsPlot bytes w1 n a s r
+  other_plot w1 x made = record {
     left = holds_apart bytes w w1 n (forked ll b t m) (λ q. omega (arith, plot.apart q)) made.same plot.left.2.2;
     right = holds_apart bytes w w1 r (forked ll b t m) (λ q. omega (arith, plot.apart q)) made.same plot.right;
     node = plot.node;
@@ -174,8 +175,8 @@ module _ (bytes : ℕ → ℕ) (w : Words) (ll : Tree) (b t h : ℕ) (m : Tree) 
     apart = λ q. omega (arith, plot.apart q);
   }
 
-  top_plot : (w1 w2 : Words) → Becomes bytes w w1 (forked ll b t m) b → Becomes bytes w1 w2 (forked n a s r) a → IsPlot bytes w2 (forked ll b t m) c u (forked n a s r)
-  top_plot w1 w2 low other = record {
+  top_plot : (w1 w2 : Words) (x y : ℕ) → Becomes bytes w w1 (forked ll b t m) x → Becomes bytes w1 w2 (forked n a s r) y → IsPlot bytes w2 (forked ll b t m) c u (forked n a s r)
+  top_plot w1 w2 x y low other = record {
     left = holds_apart bytes w1 w2 (forked ll b t m) (forked n a s r) (λ q. omega (arith, plot.apart q)) other.same low.holds;
     right = other.holds;
     node = plot.left.2.0.node;
@@ -185,17 +186,17 @@ module _ (bytes : ℕ → ℕ) (w : Words) (ll : Tree) (b t h : ℕ) (m : Tree) 
   }
 
   -- the left tree's inner root comes to the top
-  pub turn_right-double : (w1 w2 w3 : Words) → high ll < i →
-      (IsPlot bytes w ll b t m → Becomes bytes w w1 (forked ll b t m) b) →
-      (IsPlot bytes w1 n a s r → Becomes bytes w1 w2 (forked n a s r) a) →
-      (IsPlot bytes w2 (forked ll b t m) c u (forked n a s r) → Becomes bytes w2 w3 (forked (forked ll b t m) c u (forked n a s r)) c) →
-      Becomes bytes w w3 (turned_right (Node ll b t h (Node m c u i n)) a s r) c
+  pub turn_right-double : (w0 w1 w2 w3 : Words) (x y z : ℕ) → w0 ≡ w → high ll < i →
+      (IsPlot bytes w0 ll b t m → Becomes bytes w0 w1 (forked ll b t m) x) →
+      (IsPlot bytes w1 n a s r → Becomes bytes w1 w2 (forked n a s r) y) →
+      (IsPlot bytes w2 (forked ll b t m) c u (forked n a s r) → Becomes bytes w2 w3 (forked (forked ll b t m) c u (forked n a s r)) z) →
+      Becomes bytes w w3 (turned_right (Node ll b t h (Node m c u i n)) a s r) z
   unfolding turned_right
-  turn_right-double w1 w2 w3 lt first second third =
-      let low = first low_plot in
-      let other = second (other_plot w1 low) in
-      let top = third (top_plot w1 w2 low other) in
-      subst (λ v. Becomes bytes w w3 (if v then raised_left ll b t (Node m c u i n) a s r else raised_inner_left ll b t (Node m c u i n) a s r) c)
+  turn_right-double w0 w1 w2 w3 x y z kept lt first second third =
+      let low = subst (λ v. IsPlot bytes v ll b t m → Becomes bytes v w1 (forked ll b t m) x) kept first low_plot in
+      let other = second (other_plot w1 x low) in
+      let top = third (top_plot w1 w2 x y low other) in
+      subst (λ v. Becomes bytes w w3 (if v then raised_left ll b t (Node m c u i n) a s r else raised_inner_left ll b t (Node m c u i n) a s r) z)
       (sym (leb-false lt)) (record {
         root = top.root;
         holds = top.holds;
@@ -208,8 +209,8 @@ module _ (bytes : ℕ → ℕ) (w : Words) (l : Tree) (a s : ℕ) (rl : Tree) (b
   inner_plot_left : IsPlot bytes w l a s rl
   inner_plot_left = record { left = plot.left; right = plot.right.1; node = plot.node; size = plot.size; apart = λ q. omega (arith, plot.apart q) }
 
-  outer_plot_left : (w1 : Words) → Becomes bytes w w1 (forked l a s rl) a → IsPlot bytes w1 (forked l a s rl) b t rr
-  outer_plot_left w1 made = record {
+  outer_plot_left : (w1 : Words) (x : ℕ) → Becomes bytes w w1 (forked l a s rl) x → IsPlot bytes w1 (forked l a s rl) b t rr
+  outer_plot_left w1 x made = record {
     left = made.holds;
     right = holds_apart bytes w w1 rr (forked l a s rl) (λ q. omega (arith, plot.apart q)) made.same plot.right.2;
     node = plot.right.0.node;
@@ -217,15 +218,15 @@ module _ (bytes : ℕ → ℕ) (w : Words) (l : Tree) (a s : ℕ) (rl : Tree) (b
     apart = λ q. omega (arith, plot.apart q);
   }
 
-  pub turn_left-single : (w1 w2 : Words) → high rl ≤ high rr →
-      (IsPlot bytes w l a s rl → Becomes bytes w w1 (forked l a s rl) a) →
-      (IsPlot bytes w1 (forked l a s rl) b t rr → Becomes bytes w1 w2 (raised_right l a s rl b t rr) b) →
-      Becomes bytes w w2 (turned_left l a s (Node rl b t h rr)) b
+  pub turn_left-single : (w0 w1 w2 : Words) (x y : ℕ) → w0 ≡ w → high rl ≤ high rr →
+      (IsPlot bytes w0 l a s rl → Becomes bytes w0 w1 (forked l a s rl) x) →
+      (IsPlot bytes w1 (forked l a s rl) b t rr → Becomes bytes w1 w2 (raised_right l a s rl b t rr) y) →
+      Becomes bytes w w2 (turned_left l a s (Node rl b t h rr)) y
   unfolding turned_left
-  turn_left-single w1 w2 le first second =
-      let low = first inner_plot_left in
-      let top = second (outer_plot_left w1 low) in
-      subst (λ v. Becomes bytes w w2 (if v then raised_right l a s rl b t rr else raised_inner_right l a s rl b t rr) b)
+  turn_left-single w0 w1 w2 x y kept le first second =
+      let low = subst (λ v. IsPlot bytes v l a s rl → Becomes bytes v w1 (forked l a s rl) x) kept first inner_plot_left in
+      let top = second (outer_plot_left w1 x low) in
+      subst (λ v. Becomes bytes w w2 (if v then raised_right l a s rl b t rr else raised_inner_right l a s rl b t rr) y)
       (sym (leb-true le)) (record {
         root = top.root;
         holds = top.holds;
@@ -236,8 +237,8 @@ module _ (bytes : ℕ → ℕ) (w : Words) (l : Tree) (a s : ℕ) (m : Tree) (c 
   low_plot_left : IsPlot bytes w n b t rr
   low_plot_left = record { left = plot.right.1.2; right = plot.right.2; node = plot.right.0.node; size = plot.right.0.size; apart = λ q. omega (arith, plot.apart q) }
 
-  other_plot_left : (w1 : Words) → Becomes bytes w w1 (forked n b t rr) b → IsPlot bytes w1 l a s m
-  other_plot_left w1 made = record {
+  other_plot_left : (w1 : Words) (x : ℕ) → Becomes bytes w w1 (forked n b t rr) x → IsPlot bytes w1 l a s m
+  other_plot_left w1 x made = record {
     left = holds_apart bytes w w1 l (forked n b t rr) (λ q. omega (arith, plot.apart q)) made.same plot.left;
     right = holds_apart bytes w w1 m (forked n b t rr) (λ q. omega (arith, plot.apart q)) made.same plot.right.1.1;
     node = plot.node;
@@ -245,8 +246,8 @@ module _ (bytes : ℕ → ℕ) (w : Words) (l : Tree) (a s : ℕ) (m : Tree) (c 
     apart = λ q. omega (arith, plot.apart q);
   }
 
-  top_plot_left : (w1 w2 : Words) → Becomes bytes w w1 (forked n b t rr) b → Becomes bytes w1 w2 (forked l a s m) a → IsPlot bytes w2 (forked l a s m) c u (forked n b t rr)
-  top_plot_left w1 w2 low other = record {
+  top_plot_left : (w1 w2 : Words) (x y : ℕ) → Becomes bytes w w1 (forked n b t rr) x → Becomes bytes w1 w2 (forked l a s m) y → IsPlot bytes w2 (forked l a s m) c u (forked n b t rr)
+  top_plot_left w1 w2 x y low other = record {
     left = other.holds;
     right = holds_apart bytes w1 w2 (forked n b t rr) (forked l a s m) (λ q. omega (arith, plot.apart q)) other.same low.holds;
     node = plot.right.1.0.node;
@@ -255,17 +256,17 @@ module _ (bytes : ℕ → ℕ) (w : Words) (l : Tree) (a s : ℕ) (m : Tree) (c 
     apart = λ q. omega (arith, plot.apart q);
   }
 
-  pub turn_left-double : (w1 w2 w3 : Words) → high rr < i →
-      (IsPlot bytes w n b t rr → Becomes bytes w w1 (forked n b t rr) b) →
-      (IsPlot bytes w1 l a s m → Becomes bytes w1 w2 (forked l a s m) a) →
-      (IsPlot bytes w2 (forked l a s m) c u (forked n b t rr) → Becomes bytes w2 w3 (forked (forked l a s m) c u (forked n b t rr)) c) →
-      Becomes bytes w w3 (turned_left l a s (Node (Node m c u i n) b t h rr)) c
+  pub turn_left-double : (w0 w1 w2 w3 : Words) (x y z : ℕ) → w0 ≡ w → high rr < i →
+      (IsPlot bytes w0 n b t rr → Becomes bytes w0 w1 (forked n b t rr) x) →
+      (IsPlot bytes w1 l a s m → Becomes bytes w1 w2 (forked l a s m) y) →
+      (IsPlot bytes w2 (forked l a s m) c u (forked n b t rr) → Becomes bytes w2 w3 (forked (forked l a s m) c u (forked n b t rr)) z) →
+      Becomes bytes w w3 (turned_left l a s (Node (Node m c u i n) b t h rr)) z
   unfolding turned_left
-  turn_left-double w1 w2 w3 lt first second third =
-      let low = first low_plot_left in
-      let other = second (other_plot_left w1 low) in
-      let top = third (top_plot_left w1 w2 low other) in
-      subst (λ v. Becomes bytes w w3 (if v then raised_right l a s (Node m c u i n) b t rr else raised_inner_right l a s (Node m c u i n) b t rr) c)
+  turn_left-double w0 w1 w2 w3 x y z kept lt first second third =
+      let low = subst (λ v. IsPlot bytes v n b t rr → Becomes bytes v w1 (forked n b t rr) x) kept first low_plot_left in
+      let other = second (other_plot_left w1 x low) in
+      let top = third (top_plot_left w1 w2 x y low other) in
+      subst (λ v. Becomes bytes w w3 (if v then raised_right l a s (Node m c u i n) b t rr else raised_inner_right l a s (Node m c u i n) b t rr) z)
       (sym (leb-false lt)) (record {
         root = top.root;
         holds = top.holds;
@@ -308,3 +309,67 @@ root_there bytes real w t root fits held at some = fits_node bytes real root fit
 pub high_there : (bytes real : ℕ → ℕ) (w : Words) (t : Tree) (root height : ℕ) → Fits bytes real → Holds bytes w t → root_of t ≡ root → height ≡ high t → 1 ≤ height → IsNode real root
 high_there bytes real w t root height fits held at tall some =
     root_there bytes real w t root fits held at (high_some bytes w t root held at (omega arith))
+
+-- a tree whose root and heights were read, taken apart
+pub record IsArmed (bytes : ℕ → ℕ) (w : Words) (n : ℕ) (read : Arms) : Type 0 where
+  pub l : Tree
+  pub r : Tree
+  pub arms : AreArms read l r
+  pub left_holds : Holds bytes w l
+  pub right_holds : Holds bytes w r
+  pub left_balanced : IsBalanced l
+  pub right_balanced : IsBalanced r
+  pub left_low : high l < n
+  pub right_low : high r < n
+
+pub armed : (bytes : ℕ → ℕ) (w : Words) (n : ℕ) (t : Tree) (node : ℕ) (read : Arms) → Holds bytes w t → IsBalanced t → 1 ≤ high t → high t < n → root_of t ≡ node →
+    ((l : Tree) (a s h : ℕ) (r : Tree) → Holds bytes w (Node l a s h r) → a ≡ node → AreArms read l r) → IsArmed bytes w n read
+armed bytes w n Leaf node read held even some low at opened = absurd (omega arith)
+armed bytes w n (Node l a s h r) node read held even some low at opened =
+    let level = even.0 in
+    record {
+      l = l;
+      r = r;
+      arms = opened l a s h r held at;
+      left_holds = held.1;
+      right_holds = held.2;
+      left_balanced = even.1;
+      right_balanced = even.2;
+      left_low = omega arith;
+      right_low = omega arith;
+    }
+
+-- ---- which tree a balanced one is, and that loads before it change nothing
+
+ltb-true : {m n : ℕ} → m < n → nat_lt m n ≡ true
+ltb-true {m} {n} lt = grind (arith, nat_tests)
+
+ltb-false : {m n : ℕ} → n ≤ m → nat_lt m n ≡ false
+ltb-false {m} {n} le = grind (arith, nat_tests)
+
+balanced-is_right : (l : Tree) (a s : ℕ) (r : Tree) → high r + 1 < high l → balanced l a s r ≡ turned_right l a s r
+unfolding balanced
+balanced-is_right l a s r far = simp (ltb-true far)
+
+balanced-is_left : (l : Tree) (a s : ℕ) (r : Tree) → high l + 1 < high r → balanced l a s r ≡ turned_left l a s r
+unfolding balanced
+balanced-is_left l a s r far =
+    let near : nat_lt (high r + 1) (high l) ≡ false = ltb-false (omega arith) in
+    simp (near, ltb-true far)
+
+balanced-is_fork : (l : Tree) (a s : ℕ) (r : Tree) → high l ≤ high r + 1 → high r ≤ high l + 1 → balanced l a s r ≡ forked l a s r
+unfolding balanced
+balanced-is_fork l a s r left right = simp (ltb-false left, ltb-false right)
+
+module _ (bytes : ℕ → ℕ) (w0 w v : Words) (l : Tree) (a s : ℕ) (r : Tree) (at : ℕ) (kept : w0 ≡ w) (plot : IsPlot bytes w l a s r) where
+  moved : (t : Tree) → (IsPlot bytes w0 l a s r → Becomes bytes w0 v t at) → Becomes bytes w v t at
+  moved t made = subst (λ x. IsPlot bytes x l a s r → Becomes bytes x v t at) kept made plot
+
+  pub balance-right : high r + 1 < high l → (IsPlot bytes w0 l a s r → Becomes bytes w0 v (turned_right l a s r) at) → Becomes bytes w v (balanced l a s r) at
+  balance-right far made = subst (λ t. Becomes bytes w v t at) (sym (balanced-is_right l a s r far)) (moved (turned_right l a s r) made)
+
+  pub balance-left : high l + 1 < high r → (IsPlot bytes w0 l a s r → Becomes bytes w0 v (turned_left l a s r) at) → Becomes bytes w v (balanced l a s r) at
+  balance-left far made = subst (λ t. Becomes bytes w v t at) (sym (balanced-is_left l a s r far)) (moved (turned_left l a s r) made)
+
+  pub balance-fork : high l ≤ high r + 1 → high r ≤ high l + 1 → (IsPlot bytes w0 l a s r → Becomes bytes w0 v (forked l a s r) at) → Becomes bytes w v (balanced l a s r) at
+  balance-fork left right made = subst (λ t. Becomes bytes w v t at) (sym (balanced-is_fork l a s r left right)) (moved (forked l a s r) made)

@@ -1,2 +1,4 @@
 pub mod TreeLemmas
 pub mod HeldLemmas
+pub mod StepLemmas
+pub mod PartLemmas

@@ -500,3 +500,16 @@ found-is size low (Node l a s h r) up o =
         let before = too_small size low l (key a s) (omega arith) o.1 in
         somewhere b t name fits (omega arith)
         (omega (arith, no_better size (key b t) l before, not_better_small size (key b t) a s lt))
+
+-- a removal adds nothing
+pub tally-removed_le : (f : ℕ → ℕ → ℕ) (a s : ℕ) (t : Tree) → tally f (removed a s t) ≤ tally f t
+unfolding removed
+tally-removed_le f a s Leaf = omega arith
+tally-removed_le f a s (Node l b t h r) =
+    elim (nat_lt (key a s) (key b t)) as (λ v. tally f (if v then balanced (removed a s l) b t r else (if nat_lt (key b t) (key a s) then balanced l b t (removed a s r) else joined l r)) ≤ tally f l + f b t + tally f r) [
+      | true ↦ omega (arith, tally-balanced f (removed a s l) b t r, tally-removed_le f a s l)
+      | false ↦ elim (nat_lt (key b t) (key a s)) as (λ v. tally f (if v then balanced l b t (removed a s r) else joined l r) ≤ tally f l + f b t + tally f r) [
+          | true ↦ omega (arith, tally-balanced f l b t (removed a s r), tally-removed_le f a s r)
+          | false ↦ omega (arith, tally-joined f l r)
+        ]
+    ]

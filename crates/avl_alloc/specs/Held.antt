@@ -1,5 +1,5 @@
 -- A tree inside words.
-use Rattle.std.specs.Prelude.{◌≡◌, ℕ, ◌+◌, ◌^◌, ◌<◌, ◌≤◌}
+use Rattle.std.specs.Prelude.{◌≡◌, ℕ, ◌==◌, if◌then◌else◌, ◌+◌, ◌^◌, ◌<◌, ◌≤◌}
 use Rattle.avl_alloc.specs.declared.node.Opened.{Opened}
 use Rattle.avl_alloc.specs.declared.node.Arms.{Arms}
 use Rattle.avl_alloc.specs.Words.{Words, with_word, IsNode, within}
@@ -81,3 +81,29 @@ pub record AreArms (read : Arms) (l r : Tree) : Type 0 where
   pub right : read.right ≡ root_of r
   pub left_high : read.left_high ≡ high l
   pub right_high : read.right_high ≡ high r
+
+-- a balanced tree in words, by its root; no two nodes share a place
+pub record Stands (bytes : ℕ → ℕ) (words : Words) (t : Tree) (root : ℕ) : Type 0 where
+  pub at : root_of t ≡ root
+  pub holds : Holds bytes words t
+  pub balanced : IsBalanced t
+  pub low : high t < 2 ^ 16
+  pub apart : (q : ℕ) → cover q t ≤ 1
+
+-- a hole that is no node of the tree yet
+pub record IsNew (bytes : ℕ → ℕ) (words : Words) (t : Tree) (a s : ℕ) : Type 0 where
+  pub node : IsNode bytes a
+  pub size : words a ≡ s
+  pub apart : (q : ℕ) → heads q a s + links q a s + cover q t ≤ 1
+
+-- the two trees of a node
+pub record IsPair (bytes : ℕ → ℕ) (words : Words) (l r : Tree) (at_left at_right : ℕ) : Type 0 where
+  pub left : Stands bytes words l at_left
+  pub right : Stands bytes words r at_right
+  pub left_near : high l ≤ high r + 1
+  pub right_near : high r ≤ high l + 1
+  pub apart : (q : ℕ) → cover q l + cover q r ≤ 1
+
+-- the height that stands in a tree's root
+abbrev pub height_at : Words → ℕ → ℕ
+height_at words root = if root == 0 then 0 else words (root + 32)
