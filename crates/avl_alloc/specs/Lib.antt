@@ -1,3 +1,4 @@
 pub mod Words
 pub mod Tree
 pub mod Held
+pub mod Layout

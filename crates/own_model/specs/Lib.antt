@@ -14,3 +14,5 @@ pub mod Use
 pub mod Sound
 pub mod Laws
 pub mod Rows
+pub mod Heap
+pub mod BestFit
