@@ -68,16 +68,17 @@ fits_node bytes real a fits node = record {
 pub holds_kept : (bytes : ℕ → ℕ) (w v : Words) (t : Tree) → ((q : ℕ) → 1 ≤ cover q t → v q ≡ w q) → Holds bytes w t → Holds bytes v t
 holds_kept bytes w v Leaf same held = tt
 holds_kept bytes w v (Node l a s h r) same held =
-    let here = held.0 in
-    (record {
-      node = here.node;
-      size = same a (omega (arith, within_in a (a + 16) a (omega arith) (omega arith))) ∙ here.size;
-      left = same (a + 16) (omega (arith, within_in (a + 16) (a + 48) (a + 16) (omega arith) (omega arith))) ∙ here.left;
-      right = same (a + 24) (omega (arith, within_in (a + 16) (a + 48) (a + 24) (omega arith) (omega arith))) ∙ here.right;
-      high = same (a + 32) (omega (arith, within_in (a + 16) (a + 48) (a + 32) (omega arith) (omega arith))) ∙ here.high;
-    },
-    holds_kept bytes w v l (λ q in_l. same q (omega arith)) held.1,
-    holds_kept bytes w v r (λ q in_r. same q (omega arith)) held.2)
+    let here = held.0 in (
+      record {
+        node = here.node;
+        size = same a (omega (arith, within_in a (a + 16) a (omega arith) (omega arith))) ∙ here.size;
+        left = same (a + 16) (omega (arith, within_in (a + 16) (a + 48) (a + 16) (omega arith) (omega arith))) ∙ here.left;
+        right = same (a + 24) (omega (arith, within_in (a + 16) (a + 48) (a + 24) (omega arith) (omega arith))) ∙ here.right;
+        high = same (a + 32) (omega (arith, within_in (a + 16) (a + 48) (a + 32) (omega arith) (omega arith))) ∙ here.high;
+      },
+      holds_kept bytes w v l (λ q in_l. same q (omega arith)) held.1,
+      holds_kept bytes w v r (λ q in_r. same q (omega arith)) held.2,
+    )
 
 -- one that stands apart from a tree whose links change, too
 pub holds_apart : (bytes : ℕ → ℕ) (w v : Words) (t u : Tree) → ((q : ℕ) → cover q t + cover q u ≤ 1) → ChangesLinks w v u → Holds bytes w t → Holds bytes v t
@@ -103,15 +104,17 @@ forked-becomes bytes w l a s r plot =
     let v = with_node w a (root_of l) (root_of r) h in
     record {
       root = refl;
-      holds = (record {
-        node = plot.node;
-        size = node_same w a (root_of l) (root_of r) h a (within_below (a + 16) (a + 48) a (omega arith)) ∙ plot.size;
-        left = with_word_other _ (a + 32) h (a + 16) (λ e. omega arith) ∙ with_word_other _ (a + 24) (root_of r) (a + 16) (λ e. omega arith) ∙ with_word_same w (a + 16) (root_of l);
-        right = with_word_other _ (a + 32) h (a + 24) (λ e. omega arith) ∙ with_word_same _ (a + 24) (root_of r);
-        high = with_word_same _ (a + 32) h;
-      },
-      holds_kept bytes w v l (λ q in_l. node_same w a (root_of l) (root_of r) h q (omega (arith, plot.apart q))) plot.left,
-      holds_kept bytes w v r (λ q in_r. node_same w a (root_of l) (root_of r) h q (omega (arith, plot.apart q))) plot.right);
+      holds = (
+        record {
+          node = plot.node;
+          size = node_same w a (root_of l) (root_of r) h a (within_below (a + 16) (a + 48) a (omega arith)) ∙ plot.size;
+          left = with_word_other _ (a + 32) h (a + 16) (λ e. omega arith) ∙ with_word_other _ (a + 24) (root_of r) (a + 16) (λ e. omega arith) ∙ with_word_same w (a + 16) (root_of l);
+          right = with_word_other _ (a + 32) h (a + 24) (λ e. omega arith) ∙ with_word_same _ (a + 24) (root_of r);
+          high = with_word_same _ (a + 32) h;
+        },
+        holds_kept bytes w v l (λ q in_l. node_same w a (root_of l) (root_of r) h q (omega (arith, plot.apart q))) plot.left,
+        holds_kept bytes w v r (λ q in_r. node_same w a (root_of l) (root_of r) h q (omega (arith, plot.apart q))) plot.right,
+      );
       same = λ q none. node_same w a (root_of l) (root_of r) h q (omega arith);
     }
 

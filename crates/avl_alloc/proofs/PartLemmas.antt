@@ -1,7 +1,6 @@
 -- Taking the first hole out of a tree in words, joining two trees, and finding the best hole.
 use Rattle.std.proofs.Common.{◌≡◌, ◌≢◌, ℕ, zero, suc, ◌+◌, ◌-◌, ◌*◌, ◌^◌, ◌<◌, ◌≤◌, Bool, true, false, refl, sym, ap, ◌∙◌, subst, ◌⊎◌, inl, inr, arith, cond}
 use Rattle.std.specs.Prelude.{nat_le, max, if◌then◌else◌, ◌==◌}
-
 use Rattle.std.proofs.lemmas.Bool.Decides.{nat_tests}
 use Rattle.avl_alloc.specs.declared.node.Opened.{Opened}
 use Rattle.avl_alloc.specs.Words.{Words, IsNode, within}
@@ -75,9 +74,10 @@ module _ (bytes : ℕ → ℕ) (w : Words) (root : ℕ) (read : Opened) (some : 
       let apart : (q : ℕ) → cover q (rest_of (Node ll d u i lr)) + (heads q b t + links q b t) + cover q r ≤ 1 = λ q. omega (arith, stands.apart q, rest_cover ll d u i lr q) in
       let shrinks = rest_of-shrinks ll d u i lr stands.balanced.1 in
       let level = stands.balanced.0 in
-      let low = stands.low in
-      (left_plot bytes w v (Node ll d u i lr) b t h r root stands (rest_of (Node ll d u i lr)) x made apart,
-        left_slope bytes w v (Node ll d u i lr) b t h r root stands (rest_of (Node ll d u i lr)) x made apart right at shrinks.balanced (omega arith) (omega arith) (omega arith))
+      let low = stands.low in (
+        left_plot bytes w v (Node ll d u i lr) b t h r root stands (rest_of (Node ll d u i lr)) x made apart,
+        left_slope bytes w v (Node ll d u i lr) b t h r root stands (rest_of (Node ll d u i lr)) x made apart right at shrinks.balanced (omega arith) (omega arith) (omega arith),
+      )
 
   pub part-left_balance : (real : ℕ → ℕ) → Fits bytes real → (v : Words) (x : ℕ) → read.left ≢ 0 → Parts bytes w v read.left x → (t : Tree) → Stands bytes w t root → BalanceAsks real v x root read.right
   part-left_balance real fits v x left parts Leaf stands = absurd (some (sym stands.at))
@@ -146,23 +146,25 @@ module _ (bytes : ℕ → ℕ) (w : Words) (left right : ℕ) where
       let shrinks = rest_of-shrinks rl c u i rr pair.right.balanced in
       let near = pair.left_near in
       let near' = pair.right_near in
-      let low = pair.left.low in
-      (record {
-        left = holds_apart bytes w v l (rest_of (Node rl c u i rr)) (λ q. omega (arith, pair.apart q, rest_cover rl c u i rr q)) made.same pair.left.holds;
-        right = made.holds;
-        node = node.0;
-        size = header_apart w v (first_of (Node rl c u i rr)).0 (first_of (Node rl c u i rr)).1 (rest_of (Node rl c u i rr)) (λ q. omega (arith, pair.apart q, rest_cover rl c u i rr q)) made.same ∙ node.1;
-        apart = λ q. omega (arith, pair.apart q, rest_cover rl c u i rr q);
-      }, record {
-        left_root = pair.left.at;
-        root = sym at;
-        right_root = made.root;
-        left_balanced = pair.left.balanced;
-        right_balanced = shrinks.balanced;
-        left_near = omega (arith, shrinks.least);
-        right_near = omega (arith, shrinks.most);
-        low = low;
-      })
+      let low = pair.left.low in (
+        record {
+          left = holds_apart bytes w v l (rest_of (Node rl c u i rr)) (λ q. omega (arith, pair.apart q, rest_cover rl c u i rr q)) made.same pair.left.holds;
+          right = made.holds;
+          node = node.0;
+          size = header_apart w v (first_of (Node rl c u i rr)).0 (first_of (Node rl c u i rr)).1 (rest_of (Node rl c u i rr)) (λ q. omega (arith, pair.apart q, rest_cover rl c u i rr q)) made.same ∙ node.1;
+          apart = λ q. omega (arith, pair.apart q, rest_cover rl c u i rr q);
+        },
+        record {
+          left_root = pair.left.at;
+          root = sym at;
+          right_root = made.root;
+          left_balanced = pair.left.balanced;
+          right_balanced = shrinks.balanced;
+          left_near = omega (arith, shrinks.least);
+          right_near = omega (arith, shrinks.most);
+          low = low;
+        },
+      )
 
   pub join_balance : (real : ℕ → ℕ) → Fits bytes real → (v : Words) (first x : ℕ) → right ≢ 0 → ((t : Tree) → Stands bytes w t right → first ≡ (first_of t).0) → Parts bytes w v right x →
       (l r : Tree) → IsPair bytes w l r left right → BalanceAsks real v left first x

@@ -139,17 +139,19 @@ module _ (bytes : ℕ → ℕ) (w : Words) (a s : ℕ) where
       let apart : (q : ℕ) → cover q (inserted a s l) + (heads q b t + links q b t) + cover q r ≤ 1 = λ q. omega (arith, new.apart q, tally-inserted (heads q) a s l, tally-inserted (links q) a s l) in
       let grows = inserted-grows a s l stands.balanced.1 in
       let level = stands.balanced.0 in
-      let low = stands.low in
-      (left_plot bytes w v l b t h r root stands (inserted a s l) x made apart,
-        left_slope bytes w v l b t h r root stands (inserted a s l) x made apart right at grows.balanced (omega arith) (omega arith) (omega arith))
+      let low = stands.low in (
+        left_plot bytes w v l b t h r root stands (inserted a s l) x made apart,
+        left_slope bytes w v l b t h r root stands (inserted a s l) x made apart right at grows.balanced (omega arith) (omega arith) (omega arith),
+      )
 
   insert-right_plot : (l : Tree) (b t h : ℕ) (r : Tree) (root : ℕ) → Stands bytes w (Node l b t h r) root → IsNew bytes w (Node l b t h r) a s →
       (v : Words) (x left : ℕ) → Becomes bytes w v (inserted a s r) x → root_of l ≡ left → IsPlot bytes v l b t (inserted a s r) × IsSlope l b (inserted a s r) left root x
   insert-right_plot l b t h r root stands new v x left made at =
       let apart : (q : ℕ) → cover q l + (heads q b t + links q b t) + cover q (inserted a s r) ≤ 1 = λ q. omega (arith, new.apart q, tally-inserted (heads q) a s r, tally-inserted (links q) a s r) in
-      let grows = inserted-grows a s r stands.balanced.2 in
-      (right_plot bytes w v l b t h r root stands (inserted a s r) x made apart,
-        right_slope bytes w v l b t h r root stands (inserted a s r) x made apart left at grows.balanced (omega arith) (omega arith))
+      let grows = inserted-grows a s r stands.balanced.2 in (
+        right_plot bytes w v l b t h r root stands (inserted a s r) x made apart,
+        right_slope bytes w v l b t h r root stands (inserted a s r) x made apart left at grows.balanced (omega arith) (omega arith),
+      )
 
   left_new : (l : Tree) (b t h : ℕ) (r : Tree) → IsNew bytes w (Node l b t h r) a s → IsNew bytes w l a s
   left_new l b t h r new = record { node = new.node; size = new.size; apart = λ q. omega (arith, new.apart q) }
@@ -250,17 +252,19 @@ module _ (bytes : ℕ → ℕ) (w : Words) (a s : ℕ) where
       let apart : (q : ℕ) → cover q (removed a s l) + (heads q b t + links q b t) + cover q r ≤ 1 = λ q. omega (arith, stands.apart q, tally-removed_le (heads q) a s l, tally-removed_le (links q) a s l) in
       let shrinks = removed-shrinks a s l stands.balanced.1 in
       let level = stands.balanced.0 in
-      let low = stands.low in
-      (left_plot bytes w v l b t h r root stands (removed a s l) x made apart,
-        left_slope bytes w v l b t h r root stands (removed a s l) x made apart right at shrinks.balanced (omega arith) (omega arith) (omega arith))
+      let low = stands.low in (
+        left_plot bytes w v l b t h r root stands (removed a s l) x made apart,
+        left_slope bytes w v l b t h r root stands (removed a s l) x made apart right at shrinks.balanced (omega arith) (omega arith) (omega arith),
+      )
 
   remove-right_plot : (l : Tree) (b t h : ℕ) (r : Tree) (root : ℕ) → Stands bytes w (Node l b t h r) root →
       (v : Words) (x left : ℕ) → Becomes bytes w v (removed a s r) x → root_of l ≡ left → IsPlot bytes v l b t (removed a s r) × IsSlope l b (removed a s r) left root x
   remove-right_plot l b t h r root stands v x left made at =
       let apart : (q : ℕ) → cover q l + (heads q b t + links q b t) + cover q (removed a s r) ≤ 1 = λ q. omega (arith, stands.apart q, tally-removed_le (heads q) a s r, tally-removed_le (links q) a s r) in
-      let shrinks = removed-shrinks a s r stands.balanced.2 in
-      (right_plot bytes w v l b t h r root stands (removed a s r) x made apart,
-        right_slope bytes w v l b t h r root stands (removed a s r) x made apart left at shrinks.balanced (omega arith) (omega arith))
+      let shrinks = removed-shrinks a s r stands.balanced.2 in (
+        right_plot bytes w v l b t h r root stands (removed a s r) x made apart,
+        right_slope bytes w v l b t h r root stands (removed a s r) x made apart left at shrinks.balanced (omega arith) (omega arith),
+      )
 
   module _ (real : ℕ → ℕ) (root : ℕ) (read : Opened) (some : root ≢ 0) (opened : Opens bytes w root read) (fits : Fits bytes real) where
     pub remove-left_asks : (t : Tree) → Stands bytes w t root → RemoveAsks real w read.left

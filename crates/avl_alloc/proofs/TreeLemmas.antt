@@ -9,12 +9,12 @@ use Rattle.avl_alloc.specs.Tree.{Tree, Leaf, Node, root_of, high, tally, key, fo
 
 module _ (f : ℕ → ℕ → ℕ) where
   pub tally-raised_inner_left : (ll : Tree) (b t : ℕ) (lr : Tree) (a s : ℕ) (r : Tree) →
-    tally f (raised_inner_left ll b t lr a s r) ≡ tally f ll + f b t + tally f lr + f a s + tally f r
+      tally f (raised_inner_left ll b t lr a s r) ≡ tally f ll + f b t + tally f lr + f a s + tally f r
   tally-raised_inner_left ll b t Leaf a s r = omega arith
   tally-raised_inner_left ll b t (Node m c u h n) a s r = omega arith
 
   pub tally-raised_inner_right : (l : Tree) (a s : ℕ) (rl : Tree) (b t : ℕ) (rr : Tree) →
-    tally f (raised_inner_right l a s rl b t rr) ≡ tally f l + f a s + tally f rl + f b t + tally f rr
+      tally f (raised_inner_right l a s rl b t rr) ≡ tally f l + f a s + tally f rl + f b t + tally f rr
   tally-raised_inner_right l a s Leaf b t rr = omega arith
   tally-raised_inner_right l a s (Node m c u h n) b t rr = omega arith
 
@@ -42,9 +42,9 @@ module _ (f : ℕ → ℕ → ℕ) where
       elim (nat_lt (high r + 1) (high l)) as (λ v. tally f (if v then turned_right l a s r else (if nat_lt (high l + 1) (high r) then turned_left l a s r else forked l a s r)) ≡ tally f l + f a s + tally f r) [
         | true ↦ tally-turned_right l a s r
         | false ↦ elim (nat_lt (high l + 1) (high r)) as (λ v. tally f (if v then turned_left l a s r else forked l a s r) ≡ tally f l + f a s + tally f r) [
-            | true ↦ tally-turned_left l a s r
-            | false ↦ refl
-          ]
+          | true ↦ tally-turned_left l a s r
+          | false ↦ refl
+        ]
       ]
 
   pub tally-inserted : (a s : ℕ) (t : Tree) → tally f (inserted a s t) ≡ f a s + tally f t
@@ -57,7 +57,7 @@ module _ (f : ℕ → ℕ → ℕ) where
       ]
 
   pub tally-rest_of : (l : Tree) (a s h : ℕ) (r : Tree) →
-    tally f (rest_of (Node l a s h r)) + f (first_of (Node l a s h r)).0 (first_of (Node l a s h r)).1 ≡ tally f (Node l a s h r)
+      tally f (rest_of (Node l a s h r)) + f (first_of (Node l a s h r)).0 (first_of (Node l a s h r)).1 ≡ tally f (Node l a s h r)
   unfolding rest_of first_of
   tally-rest_of Leaf a s h r = omega arith
   tally-rest_of (Node ll b t i lr) a s h r = omega (arith, tally-rest_of ll b t i lr, tally-balanced (rest_of (Node ll b t i lr)) a s r)
@@ -77,13 +77,13 @@ same a s b t = if a == b && s == t then 1 else 0
 
 -- where the keys differ that is 0
 differs-same : (a s b t : ℕ) → key b t ≢ key a s → same a s b t ≡ 0
-differs-same a s b t differ = 
+differs-same a s b t differ =
     let one : a ≡ b → s ≡ t → key b t ≡ key a s = λ p q. omega arith in
     grind (arith, nat_tests)
 
 -- where that is 0 the keys differ
 same-differs : (a s b t : ℕ) → same a s b t ≡ 0 → IsName a → IsName b → key a s ≢ key b t
-same-differs a s b t none small other eq = 
+same-differs a s b t none small other eq =
     let sizes : s ≡ t = omega arith in
     let places : a ≡ b = omega arith in
     grind (arith, nat_tests)
@@ -118,6 +118,7 @@ turned_right-balances (Node ll b t h lr) a s r bl br far =
           least = omega arith;
           near = λ x y. absurd (omega arith);
         }
+
     double : (n : Tree) → IsLevel h (high ll) (high n) → IsBalanced n → high ll < high n → Balances (raised_inner_left ll b t n a s r) h (high r)
     double Leaf up bn lt = absurd (omega arith)
     double (Node m c u i n) up bn lt =
@@ -147,6 +148,7 @@ turned_left-balances l a s (Node rl b t h rr) bl br far =
           least = omega arith;
           near = λ x y. absurd (omega arith);
         }
+
     double : (n : Tree) → IsLevel h (high n) (high rr) → IsBalanced n → high rr < high n → Balances (raised_inner_right l a s n b t rr) (high l) h
     double Leaf up bn lt = absurd (omega arith)
     double (Node m c u i n) up bn lt =
@@ -173,9 +175,9 @@ balanced-balances l a s r bl br left right =
     elim (nat_lt (high r + 1) (high l)) as (λ v. nat_lt (high r + 1) (high l) ≡ v → Balances (if v then turned_right l a s r else (if nat_lt (high l + 1) (high r) then turned_left l a s r else forked l a s r)) (high l) (high r)) [
       | true ↦ λ is. turned_right-balances l a s r bl br (grind (arith, nat_tests))
       | false ↦ λ no. elim (nat_lt (high l + 1) (high r)) as (λ v. nat_lt (high l + 1) (high r) ≡ v → Balances (if v then turned_left l a s r else forked l a s r) (high l) (high r)) [
-          | true ↦ λ is. turned_left-balances l a s r bl br (grind (arith, nat_tests))
-          | false ↦ λ is. forked-balances l a s r bl br (grind (arith, nat_tests)) (grind (arith, nat_tests))
-        ] refl
+        | true ↦ λ is. turned_left-balances l a s r bl br (grind (arith, nat_tests))
+        | false ↦ λ is. forked-balances l a s r bl br (grind (arith, nat_tests)) (grind (arith, nat_tests))
+      ] refl
     ] refl
 
 -- a tree that is balanced, and as high as another or higher by one
@@ -252,9 +254,9 @@ removed-shrinks a s (Node l c u h r) b =
     elim (nat_lt (key a s) (key c u)) as (λ v. Shrinks (if v then balanced (removed a s l) c u r else (if nat_lt (key c u) (key a s) then balanced l c u (removed a s r) else joined l r)) h) [
       | true ↦ shrinks_left l c u r h b (removed a s l) (removed-shrinks a s l b.1)
       | false ↦ elim (nat_lt (key c u) (key a s)) as (λ v. Shrinks (if v then balanced l c u (removed a s r) else joined l r) h) [
-          | true ↦ shrinks_right l c u r h b (removed a s r) (removed-shrinks a s r b.2)
-          | false ↦ joined-shrinks l c u h r b
-        ]
+        | true ↦ shrinks_right l c u r h b (removed a s r) (removed-shrinks a s r b.2)
+        | false ↦ joined-shrinks l c u h r b
+      ]
     ]
 
 -- a weight of one for each hole
@@ -298,14 +300,15 @@ balanced-ordered low l a s r up small left right =
     elim (nat_lt (high r + 1) (high l)) as (λ v. IsOrdered low (if v then turned_right l a s r else (if nat_lt (high l + 1) (high r) then turned_left l a s r else forked l a s r)) up) [
       | true ↦ turn l left
       | false ↦ elim (nat_lt (high l + 1) (high r)) as (λ v. IsOrdered low (if v then turned_left l a s r else forked l a s r) up) [
-          | true ↦ turn_back r right
-          | false ↦ (small, left, right)
-        ]
+        | true ↦ turn_back r right
+        | false ↦ (small, left, right)
+      ]
     ]
   where
     inner : (ll : Tree) (b t : ℕ) (n : Tree) → IsName b → IsOrdered low ll (key b t) → IsOrdered (key b t + 1) n (key a s) → IsOrdered low (raised_inner_left ll b t n a s r) up
     inner ll b t Leaf sb o p = (sb, o, (small, p, right))
     inner ll b t (Node m c u h n) sb o p = (p.0, (sb, o, p.1), (small, p.2, right))
+
     turn : (l : Tree) → IsOrdered low l (key a s) → IsOrdered low (turned_right l a s r) up
     turn Leaf o = (small, o, right)
     turn (Node ll b t h lr) o =
@@ -313,9 +316,11 @@ balanced-ordered low l a s r up small left right =
           | true ↦ (o.0, o.1, (small, o.2, right))
           | false ↦ inner ll b t lr o.0 o.1 o.2
         ]
+
     inner_back : (n : Tree) (b t : ℕ) (rr : Tree) → IsName b → IsOrdered (key a s + 1) n (key b t) → IsOrdered (key b t + 1) rr up → IsOrdered low (raised_inner_right l a s n b t rr) up
     inner_back Leaf b t rr sb o p = (sb, (small, left, o), p)
     inner_back (Node m c u h n) b t rr sb o p = (o.0, (small, left, o.1), (sb, o.2, p))
+
     turn_back : (r : Tree) → IsOrdered (key a s + 1) r up → IsOrdered low (turned_left l a s r) up
     turn_back Leaf o = (small, left, o)
     turn_back (Node rl b t h rr) o =
@@ -368,9 +373,9 @@ removed-ordered low a s (Node l b t h r) up o =
     elim (nat_lt (key a s) (key b t)) as (λ v. IsOrdered low (if v then balanced (removed a s l) b t r else (if nat_lt (key b t) (key a s) then balanced l b t (removed a s r) else joined l r)) up) [
       | true ↦ balanced-ordered low (removed a s l) b t r up o.0 (removed-ordered low a s l (key b t) o.1) o.2
       | false ↦ elim (nat_lt (key b t) (key a s)) as (λ v. IsOrdered low (if v then balanced l b t (removed a s r) else joined l r) up) [
-          | true ↦ balanced-ordered low l b t (removed a s r) up o.0 o.1 (removed-ordered (key b t + 1) a s r up o.2)
-          | false ↦ joined-ordered low l (key b t) r up o.1 o.2
-        ]
+        | true ↦ balanced-ordered low l b t (removed a s r) up o.0 o.1 (removed-ordered (key b t + 1) a s r up o.2)
+        | false ↦ joined-ordered low l (key b t) r up o.1 o.2
+      ]
     ]
 
 -- outside the bounds there is no hole
@@ -401,20 +406,20 @@ module _ (f : ℕ → ℕ → ℕ) where
             let here = differs-same a s b t (omega arith) in
             omega (arith, tally-balanced f (removed a s l) b t r, tally-removed low a s l (key b t) small o.1 (omega arith))
         | false ↦ λ no. elim (nat_lt (key b t) (key a s)) as (λ v. nat_lt (key b t) (key a s) ≡ v → tally f (if v then balanced l b t (removed a s r) else joined l r) + f a s ≡ tally f l + f b t + tally f r) [
-            | true ↦ λ is.
-                let lt : key b t < key a s = grind (arith, nat_tests) in
-                let left = none_above low a s l (key b t) small (omega arith) o.1 in
-                let here = differs-same a s b t (omega arith) in
-                omega (arith, tally-balanced f l b t (removed a s r), tally-removed (key b t + 1) a s r up small o.2 (omega arith))
-            | false ↦ λ is.
-                let le : key b t ≤ key a s = grind (arith, nat_tests) in
-                let ge : key a s ≤ key b t = grind (arith, nat_tests) in
-                let parted = o.0 in
-                let sizes : t ≡ s = omega arith in
-                let places : b ≡ a = omega arith in
-                let here : f b t ≡ f a s = ap (λ x. f x t) places ∙ ap (f a) sizes in
-                omega (arith, tally-joined f l r)
-          ] refl
+          | true ↦ λ is.
+              let lt : key b t < key a s = grind (arith, nat_tests) in
+              let left = none_above low a s l (key b t) small (omega arith) o.1 in
+              let here = differs-same a s b t (omega arith) in
+              omega (arith, tally-balanced f l b t (removed a s r), tally-removed (key b t + 1) a s r up small o.2 (omega arith))
+          | false ↦ λ is.
+              let le : key b t ≤ key a s = grind (arith, nat_tests) in
+              let ge : key a s ≤ key b t = grind (arith, nat_tests) in
+              let parted = o.0 in
+              let sizes : t ≡ s = omega arith in
+              let places : b ≡ a = omega arith in
+              let here : f b t ≡ f a s = ap (λ x. f x t) places ∙ ap (f a) sizes in
+              omega (arith, tally-joined f l r)
+        ] refl
       ] refl
 
 -- ---- the best hole
@@ -484,6 +489,7 @@ found-is size low (Node l a s h r) up o =
           | inl lt ↦ lt
           | inr ge ↦ absurd (omega (arith, none_above low b t u k name ge p))
         ]
+
     left : size ≤ s → (place : ℕ) → IsFound size l place → IsFound size (Node l a s h r) (or_else place a)
     left le place (nowhere none) =
         somewhere a s o.0 le (omega (arith, same-same a s))
@@ -494,6 +500,7 @@ found-is size low (Node l a s h r) up o =
         subst (IsFound size (Node l a s h r)) (sym self)
         (somewhere b t name fits (omega arith)
         (omega (arith, least, not_better size (key b t) a s (omega arith), no_better_after size (key b t) (key a s + 1) r up (omega arith) o.2)))
+
     right : s < size → (place : ℕ) → IsFound size r place → IsFound size (Node l a s h r) place
     right lt place (nowhere none) = nowhere (omega (arith, too_small size low l (key a s) (omega arith) o.1, not_enough size a s lt))
     right lt place (somewhere b t name fits there least) =
@@ -509,7 +516,7 @@ tally-removed_le f a s (Node l b t h r) =
     elim (nat_lt (key a s) (key b t)) as (λ v. tally f (if v then balanced (removed a s l) b t r else (if nat_lt (key b t) (key a s) then balanced l b t (removed a s r) else joined l r)) ≤ tally f l + f b t + tally f r) [
       | true ↦ omega (arith, tally-balanced f (removed a s l) b t r, tally-removed_le f a s l)
       | false ↦ elim (nat_lt (key b t) (key a s)) as (λ v. tally f (if v then balanced l b t (removed a s r) else joined l r) ≤ tally f l + f b t + tally f r) [
-          | true ↦ omega (arith, tally-balanced f l b t (removed a s r), tally-removed_le f a s r)
-          | false ↦ omega (arith, tally-joined f l r)
-        ]
+        | true ↦ omega (arith, tally-balanced f l b t (removed a s r), tally-removed_le f a s r)
+        | false ↦ omega (arith, tally-joined f l r)
+      ]
     ]

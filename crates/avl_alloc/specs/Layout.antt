@@ -1,6 +1,6 @@
 -- The heap in the words: blocks by their headers, and the tree inside the holes.
 use Rattle.std.proofs.Common.{zero, suc}
-use Rattle.std.specs.Prelude.{◌≡◌, ℕ, ◌+◌, ◌-◌, ◌*◌, ◌^◌, ◌≤◌, ◌<◌, ◌==◌, if◌then◌else◌, List, [], ◌∷◌, length, take, slice_index}
+use Rattle.std.specs.Prelude.{◌≡◌, ℕ, ◌+◌, ◌-◌, ◌*◌, ◌/◌, ◌%◌, ◌^◌, ◌≤◌, ◌<◌, ◌==◌, if◌then◌else◌, List, [], ◌∷◌, length, take, slice_index}
 use Rattle.own_model.specs.Heap.{Block, Used, Hole, size_of, bytes_in, IsBlockSize, Heap}
 use Rattle.own_model.specs.BestFit.{Spot, holes_of, chunk_of}
 use Rattle.avl_alloc.specs.declared.best_fit.BestFit.{BestFit}
@@ -21,16 +21,24 @@ blocks_from (suc most) words place left =
     if left == 0 then [] else block_from words place ∷ blocks_from most words (place + words place) (left - words place)
 
 -- a block's header
-pub record IsHeader (words : Words) (place size state : ℕ) : Type 0 where
-  pub sized : IsBlockSize size
-  pub size : words place ≡ size
-  pub state : words (place + 8) ≡ state
+pub record IsHeader (words : Words) (place n is_used : ℕ) : Type 0 where
+  pub sized : IsBlockSize n
+  pub size : words place ≡ n
+  pub state : words (place + 8) ≡ is_used
 
 -- the headers from a place on are those of these blocks
 abbrev pub Laid : Words → ℕ → List Block → Type 0
 Laid words place [] = Unit {0}
 Laid words place (Used n ∷ rest) = IsHeader words place n 1 × Laid words (place + n) rest
 Laid words place (Hole n ∷ rest) = IsHeader words place n 0 × Laid words (place + n) rest
+
+-- so many bytes from a chunk's first place on are words
+pub record IsRoom (bytes : ℕ → ℕ) (start size : ℕ) : Type 0 where
+  pub some : 2 ^ 32 ≤ start
+  pub low : start < 2 ^ 39
+  pub first : start % 2 ^ 32 ≡ 0
+  pub short : size ≤ 2 ^ 32
+  pub within : size ≤ bytes (start / 2 ^ 32 - 1)
 
 -- ---- sums over blocks
 
@@ -96,6 +104,7 @@ AreChunks words number (size ∷ sizes) (blocks ∷ rest) = IsChunk words number
 -- a heap and a tree in the words: the nodes are the heap's holes
 pub record IsLaidOut (fit : BestFit) (words : Words) (heap : Heap) (t : Tree) : Type 0 where
   pub few : fit.count ≤ 64
+  pub sized : length fit.sizes ≡ 64
   pub chunks : AreChunks words 0 (take fit.count fit.sizes) heap
   pub stands : Stands (bytes_of fit) words t fit.root
   pub ordered : (up : ℕ) × IsOrdered 0 t up

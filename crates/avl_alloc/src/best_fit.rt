@@ -1,7 +1,13 @@
 //! Best fit over the chunks of one heap.
-use super::chunk::{hole_at, set_header, walk, Block, HEADER, HOLE, LEAST, USED};
-use super::memory::{load, place_of, WordMemory, SPAN};
-use super::tree::{find, insert, remove};
+ghost use Rattle.std.specs.Prelude.{◌≡◌, ℕ, ◌+◌, ◌*◌, ◌<◌, ◌≤◌, [], length};
+ghost use Rattle.std.specs.Option.{option_map};
+ghost use Rattle.own_model.specs.BestFit.{block_size, chunk_of, payload_at};
+ghost use Rattle.avl_alloc.specs.Held.{Fits};
+ghost use Rattle.avl_alloc.specs.Layout.{heap_of, bytes_of, IsSound};
+ghost use Rattle.avl_alloc.specs.Found.{used_block};
+
+use super::chunk::{HEADER, LEAST, walk};
+use super::memory::{WordMemory, place_of};
 
 /// The most chunks of a heap.
 pub const MOST_CHUNKS: usize = 64;
@@ -13,6 +19,17 @@ pub struct BlockAddr {
     pub chunk: usize,
     /// The offset of its first byte in the chunk.
     pub offset: u64,
+}
+
+/// A used block.
+#[derive(Clone, Copy, Debug, PartialEq, Eq)]
+pub struct UsedBlock {
+    /// The number of its chunk.
+    pub chunk: usize,
+    /// The offset of its first byte in the chunk. Its payload is 16 bytes on.
+    pub offset: u64,
+    /// Its bytes, those of the header among them.
+    pub size: u64,
 }
 
 /// The chunks of a heap, and the tree inside its holes. Blocks, links and sizes of blocks stand in
@@ -29,7 +46,10 @@ pub struct BestFit {
 
 impl BestFit {
     /// A heap without a chunk.
-    pub fn new() -> BestFit {
+    pub fn new() -> BestFit
+        ensures empty { (words : ℕ → ℕ) → heap_of result words ≡ [] }
+        ensures sound { (words : ℕ → ℕ) → IsSound result words }
+    {
         BestFit {
             root: 0,
             count: 0,
@@ -37,81 +57,32 @@ impl BestFit {
         }
     }
 
-    /// Takes a chunk of `bytes` bytes as the last one: one hole.
-    pub fn add_chunk<M: WordMemory>(&mut self, memory: &mut M, ordinal: usize, bytes: u64) {
-        let place = place_of(ordinal);
-        set_header(memory, place, bytes, HOLE);
-        self.root = insert(memory, self.root, place, bytes);
-        self.sizes[ordinal] = bytes;
-        self.count = ordinal + 1;
-    }
-
-    /// Takes a block for a payload of `bytes` bytes out of the best hole, or `None` where no hole
-    /// is large enough. What is left of the hole stays one, where that is a block's least size.
-    pub fn alloc<M: WordMemory>(&mut self, memory: &mut M, bytes: u64) -> Option<BlockAddr> {
-        let size = block_size(bytes);
-        let hole = find(memory, self.root, size);
-        if hole == 0 {
+    /// The used block whose payload holds an address, or `None` where no payload does. It believes
+    /// no header but those that it reaches from the chunk's first byte.
+    pub fn block_at<M: WordMemory>(&self, memory: &mut M, addr: BlockAddr) -> Option<UsedBlock>
+        requires sound { IsSound self.now (M.word memory.old) }
+        requires fits { Fits (bytes_of self.now) (M.bytes (M.rest memory.old)) }
+        ensures block { let blocks = chunk_of (heap_of self.now (M.word memory.old)) addr.chunk in
+            result ≡ option_map (used_block addr.chunk) (payload_at 0 addr.offset blocks) }
+        ensures words { M.word memory.new ≡ M.word memory.old }
+        ensures rest { M.rest memory.new ≡ M.rest memory.old }
+        ensures loads { let blocks = chunk_of (heap_of self.now (M.word memory.old)) addr.chunk in
+            M.loads memory.new ≤ M.loads memory.old + 2 * length blocks }
+    {
+        if addr.chunk >= self.count {
             return None;
         }
-        let had = load(memory, hole);
-        self.root = remove(memory, self.root, hole, had);
-        if had - size < LEAST {
-            set_header(memory, hole, had, USED);
-        } else {
-            set_header(memory, hole, size, USED);
-            set_header(memory, hole + size, had - size, HOLE);
-            self.root = insert(memory, self.root, hole + size, had - size);
-        }
-        Some(BlockAddr {
-            chunk: (hole / SPAN - 1) as usize,
-            offset: hole % SPAN,
-        })
-    }
-
-    /// Gives back the used block that starts at an address, joined with the hole directly before it
-    /// and the one directly after it, and answers its size; or `None` where no used block starts there.
-    pub fn free<M: WordMemory>(&mut self, memory: &mut M, addr: BlockAddr) -> Option<u64> {
-        let block = self.block_over(memory, addr)?;
-        if !block.used || block.offset != addr.offset {
+        let size = self.sizes[addr.chunk];
+        if addr.offset >= size {
             return None;
         }
-        let mut start = place_of(addr.chunk) + addr.offset;
-        let mut size = block.size;
-        if addr.offset + size < self.sizes[addr.chunk] {
-            let after = hole_at(memory, start + size);
-            if after != 0 {
-                self.root = remove(memory, self.root, start + size, after);
-                size += after;
-            }
-        }
-        if block.before != 0 {
-            self.root = remove(memory, self.root, start - block.before, block.before);
-            start -= block.before;
-            size += block.before;
-        }
-        set_header(memory, start, size, HOLE);
-        self.root = insert(memory, self.root, start, size);
-        Some(block.size)
-    }
-
-    /// The used block whose payload holds an address, or `None` where there is none.
-    pub fn block_at<M: WordMemory>(&self, memory: &mut M, addr: BlockAddr) -> Option<(BlockAddr, u64)> {
-        let block = self.block_over(memory, addr)?;
-        if !block.used || addr.offset < block.offset + HEADER {
-            return None;
-        }
-        let found = BlockAddr {
-            chunk: addr.chunk,
-            offset: block.offset,
-        };
-        Some((found, block.size))
-    }
-
-    /// The block that has an address, used or not.
-    fn block_over<M: WordMemory>(&self, memory: &mut M, addr: BlockAddr) -> Option<Block> {
-        if addr.chunk < self.count && addr.offset < self.sizes[addr.chunk] {
-            Some(walk(memory, place_of(addr.chunk), addr.offset))
+        let block = walk(memory, place_of(addr.chunk), addr.offset);
+        if block.used && block.offset + HEADER <= addr.offset {
+            Some(UsedBlock {
+                chunk: addr.chunk,
+                offset: block.offset,
+                size: block.size,
+            })
         } else {
             None
         }
@@ -119,6 +90,9 @@ impl BestFit {
 }
 
 /// The bytes of a block for a payload of `bytes` bytes: its header with them, in whole steps of 16.
-fn block_size(bytes: u64) -> u64 {
+pub fn block_bytes(bytes: u64) -> u64
+    requires { bytes < 65536 }
+    ensures { result ≡ block_size bytes }
+{
     (HEADER + bytes.next_multiple_of(16)).max(LEAST)
 }

@@ -4,7 +4,7 @@ ghost use Rattle.avl_alloc.specs.Words.{IsNode};
 ghost use Rattle.avl_alloc.specs.Tree.{Tree, Node, root_of, high, forked, IsBalanced};
 ghost use Rattle.avl_alloc.specs.Held.{Fits, Holds, IsPlot, Becomes, IsOpened, AreArms};
 
-use super::memory::{load, store, WordMemory};
+use super::memory::{WordMemory, load, store};
 
 /// Where the left child of a node stands.
 const LEFT: u64 = 16;
@@ -89,7 +89,14 @@ pub fn arms_of<M: WordMemory>(memory: &mut M, node: u64) -> Arms
 }
 
 /// Writes a node over two trees of these heights, and answers its own.
-pub fn fork<M: WordMemory>(memory: &mut M, node: u64, left: u64, right: u64, left_high: u64, right_high: u64) -> u64
+pub fn fork<M: WordMemory>(
+    memory: &mut M,
+    node: u64,
+    left: u64,
+    right: u64,
+    left_high: u64,
+    right_high: u64,
+) -> u64
     requires node { IsNode (M.bytes (M.rest memory.old)) node }
     requires left_low { left_high < 2 ^ 20 }
     requires right_low { right_high < 2 ^ 20 }

@@ -29,7 +29,13 @@ pub fn balance<M: WordMemory>(memory: &mut M, left: u64, node: u64, right: u64) 
 }
 
 /// The same where the left tree is the higher one by two: it or its right child comes to the top.
-fn turn_right<M: WordMemory>(memory: &mut M, left: u64, node: u64, right: u64, right_high: u64) -> u64
+fn turn_right<M: WordMemory>(
+    memory: &mut M,
+    left: u64,
+    node: u64,
+    right: u64,
+    right_high: u64,
+) -> u64
     requires { (bytes : ℕ → ℕ) × (l : Tree) × (a s : ℕ) × (r : Tree) × Fits bytes (M.bytes (M.rest memory.old)) ×
         IsPlot bytes (M.word memory.old) l a s r × IsSlope l a r left node right ×
         (high l ≡ high r + 2) × (high r ≡ right_high) }
@@ -41,14 +47,35 @@ fn turn_right<M: WordMemory>(memory: &mut M, left: u64, node: u64, right: u64, r
 {
     let under = arms_of(memory, left);
     if under.right_high <= under.left_high {
-        let low = fork(memory, node, under.right, right, under.right_high, right_high);
+        let low = fork(
+            memory,
+            node,
+            under.right,
+            right,
+            under.right_high,
+            right_high,
+        );
         fork(memory, left, under.left, node, under.left_high, low);
         left
     } else {
         let top = under.right;
         let inner = arms_of(memory, top);
-        let low = fork(memory, left, under.left, inner.left, under.left_high, inner.left_high);
-        let other = fork(memory, node, inner.right, right, inner.right_high, right_high);
+        let low = fork(
+            memory,
+            left,
+            under.left,
+            inner.left,
+            under.left_high,
+            inner.left_high,
+        );
+        let other = fork(
+            memory,
+            node,
+            inner.right,
+            right,
+            inner.right_high,
+            right_high,
+        );
         fork(memory, top, left, node, low, other);
         top
     }
@@ -73,7 +100,14 @@ fn turn_left<M: WordMemory>(memory: &mut M, left: u64, node: u64, right: u64, le
     } else {
         let top = under.left;
         let inner = arms_of(memory, top);
-        let low = fork(memory, right, inner.right, under.right, inner.right_high, under.right_high);
+        let low = fork(
+            memory,
+            right,
+            inner.right,
+            under.right,
+            inner.right_high,
+            under.right_high,
+        );
         let other = fork(memory, node, left, inner.left, left_high, inner.left_high);
         fork(memory, top, node, right, other, low);
         top

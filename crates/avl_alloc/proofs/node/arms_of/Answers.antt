@@ -55,4 +55,3 @@ returns-clause-right_node g c some =
     let f = limbs q.0 _ _ q.1 _ c.open_node-opened.result q.3 q.4 q.5 q.6 q.7 (c.open_node-opened.ensures.opened q.0) in
     let tall : c.high_of-right_high.result ≡ high f.r = c.high_of-right_high.ensures.value q.0 f.r (rw (c.high_of-left_high.ensures.words, c.open_node-opened.ensures.words) f.right_holds) f.right_root in
     high_there q.0 _ _ f.r _ _ q.2 f.right_holds f.right_root tall some
-

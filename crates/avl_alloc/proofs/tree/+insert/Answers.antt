@@ -19,10 +19,14 @@ pub insert-left-requires : goal.insert-left-requires
 insert-left-requires g t c κs within =
     let q = c.requires in
     let below = lower q.0 (g.M.WordMemory.word c.args.memory.now) c.args.node c.args.size c.args.root c.open_node-under.result c.if-root-eq0.false (c.open_node-under.ensures.opened q.0) q.1 q.3 in
-    let less : height_at (g.M.WordMemory.word c.open_node-under.new.memory) c.open_node-under.result.left < height_at (g.M.WordMemory.word c.args.memory.now) c.args.root = rw c.open_node-under.ensures.words below.0 in
-    (omega (arith, less), (within,
+    let less : height_at (g.M.WordMemory.word c.open_node-under.new.memory) c.open_node-under.result.left < height_at (g.M.WordMemory.word c.args.memory.now) c.args.root = rw c.open_node-under.ensures.words below.0 in (
+      omega (arith, less),
+      (
+        within,
         rw (c.open_node-under.ensures.words, c.open_node-under.ensures.rest)
-        (insert-left_asks q.0 _ _ _ _ c.args.root c.open_node-under.result c.if-root-eq0.false (c.open_node-under.ensures.opened q.0) q.2 q.1 q.3 q.4)))
+            (insert-left_asks q.0 _ _ _ _ c.args.root c.open_node-under.result c.if-root-eq0.false (c.open_node-under.ensures.opened q.0) q.2 q.1 q.3 q.4),
+      ),
+    )
 
 pub balance-requires : goal.balance-requires
 balance-requires g t c =
@@ -48,10 +52,14 @@ pub insert-right-requires : goal.insert-right-requires
 insert-right-requires g t c κs within =
     let q = c.requires in
     let below = lower q.0 (g.M.WordMemory.word c.args.memory.now) c.args.node c.args.size c.args.root c.open_node-under.result c.if-root-eq0.false (c.open_node-under.ensures.opened q.0) q.1 q.3 in
-    let less : height_at (g.M.WordMemory.word c.open_node-under.new.memory) c.open_node-under.result.right < height_at (g.M.WordMemory.word c.args.memory.now) c.args.root = rw c.open_node-under.ensures.words below.1 in
-    (omega (arith, less), (within,
+    let less : height_at (g.M.WordMemory.word c.open_node-under.new.memory) c.open_node-under.result.right < height_at (g.M.WordMemory.word c.args.memory.now) c.args.root = rw c.open_node-under.ensures.words below.1 in (
+      omega (arith, less),
+      (
+        within,
         rw (c.open_node-under.ensures.words, c.open_node-under.ensures.rest)
-        (insert-right_asks q.0 _ _ _ _ c.args.root c.open_node-under.result c.if-root-eq0.false (c.open_node-under.ensures.opened q.0) q.2 q.1 q.3 q.4)))
+            (insert-right_asks q.0 _ _ _ _ c.args.root c.open_node-under.result c.if-root-eq0.false (c.open_node-under.ensures.opened q.0) q.2 q.1 q.3 q.4),
+      ),
+    )
 
 pub balance-requires-else-comes_before : goal.balance-requires-else-comes_before
 balance-requires-else-comes_before g t c =

@@ -27,10 +27,14 @@ pub part_first-parted-requires : goal.part_first-parted-requires
 part_first-parted-requires g t c κs within =
     let q = c.requires in
     let below = lower q.0 (g.M.WordMemory.word c.args.memory.now) 0 0 c.args.root c.open_node-under.result q.4 (c.open_node-under.ensures.opened q.0) q.1 q.3 in
-    let less : height_at (g.M.WordMemory.word c.open_node-under.new.memory) c.open_node-under.result.left < height_at (g.M.WordMemory.word c.args.memory.now) c.args.root = rw c.open_node-under.ensures.words below.0 in
-    (omega (arith, less), (within,
+    let less : height_at (g.M.WordMemory.word c.open_node-under.new.memory) c.open_node-under.result.left < height_at (g.M.WordMemory.word c.args.memory.now) c.args.root = rw c.open_node-under.ensures.words below.0 in (
+      omega (arith, less),
+      (
+        within,
         rw (c.open_node-under.ensures.words, c.open_node-under.ensures.rest)
-        (part-left_asks q.0 _ c.args.root c.open_node-under.result q.4 (c.open_node-under.ensures.opened q.0) _ q.2 c.if-under-eq0.false q.1 q.3)))
+            (part-left_asks q.0 _ c.args.root c.open_node-under.result q.4 (c.open_node-under.ensures.opened q.0) _ q.2 c.if-under-eq0.false q.1 q.3),
+      ),
+    )
 
 pub balance-rest-requires : goal.balance-rest-requires
 balance-rest-requires g t c =

@@ -18,10 +18,14 @@ pub remove-left-requires : goal.remove-left-requires
 remove-left-requires g t c κs within =
     let q = c.requires in
     let below = lower q.0 (g.M.WordMemory.word c.args.memory.now) c.args.node c.args.size c.args.root c.open_node-under.result c.if-root-eq0.false (c.open_node-under.ensures.opened q.0) q.1 q.3 in
-    let less : height_at (g.M.WordMemory.word c.open_node-under.new.memory) c.open_node-under.result.left < height_at (g.M.WordMemory.word c.args.memory.now) c.args.root = rw c.open_node-under.ensures.words below.0 in
-    (omega (arith, less), (within,
+    let less : height_at (g.M.WordMemory.word c.open_node-under.new.memory) c.open_node-under.result.left < height_at (g.M.WordMemory.word c.args.memory.now) c.args.root = rw c.open_node-under.ensures.words below.0 in (
+      omega (arith, less),
+      (
+        within,
         rw (c.open_node-under.ensures.words, c.open_node-under.ensures.rest)
-        (remove-left_asks q.0 _ c.args.node c.args.size _ c.args.root c.open_node-under.result c.if-root-eq0.false (c.open_node-under.ensures.opened q.0) q.2 q.1 q.3)))
+            (remove-left_asks q.0 _ c.args.node c.args.size _ c.args.root c.open_node-under.result c.if-root-eq0.false (c.open_node-under.ensures.opened q.0) q.2 q.1 q.3),
+      ),
+    )
 
 pub balance-requires : goal.balance-requires
 balance-requires g t c =
@@ -47,10 +51,14 @@ pub remove-right-requires : goal.remove-right-requires
 remove-right-requires g t c κs within =
     let q = c.requires in
     let below = lower q.0 (g.M.WordMemory.word c.args.memory.now) c.args.node c.args.size c.args.root c.open_node-under.result c.if-root-eq0.false (c.open_node-under.ensures.opened q.0) q.1 q.3 in
-    let less : height_at (g.M.WordMemory.word c.open_node-under.new.memory) c.open_node-under.result.right < height_at (g.M.WordMemory.word c.args.memory.now) c.args.root = rw c.open_node-under.ensures.words below.1 in
-    (omega (arith, less), (within,
+    let less : height_at (g.M.WordMemory.word c.open_node-under.new.memory) c.open_node-under.result.right < height_at (g.M.WordMemory.word c.args.memory.now) c.args.root = rw c.open_node-under.ensures.words below.1 in (
+      omega (arith, less),
+      (
+        within,
         rw (c.open_node-under.ensures.words, c.open_node-under.ensures.rest)
-        (remove-right_asks q.0 _ c.args.node c.args.size _ c.args.root c.open_node-under.result c.if-root-eq0.false (c.open_node-under.ensures.opened q.0) q.2 q.1 q.3)))
+            (remove-right_asks q.0 _ c.args.node c.args.size _ c.args.root c.open_node-under.result c.if-root-eq0.false (c.open_node-under.ensures.opened q.0) q.2 q.1 q.3),
+      ),
+    )
 
 pub balance-requires-then-comes_before-2 : goal.balance-requires-then-comes_before-2
 balance-requires-then-comes_before-2 g t c =

@@ -15,10 +15,13 @@ loop-node-smaller-then-size-under g c =
 
 pub loop-node-preserved-then-size-under : goal.loop-node-preserved-then-size-under
 loop-node-preserved-then-size-under g c =
-    let inv = c.loop-node.invariant in
-    (c.open_node-under.ensures.words ∙ inv.0, c.open_node-under.ensures.rest ∙ inv.1, λ bytes.
-        subst (λ z. Finding bytes (g.M.WordMemory.word c.args.memory.now) c.args.size c.args.root c.open_node-under.result.left c.loop-node.node z (g.M.WordMemory.loads c.args.memory.now)) (sym c.open_node-under.ensures.loads)
-        (find-left bytes (g.M.WordMemory.word c.args.memory.now) _ _ _ c.loop-node.best _ _ c.open_node-under.result c.loop-node-test.true (subst (λ w. Opens bytes w c.loop-node.node c.open_node-under.result) c.loop-node.invariant.0 (c.open_node-under.ensures.opened bytes)) (inv.2 bytes) c.if-size-under.true))
+    let inv = c.loop-node.invariant in (
+      c.open_node-under.ensures.words ∙ inv.0,
+      c.open_node-under.ensures.rest ∙ inv.1,
+      λ bytes.
+          subst (λ z. Finding bytes (g.M.WordMemory.word c.args.memory.now) c.args.size c.args.root c.open_node-under.result.left c.loop-node.node z (g.M.WordMemory.loads c.args.memory.now)) (sym c.open_node-under.ensures.loads)
+          (find-left bytes (g.M.WordMemory.word c.args.memory.now) _ _ _ c.loop-node.best _ _ c.open_node-under.result c.loop-node-test.true (subst (λ w. Opens bytes w c.loop-node.node c.open_node-under.result) c.loop-node.invariant.0 (c.open_node-under.ensures.opened bytes)) (inv.2 bytes) c.if-size-under.true),
+    )
 
 -- on to the right
 pub loop-node-smaller : goal.loop-node-smaller
@@ -31,10 +34,13 @@ loop-node-smaller g c =
 
 pub loop-node-preserved : goal.loop-node-preserved
 loop-node-preserved g c =
-    let inv = c.loop-node.invariant in
-    (c.open_node-under.ensures.words ∙ inv.0, c.open_node-under.ensures.rest ∙ inv.1, λ bytes.
-        subst (λ z. Finding bytes (g.M.WordMemory.word c.args.memory.now) c.args.size c.args.root c.open_node-under.result.right c.loop-node.best z (g.M.WordMemory.loads c.args.memory.now)) (sym c.open_node-under.ensures.loads)
-        (find-right bytes (g.M.WordMemory.word c.args.memory.now) _ _ _ c.loop-node.best _ _ c.open_node-under.result c.loop-node-test.true (subst (λ w. Opens bytes w c.loop-node.node c.open_node-under.result) c.loop-node.invariant.0 (c.open_node-under.ensures.opened bytes)) (inv.2 bytes) c.if-size-under.false))
+    let inv = c.loop-node.invariant in (
+      c.open_node-under.ensures.words ∙ inv.0,
+      c.open_node-under.ensures.rest ∙ inv.1,
+      λ bytes.
+          subst (λ z. Finding bytes (g.M.WordMemory.word c.args.memory.now) c.args.size c.args.root c.open_node-under.result.right c.loop-node.best z (g.M.WordMemory.loads c.args.memory.now)) (sym c.open_node-under.ensures.loads)
+          (find-right bytes (g.M.WordMemory.word c.args.memory.now) _ _ _ c.loop-node.best _ _ c.open_node-under.result c.loop-node-test.true (subst (λ w. Opens bytes w c.loop-node.node c.open_node-under.result) c.loop-node.invariant.0 (c.open_node-under.ensures.opened bytes)) (inv.2 bytes) c.if-size-under.false),
+    )
 
 pub returns-clause-found : goal.returns-clause-found
 returns-clause-found g c bytes =

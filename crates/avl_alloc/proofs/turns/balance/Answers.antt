@@ -19,20 +19,36 @@ turn_right-requires g c =
     let q = c.requires in
     let slope = q.7 in
     let left_high : c.high_of-left_high.result ≡ high q.1 = c.high_of-left_high.ensures.value q.0 q.1 q.6.left slope.left_root in
-    let right_high : c.high_of-right_high.result ≡ high q.4 = c.high_of-right_high.ensures.value q.0 q.4 (rw c.high_of-left_high.ensures.words q.6.right) slope.right_root in
-    (q.0, q.1, q.2, q.3, q.4, rw (c.high_of-right_high.ensures.rest, c.high_of-left_high.ensures.rest) q.5,
-        subst (λ w. IsPlot q.0 w q.1 q.2 q.3 q.4) (sym (c.high_of-right_high.ensures.words ∙ c.high_of-left_high.ensures.words)) q.6,
-        slope, omega arith, omega arith)
+    let right_high : c.high_of-right_high.result ≡ high q.4 = c.high_of-right_high.ensures.value q.0 q.4 (rw c.high_of-left_high.ensures.words q.6.right) slope.right_root in (
+      q.0,
+      q.1,
+      q.2,
+      q.3,
+      q.4,
+      rw (c.high_of-right_high.ensures.rest, c.high_of-left_high.ensures.rest) q.5,
+      subst (λ w. IsPlot q.0 w q.1 q.2 q.3 q.4) (sym (c.high_of-right_high.ensures.words ∙ c.high_of-left_high.ensures.words)) q.6,
+      slope,
+      omega arith,
+      omega arith,
+    )
 
 pub turn_left-requires : goal.turn_left-requires
 turn_left-requires g c =
     let q = c.requires in
     let slope = q.7 in
     let left_high : c.high_of-left_high.result ≡ high q.1 = c.high_of-left_high.ensures.value q.0 q.1 q.6.left slope.left_root in
-    let right_high : c.high_of-right_high.result ≡ high q.4 = c.high_of-right_high.ensures.value q.0 q.4 (rw c.high_of-left_high.ensures.words q.6.right) slope.right_root in
-    (q.0, q.1, q.2, q.3, q.4, rw (c.high_of-right_high.ensures.rest, c.high_of-left_high.ensures.rest) q.5,
-        subst (λ w. IsPlot q.0 w q.1 q.2 q.3 q.4) (sym (c.high_of-right_high.ensures.words ∙ c.high_of-left_high.ensures.words)) q.6,
-        slope, omega arith, omega arith)
+    let right_high : c.high_of-right_high.result ≡ high q.4 = c.high_of-right_high.ensures.value q.0 q.4 (rw c.high_of-left_high.ensures.words q.6.right) slope.right_root in (
+      q.0,
+      q.1,
+      q.2,
+      q.3,
+      q.4,
+      rw (c.high_of-right_high.ensures.rest, c.high_of-left_high.ensures.rest) q.5,
+      subst (λ w. IsPlot q.0 w q.1 q.2 q.3 q.4) (sym (c.high_of-right_high.ensures.words ∙ c.high_of-left_high.ensures.words)) q.6,
+      slope,
+      omega arith,
+      omega arith,
+    )
 
 pub returns-then-right_high-left_high-clause-made : goal.returns-then-right_high-left_high-clause-made
 returns-then-right_high-left_high-clause-made g c bytes l a s r plot slope =
