@@ -25,3 +25,5 @@ pub mod Rows
 pub mod SessionArgs
 pub mod LogText
 pub mod FileText
+pub mod Heap
+pub mod BestFit

@@ -1,0 +1,142 @@
+-- A walk along a chunk's headers, a block at a time.
+use Rattle.std.proofs.Common.{◌≡◌, ◌≢◌, ℕ, zero, suc, ◌+◌, ◌-◌, ◌*◌, ◌/◌, ◌%◌, ◌^◌, ◌<◌, ◌≤◌, Bool, true, false, refl, sym, ap, ◌∙◌, subst, arith, cond, List, [], ◌∷◌, length, eqb}
+use Rattle.std.specs.Prelude.{nat_lt, if◌then◌else◌, ◌==◌}
+use Rattle.std.proofs.lemmas.Bool.Decides.{nat_tests}
+use Rattle.own_model.specs.Heap as heap
+use Rattle.own_model.specs.Heap.{Used, Hole, size_of, bytes_in, IsBlockSize}
+use Rattle.avl_alloc.specs.declared.chunk.Block.{Block}
+use Rattle.avl_alloc.specs.Words.{Words, IsWord, IsPlace}
+use Rattle.avl_alloc.specs.Layout.{Laid, IsHeader, IsRoom}
+use Rattle.avl_alloc.specs.Walk.{block_over}
+
+-- the blocks that a walk has ahead of it, from an offset on
+pub record IsAhead (w : Words) (start from before target : ℕ) (blocks ahead : List heap.Block) (n k : ℕ) : Type 0 where
+  pub laid : Laid w (start + from) ahead
+  pub total : from + bytes_in ahead ≡ bytes_in blocks
+  pub even : from % 16 ≡ 0
+  pub reached : from ≤ target
+  pub same : block_over from before target ahead ≡ block_over 0 0 target blocks
+  pub few : n + 2 * length ahead ≤ k + 2 * length blocks
+
+pub ahead-start : (w : Words) (start target : ℕ) (blocks : List heap.Block) (n : ℕ) → Laid w start blocks → IsAhead w start 0 0 target blocks blocks n n
+ahead-start w start target blocks n laid = record {
+  laid = subst (λ p. Laid w p blocks) (omega arith) laid;
+  total = omega arith;
+  even = omega arith;
+  reached = omega arith;
+  same = refl;
+  few = omega arith;
+}
+
+-- a header within a chunk stands in words
+header_place : (bytes : ℕ → ℕ) (start from total m : ℕ) → IsRoom bytes start total → from % 16 ≡ 0 → from + m ≤ total → 48 ≤ m → (q : ℕ) → q % 8 ≡ 0 → q ≤ 8 → IsPlace bytes (start + from + q)
+header_place bytes start from total m room even in_chunk least q step small =
+    let chunk : (start + from + q) / 2 ^ 32 ≡ start / 2 ^ 32 = omega (arith, room.first, room.short) in
+    let offset : (start + from + q) % 2 ^ 32 ≡ from + q = omega (arith, room.first, room.short) in
+    record {
+      some = omega (arith, room.some);
+      word = record {
+        aligned = omega arith;
+        within = subst (λ c. (start + from + q) % 2 ^ 32 + 8 ≤ bytes (c - 1)) (sym chunk) (omega (arith, room.within));
+        short = omega arith;
+      };
+    }
+
+-- what the walk reads where it stands
+pub record IsRead (bytes : ℕ → ℕ) (w : Words) (start from : ℕ) : Type 0 where
+  pub size_place : IsPlace bytes (start + from)
+  pub state_place : IsPlace bytes (start + from + 8)
+  pub short : from + w (start + from) ≤ 2 ^ 32
+  pub some : 1 ≤ w (start + from)
+
+module _ (w : Words) (start from before target : ℕ) (blocks : List heap.Block) (n k : ℕ) (inside : target < bytes_in blocks) where
+  read_block : (bytes : ℕ → ℕ) → IsRoom bytes start (bytes_in blocks) → (m : ℕ) → IsBlockSize m → w (start + from) ≡ m → from % 16 ≡ 0 → from + m ≤ bytes_in blocks → IsRead bytes w start from
+  read_block bytes room m sized is even le = record {
+    size_place = subst (IsPlace bytes) (omega arith) (header_place bytes start from (bytes_in blocks) m room even le sized.least 0 (omega arith) (omega arith));
+    state_place = header_place bytes start from (bytes_in blocks) m room even le sized.least 8 (omega arith) (omega arith);
+    short = omega (arith, room.short);
+    some = omega (arith, sized.least);
+  }
+
+  -- where the walk stands there is a header
+  pub ahead-read : (bytes : ℕ → ℕ) → IsRoom bytes start (bytes_in blocks) → (ahead : List heap.Block) → IsAhead w start from before target blocks ahead n k → IsRead bytes w start from
+  ahead-read bytes room [] is = let total = is.total in let reached = is.reached in absurd (omega arith)
+  ahead-read bytes room (Used m ∷ rest) is = read_block bytes room m is.laid.0.sized is.laid.0.size is.even (omega (arith, is.total))
+  ahead-read bytes room (Hole m ∷ rest) is = read_block bytes room m is.laid.0.sized is.laid.0.size is.even (omega (arith, is.total))
+
+  -- so there is a block ahead
+  pub ahead-some : (ahead : List heap.Block) → IsAhead w start from before target blocks ahead n k → n + 2 ≤ k + 2 * length blocks
+  ahead-some [] is = let total = is.total in let reached = is.reached in absurd (omega arith)
+  ahead-some (b ∷ rest) is = omega (arith, is.few)
+
+  -- the block there is the one that is looked for
+  pub ahead-here : (size : ℕ) (used : Bool) → size ≡ w (start + from) → used ≡ eqb (w (start + from + 8)) 1 → target < from + size → (ahead : List heap.Block) → IsAhead w start from before target blocks ahead n k →
+      (let found : Block = record { offset = from; size = size; used = used; before = before } in found ≡ block_over 0 0 target blocks)
+  ahead-here size used read state lt [] is = let total = is.total in let reached = is.reached in absurd (omega arith)
+  ahead-here size used read state lt (Used m ∷ rest) is =
+      let sized : size ≡ m = read ∙ is.laid.0.size in
+      let is_used : used ≡ true = state ∙ ap (λ v. eqb v 1) is.laid.0.state in
+      let test : nat_lt target (from + m) ≡ true = test_true (omega arith) in
+      let there = subst (λ z. (if z then record { offset = from; size = m; used = true; before = before } else block_over (from + m) 0 target rest) ≡ block_over 0 0 target blocks) test is.same in
+      subst (λ z. (let found : Block = record { offset = from; size = z; used = used; before = before } in found ≡ block_over 0 0 target blocks)) (sym sized)
+      (subst (λ z. (let found : Block = record { offset = from; size = m; used = z; before = before } in found ≡ block_over 0 0 target blocks)) (sym is_used) there)
+    where
+      test_true : {a b : ℕ} → a < b → nat_lt a b ≡ true
+      test_true {a} {b} l = grind (arith, nat_tests)
+  ahead-here size used read state lt (Hole m ∷ rest) is =
+      let sized : size ≡ m = read ∙ is.laid.0.size in
+      let is_used : used ≡ false = state ∙ ap (λ v. eqb v 1) is.laid.0.state in
+      let test : nat_lt target (from + m) ≡ true = test_true (omega arith) in
+      let there = subst (λ z. (if z then record { offset = from; size = m; used = false; before = before } else block_over (from + m) m target rest) ≡ block_over 0 0 target blocks) test is.same in
+      subst (λ z. (let found : Block = record { offset = from; size = z; used = used; before = before } in found ≡ block_over 0 0 target blocks)) (sym sized)
+      (subst (λ z. (let found : Block = record { offset = from; size = m; used = z; before = before } in found ≡ block_over 0 0 target blocks)) (sym is_used) there)
+    where
+      test_true : {a b : ℕ} → a < b → nat_lt a b ≡ true
+      test_true {a} {b} l = grind (arith, nat_tests)
+
+  -- or the walk goes on behind it
+  pub ahead-on : (size : ℕ) (used : Bool) → size ≡ w (start + from) → used ≡ eqb (w (start + from + 8)) 1 → from + size ≤ target → (ahead : List heap.Block) → IsAhead w start from before target blocks ahead n k →
+      (rest : List heap.Block) × IsAhead w start (from + size) (if used then 0 else size) target blocks rest (n + 2) k
+  ahead-on size used read state le [] is = let total = is.total in let reached = is.reached in absurd (omega arith)
+  ahead-on size used read state le (Used m ∷ rest) is =
+      let sized : size ≡ m = read ∙ is.laid.0.size in
+      let is_used : used ≡ true = state ∙ ap (λ v. eqb v 1) is.laid.0.state in
+      let test : nat_lt target (from + m) ≡ false = test_false (omega arith) in
+      let on = subst (λ z. (if z then record { offset = from; size = m; used = true; before = before } else block_over (from + m) 0 target rest) ≡ block_over 0 0 target blocks) test is.same in
+      let even = is.laid.0.sized.even in
+      let even' = is.even in (
+        rest,
+        subst (λ z. IsAhead w start (from + z) (if used then 0 else z) target blocks rest (n + 2) k) (sym sized)
+            (subst (λ z. IsAhead w start (from + m) (if z then 0 else m) target blocks rest (n + 2) k) (sym is_used) (record {
+              laid = subst (λ p. Laid w p rest) (omega arith) is.laid.1;
+              total = omega (arith, is.total);
+              even = omega arith;
+              reached = omega arith;
+              same = on;
+              few = omega (arith, is.few);
+            })),
+      )
+    where
+      test_false : {a b : ℕ} → b ≤ a → nat_lt a b ≡ false
+      test_false {a} {b} l = grind (arith, nat_tests)
+  ahead-on size used read state le (Hole m ∷ rest) is =
+      let sized : size ≡ m = read ∙ is.laid.0.size in
+      let is_used : used ≡ false = state ∙ ap (λ v. eqb v 1) is.laid.0.state in
+      let test : nat_lt target (from + m) ≡ false = test_false (omega arith) in
+      let on = subst (λ z. (if z then record { offset = from; size = m; used = false; before = before } else block_over (from + m) m target rest) ≡ block_over 0 0 target blocks) test is.same in
+      let even = is.laid.0.sized.even in
+      let even' = is.even in (
+        rest,
+        subst (λ z. IsAhead w start (from + z) (if used then 0 else z) target blocks rest (n + 2) k) (sym sized)
+            (subst (λ z. IsAhead w start (from + m) (if z then 0 else m) target blocks rest (n + 2) k) (sym is_used) (record {
+              laid = subst (λ p. Laid w p rest) (omega arith) is.laid.1;
+              total = omega (arith, is.total);
+              even = omega arith;
+              reached = omega arith;
+              same = on;
+              few = omega (arith, is.few);
+            })),
+      )
+    where
+      test_false : {a b : ℕ} → b ≤ a → nat_lt a b ≡ false
+      test_false {a} {b} l = grind (arith, nat_tests)

@@ -1,0 +1,15 @@
+use Rattle.std.proofs.Common.{◌≡◌, ℕ, List, ◌+◌, ◌-◌, ◌<◌}
+use Rattle.own_model.specs.Heap.{Block, bytes_in}
+use Rattle.avl_alloc.specs.Layout.{Laid}
+use Rattle.avl_alloc.proofs.WalkLemmas.{IsAhead}
+use Rattle.avl_alloc.proofs.chunk.walk.Given as goal
+
+abbrev pub invariant-steps : goal.invariant-steps
+invariant-steps g l =
+    (g.M.WordMemory.word l.memory ≡ g.M.WordMemory.word l.initial.memory)
+    × (g.M.WordMemory.rest l.memory ≡ g.M.WordMemory.rest l.initial.memory)
+    × ((blocks : List Block) → Laid (g.M.WordMemory.word l.initial.memory) l.start blocks → l.target < bytes_in blocks →
+    (ahead : List Block) × IsAhead (g.M.WordMemory.word l.initial.memory) l.start l.offset l.before l.target blocks ahead (g.M.WordMemory.loads l.memory) (g.M.WordMemory.loads l.initial.memory))
+
+abbrev pub decreases-steps : goal.decreases-steps
+decreases-steps g l = l.target + 1 - l.offset

@@ -1,0 +1,7 @@
+pub mod Words
+pub mod Tree
+pub mod Held
+pub mod Layout
+pub mod Walk
+pub mod Fit
+pub mod Found

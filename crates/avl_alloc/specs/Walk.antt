@@ -1,0 +1,13 @@
+-- What a walk along a chunk's headers finds.
+use Rattle.std.specs.Prelude.{ℕ, ◌+◌, true, false, nat_lt, if◌then◌else◌, List, [], ◌∷◌}
+use Rattle.own_model.specs.Heap as heap
+use Rattle.own_model.specs.Heap.{Used, Hole}
+use Rattle.avl_alloc.specs.declared.chunk.Block.{Block}
+
+-- the block that has an offset, among blocks from an offset on, behind a hole of the size `before`, or behind none where that is 0
+abbrev pub block_over : ℕ → ℕ → ℕ → List heap.Block → Block
+block_over from before target [] = record { offset = from; size = 0; used = false; before = before }
+block_over from before target (Used n ∷ rest) =
+    if nat_lt target (from + n) then record { offset = from; size = n; used = true; before = before } else block_over (from + n) 0 target rest
+block_over from before target (Hole n ∷ rest) =
+    if nat_lt target (from + n) then record { offset = from; size = n; used = false; before = before } else block_over (from + n) n target rest

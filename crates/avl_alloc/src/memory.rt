@@ -1,0 +1,70 @@
+//! The words under the heap, named by their places.
+ghost use Rattle.std.specs.Prelude.{◌≡◌, ℕ, ◌+◌, ◌<◌};
+ghost use Rattle.avl_alloc.specs.Words.{IsWord, IsPlace, place_at, with_word};
+
+/// Words of eight bytes at the multiples of 8 of numbered chunks.
+///
+/// Contracts see a memory as its `word`s by their places (`place_at` of a chunk and an offset), the
+/// `rest`, which is all else that it holds, and how many words were loaded so far.
+pub trait WordMemory {
+    /// What lies around the words. No load and no store changes it.
+    ghost Rest: { Type 0 };
+
+    ghost rest: { Self → Rest };
+
+    /// How many bytes of each chunk are words, 0 where there is no such chunk.
+    ghost bytes: { Rest → ℕ → ℕ };
+
+    /// The word at each place.
+    ghost word: { Self → ℕ → ℕ };
+
+    /// How many words were loaded.
+    ghost loads: { Self → ℕ };
+
+    /// The word at an offset of a chunk.
+    fn load(&mut self, chunk: usize, offset: u64) -> u64
+        requires { IsWord (bytes (rest self.old)) chunk offset }
+        ensures value { result ≡ word self.old (place_at chunk offset) }
+        ensures words { word self.new ≡ word self.old }
+        ensures rest { rest self.new ≡ rest self.old }
+        ensures loads { loads self.new ≡ loads self.old + 1 };
+
+    /// Puts a word at an offset of a chunk. No other word changes.
+    fn store(&mut self, chunk: usize, offset: u64, value: u64)
+        requires { IsWord (bytes (rest self.old)) chunk offset }
+        ensures words { word self.new ≡ with_word (word self.old) (place_at chunk offset) value }
+        ensures rest { rest self.new ≡ rest self.old }
+        ensures loads { loads self.new ≡ loads self.old };
+}
+
+/// How far the places of one chunk lie from those of the next: the most bytes of a chunk.
+pub const SPAN: u64 = 0x1_0000_0000;
+
+/// The place of a chunk's first byte. A place is never 0.
+pub fn place_of(chunk: usize) -> u64
+    requires { chunk < 64 }
+    ensures { result ≡ place_at chunk 0 }
+{
+    (chunk as u64 + 1) * SPAN
+}
+
+/// The word at a place.
+pub fn load<M: WordMemory>(memory: &mut M, place: u64) -> u64
+    requires { IsPlace (M.bytes (M.rest memory.old)) place }
+    ensures value { result ≡ M.word memory.old place }
+    ensures words { M.word memory.new ≡ M.word memory.old }
+    ensures rest { M.rest memory.new ≡ M.rest memory.old }
+    ensures loads { M.loads memory.new ≡ M.loads memory.old + 1 }
+{
+    memory.load((place / SPAN - 1) as usize, place % SPAN)
+}
+
+/// Puts a word at a place.
+pub fn store<M: WordMemory>(memory: &mut M, place: u64, value: u64)
+    requires { IsPlace (M.bytes (M.rest memory.old)) place }
+    ensures words { M.word memory.new ≡ with_word (M.word memory.old) place value }
+    ensures rest { M.rest memory.new ≡ M.rest memory.old }
+    ensures loads { M.loads memory.new ≡ M.loads memory.old }
+{
+    memory.store((place / SPAN - 1) as usize, place % SPAN, value);
+}
