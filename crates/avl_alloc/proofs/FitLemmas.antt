@@ -1,12 +1,12 @@
 -- The best hole: what the tree finds is what the definition says of the heap's holes.
-use Rattle.std.proofs.Common.{◌≡◌, ◌≢◌, ℕ, zero, suc, ◌+◌, ◌-◌, ◌*◌, ◌/◌, ◌%◌, ◌^◌, ◌<◌, ◌≤◌, Bool, true, false, refl, sym, ap, ◌∙◌, subst, inl, inr, arith, cond, List, [], ◌∷◌, ◌++◌, length, Option, Some, None}
+use Rattle.std.proofs.Common.{◌≡◌, ℕ, ◌+◌, ◌^◌, ◌<◌, ◌≤◌, true, false, refl, sym, ap, ◌∙◌, inl, inr, arith, List, [], ◌∷◌, ◌++◌, Option, Some, None}
 use Rattle.std.specs.Prelude.{nat_lt, nat_le, if◌then◌else◌, ◌==◌, ◌&&◌, ◌||◌}
 use Rattle.std.proofs.lemmas.Bool.{cases_lt}
 use Rattle.std.proofs.lemmas.Bool.Decides.{nat_tests}
-use Rattle.own_model.specs.Heap.{Block, Used, Hole, size_of, bytes_in, Heap}
+use Rattle.own_model.specs.Heap.{Block, Used, Hole, Heap}
 use Rattle.own_model.specs.BestFit.{Spot, holes_in, holes_from, holes_of, comes_before, earlier, best_hole}
 use Rattle.avl_alloc.specs.Fit.{AreShort, IsPlaceOf}
-use Rattle.avl_alloc.specs.Words.{Words, place_at}
+use Rattle.avl_alloc.specs.Words.{place_at}
 use Rattle.avl_alloc.specs.Tree.{Tree, tally, key, found, IsOrdered}
 use Rattle.avl_alloc.specs.Layout.{weigh, weigh_all, none, weigh_holes}
 use Rattle.avl_alloc.proofs.TreeLemmas.{same, better, enough, IsFound, nowhere, somewhere, found-is}

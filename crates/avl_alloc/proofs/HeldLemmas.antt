@@ -1,13 +1,12 @@
 -- Trees in words: what a store keeps of them, and what a written node makes.
-use Rattle.std.proofs.Common.{◌≡◌, ◌≢◌, ℕ, zero, suc, ◌+◌, ◌-◌, ◌*◌, ◌/◌, ◌%◌, ◌^◌, ◌<◌, ◌≤◌, Bool, true, false, refl, sym, ap, ◌∙◌, subst, ◌⊎◌, inl, inr, arith, cond}
-use Rattle.std.specs.Prelude.{nat_lt, nat_le, max, if◌then◌else◌, ◌==◌}
-use Rattle.std.proofs.lemmas.Bool.{cases_lt}
+use Rattle.std.proofs.Common.{◌≡◌, ◌≢◌, ℕ, ◌+◌, ◌-◌, ◌/◌, ◌%◌, ◌^◌, ◌<◌, ◌≤◌, true, false, refl, sym, ◌∙◌, subst, arith}
+use Rattle.std.specs.Prelude.{nat_lt, nat_le, max, if◌then◌else◌}
 use Rattle.std.proofs.lemmas.Bool.Decides.{nat_tests}
 use Rattle.avl_alloc.specs.declared.node.Opened.{Opened}
 use Rattle.avl_alloc.specs.declared.node.Arms.{Arms}
-use Rattle.avl_alloc.specs.Words.{Words, with_word, IsWord, IsPlace, IsNode, within}
-use Rattle.avl_alloc.specs.Tree.{Tree, Leaf, Node, root_of, high, tally, forked, raised_left, raised_inner_left, raised_right, raised_inner_right, turned_right, turned_left, balanced, IsBalanced}
-use Rattle.avl_alloc.specs.Held.{IsHere, Holds, with_node, heads, links, cover, ChangesLinks, Becomes, IsPlot, Fits, IsSlope, IsOpened, AreArms}
+use Rattle.avl_alloc.specs.Words.{Words, with_word, IsPlace, IsNode, within}
+use Rattle.avl_alloc.specs.Tree.{Tree, Leaf, Node, root_of, high, forked, raised_left, raised_inner_left, raised_right, raised_inner_right, turned_right, turned_left, balanced, IsBalanced}
+use Rattle.avl_alloc.specs.Held.{Holds, with_node, heads, links, cover, ChangesLinks, Becomes, IsPlot, Fits, IsOpened, AreArms}
 
 -- a test that holds, and one that doesn't
 pub leb-true : {m n : ℕ} → m ≤ n → nat_le m n ≡ true

@@ -1,18 +1,18 @@
 -- A heap in the words: which words it needs, and that it stays while these do.
-use Rattle.std.proofs.Common.{◌≡◌, ◌≢◌, ℕ, zero, suc, ◌+◌, ◌-◌, ◌*◌, ◌^◌, ◌<◌, ◌≤◌, Bool, true, false, refl, sym, ap, ◌∙◌, subst, inl, inr, arith, cond, List, [], ◌∷◌, length, take, get_or, ◌/◌, Option, Some, None}
+use Rattle.std.proofs.Common.{◌≡◌, ℕ, zero, suc, ◌+◌, ◌-◌, ◌^◌, ◌<◌, ◌≤◌, true, false, refl, sym, ap, ◌∙◌, subst, inl, inr, arith, List, [], ◌∷◌, length, take, get_or, ◌/◌, Option, Some, None}
 use Rattle.std.specs.Prelude.{nat_lt, if◌then◌else◌, ◌==◌}
 use Rattle.std.proofs.lemmas.Grind.{common_steps}
 use Rattle.std.proofs.lemmas.List.{get_or_past}
 use Rattle.std.proofs.lemmas.Bool.{cases_lt}
 use Rattle.std.proofs.lemmas.Bool.Decides.{nat_tests}
-use Rattle.own_model.specs.Heap.{Block, Used, Hole, size_of, bytes_in, IsBlockSize, header, Heap}
+use Rattle.own_model.specs.Heap.{Block, Used, Hole, bytes_in, header, Heap}
 use Rattle.own_model.specs.BestFit.{chunk_of, payload_at}
 use Rattle.avl_alloc.specs.declared.best_fit.BestFit.{BestFit}
 use Rattle.avl_alloc.specs.declared.chunk.Block.{Block as BlockFound}
-use Rattle.avl_alloc.specs.Words.{Words, within, place_at}
-use Rattle.avl_alloc.specs.Tree.{Tree, tally}
-use Rattle.avl_alloc.specs.Held.{Holds, heads, links, cover, Fits, Stands}
-use Rattle.avl_alloc.specs.Layout.{Laid, IsHeader, block_from, blocks_from, weigh, weigh_all, none, weigh_holes, whole, kept_at, chunks_from, heap_of, bytes_of, IsChunk, AreChunks, IsRoom, IsLaidOut, IsSound}
+use Rattle.avl_alloc.specs.Words.{Words, place_at}
+use Rattle.avl_alloc.specs.Tree.{Tree}
+use Rattle.avl_alloc.specs.Held.{heads, links, Fits}
+use Rattle.avl_alloc.specs.Layout.{Laid, IsHeader, block_from, blocks_from, weigh, weigh_all, none, whole, kept_at, chunks_from, heap_of, bytes_of, IsChunk, AreChunks, IsRoom, IsLaidOut, IsSound}
 use Rattle.avl_alloc.specs.Walk.{block_over}
 use Rattle.avl_alloc.proofs.HeldLemmas.{within_in, within_below, within_above, holds_kept}
 

@@ -1,11 +1,11 @@
 -- Taking the first hole out of a tree in words, joining two trees, and finding the best hole.
-use Rattle.std.proofs.Common.{◌≡◌, ◌≢◌, ℕ, zero, suc, ◌+◌, ◌-◌, ◌*◌, ◌^◌, ◌<◌, ◌≤◌, Bool, true, false, refl, sym, ap, ◌∙◌, subst, ◌⊎◌, inl, inr, arith, cond}
-use Rattle.std.specs.Prelude.{nat_le, max, if◌then◌else◌, ◌==◌}
+use Rattle.std.proofs.Common.{◌≡◌, ◌≢◌, ℕ, ◌+◌, ◌*◌, ◌<◌, ◌≤◌, true, false, refl, sym, ap, ◌∙◌, subst, arith}
+use Rattle.std.specs.Prelude.{nat_le, if◌then◌else◌}
 use Rattle.std.proofs.lemmas.Bool.Decides.{nat_tests}
 use Rattle.avl_alloc.specs.declared.node.Opened.{Opened}
-use Rattle.avl_alloc.specs.Words.{Words, IsNode, within}
-use Rattle.avl_alloc.specs.Tree.{Tree, Leaf, Node, root_of, high, key, tally, forked, balanced, joined, first_of, rest_of, found, or_else, IsBalanced}
-use Rattle.avl_alloc.specs.Held.{Holds, heads, links, cover, ChangesLinks, Becomes, IsPlot, Fits, IsSlope, IsOpened, Stands, IsNew, IsPair}
+use Rattle.avl_alloc.specs.Words.{Words, IsNode}
+use Rattle.avl_alloc.specs.Tree.{Tree, Leaf, Node, root_of, high, joined, first_of, rest_of, found, or_else}
+use Rattle.avl_alloc.specs.Held.{Holds, heads, links, cover, Becomes, IsPlot, Fits, IsSlope, Stands, IsPair}
 use Rattle.avl_alloc.proofs.TreeLemmas.{tally-balanced, tally-rest_of, rest_of-shrinks}
 use Rattle.avl_alloc.proofs.HeldLemmas.{holds_apart, header_apart, leb-true, leb-false}
 use Rattle.avl_alloc.proofs.StepLemmas.{Opens, Balances, BalanceAsks, leaf_is, left_plot, left_slope, left_made, left_stands, right_stands}

@@ -1,13 +1,13 @@
 -- The operations on trees in words, a step of their recursions at a time.
-use Rattle.std.proofs.Common.{◌≡◌, ◌≢◌, ℕ, zero, suc, ◌+◌, ◌-◌, ◌*◌, ◌^◌, ◌<◌, ◌≤◌, Bool, true, false, refl, sym, ap, ◌∙◌, subst, ◌⊎◌, inl, inr, arith, cond}
-use Rattle.std.specs.Prelude.{nat_lt, nat_le, max, if◌then◌else◌, ◌==◌}
+use Rattle.std.proofs.Common.{◌≡◌, ◌≢◌, ℕ, ◌+◌, ◌*◌, ◌^◌, ◌<◌, ◌≤◌, Bool, true, false, refl, sym, ◌∙◌, subst, arith}
+use Rattle.std.specs.Prelude.{nat_lt, if◌then◌else◌, ◌==◌}
 use Rattle.std.proofs.lemmas.Bool.Decides.{nat_tests}
 use Rattle.avl_alloc.specs.declared.node.Opened.{Opened}
-use Rattle.avl_alloc.specs.Words.{Words, IsNode, within}
-use Rattle.avl_alloc.specs.Tree.{Tree, Leaf, Node, root_of, high, key, tally, forked, balanced, inserted, removed, joined, first_of, rest_of, found, or_else, IsBalanced}
-use Rattle.avl_alloc.specs.Held.{Holds, heads, links, cover, ChangesLinks, Becomes, IsPlot, Fits, IsSlope, IsOpened, Stands, IsNew, IsPair, height_at}
-use Rattle.avl_alloc.proofs.TreeLemmas.{tally-balanced, tally-inserted, tally-removed_le, tally-rest_of, tally-joined, inserted-grows, removed-shrinks, rest_of-shrinks}
-use Rattle.avl_alloc.proofs.HeldLemmas.{holds_apart, header_apart, root_node, within_in}
+use Rattle.avl_alloc.specs.Words.{Words}
+use Rattle.avl_alloc.specs.Tree.{Tree, Leaf, Node, root_of, high, key, balanced, inserted, removed, joined, IsBalanced}
+use Rattle.avl_alloc.specs.Held.{Holds, heads, links, cover, Becomes, IsPlot, Fits, IsSlope, IsOpened, Stands, IsNew, IsPair, height_at}
+use Rattle.avl_alloc.proofs.TreeLemmas.{tally-balanced, tally-inserted, tally-removed_le, inserted-grows, removed-shrinks}
+use Rattle.avl_alloc.proofs.HeldLemmas.{holds_apart, header_apart}
 
 -- the stored height is the height
 pub height_is : (bytes : ℕ → ℕ) (w : Words) (t : Tree) (root : ℕ) → Holds bytes w t → root_of t ≡ root → height_at w root ≡ high t

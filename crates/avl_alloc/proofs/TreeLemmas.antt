@@ -1,9 +1,9 @@
 -- What the operations keep of a tree: its holes, their order, and its balance.
-use Rattle.std.proofs.Common.{◌≡◌, ◌≢◌, ◌&&◌, pow-suc, subst, cond, ℕ, zero, suc, ◌+◌, ◌*◌, ◌^◌, ◌<◌, ◌≤◌, Bool, true, false, refl, sym, ap, ◌∙◌, ◌⊎◌, inl, inr, arith, ltb, leb}
+use Rattle.std.proofs.Common.{◌≡◌, ◌≢◌, ◌&&◌, pow-suc, subst, ℕ, zero, suc, ◌+◌, ◌*◌, ◌^◌, ◌<◌, ◌≤◌, true, false, refl, sym, ap, ◌∙◌, inl, inr, arith}
 use Rattle.std.specs.Prelude.{nat_lt, nat_le, max, if◌then◌else◌, ◌==◌}
 use Rattle.std.proofs.lemmas.Bool.{cases_lt}
 use Rattle.std.proofs.lemmas.Bool.Decides.{nat_tests}
-use Rattle.avl_alloc.specs.Tree.{Tree, Leaf, Node, root_of, high, tally, key, forked, raised_left, raised_inner_left, raised_right, raised_inner_right, turned_right, turned_left, balanced, inserted, first_of, rest_of, joined, removed, or_else, found, IsLevel, IsBalanced, IsName, IsOrdered}
+use Rattle.avl_alloc.specs.Tree.{Tree, Leaf, Node, high, tally, key, forked, raised_left, raised_inner_left, raised_right, raised_inner_right, turned_right, turned_left, balanced, inserted, first_of, rest_of, joined, removed, or_else, found, IsLevel, IsBalanced, IsName, IsOrdered}
 
 -- ---- the holes, by any weight
 

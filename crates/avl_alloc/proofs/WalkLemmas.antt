@@ -1,12 +1,12 @@
 -- A walk along a chunk's headers, a block at a time.
-use Rattle.std.proofs.Common.{◌≡◌, ◌≢◌, ℕ, zero, suc, ◌+◌, ◌-◌, ◌*◌, ◌/◌, ◌%◌, ◌^◌, ◌<◌, ◌≤◌, Bool, true, false, refl, sym, ap, ◌∙◌, subst, arith, cond, List, [], ◌∷◌, length, eqb}
-use Rattle.std.specs.Prelude.{nat_lt, if◌then◌else◌, ◌==◌}
+use Rattle.std.proofs.Common.{◌≡◌, ℕ, ◌+◌, ◌-◌, ◌*◌, ◌/◌, ◌%◌, ◌^◌, ◌<◌, ◌≤◌, Bool, true, false, refl, sym, ap, ◌∙◌, subst, arith, List, [], ◌∷◌, length, eqb}
+use Rattle.std.specs.Prelude.{nat_lt, if◌then◌else◌}
 use Rattle.std.proofs.lemmas.Bool.Decides.{nat_tests}
 use Rattle.own_model.specs.Heap as heap
 use Rattle.own_model.specs.Heap.{Used, Hole, size_of, bytes_in, IsBlockSize}
 use Rattle.avl_alloc.specs.declared.chunk.Block.{Block}
-use Rattle.avl_alloc.specs.Words.{Words, IsWord, IsPlace}
-use Rattle.avl_alloc.specs.Layout.{Laid, IsHeader, IsRoom}
+use Rattle.avl_alloc.specs.Words.{Words, IsPlace}
+use Rattle.avl_alloc.specs.Layout.{Laid, IsRoom}
 use Rattle.avl_alloc.specs.Walk.{block_over}
 
 -- the blocks that a walk has ahead of it, from an offset on

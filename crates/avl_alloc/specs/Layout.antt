@@ -1,8 +1,8 @@
 -- The heap in the words: blocks by their headers, and the tree inside the holes.
 use Rattle.std.proofs.Common.{zero, suc}
-use Rattle.std.specs.Prelude.{◌≡◌, ℕ, ◌+◌, ◌-◌, ◌*◌, ◌/◌, ◌%◌, ◌^◌, ◌≤◌, ◌<◌, ◌==◌, if◌then◌else◌, List, [], ◌∷◌, length, take, slice_index}
-use Rattle.own_model.specs.Heap.{Block, Used, Hole, size_of, bytes_in, IsBlockSize, Heap}
-use Rattle.own_model.specs.BestFit.{Spot, holes_of, chunk_of}
+use Rattle.std.specs.Prelude.{◌≡◌, ℕ, ◌+◌, ◌-◌, ◌/◌, ◌%◌, ◌^◌, ◌≤◌, ◌<◌, ◌==◌, if◌then◌else◌, List, [], ◌∷◌, length, take, slice_index}
+use Rattle.own_model.specs.Heap.{Block, Used, Hole, bytes_in, IsBlockSize, Heap}
+use Rattle.own_model.specs.BestFit.{holes_of}
 use Rattle.avl_alloc.specs.declared.best_fit.BestFit.{BestFit}
 use Rattle.avl_alloc.specs.Words.{Words, place_at, within}
 use Rattle.avl_alloc.specs.Tree.{Tree, tally, IsOrdered}

@@ -1,5 +1,5 @@
 use Rattle.std.proofs.lemmas.Bool.Decides.{nat_tests}
-use Rattle.std.proofs.Common.{false, ◌≡◌, ◌<◌, ◌≤◌, ◌+◌, ℕ, ◌∙◌, ap, refl, sym, subst, arith, eqb, cond}
+use Rattle.std.proofs.Common.{false, ◌≡◌, ◌+◌, ◌∙◌, ap, refl, sym, subst, arith, eqb}
 use Rattle.std.specs.Prelude.{if◌then◌else◌}
 use Rattle.avl_alloc.proofs.WalkLemmas.{IsAhead, ahead-start, ahead-read, ahead-here, ahead-on, ahead-some}
 use Rattle.avl_alloc.proofs.chunk.walk.Goals as goal

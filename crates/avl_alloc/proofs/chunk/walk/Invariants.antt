@@ -1,4 +1,4 @@
-use Rattle.std.proofs.Common.{◌≡◌, ℕ, List, ◌+◌, ◌-◌, ◌<◌}
+use Rattle.std.proofs.Common.{◌≡◌, List, ◌+◌, ◌-◌, ◌<◌}
 use Rattle.own_model.specs.Heap.{Block, bytes_in}
 use Rattle.avl_alloc.specs.Layout.{Laid}
 use Rattle.avl_alloc.proofs.WalkLemmas.{IsAhead}

@@ -1,6 +1,5 @@
-use Rattle.std.proofs.Common.{◌≡◌, ◌<◌, ◌^◌, ap, sym, ◌∙◌, subst, arith}
+use Rattle.std.proofs.Common.{◌≡◌, ◌<◌, ◌^◌, sym, arith}
 use Rattle.avl_alloc.specs.Tree.{high}
-use Rattle.avl_alloc.specs.Held.{Holds, Fits, IsOpened, AreArms}
 use Rattle.avl_alloc.proofs.HeldLemmas.{limbs, root_there, high_there}
 use Rattle.avl_alloc.proofs.node.arms_of.Goals as goal
 

@@ -1,4 +1,4 @@
-use Rattle.std.proofs.Common.{◌≡◌, ◌+◌, arith}
+use Rattle.std.proofs.Common.{◌≡◌, ◌+◌}
 use Rattle.std.specs.Prelude.{max}
 use Rattle.avl_alloc.specs.Held.{with_node}
 use Rattle.avl_alloc.proofs.HeldLemmas.{forked-made}

@@ -1,8 +1,7 @@
-use Rattle.std.proofs.Common.{◌≡◌, ◌≢◌, ◌<◌, ◌≤◌, ◌^◌, ◌+◌, ◌*◌, ℕ, Bool, true, false, refl, ap, sym, ◌∙◌, subst, arith}
-use Rattle.std.specs.Prelude.{nat_lt}
-use Rattle.avl_alloc.specs.Tree.{Tree, Leaf, Node, high, key, forked, inserted, removed, joined}
-use Rattle.avl_alloc.specs.Held.{Holds, Fits, IsPlot, IsSlope, Becomes, Stands, IsNew, IsPair, height_at}
-use Rattle.avl_alloc.proofs.StepLemmas.{InsertAsks, BalanceAsks, Inserts, Balances, leaf_is, lower, insert-left_asks, insert-right_asks, insert-left_balance, insert-right_balance, insert-left_made, insert-right_made, insert-left_loads, insert-right_loads}
+use Rattle.std.proofs.Common.{◌<◌, refl, sym, ◌∙◌, subst, arith}
+use Rattle.avl_alloc.specs.Tree.{Leaf, inserted}
+use Rattle.avl_alloc.specs.Held.{Becomes, height_at}
+use Rattle.avl_alloc.proofs.StepLemmas.{Inserts, leaf_is, lower, insert-left_asks, insert-right_asks, insert-left_balance, insert-right_balance, insert-left_made, insert-right_made, insert-left_loads, insert-right_loads}
 use Rattle.avl_alloc.proofs.tree.+insert.Goals as goal
 
 -- the tree without a node

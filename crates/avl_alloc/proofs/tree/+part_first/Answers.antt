@@ -1,9 +1,7 @@
-use Rattle.std.proofs.Common.{◌≡◌, ◌≢◌, ◌<◌, ◌≤◌, ◌^◌, ◌+◌, ◌*◌, ℕ, Bool, true, false, refl, ap, sym, ◌∙◌, subst, arith}
-use Rattle.std.specs.Prelude.{nat_lt}
-use Rattle.avl_alloc.specs.Tree.{Tree, Leaf, Node, high, key, forked, inserted, removed, joined}
-use Rattle.avl_alloc.specs.Held.{Holds, Fits, IsPlot, IsSlope, Becomes, Stands, IsNew, IsPair, height_at}
-use Rattle.avl_alloc.proofs.StepLemmas.{BalanceAsks, Balances, lower}
-use Rattle.avl_alloc.proofs.PartLemmas.{PartAsks, Parts, part-here_first, part-here_made, part-left_asks, part-left_first, part-left_balance, part-left_made, part-here_loads, part-left_loads}
+use Rattle.std.proofs.Common.{◌<◌, subst, arith}
+use Rattle.avl_alloc.specs.Held.{height_at}
+use Rattle.avl_alloc.proofs.StepLemmas.{lower}
+use Rattle.avl_alloc.proofs.PartLemmas.{Parts, part-here_first, part-here_made, part-left_asks, part-left_first, part-left_balance, part-left_made, part-here_loads, part-left_loads}
 use Rattle.avl_alloc.proofs.tree.+part_first.Goals as goal
 
 -- the root is the first hole

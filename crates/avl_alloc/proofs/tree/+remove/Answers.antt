@@ -1,8 +1,7 @@
-use Rattle.std.proofs.Common.{◌≡◌, ◌≢◌, ◌<◌, ◌≤◌, ◌^◌, ◌+◌, ◌*◌, ℕ, Bool, true, false, refl, ap, sym, ◌∙◌, subst, arith}
-use Rattle.std.specs.Prelude.{nat_lt}
-use Rattle.avl_alloc.specs.Tree.{Tree, Leaf, Node, high, key, forked, inserted, removed, joined}
-use Rattle.avl_alloc.specs.Held.{Holds, Fits, IsPlot, IsSlope, Becomes, Stands, IsNew, IsPair, height_at}
-use Rattle.avl_alloc.proofs.StepLemmas.{RemoveAsks, BalanceAsks, Removes, Balances, leaf_is, lower, remove-left_asks, remove-right_asks, remove-left_balance, remove-right_balance, remove-left_made, remove-right_made, join_asks, remove-join_made, remove-left_loads, remove-right_loads, remove-join_loads}
+use Rattle.std.proofs.Common.{◌<◌, refl, sym, ◌∙◌, subst, arith}
+use Rattle.avl_alloc.specs.Tree.{Tree, removed, joined}
+use Rattle.avl_alloc.specs.Held.{Becomes, IsPair, height_at}
+use Rattle.avl_alloc.proofs.StepLemmas.{Removes, leaf_is, lower, remove-left_asks, remove-right_asks, remove-left_balance, remove-right_balance, remove-left_made, remove-right_made, join_asks, remove-join_made, remove-left_loads, remove-right_loads, remove-join_loads}
 use Rattle.avl_alloc.proofs.tree.+remove.Goals as goal
 
 -- the tree without a node

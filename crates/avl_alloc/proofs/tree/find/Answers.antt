@@ -1,4 +1,4 @@
-use Rattle.std.proofs.Common.{◌≡◌, ◌<◌, ◌∙◌, sym, subst, arith}
+use Rattle.std.proofs.Common.{◌<◌, ◌∙◌, sym, subst}
 use Rattle.avl_alloc.specs.Held.{height_at}
 use Rattle.avl_alloc.proofs.StepLemmas.{Opens, lower}
 use Rattle.avl_alloc.proofs.PartLemmas.{Finding, find-left, find-right, find-end}

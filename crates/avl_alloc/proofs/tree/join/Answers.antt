@@ -1,9 +1,5 @@
-use Rattle.std.proofs.Common.{◌≡◌, ◌≢◌, ◌<◌, ◌≤◌, ◌^◌, ◌+◌, ◌*◌, ℕ, Bool, true, false, refl, ap, sym, ◌∙◌, subst, arith}
-use Rattle.std.specs.Prelude.{nat_lt}
-use Rattle.avl_alloc.specs.Tree.{Tree, Leaf, Node, high, key, forked, inserted, removed, joined}
-use Rattle.avl_alloc.specs.Held.{Holds, Fits, IsPlot, IsSlope, Becomes, Stands, IsNew, IsPair, height_at}
-use Rattle.avl_alloc.proofs.StepLemmas.{BalanceAsks, Balances}
-use Rattle.avl_alloc.proofs.PartLemmas.{PartAsks, Parts, join-left_none, join-right_none, join_part_asks, join_balance, join_made}
+use Rattle.std.proofs.Common.{arith}
+use Rattle.avl_alloc.proofs.PartLemmas.{join-left_none, join-right_none, join_part_asks, join_balance, join_made}
 use Rattle.avl_alloc.proofs.tree.join.Goals as goal
 
 -- one of them has no node

@@ -1,7 +1,7 @@
-use Rattle.std.proofs.Common.{◌≡◌, ◌≢◌, ◌<◌, ◌≤◌, ◌^◌, ◌+◌, ℕ, ap, sym, ◌∙◌, subst, arith}
-use Rattle.avl_alloc.specs.Tree.{Tree, Leaf, Node, high, forked, balanced}
-use Rattle.avl_alloc.specs.Held.{Holds, Fits, IsPlot, IsSlope, Becomes}
-use Rattle.avl_alloc.proofs.HeldLemmas.{root_there, fits_node, balance-right, balance-left, balance-fork}
+use Rattle.std.proofs.Common.{◌≡◌, sym, ◌∙◌, subst, arith}
+use Rattle.avl_alloc.specs.Tree.{high}
+use Rattle.avl_alloc.specs.Held.{IsPlot}
+use Rattle.avl_alloc.proofs.HeldLemmas.{root_there, balance-right, balance-left, balance-fork}
 use Rattle.avl_alloc.proofs.turns.balance.Goals as goal
 
 pub high_of-left_high-requires : goal.high_of-left_high-requires

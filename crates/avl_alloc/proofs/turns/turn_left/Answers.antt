@@ -1,6 +1,6 @@
-use Rattle.std.proofs.Common.{◌≡◌, ◌<◌, ◌≤◌, ◌^◌, ◌+◌, ℕ, ap, sym, ◌∙◌, subst, arith}
-use Rattle.avl_alloc.specs.Tree.{Tree, Leaf, Node, high, forked}
-use Rattle.avl_alloc.specs.Held.{Holds, Fits, IsPlot, IsSlope, Becomes, AreArms}
+use Rattle.std.proofs.Common.{◌≡◌, ◌^◌, sym, ◌∙◌, subst, arith}
+use Rattle.avl_alloc.specs.Tree.{Leaf, Node, high, forked}
+use Rattle.avl_alloc.specs.Held.{Holds}
 use Rattle.avl_alloc.proofs.HeldLemmas.{armed, turn_left-single, turn_left-double}
 use Rattle.avl_alloc.proofs.turns.turn_left.Goals as goal
 

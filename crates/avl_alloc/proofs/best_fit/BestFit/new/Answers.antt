@@ -1,4 +1,4 @@
-use Rattle.std.proofs.Common.{◌≡◌, ◌≤◌, ℕ, List, [], refl, arith}
+use Rattle.std.proofs.Common.{[], refl, arith}
 use Rattle.avl_alloc.specs.Tree.{Leaf}
 use Rattle.avl_alloc.specs.Layout.{heap_of, IsSound}
 use Rattle.avl_alloc.proofs.best_fit.BestFit.new.Goals as goal
