@@ -1,6 +1,5 @@
 //! A heap in which each block is a dataspace of its own, attached in the heap window. The blocks of one heap are linked
-//! both ways through their headers, so that a block is found, taken out and given back in a few words, however many
-//! there are.
+//! both ways through their headers. So far blocks are taken; none is given back yet.
 #![tactic(auto)]
 
 mod header;
