@@ -1,5 +1,5 @@
 -- Regions that lie apart in a window still do with one more at a place, and with fewer.
-use Rattle.std.proofs.Common.{◌≡◌, ◌≢◌, ℕ, ◌≤◌, false, Some, refl, sym, ◌∙◌, nat_cmp}
+use Rattle.std.proofs.Common.{◌≡◌, ◌≢◌, ℕ, ◌≤◌, false, Some, refl, ◌∙◌, nat_cmp, arith}
 use Rattle.std.proofs.lemmas.Option.{none-some}
 use Rattle.std.specs.FinMap.{get, insert, empty}
 use Rattle.own_model.proofs.NatMapLemmas.{get-empty, each_after_insert}
@@ -7,25 +7,16 @@ use Rattle.own_model.proofs.RegionLemmas.{overlap_sym}
 use Rattle.own_model.specs.NatMap.{NatMap}
 use Rattle.own_model.specs.Region.{Region, overlap, IsPlace}
 use Rattle.own_model.specs.Sound.{IsInWindow, LieApart}
+use Rattle.std.proofs.lemmas.Bool.Decides.{nat_tests}
 
 module _ (low high : ℕ) where
   -- no regions lie apart
   pub LieApart-empty : (regions : NatMap Region) → ((start : ℕ) → get regions start ≡ get (empty {R = nat_cmp}) start) → LieApart low high regions
-  LieApart-empty regions none =
-      let nothing : (start : ℕ) (r : Region) → get regions start ≡ Some r → ⊥ = λ start r there. none-some r (sym (none start ∙ get-empty start) ∙ there) in
-      record {
-        some = λ start r there. absurd (nothing start r there);
-        within = λ start r there. absurd (nothing start r there);
-        apart = λ a b r q x y. absurd (nothing a r x);
-      }
+  LieApart-empty regions none = grind (arith, nat_tests, none-some, get-empty)
 
   -- some of the regions lie apart where all do
   pub LieApart-fewer : (all some : NatMap Region) → ((start : ℕ) (r : Region) → get some start ≡ Some r → get all start ≡ Some r) → LieApart low high all → LieApart low high some
-  LieApart-fewer all some left h = record {
-    some = λ start r there. h.some start r (left start r there);
-    within = λ start r there. h.within start r (left start r there);
-    apart = λ a b r q x y. h.apart a b r q (left a r x) (left b q y);
-  }
+  LieApart-fewer all some left h = grind (arith, nat_tests)
 
   -- and with one more at a place
   pub LieApart-insert : (regions : NatMap Region) (address : ℕ) (region : Region) → 1 ≤ region.pages → IsPlace low high regions region.pages address → LieApart low high regions → LieApart low high (insert regions address region)

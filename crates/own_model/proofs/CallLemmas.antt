@@ -6,23 +6,34 @@ use Rattle.std.specs.FinMap.{get}
 use Rattle.trade_base.specs.declared.refusal.Refusal.TheVariants.{PageFault}
 use Rattle.own_model.specs.Call.Call.{Peek, Poke}
 use Rattle.own_model.specs.OwnState.{OwnState, Object, bytes_named}
-use Rattle.own_model.specs.Place.{found, in_dataspace, in_payload}
-use Rattle.own_model.specs.Place.Place.{InDataspace, InPayload}
+use Rattle.own_model.specs.Place.{Place, found, in_dataspace, in_payload, in_block}
+use Rattle.own_model.specs.Place.Place.{InDataspace, InPayload, InBlock}
 use Rattle.own_model.specs.Sliced.{block_found}
 use Rattle.own_model.specs.OwnState.Object.{Dataspace}
-use Rattle.own_model.specs.OwnStep.{refused, unless, count_refusal, peeked, poked, poked_at, payload_poked, script_step}
+use Rattle.own_model.specs.OwnStep.{refused, unless, count_refusal, peeked, poked, poked_at, payload_poked, block_poked, script_step}
 use Rattle.own_model.specs.Region.{resolved}
 use Rattle.own_model.specs.Reply.Reply.{Bytes}
 
 module _ (s : OwnState) where
+  -- what a range finds, by what its three lookups find
+  abbrev found_by : Option (ℕ × ℕ) → Option (ℕ × ℕ) → Option (ℕ × ℕ) → Option Place
+  found_by o p q = option_or (option_map in_dataspace o) (option_or (option_map in_payload p) (option_map in_block q))
+
   -- a range that a region holds is found there
   pub found_region : (address count selector offset : ℕ) → resolved s.regions address count ≡ Some (selector, offset) → found s address count ≡ Some (InDataspace selector offset)
-  found_region address count selector offset is = ap (λ o. option_or (option_map in_dataspace o) (option_map in_payload (block_found s.sliced address count))) is
+  found_region address count selector offset is = ap (λ o. found_by o (block_found s.sliced address count) (block_found s.heap.payloads address count)) is
 
-  -- one that no region holds is found in a payload, if one holds it
-  pub found_payload : (address count : ℕ) (o : Option (ℕ × ℕ)) → resolved s.regions address count ≡ None → block_found s.sliced address count ≡ o → found s address count ≡ option_map in_payload o
-  found_payload address count o none is =
-      ap (λ p. option_or (option_map in_dataspace p) (option_map in_payload (block_found s.sliced address count))) none ∙ ap (option_map in_payload) is
+  -- one that no region holds is found in a sliced block's payload, if one holds it
+  pub found_payload : (address count : ℕ) (at : ℕ × ℕ) → resolved s.regions address count ≡ None → block_found s.sliced address count ≡ Some at → found s address count ≡ Some (in_payload at)
+  found_payload address count at none is =
+      ap (λ o. found_by o (block_found s.sliced address count) (block_found s.heap.payloads address count)) none ∙ ap (λ p. found_by None p (block_found s.heap.payloads address count)) is
+
+  -- and else in a payload of the heap, if one holds it
+  pub found_block : (address count : ℕ) (o : Option (ℕ × ℕ)) → resolved s.regions address count ≡ None → block_found s.sliced address count ≡ None → block_found s.heap.payloads address count ≡ o →
+      found s address count ≡ option_map in_block o
+  found_block address count o none free is =
+      ap (λ o. found_by o (block_found s.sliced address count) (block_found s.heap.payloads address count)) none
+      ∙ ap (λ p. found_by None p (block_found s.heap.payloads address count)) free ∙ ap (option_map in_block) is
 
   -- a peek tells the bytes of the dataspace of the region that holds the range
   pub peeks : (address count selector offset : ℕ) (bytes : List ℕ) → count_refusal count ≡ None → resolved s.regions address count ≡ Some (selector, offset) →
@@ -38,6 +49,15 @@ module _ (s : OwnState) where
       get s.sliced block ≡ Some payload →
       script_step (Peek address count) s ≡ record { reply = Bytes (slice_range payload offset (offset + count)); lines = []; next = s }
   peeks_payload address count block offset payload some at there =
+      ap (λ r. unless r s (peeked count (found s address count) s)) some
+      ∙ ap (λ o. peeked count o s) at
+      ∙ ap (λ o. record { reply = Bytes (slice_range (unwrap_or o []) offset (offset + count)); lines = []; next = s }) there
+
+  -- or those of the payload of the heap that holds it
+  pub peeks_block : (address count block offset : ℕ) (payload : List ℕ) → count_refusal count ≡ None → found s address count ≡ Some (InBlock block offset) →
+      get s.heap.payloads block ≡ Some payload →
+      script_step (Peek address count) s ≡ record { reply = Bytes (slice_range payload offset (offset + count)); lines = []; next = s }
+  peeks_block address count block offset payload some at there =
       ap (λ r. unless r s (peeked count (found s address count) s)) some
       ∙ ap (λ o. peeked count o s) at
       ∙ ap (λ o. record { reply = Bytes (slice_range (unwrap_or o []) offset (offset + count)); lines = []; next = s }) there
@@ -64,6 +84,15 @@ module _ (s : OwnState) where
       ap (λ r. unless r s (poked bytes (found s address (length bytes)) s)) some
       ∙ ap (λ o. poked bytes o s) at
       ∙ ap (λ o. payload_poked block offset bytes o s) there
+
+  -- or over those of the payload of the heap
+  pub pokes_block : (address block offset : ℕ) (bytes payload : List ℕ) → count_refusal (length bytes) ≡ None →
+      found s address (length bytes) ≡ Some (InBlock block offset) → get s.heap.payloads block ≡ Some payload →
+      script_step (Poke address bytes) s ≡ block_poked block offset bytes (Some payload) s
+  pokes_block address block offset bytes payload some at there =
+      ap (λ r. unless r s (poked bytes (found s address (length bytes)) s)) some
+      ∙ ap (λ o. poked bytes o s) at
+      ∙ ap (λ o. block_poked block offset bytes o s) there
 
   -- nothing holds the range
   pub pokes_none : (address : ℕ) (bytes : List ℕ) → count_refusal (length bytes) ≡ None → found s address (length bytes) ≡ None → script_step (Poke address bytes) s ≡ refused s PageFault

@@ -1,11 +1,12 @@
 -- A search by a test among entries whose keys differ, and in a finite map.
-use Rattle.std.proofs.Common.{◌≡◌, ℕ, Bool, true, false, cond, eqb, ◌||◌, T, List, [], ◌∷◌, is_some, Some, refl, sym, ap, subst, ◌∙◌, eqb-true, true≢false, nat_cmp, map, length, is_lt, ◌&&◌}
+use Rattle.std.proofs.Common.{◌≡◌, ℕ, Bool, true, false, cond, eqb, ◌||◌, T, List, [], ◌∷◌, is_some, Some, refl, sym, ap, subst, ◌∙◌, eqb-true, true≢false, nat_cmp, map, length, is_lt, ◌&&◌, ◌++◌, arith}
+use Rattle.std.proofs.lemmas.Bool.Decides.{nat_tests}
 use Rattle.std.proofs.lemmas.Bool.{eq-eqb}
 use Rattle.std.proofs.lemmas.Option.{none-some, same_Some}
 use Rattle.std.specs.Prelude.{None}
 use Rattle.std.specs.Cmp.{unsigned_tied, nat_cmp_total}
 use Rattle.std.specs.List.{find, list_any}
-use Rattle.std.specs.Option.{option_map}
+use Rattle.std.specs.Option.{option_map, option_or}
 use Rattle.std.specs.Ordering.{eq_by_cmp}
 use Rattle.std.specs.FinMap.{get, entries, entries_sorted, get-entries, is_sorted, len, len-entries, nat_cmp-IsAntisymmetric}
 use Rattle.std.specs.FinMap.Entries.{below_all, same_entries}
@@ -115,6 +116,34 @@ module _ {X : Type 0} where
               let entry : ◌≡◌ {A = ℕ × X} e (k, v) = λ i. (key i, value i) in
               ap (λ y. Some y) entry
         ] refl
+
+-- ---- entries one after another
+
+-- the value under a key of two lists of entries is the first's, if that has one
+pub value_of-append : {X : Type 0} (q : ℕ) (xs ys : List (ℕ × X)) → value_of q (xs ++ ys) ≡ option_or (value_of q xs) (value_of q ys)
+value_of-append q [] ys = refl
+value_of-append q (x ∷ xs) ys =
+    value_of-cons q x (xs ++ ys)
+    ∙ elim (eqb q x.0) as (λ b. cond b (Some x.1) (value_of q (xs ++ ys)) ≡ option_or (cond b (Some x.1) (value_of q xs)) (value_of q ys)) [ true ↦ refl | false ↦ value_of-append q xs ys ]
+    ∙ ap (λ o. option_or o (value_of q ys)) (sym (value_of-cons q x xs))
+
+-- a key that entries haven't isn't the first one's
+apart_key : {X : Type 0} (k : ℕ) (e : ℕ × X) (es : List (ℕ × X)) → value_of k (e ∷ es) ≡ None → eqb k e.0 ≡ false
+apart_key k e es free = elim (eqb k e.0) as (λ b. eqb k e.0 ≡ b → b ≡ false) [
+  | true ↦ λ same. absurd (none-some e.1 (sym free ∙ value_of_first k e es same))
+  | false ↦ λ _. refl
+] refl
+
+-- entries whose keys differ and one with a new key
+pub KeysDiffer-append : {X : Type 0} (es : List (ℕ × X)) (k : ℕ) (v : X) → KeysDiffer es → value_of k es ≡ None → KeysDiffer (es ++ (k, v) ∷ [])
+KeysDiffer-append [] k v differ free = (refl, tt)
+KeysDiffer-append (e ∷ es) k v differ free =
+    let first : eqb k e.0 ≡ false = apart_key k e es free in
+    let rest : value_of k es ≡ None = sym (value_of_later k e es first) ∙ free in
+    let other : eqb e.0 k ≡ false = grind (arith, nat_tests) in (
+      value_of-append e.0 es ((k, v) ∷ []) ∙ ap (λ o. option_or o (value_of e.0 ((k, v) ∷ []))) differ.0 ∙ value_of_later e.0 (k, v) [] other,
+      KeysDiffer-append es k v differ.1 rest,
+    )
 
 -- ---- entries by their keys and the sizes of their values
 

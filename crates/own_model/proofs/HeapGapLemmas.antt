@@ -1,11 +1,11 @@
 -- Why the heap window always has a gap: walked from its start, a region costs at most the pages sought and its own.
-use Rattle.std.proofs.Common.{◌≡◌, ℕ, ◌+◌, ◌*◌, ◌%◌, ◌<◌, ◌≤◌, ◌||◌, is_lt, Bool, true, false, true≢false, T, List, [], ◌∷◌, length, map, IsSome, Some, refl, sym, subst, nat_cmp, inl, inr, arith, mul-add}
+use Rattle.std.proofs.Common.{◌≡◌, ℕ, ◌+◌, ◌*◌, ◌%◌, ◌<◌, ◌≤◌, ◌||◌, is_lt, Bool, true, false, true≢false, T, List, [], ◌∷◌, length, map, IsSome, Some, refl, sym, nat_cmp, inl, inr, arith, mul-add}
 use Rattle.std.proofs.lemmas.Bool.{cases_lt}
 use Rattle.std.proofs.lemmas.Bool.Decides.{nat_tests}
 use Rattle.std.proofs.lemmas.Cmp.{ranked}
 use Rattle.std.proofs.lemmas.List.Sums.{sum_by-cons}
 use Rattle.std.proofs.lemmas.Nat.{mul-le}
-use Rattle.std.specs.Prelude.{Option, None, sum_by}
+use Rattle.std.specs.Prelude.{None, sum_by}
 use Rattle.std.specs.List.{list_any}
 use Rattle.std.specs.FinMap.{entries, entries_sorted, len, len-entries, is_sorted}
 use Rattle.std.specs.FinMap.Entries.{below_all}
@@ -85,18 +85,12 @@ clear_place pages low (e ∷ es) sorted aligned =
 
 -- the window is long enough
 long_enough : (machine count pages own low address : ℕ) → count ≤ machine → own ≤ machine → pages ≤ machine → address ≤ low + (count * pages + own) * 4096 → address + pages * 4096 ≤ low + machine * (machine + 2) * 4096
-long_enough machine count pages own low address few small short near =
-    let gaps : count * pages ≤ machine * machine = mul-le _ _ _ _ few short in
-    let all : machine * (machine + 2) ≡ machine * machine + machine * 2 = mul-add machine machine 2 in
-    omega arith
+long_enough machine count pages own low address few small short near = grind (arith, nat_tests, mul-le, mul-add)
 
 module _ (machine : ℕ) (regions : NatMap Region) (fit : FitMachine machine regions) where
   -- there are no more regions than pages
   few_regions : len regions ≤ machine
-  few_regions =
-      let ones = total_le (λ r. 1) (λ r. r.pages) regions fit.some in
-      let few = fit.few in
-      omega (arith, len-total regions)
+  few_regions = grind (arith, nat_tests, total_le, len-total)
 
   -- so many pages have a place in the window
   heap_place : (pages : ℕ) → pages ≤ machine → (address : ℕ) × IsPlace heap_low (heap_high machine) regions pages address
@@ -144,13 +138,10 @@ heap_gap_is_there machine regions pages fit small = has_gap machine regions fit 
 
 -- and it is that of a larger machine
 pub heap_gaps_agree : HeapGapsAgree
-heap_gaps_agree machine larger regions pages fit small more =
-    longer_window heap_low (heap_high machine) (heap_high larger) regions pages (longer (machine * (machine + 2)) (larger * (larger + 2)) (mul-le _ _ _ _ more (omega arith))) (has_gap machine regions fit pages small)
+heap_gaps_agree machine larger regions pages fit small more = grind (arith, nat_tests, longer_window, longer, mul-le, has_gap)
 
 -- ---- beside it
 
 -- pages can stand at a first gap
 pub first_gap_stands : (low high : ℕ) (regions : NatMap Region) (pages address : ℕ) → first_gap low high regions pages ≡ Some address → can_stand low high regions pages address ≡ true
-first_gap_stands low high regions pages address is =
-    let least : IsFirstGap low high regions pages (Some address) = subst (λ (o : Option ℕ). IsFirstGap low high regions pages o) is (first_gap_least low high regions pages) in
-    stands low high regions pages address least.0
+first_gap_stands low high regions pages address is = grind (arith, nat_tests, first_gap_least, stands)

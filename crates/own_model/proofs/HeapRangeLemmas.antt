@@ -1,24 +1,26 @@
 -- What a map with lowered keys answers, and where sliced blocks stand.
-use Rattle.std.proofs.Common.{◌≡◌, ℕ, ◌+◌, ◌-◌, ◌/◌, ◌≤◌, true, false, eqb, cond, List, [], ◌∷◌, length, nat_le, Some, refl, sym, ap, subst, ◌∙◌, inl, inr, arith}
+use Rattle.std.proofs.Common.{◌≡◌, ℕ, ◌+◌, ◌-◌, ◌/◌, ◌≤◌, true, false, eqb, List, [], ◌∷◌, length, nat_le, Some, refl, sym, ap, ◌∙◌, inl, inr, arith}
 use Rattle.std.proofs.lemmas.Bool.{cases_lt}
 use Rattle.std.proofs.lemmas.Bool.Decides.{nat_tests}
 use Rattle.std.proofs.lemmas.Option.{none-some, same_Some}
 use Rattle.std.specs.Prelude.{Option, None, if◌then◌else◌}
 use Rattle.std.specs.Option.{option_and_then}
-use Rattle.std.specs.List.{filter_map, cons_option}
+use Rattle.std.specs.List.{filter_map}
 use Rattle.std.specs.Cmp.{nat_cmp_total}
 use Rattle.std.specs.FinMap.{get, insert, remove, empty, entries, get-entries, get-from_entries}
-use Rattle.trade_base.specs.Page.{page_of}
 use Rattle.own_model.proofs.EntryLemmas.{value_of-cons, value_of_later}
 use Rattle.own_model.proofs.NatMapLemmas.{natmaps, same, get-empty, get-insert_other, before_remove, by_insertions, get-picked, picked-insert_some, picked-insert_alike, get-picked_at, and_then_from}
 use Rattle.own_model.proofs.Totals.{total-insert_new, total-picked}
+use Rattle.own_model.proofs.JoinedLemmas.{from_either, get-joined, joined_free}
+use Rattle.own_model.proofs.OwnHeapLemmas.{range_of_bytes, chunk_map, heap_some, large_range}
 use Rattle.own_model.specs.Entries.{value_of}
+use Rattle.own_model.specs.OwnHeap.{ranges_of_large, ranges_of_heap}
 use Rattle.own_model.specs.NatMap.{NatMap, moved_down, picked, total}
 use Rattle.own_model.proofs.RegionLemmas.{first_gap_least, free_place}
 use Rattle.own_model.specs.HeapWindow.{heap_low, heap_high, largest_machine}
 use Rattle.own_model.specs.OwnState.{OwnState, heap_ranges}
 use Rattle.own_model.specs.OwnStep.{own_heap_gap}
-use Rattle.own_model.specs.Region.{Region, IsPlace, IsFirstGap}
+use Rattle.own_model.specs.Region.{Region, IsPlace}
 use Rattle.own_model.specs.Sliced.{sliced_header, sliced_size, block_pages, ranges_of_blocks}
 
 -- ---- lowered keys
@@ -39,14 +41,7 @@ module _ {X : Type 0} (by : ℕ) where
   -- lowered entries have under a key what the entries have so much higher
   value_of-lowered : (q : ℕ) (es : List (ℕ × X)) → value_of q (filter_map lowered es) ≡ value_of (q + by) es
   value_of-lowered q [] = refl
-  value_of-lowered q (e ∷ es) =
-      elim (nat_le by e.0) as (λ b. nat_le by e.0 ≡ b → value_of q (cons_option (cond b (Some (e.0 - by, e.1)) None) (filter_map lowered es)) ≡ value_of (q + by) (e ∷ es)) [
-        | true ↦ λ above.
-            value_of-cons q (e.0 - by, e.1) (filter_map lowered es)
-            ∙ ap (λ b. cond b (Some e.1) (value_of q (filter_map lowered es))) (eqb-lowered by q e.0 above)
-            ∙ ap (cond (eqb (q + by) e.0) (Some e.1)) (value_of-lowered q es) ∙ sym (value_of-cons (q + by) e es)
-        | false ↦ λ low. value_of-lowered q es ∙ sym (value_of_later (q + by) e es (eqb-too_low by q e.0 low))
-      ] refl
+  value_of-lowered q (e ∷ es) = grind (arith, nat_tests, value_of-cons, eqb-lowered, value_of_later, eqb-too_low, value_of-lowered q es, value_of-lowered q es)
 
   -- a lowered map has under a key what the map has so much higher
   pub get-moved_down : (m : NatMap X) (q : ℕ) → get (moved_down by m) q ≡ get m (q + by)
@@ -96,9 +91,7 @@ module _ (blocks : NatMap (List ℕ)) where
 
   -- each range is a block's
   pub range_from : (start : ℕ) (r : Region) → get (ranges_of_blocks blocks) start ≡ Some r → (payload : List ℕ) × (get blocks (start + sliced_header) ≡ Some payload) × (range_of payload ≡ r)
-  range_from start r there =
-      let from = and_then_from (λ payload. Some (range_of payload)) (get blocks (start + sliced_header)) r (sym (get-ranges start) ∙ there) in
-      (from.0, from.1, same_Some (range_of from.0) r from.2)
+  range_from start r there = grind (arith, nat_tests, and_then_from, get-ranges, same_Some)
 
   -- a block more is a range more
   pub ranges-insert : (start : ℕ) (payload : List ℕ) → ranges_of_blocks (insert blocks (start + sliced_header) payload) ≡ insert (ranges_of_blocks blocks) start (range_of payload)
@@ -108,20 +101,15 @@ module _ (blocks : NatMap (List ℕ)) where
 
   -- the pages of all ranges are no more than those of all blocks
   pub total-ranges : total (λ region. region.pages) (ranges_of_blocks blocks) ≤ total block_pages blocks
-  total-ranges =
-      omega (arith, total-moved_down_le sliced_header (λ region. region.pages) high_ranges, total-picked (λ (region : Region). region.pages) (λ payload. Some (range_of payload)) blocks)
+  total-ranges = grind (arith, nat_tests, total-moved_down_le, total-picked)
 
 -- other bytes, as many, leave the ranges
 pub ranges-alike : (blocks : NatMap (List ℕ)) (address : ℕ) (old new : List ℕ) → get blocks address ≡ Some old → length new ≡ length old → ranges_of_blocks (insert blocks address new) ≡ ranges_of_blocks blocks
-ranges-alike blocks address old new there e =
-    let f : List ℕ → Option Region = λ p. Some (range_of p) in
-    ap (moved_down sliced_header) (picked-insert_alike f blocks address new (ap (λ n. Some (record { of = 0; pages = page_of (sliced_header + n) / 4096 })) e ∙ sym (get-picked_at f blocks address old there)))
+ranges-alike blocks address old new there e = grind (arith, nat_tests, picked-insert_alike, get-picked_at)
 
 -- where a block goes, the ranges that are left were there
 pub ranges-remove : (blocks : NatMap (List ℕ)) (address start : ℕ) (r : Region) → get (ranges_of_blocks (remove blocks address)) start ≡ Some r → get (ranges_of_blocks blocks) start ≡ Some r
-ranges-remove blocks address start r there =
-    let from = range_from (remove blocks address) start r there in
-    range_at blocks start from.0 (before_remove blocks address (start + sliced_header) from.0 from.1) ∙ ap (λ x. Some x) from.2
+ranges-remove blocks address start r there = grind (arith, nat_tests, range_from, range_at, before_remove)
 
 -- where there is no range there is no block
 no_block : (o : Option (List ℕ)) → option_and_then (λ payload. Some (range_of payload)) o ≡ None → o ≡ None
@@ -136,24 +124,39 @@ some_page payload = omega arith
 
 -- each range has a page
 pub ranges_some : (blocks : NatMap (List ℕ)) (start : ℕ) (r : Region) → get (ranges_of_blocks blocks) start ≡ Some r → 1 ≤ r.pages
-ranges_some blocks start r there =
-    let from = range_from blocks start r there in
-    subst (λ x. 1 ≤ x.pages) from.2 (some_page from.0)
+ranges_some blocks start r there = grind (arith, nat_tests, range_from, some_page)
 
 -- a new block has a page
 pub new_page : (n : ℕ) → 1 ≤ sliced_size n / 4096
 new_page n = omega arith
 
+-- each range in the heap window has a page
+pub window_some : (s : OwnState) (q : ℕ) (r : Region) → get (heap_ranges s) q ≡ Some r → 1 ≤ r.pages
+window_some s q r there = elim (from_either (get (ranges_of_blocks s.sliced) q) (get (ranges_of_heap s.heap) q) r (sym (get-joined (ranges_of_blocks s.sliced) (ranges_of_heap s.heap) q) ∙ there)) [
+  | inl block ↦ ranges_some s.sliced q r block
+  | inr other ↦ heap_some s.heap q r other
+]
+
 module _ (s : OwnState) (bytes start : ℕ) (gap : own_heap_gap bytes s ≡ Some start) where
   -- the first gap of the heap window is a place
   pub gap_place : IsPlace heap_low (heap_high largest_machine) (heap_ranges s) (bytes / 4096) start
-  gap_place =
-      let least : IsFirstGap heap_low (heap_high largest_machine) (heap_ranges s) (bytes / 4096) (Some start)
-      = subst (IsFirstGap heap_low (heap_high largest_machine) (heap_ranges s) (bytes / 4096)) gap (first_gap_least heap_low (heap_high largest_machine) (heap_ranges s) (bytes / 4096)) in
-      least.0
+  gap_place = grind (arith, nat_tests, first_gap_least)
+
+  -- nothing starts there
+  pub gap_open : 1 ≤ bytes / 4096 → (get (ranges_of_blocks s.sliced) start ≡ None) × (get (ranges_of_heap s.heap) start ≡ None)
+  gap_open some =
+      joined_free (ranges_of_blocks s.sliced) (ranges_of_heap s.heap) start
+      (free_place heap_low (heap_high largest_machine) (heap_ranges s) (bytes / 4096) start some (window_some s) gap_place)
 
   -- no block's payload comes behind a header from there
   pub gap_free : 1 ≤ bytes / 4096 → get s.sliced (start + sliced_header) ≡ None
-  gap_free some =
-      let free = free_place heap_low (heap_high largest_machine) (heap_ranges s) (bytes / 4096) start some (ranges_some s.sliced) gap_place in
-      no_block (get s.sliced (start + sliced_header)) (sym (get-ranges s.sliced start) ∙ free)
+  gap_free some = no_block (get s.sliced (start + sliced_header)) (sym (get-ranges s.sliced start) ∙ (gap_open some).0)
+
+  -- and no large block starts there
+  pub gap_free_large : 1 ≤ bytes / 4096 → get s.heap.large start ≡ None
+  gap_free_large some = elim (get s.heap.large start) as (λ o. get s.heap.large start ≡ o → o ≡ None) [
+    | None ↦ λ _. refl
+    | Some n ↦ λ there.
+        let free = (joined_free (chunk_map s.heap.starts s.heap.shape.chunks) (ranges_of_large s.heap.large) start (gap_open some).1).1 in
+        absurd (none-some (range_of_bytes n) (sym free ∙ large_range s.heap.large start n there))
+  ] refl

@@ -1,32 +1,46 @@
 -- What a call leaves of limits.
-use Rattle.std.proofs.Common.{◌≡◌, ℕ, zero, suc, lit≤, inl, inr, length, Option, Some, None, sum_by, List, [], ◌∷◌, refl, arith, set, get_or}
+use Rattle.std.proofs.Common.{◌∙◌, sym, false, ◌≡◌, ℕ, lit≤, inl, inr, length, Option, Some, None, sum_by, List, [], ◌∷◌, refl, arith, set, get_or}
 use Rattle.std.proofs.lemmas.Bool.{cases_lt}
+use Rattle.std.proofs.lemmas.Option.{none-some}
+use Rattle.own_model.proofs.NatMapLemmas.{get-empty}
 use Rattle.std.proofs.lemmas.List.{set_past}
 use Rattle.std.proofs.lemmas.List.Sums.{sum_by-set}
-use Rattle.std.specs.List.{AllByRecursion}
+use Rattle.std.specs.FinMap.{insert}
 use Rattle.trade_base.specs.Page.{page_of}
 use Rattle.trade_base.specs.declared.refusal.Refusal.{Refusal}
 use Rattle.trade_base.specs.declared.refusal.Refusal.TheVariants.{OutOfCaps}
-use Rattle.own_model.proofs.StepLemmas.{KeptByEffects, covers, short_of_caps, accepted_size, accepted_block}
+use Rattle.own_model.proofs.StepLemmas.{KeptBySessions, KeptByEffects, covers, short_of_caps, accepted_size, accepted_block, accepted_growth}
+use Rattle.own_model.specs.Growth.{growth_of}
 use Rattle.own_model.specs.Sliced.{sliced_size}
 use Rattle.own_model.specs.Account.{WithinLimits, shortage}
-use Rattle.own_model.specs.Call.{Call}
+use Rattle.own_model.specs.Call.{Call, is_of_session}
 use Rattle.own_model.specs.Call.Call.{Capalloc}
 use Rattle.own_model.specs.OwnState.{OwnState}
 use Rattle.own_model.specs.OwnStep.{own_step, own_run, script_step, unless, cap_allocated}
 use Rattle.own_model.specs.Reply.Reply.{Refused}
+use Rattle.own_model.proofs.NewSelector.{new_selector_free}
+use Rattle.own_model.proofs.SessionLemmas.{donation_covered, large_enough, effects_each, sessions_each}
+use Rattle.own_model.proofs.Totals.{total-insert_new, total-insert_same, total-insert_at, total-remove}
+use Rattle.own_model.specs.Limits.{ram_with, caps_with, ram_limits, caps_limits, AreWithinLimits}
+use Rattle.own_model.specs.NatMap.{total}
+use Rattle.own_model.specs.OwnState.{Object, EachSession, new_selector, zeros, object_with}
+use Rattle.own_model.specs.OwnState.Object.{Dataspace, RpcObject, OpenSession}
+use Rattle.own_model.specs.Routes.{Rule}
+use Rattle.own_model.specs.Session.{Session, ServiceState, new_session, upgraded, served, served_by}
+use Rattle.own_model.specs.Session.ServiceState.{Logging}
 use Rattle.own_model.specs.StartList.{Entry}
 use Rattle.own_model.specs.StartList.Kind.{Server}
 use Rattle.own_model.specs.Transcript.{Heard, heard, entry_at, state_at, nothing}
 use Rattle.own_model.specs.Running.{states_after_heard, states_running}
 use Rattle.own_model.specs.Transcript.Heard.{NoCall, Stranger, Caller}
 use Rattle.own_model.specs.World.{World, IsBalanced, with_state, outcome_at}
-use Rattle.own_model.proofs.TableLemmas.{step_keeps}
+use Rattle.own_model.proofs.ListLemmas.{all_set, all_at}
+use Rattle.own_model.proofs.TableLemmas.{step_keeps, others_keep}
 
 -- every call leaves a server
-pub server_stays : (name : List ℕ) (calls : List Call) (s : OwnState) → own_run (record { name = name; kind = Server }) calls s ≡ s
-server_stays name [] s = refl
-server_stays name (call ∷ calls) s = server_stays name calls s
+pub server_stays : (name : List ℕ) (routes : List Rule) (calls : List Call) (s : OwnState) → own_run (record { name = name; kind = Server; routes = routes }) calls s ≡ s
+server_stays name routes [] s = refl
+server_stays name routes (call ∷ calls) s = server_stays name routes calls s
 
 -- what is told of an RPC object that is refused is why
 capalloc_told : (why : Option Refusal) (s : OwnState) (refusal : Refusal) → (unless why s (cap_allocated s)).reply ≡ Refused refusal → Some refusal ≡ why
@@ -46,32 +60,60 @@ effects_within s within = record {
   detaches = λ address. within;
   pokes = λ selector offset bytes object there. within;
   pokes_payload = λ address offset bytes payload there. within;
+  pokes_block = λ address offset bytes payload there. within;
+  takes = λ n hole best. within;
+  grows = λ n start accepted gap.
+      let growth = growth_of n s.heap.shape s.account in
+      let fits = covers s.account growth.bytes 1 (accepted_growth n s.heap.shape s.account accepted).1 in
+      record { ram = fits.ram_fits; caps = fits.caps_fit };
+  takes_large = λ n start large accepted gap. let fits = covers s.account (page_of n) 1 (accepted_size n s.account accepted) in record { ram = fits.ram_fits; caps = fits.caps_fit };
+  gives = λ address payload there small. within;
+  gives_large = λ address bytes there. record { ram = omega (arith, within.ram); caps = omega (arith, within.caps) };
   slices = λ n start accepted gap. let fits = covers s.account (sliced_size n) 1 (accepted_block n s.account accepted) in record { ram = fits.ram_fits; caps = fits.caps_fit };
   unslices = λ address payload there. record { ram = omega (arith, within.ram); caps = omega (arith, within.caps) };
   allocates_cap = λ accepted. let fits = covers s.account 0 1 accepted in record { ram = fits.ram_fits; caps = fits.caps_fit };
   frees_cap = λ selector there. record { ram = omega (arith, within.ram); caps = omega (arith, within.caps) };
 }
 
+-- nor can a call of a session
+sessions_within : (s : OwnState) → WithinLimits s.account → KeptBySessions (λ t. WithinLimits t.account) s
+sessions_within s within = record {
+  opens = λ wish accepted. let fits = (donation_covered s.account wish.ram wish.caps accepted).0 in record { ram = omega (arith, fits.ram_fits); caps = omega (arith, fits.caps_fit) };
+  upgrades = λ selector session more there accepted. let fits = covers s.account more.ram more.caps accepted in record { ram = omega (arith, fits.ram_fits); caps = omega (arith, fits.caps_fit) };
+  serves = λ selector session request there. within;
+  closes = λ selector session there. record { ram = omega (arith, within.ram); caps = omega (arith, within.caps) };
+}
+
 -- no call overdraws an account
 pub step_within : (entry : Entry) (call : Call) (s : OwnState) → WithinLimits s.account → WithinLimits (own_step entry call s).next.account
-step_within entry call s within = step_keeps (λ t. WithinLimits t.account) s within (effects_within s within) entry call
+step_within entry call s within = step_keeps (λ t. WithinLimits t.account) s within (effects_within s within) (sessions_within s within) entry call
+
+-- an account of a session is within its limits
+abbrev IsWithin : Session → Type 0
+IsWithin session = WithinLimits session.account
+
+-- a session that serves keeps its account
+serve_within : (state : ServiceState) (x : Session) (request : List ℕ) → IsWithin x → IsWithin (served_by state x request).session
+serve_within (Logging partial) x request within = within
 
 -- no calls do
 pub run_within : (entry : Entry) (calls : List Call) (s : OwnState) → WithinLimits s.account → WithinLimits (own_run entry calls s).account
 run_within entry [] s within = within
 run_within entry (call ∷ calls) s within = run_within entry calls (own_step entry call s).next (step_within entry call s within)
 
--- what holds of each element holds after a change to one of which it holds
-all_changed : {X : Type 0} (P : X → Type 0) (xs : List X) (i : ℕ) (y : X) → AllByRecursion P xs → P y → AllByRecursion P (set xs i y)
-all_changed P [] i y each here = each
-all_changed P (x ∷ xs) zero y each here = (here, each.1)
-all_changed P (x ∷ xs) (suc i) y each here = (each.0, all_changed P xs i y each.1 here)
+-- a new session is within its limits, and one that is within them stays so
+sessions_each_within : (s : OwnState) → EachSession IsWithin s → KeptBySessions (EachSession IsWithin) s
+sessions_each_within = sessions_each IsWithin
+    (λ wish enough. let large = large_enough wish.ram wish.caps enough in record { ram = omega (arith, large.0); caps = omega (arith, large.1) })
+    (λ x ram caps within. record { ram = omega (arith, within.ram); caps = omega (arith, within.caps) })
+    (λ x request within. serve_within x.state x request within)
 
--- what holds of each element, and of the default, holds of what stands anywhere
-all_at : {X : Type 0} (P : X → Type 0) (xs : List X) (i : ℕ) (d : X) → AllByRecursion P xs → P d → P (get_or xs i d)
-all_at P [] i d each past = past
-all_at P (x ∷ xs) zero d each past = each.0
-all_at P (x ∷ xs) (suc i) d each past = all_at P xs i d each.1 past
+-- no call overdraws an account of the component or of a session of it
+pub step_all_within : (entry : Entry) (call : Call) (s : OwnState) → AreWithinLimits s → AreWithinLimits (own_step entry call s).next
+step_all_within entry call s h = record {
+  own = step_within entry call s h.own;
+  sessions = step_keeps (EachSession IsWithin) s h.sessions (effects_each IsWithin s h.sessions) (sessions_each_within s h.sessions) entry call;
+}
 
 -- a sum stays when an element gives way to one that counts as much
 sum_changed : {X : Type 0} (f : X → ℕ) (xs : List X) (i : ℕ) (y d : X) → f y ≡ f (get_or xs i d) → sum_by f (set xs i y) ≡ sum_by f xs
@@ -93,16 +135,115 @@ effects_stay s = record {
   detaches = λ address. (refl, refl);
   pokes = λ selector offset bytes object there. (refl, refl);
   pokes_payload = λ address offset bytes payload there. (refl, refl);
+  pokes_block = λ address offset bytes payload there. (refl, refl);
+  takes = λ n hole best. (refl, refl);
+  grows = λ n start accepted gap. (refl, refl);
+  takes_large = λ n start large accepted gap. (refl, refl);
+  gives = λ address payload there small. (refl, refl);
+  gives_large = λ address bytes there. (refl, refl);
   slices = λ n start accepted gap. (refl, refl);
   unslices = λ address payload there. (refl, refl);
   allocates_cap = λ accepted. (refl, refl);
   frees_cap = λ selector there. (refl, refl);
 }
 
--- the limits after a call
-pub limits_stay : (entry : Entry) (call : Call) (s : OwnState) →
+-- the limits after a call that is of no session
+pub limits_stay : (entry : Entry) (call : Call) (s : OwnState) → is_of_session call ≡ false →
     ((own_step entry call s).next.account.ram_limit ≡ s.account.ram_limit) × ((own_step entry call s).next.account.caps_limit ≡ s.account.caps_limit)
-limits_stay entry call s = step_keeps (SameLimits s) s (refl, refl) (effects_stay s) entry call
+limits_stay entry call s other = others_keep (SameLimits s) s (refl, refl) (effects_stay s) entry call other
+
+-- ---- limits with those of sessions
+
+-- the same limits in all
+abbrev SameInAll : OwnState → OwnState → Type 0
+SameInAll s t = (ram_limits t ≡ ram_limits s) × (caps_limits t ≡ caps_limits s)
+
+-- bytes put over others count for nothing
+counts-with : (object : Object) (offset : ℕ) (part : List ℕ) →
+    (ram_with (object_with object offset part) ≡ ram_with object) × (caps_with (object_with object offset part) ≡ caps_with object)
+counts-with (Dataspace bytes) offset part = (refl, refl)
+counts-with RpcObject offset part = (refl, refl)
+counts-with (OpenSession session) offset part = (refl, refl)
+
+-- another object that counts nothing
+adds_nothing : (s : OwnState) (object : Object) → ram_with object ≡ 0 → caps_with object ≡ 0 →
+    (total ram_with (insert s.selectors (new_selector s.selectors) object) ≡ total ram_with s.selectors)
+    × (total caps_with (insert s.selectors (new_selector s.selectors) object) ≡ total caps_with s.selectors)
+adds_nothing s object ram caps =
+    let key = new_selector s.selectors in
+    let free = new_selector_free s.selectors in
+    (omega (arith, ram, total-insert_new ram_with s.selectors key object free), omega (arith, caps, total-insert_new caps_with s.selectors key object free))
+
+-- so calls that are of no session change no limits
+effects_in_all : (s : OwnState) → KeptByEffects (SameInAll s) s
+effects_in_all s = record {
+  allocates = λ n accepted. let none = adds_nothing s (Dataspace (zeros (page_of n))) refl refl in (omega (arith, none.0), omega (arith, none.1));
+  frees = λ selector bytes there. (
+    omega (arith, total-remove ram_with s.selectors selector (Dataspace bytes) there),
+    omega (arith, total-remove caps_with s.selectors selector (Dataspace bytes) there),
+  );
+  attaches = λ selector address bytes there stands room. (refl, refl);
+  detaches = λ address. (refl, refl);
+  pokes = λ selector offset bytes object there.
+      let same = counts-with object offset bytes in (
+        omega (arith, total-insert_same ram_with s.selectors selector (object_with object offset bytes) object there same.0),
+        omega (arith, total-insert_same caps_with s.selectors selector (object_with object offset bytes) object there same.1),
+      );
+  pokes_payload = λ address offset bytes payload there. (refl, refl);
+  pokes_block = λ address offset bytes payload there. (refl, refl);
+  takes = λ n hole best. (refl, refl);
+  grows = λ n start accepted gap. (refl, refl);
+  takes_large = λ n start large accepted gap. (refl, refl);
+  gives = λ address payload there small. (refl, refl);
+  gives_large = λ address bytes there. (refl, refl);
+  slices = λ n start accepted gap. (refl, refl);
+  unslices = λ address payload there. (refl, refl);
+  allocates_cap = λ accepted. let none = adds_nothing s RpcObject refl refl in (omega (arith, none.0), omega (arith, none.1));
+  frees_cap = λ selector there. (
+    omega (arith, total-remove ram_with s.selectors selector RpcObject there),
+    omega (arith, total-remove caps_with s.selectors selector RpcObject there),
+  );
+}
+
+-- a session that serves keeps its limits
+pub serve_keeps : (state : ServiceState) (x : Session) (request : List ℕ) →
+    ((served_by state x request).session.account.ram_limit ≡ x.account.ram_limit) × ((served_by state x request).session.account.caps_limit ≡ x.account.caps_limit)
+serve_keeps (Logging partial) x request = (refl, refl)
+
+-- calls of sessions move limits
+sessions_move : (s : OwnState) → KeptBySessions (SameInAll s) s
+sessions_move s = record {
+  opens = λ wish accepted.
+      let key = new_selector s.selectors in
+      let free = new_selector_free s.selectors in
+      let session = OpenSession (new_session wish) in
+      let fits = (donation_covered s.account wish.ram wish.caps accepted).0 in
+      (omega (arith, fits.ram_fits, total-insert_new ram_with s.selectors key session free), omega (arith, fits.caps_fit, total-insert_new caps_with s.selectors key session free));
+  upgrades = λ selector x more there accepted.
+      let session = OpenSession (upgraded x more.ram more.caps) in
+      let fits = covers s.account more.ram more.caps accepted in (
+        omega (arith, fits.ram_fits, total-insert_at ram_with s.selectors selector session (OpenSession x) there),
+        omega (arith, fits.caps_fit, total-insert_at caps_with s.selectors selector session (OpenSession x) there),
+      );
+  serves = λ selector x request there.
+      let session = OpenSession (served x request).session in
+      let same = serve_keeps x.state x request in (
+        omega (arith, total-insert_same ram_with s.selectors selector session (OpenSession x) there same.0),
+        omega (arith, total-insert_same caps_with s.selectors selector session (OpenSession x) there same.1),
+      );
+  closes = λ selector x there. (omega (arith, total-remove ram_with s.selectors selector (OpenSession x) there), omega (arith, total-remove caps_with s.selectors selector (OpenSession x) there));
+}
+
+-- a call changes no limits, or moves some
+pub limits_move : (entry : Entry) (call : Call) (s : OwnState) → SameInAll s (own_step entry call s).next
+limits_move entry call s = step_keeps (SameInAll s) s (refl, refl) (effects_in_all s) (sessions_move s) entry call
+
+-- who has nothing overdraws nothing
+nothing_within : AreWithinLimits nothing
+nothing_within = record {
+  own = record { ram = lit≤ tt; caps = lit≤ tt };
+  sessions = λ selector session is. absurd (none-some (OpenSession session) (sym (get-empty selector) ∙ is));
+}
 
 -- a component's call leaves a balanced world balanced
 pub step_balanced : (pages caps : ℕ) (world : World) (component : ℕ) (call : Call) →
@@ -111,14 +252,14 @@ step_balanced pages caps world component call h =
     let entry : Entry = entry_at world.entries component in
     let before : OwnState = state_at world.states component in
     let after : OwnState = (own_step entry call before).next in
-    let limits = limits_stay entry call before in
-    let ram : sum_by (λ s. s.account.ram_limit) (set world.states component after) ≡ sum_by (λ s. s.account.ram_limit) world.states
-    = sum_changed (λ s. s.account.ram_limit) world.states component after nothing limits.0 in
-    let caps_sum : sum_by (λ s. s.account.caps_limit) (set world.states component after) ≡ sum_by (λ s. s.account.caps_limit) world.states
-    = sum_changed (λ s. s.account.caps_limit) world.states component after nothing limits.1 in
+    let limits = limits_move entry call before in
+    let ram : sum_by ram_limits (set world.states component after) ≡ sum_by ram_limits world.states
+    = sum_changed ram_limits world.states component after nothing limits.0 in
+    let caps_sum : sum_by caps_limits (set world.states component after) ≡ sum_by caps_limits world.states
+    = sum_changed caps_limits world.states component after nothing limits.1 in
     record {
-      within = all_changed (λ s. WithinLimits s.account) world.states component after h.within
-          (step_within entry call before (all_at (λ s. WithinLimits s.account) world.states component nothing h.within (record { ram = lit≤ tt; caps = lit≤ tt })));
+      within = all_set AreWithinLimits world.states component after h.within
+          (step_all_within entry call before (all_at AreWithinLimits world.states component nothing h.within nothing_within));
       init_ram = h.init_ram;
       init_caps = h.init_caps;
       ram_adds_up = omega (arith, ram, h.ram_adds_up);

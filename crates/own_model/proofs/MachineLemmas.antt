@@ -3,7 +3,11 @@ use Rattle.std.proofs.Common.{◌≡◌, ℕ, ◌+◌, ◌-◌, ◌*◌, ◌/◌
 use Rattle.std.specs.FinMap.{get}
 use Rattle.trade_base.specs.declared.refusal.Refusal.{Refusal}
 use Rattle.own_model.proofs.HeapGapLemmas.{heap_gap_is_there, heap_gaps_agree}
-use Rattle.own_model.proofs.HeapRangeLemmas.{ranges_some, total-ranges, gap_free, new_page}
+use Rattle.own_model.proofs.HeapRangeLemmas.{window_some, total-ranges, gap_free, new_page}
+use Rattle.own_model.proofs.JoinedLemmas.{total-joined_le}
+use Rattle.own_model.proofs.OwnHeapLemmas.{heap_pages_le}
+use Rattle.own_model.specs.OwnHeap.{ranges_of_heap}
+use Rattle.own_model.specs.Region.{Region}
 use Rattle.own_model.proofs.NatMapLemmas.{get-insert_same, some_of}
 use Rattle.own_model.proofs.StepLemmas.{covers, accepted_block}
 use Rattle.own_model.proofs.Totals.{total_times_le}
@@ -13,7 +17,7 @@ use Rattle.own_model.specs.NatMap.{total}
 use Rattle.own_model.specs.OwnState.{OwnState, heap_ranges, zeros}
 use Rattle.own_model.specs.OwnStep.{unless, sliced_in, own_heap_gap, script_step}
 use Rattle.own_model.specs.Reply.Reply.{Attached}
-use Rattle.own_model.specs.Sliced.{sliced_header, sliced_size, sliced_refusal, block_size, block_pages}
+use Rattle.own_model.specs.Sliced.{sliced_header, sliced_size, sliced_refusal, block_size, block_pages, ranges_of_blocks}
 use Rattle.own_model.specs.Sound.{IsSound}
 use Rattle.own_model.specs.Use.{UsesWhatItHolds}
 
@@ -41,8 +45,8 @@ block_bytes s h = total_times_le block_pages block_size 4096 s.sliced (λ k payl
 -- what stands in the heap window fits a machine that has the RAM in use
 fits_machine : (machine : ℕ) (s : OwnState) → IsSound s → UsesWhatItHolds s → s.account.ram_used ≤ machine * 4096 → FitMachine machine (heap_ranges s)
 fits_machine machine s h uses covered = record {
-  some = ranges_some s.sliced;
-  few = omega (arith, total-ranges s.sliced, block_bytes s h, uses.ram, covered);
+  some = window_some s;
+  few = omega (arith, total-joined_le (λ (region : Region). region.pages) (ranges_of_blocks s.sliced) (ranges_of_heap s.heap), total-ranges s.sliced, heap_pages_le s.heap h.heap_parts, block_bytes s h, uses.ram, covered);
 }
 
 -- so that machine has a gap, which is the largest machine's

@@ -1,8 +1,8 @@
 -- What a map with moved keys answers.
-use Rattle.std.proofs.Common.{◌≡◌, ◌≤◌, ◌<◌, ◌+◌, ◌-◌, ℕ, false, cond, eqb, List, [], ◌∷◌, refl, sym, ap, ◌∙◌, ⊎_elim, arith}
+use Rattle.std.proofs.Common.{◌≡◌, ◌≤◌, ◌<◌, ◌+◌, ◌-◌, ℕ, eqb, List, [], ◌∷◌, refl, sym, ◌∙◌, ⊎_elim, arith}
 use Rattle.std.proofs.lemmas.Bool.{cases_lt}
 use Rattle.std.proofs.lemmas.Bool.Decides.{nat_tests}
-use Rattle.std.specs.Prelude.{None, Some, map}
+use Rattle.std.specs.Prelude.{None, map}
 use Rattle.std.specs.Cmp.{nat_cmp_total}
 use Rattle.std.specs.FinMap as finmap
 use Rattle.std.specs.FinMap.{get, insert, remove, entries, get-entries}
@@ -19,18 +19,12 @@ module _ {X : Type 0} (by : ℕ) where
   -- among moved entries a moved key has what the key had
   value_of-moved : (q : ℕ) (es : List (ℕ × X)) → value_of (q + by) (map (λ e. (e.0 + by, e.1)) es) ≡ value_of q es
   value_of-moved q [] = refl
-  value_of-moved q (e ∷ es) =
-      value_of-cons (q + by) (e.0 + by, e.1) (map (λ e. (e.0 + by, e.1)) es)
-      ∙ ap (λ b. cond b (Some e.1) (value_of (q + by) (map (λ e. (e.0 + by, e.1)) es))) (eqb-moved by q e.0)
-      ∙ ap (λ o. cond (eqb q e.0) (Some e.1) o) (value_of-moved q es)
-      ∙ sym (value_of-cons q e es)
+  value_of-moved q (e ∷ es) = grind (arith, nat_tests, value_of-cons, value_of, eqb-moved, value_of-moved q es)
 
   -- and a key below all moved ones has nothing
   value_of-below : (q : ℕ) (es : List (ℕ × X)) → q < by → value_of q (map (λ e. (e.0 + by, e.1)) es) ≡ None
   value_of-below q [] low = refl
-  value_of-below q (e ∷ es) low =
-      let apart : eqb q (e.0 + by) ≡ false = grind (arith, nat_tests) in
-      value_of_later q (e.0 + by, e.1) (map (λ e. (e.0 + by, e.1)) es) apart ∙ value_of-below q es low
+  value_of-below q (e ∷ es) low = grind (arith, nat_tests, value_of_later, value_of-below q es low)
 
   -- a moved key has what the key had
   pub get-moved_up : (m : NatMap X) (q : ℕ) → get (moved_up by m) (q + by) ≡ get m q
@@ -51,15 +45,11 @@ module _ {X : Type 0} (by : ℕ) where
 
   -- what is inserted is moved
   pub moved_up-insert : (m : NatMap X) (k : ℕ) (v : X) → moved_up by (insert m k v) ≡ insert (moved_up by m) (k + by) v
-  moved_up-insert m k v = same_moved _ _
-      (λ q. get-moved_up (insert m k v) q ∙ grind (arith, natmaps, get-moved_up m q))
-      (λ q low. get-moved_up_below (insert m k v) q low ∙ grind (arith, natmaps, get-moved_up_below m q low))
+  moved_up-insert m k v = grind (arith, nat_tests, same_moved, get-moved_up, natmaps, get-moved_up_below)
 
   -- and so is what is removed
   pub moved_up-remove : (m : NatMap X) (k : ℕ) → moved_up by (remove m k) ≡ remove (moved_up by m) (k + by)
-  moved_up-remove m k = same_moved _ _
-      (λ q. get-moved_up (remove m k) q ∙ grind (arith, natmaps, get-moved_up m q))
-      (λ q low. get-moved_up_below (remove m k) q low ∙ grind (arith, natmaps, get-moved_up_below m q low))
+  moved_up-remove m k = grind (arith, nat_tests, same_moved, get-moved_up, natmaps, get-moved_up_below)
 
 -- the equations by which `grind` reads a map with moved keys
 pub ruleset moves = (natmaps, get-moved_up, get-moved_up_below)

@@ -1,5 +1,5 @@
 -- What a finite map from numbers answers: after a change, where it is picked from another, and by induction on its insertions.
-use Rattle.std.proofs.Common.{◌≡◌, ℕ, ◌≢◌, ◌⊎◌, inl, inr, Bool, true, false, cond, eqb, ◌&&◌, T, List, [], ◌∷◌, is_some, IsSome, Some, refl, sym, ap, subst, ◌∙◌, eqb-true, true≢false, nat_cmp, is_eq, is_lt, Ordering, Less, Equal, Greater, arith}
+use Rattle.std.proofs.Common.{◌≡◌, ℕ, ◌≢◌, ◌⊎◌, Bool, true, false, cond, eqb, ◌&&◌, T, List, [], ◌∷◌, is_some, IsSome, Some, refl, sym, ap, subst, ◌∙◌, eqb-true, true≢false, nat_cmp, is_eq, is_lt, Ordering, Less, Equal, Greater, arith}
 use Rattle.std.proofs.lemmas.Bool.{cases_eq}
 use Rattle.std.proofs.lemmas.Bool.Decides.{nat_tests}
 use Rattle.std.proofs.lemmas.Option.{none-some, same_Some}
@@ -66,17 +66,11 @@ some_of (Some v) h = (v, refl)
 module _ {X : Type 0} (m : NatMap X) (k : ℕ) (v : X) where
   -- what a map has after an insertion is the new value, or was there before
   pub after_insert : (q : ℕ) (w : X) → get (insert m k v) q ≡ Some w → ((q ≡ k) × (w ≡ v)) ⊎ ((q ≢ k) × (get m q ≡ Some w))
-  after_insert q w there = elim (cases_eq q k) [
-    | inl here ↦ inl (here, same_Some w v (sym there ∙ get-insert_same m k v q here))
-    | inr apart ↦ inr (apart, sym (get-insert_other m k v q apart) ∙ there)
-  ]
+  after_insert q w there = grind (arith, nat_tests, cases_eq, same_Some, get-insert_same, get-insert_other)
 
   -- what holds of each value, and of the new one, holds of each after the insertion
   pub each_after_insert : (P : ℕ → X → Type 0) → ((q : ℕ) (w : X) → get m q ≡ Some w → P q w) → P k v → (q : ℕ) (w : X) → get (insert m k v) q ≡ Some w → P q w
-  each_after_insert P each here q w there = elim (after_insert q w there) [
-    | inl new ↦ subst (λ x. P q x) (sym new.1) (subst (λ j. P j v) (sym new.0) here)
-    | inr old ↦ each q w old.1
-  ]
+  each_after_insert P each here q w there = grind (arith, nat_tests, after_insert)
 
 -- the equations by which `grind` reads a map
 pub ruleset natmaps = (nat_tests, get-empty, get-insert, get-remove)
@@ -206,15 +200,11 @@ module _ {X Y : Type 0} where
 
   -- after an insertion: f of the new value at its key, and elsewhere what was picked
   pub get-picked_insert : (f : X → Option Y) (m : NatMap X) (k : ℕ) (v : X) (q : ℕ) → get (picked f (insert m k v)) q ≡ cond (eqb q k) (f v) (get (picked f m) q)
-  get-picked_insert f m k v q =
-      get-picked f (insert m k v) q ∙ ap (option_and_then f) (get-insert m k v q) ∙ and_then-cond f (eqb q k) (Some v) (get m q)
-      ∙ ap (cond (eqb q k) (f v)) (sym (get-picked f m q))
+  get-picked_insert f m k v q = grind (arith, nat_tests, get-picked, get-insert, and_then-cond)
 
   -- after a removal: nothing at the key, and elsewhere what was picked
   pub get-picked_remove : (f : X → Option Y) (m : NatMap X) (k q : ℕ) → get (picked f (remove m k)) q ≡ cond (eqb q k) None (get (picked f m) q)
-  get-picked_remove f m k q =
-      get-picked f (remove m k) q ∙ ap (option_and_then f) (get-remove m k q) ∙ and_then-cond f (eqb q k) None (get m q)
-      ∙ ap (cond (eqb q k) None) (sym (get-picked f m q))
+  get-picked_remove f m k q = grind (arith, nat_tests, get-picked, get-remove, and_then-cond)
 
   -- what f answers is inserted
   pub picked-insert_some : (f : X → Option Y) (m : NatMap X) (k : ℕ) (v : X) (y : Y) → f v ≡ Some y → picked f (insert m k v) ≡ insert (picked f m) k y

@@ -9,6 +9,7 @@ use Rattle.own_model.specs.NatMap.{NatMap, least_gap}
 use Rattle.own_model.specs.OwnState.{IsLeastUnused, new_selector}
 use Rattle.own_model.proofs.EntryLemmas.{value_of-cons}
 use Rattle.own_model.proofs.NatMapLemmas.{both_parts, is_less}
+use Rattle.std.proofs.lemmas.Bool.Decides.{nat_tests}
 
 -- ---- the least gap in rising numbers
 
@@ -24,18 +25,12 @@ module _ {X : Type 0} where
   -- it is no less than where the search began
   least_gap_from : (n : ℕ) (es : List (ℕ × X)) → n ≤ least_gap n (keys_of es)
   least_gap_from n [] = omega arith
-  least_gap_from n (e ∷ es) = elim (eqb e.0 n) as (λ b. n ≤ cond b (least_gap (n + 1) (keys_of es)) (least_gap n (keys_of es))) [
-    | true ↦ let rest = least_gap_from (n + 1) es in omega arith
-    | false ↦ least_gap_from n es
-  ]
+  least_gap_from n (e ∷ es) = grind (arith, nat_tests, least_gap_from (n + 1) es, least_gap_from n es)
 
   -- it goes past no more numbers than there are
   least_gap_within : (n : ℕ) (es : List (ℕ × X)) → least_gap n (keys_of es) ≤ n + length es
   least_gap_within n [] = omega arith
-  least_gap_within n (e ∷ es) = elim (eqb e.0 n) as (λ b. cond b (least_gap (n + 1) (keys_of es)) (least_gap n (keys_of es)) ≤ n + length (e ∷ es)) [
-    | true ↦ let rest = least_gap_within (n + 1) es in omega arith
-    | false ↦ let rest = least_gap_within n es in omega arith
-  ]
+  least_gap_within n (e ∷ es) = grind (arith, nat_tests, least_gap_within (n + 1) es, least_gap_within n es)
 
   -- all before it are there
   least_gap_filled : (n t : ℕ) (es : List (ℕ × X)) → n ≤ t → t < least_gap n (keys_of es) → IsSome (find nat_cmp t es)
@@ -66,20 +61,7 @@ module _ {X : Type 0} where
 
   -- it is none of the rising numbers
   least_gap_apart : (n : ℕ) (e : ℕ × X) (es : List (ℕ × X)) → T (is_sorted nat_cmp (e ∷ es)) → least_gap n (keys_of (e ∷ es)) ≢ e.0
-  least_gap_apart n e es h is =
-      let parts = both_parts (below_all nat_cmp e.0 es) (is_sorted nat_cmp es) h in
-      elim (eqb e.0 n) as (λ b. eqb e.0 n ≡ b → cond b (least_gap (n + 1) (keys_of es)) (least_gap n (keys_of es)) ≡ e.0 → ⊥) [
-        | true ↦ λ at same.
-            let first = eqb-true e.0 n at in
-            let past = least_gap_from (n + 1) es in
-            omega arith
-        | false ↦ λ other same.
-            let apart = eqb-false e.0 n other in
-            let past = least_gap_from n es in
-            let n_below : n < e.0 = omega arith in
-            let stays = least_gap_above n e.0 es n_below parts.0 in
-            omega arith
-      ] refl is
+  least_gap_apart n e es h is = grind (arith, nat_tests, both_parts, eqb-true, least_gap_from, eqb-false, least_gap_above)
 
   -- no sorted entry has it as its key
   least_gap_free : (n : ℕ) (es : List (ℕ × X)) → T (is_sorted nat_cmp es) → find nat_cmp (least_gap n (keys_of es)) es ≡ None

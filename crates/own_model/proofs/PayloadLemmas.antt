@@ -1,5 +1,5 @@
 -- The payload that holds a range of addresses, and the bytes that are read and written there.
-use Rattle.std.proofs.Common.{◌≡◌, ◌≢◌, ℕ, ◌+◌, ◌-◌, ◌*◌, ◌<◌, ◌≤◌, ◌&&◌, ◌⊎◌, inl, inr, Bool, true, false, List, length, nat_le, Some, refl, sym, ap, subst, ◌∙◌, true≢false, arith}
+use Rattle.std.proofs.Common.{◌≡◌, ◌≢◌, ℕ, ◌+◌, ◌-◌, ◌*◌, ◌<◌, ◌≤◌, ◌&&◌, ◌⊎◌, inl, inr, Bool, true, false, List, length, nat_le, Some, refl, sym, ap, subst, ◌∙◌, true≢false, arith, is_some}
 use Rattle.std.proofs.lemmas.Bool.{cases_eq, cases_lt, false_from_ne_true}
 use Rattle.std.proofs.lemmas.Bool.Decides.{nat_tests}
 use Rattle.std.proofs.lemmas.Option.{none-some, same_Some, some_pair_parts}
@@ -9,7 +9,9 @@ use Rattle.std.specs.List.{find}
 use Rattle.std.specs.FinMap.{get, insert, remove, entries}
 use Rattle.trade_base.specs.declared.refusal.Refusal.{Refusal}
 use Rattle.trade_base.specs.declared.refusal.Refusal.TheVariants.{PageFault}
-use Rattle.own_model.proofs.CallLemmas.{found_payload, peeks_payload, pokes_payload}
+use Rattle.own_model.proofs.CallLemmas.{found_payload, found_block, peeks_payload, peeks_block, pokes_payload, pokes_block}
+use Rattle.own_model.proofs.JoinedLemmas.{get-joined_first}
+use Rattle.own_model.proofs.HeapStepLemmas.{payload_within_range, heap_range, heap_lies, not_both}
 use Rattle.own_model.proofs.EntryLemmas.{sizes_alike, find-sized, sized, found_in_map, finds_in_map, finds_none_in_map}
 use Rattle.own_model.proofs.HeapRangeLemmas.{range_of, range_at}
 use Rattle.own_model.proofs.NatMapLemmas.{natmaps, get-insert_same, before_remove, get-remove_same}
@@ -19,34 +21,48 @@ use Rattle.own_model.proofs.ByteLemmas.{length-with_part}
 use Rattle.own_model.specs.HeapWindow.{heap_low, heap_high, largest_machine}
 use Rattle.own_model.specs.NatMap.{NatMap}
 use Rattle.own_model.specs.OwnState.{OwnState, with_part, heap_ranges}
-use Rattle.own_model.specs.OwnStep.{unless, count_refusal, poked, payload_poked, sliced_freed, script_step}
+use Rattle.own_model.specs.OwnStep.{unless, count_refusal, poked, payload_poked, block_poked, sliced_freed, script_step}
 use Rattle.own_model.specs.Call.Call.{Peek, Poke, Sdel}
-use Rattle.own_model.specs.Place.{Place, found, in_dataspace, in_payload}
-use Rattle.own_model.specs.Place.Place.{InDataspace, InPayload}
+use Rattle.own_model.specs.Place.{Place, found, in_dataspace, in_payload, in_block}
+use Rattle.own_model.specs.Place.Place.{InDataspace, InPayload, InBlock}
 use Rattle.own_model.specs.Region.{overlap, resolved}
 use Rattle.own_model.specs.Reply.{Reply}
-use Rattle.own_model.specs.Reply.Reply.{Selected, Attached, Bytes, Done, Quotas, Refused}
-use Rattle.own_model.specs.Sliced.{sliced_header, block_pages, block_found, holds_in_payload}
+use Rattle.own_model.specs.Reply.Reply.{Selected, Attached, Bytes, Done, Quotas, Told, Refused}
+use Rattle.own_model.specs.Sliced.{sliced_header, block_pages, block_found, holds_in_payload, ranges_of_blocks}
+use Rattle.own_model.specs.OwnHeap.{ranges_of_heap}
 use Rattle.own_model.specs.Sound.{IsSound}
 
 -- ---- which payload
 
 -- a range that is found in a payload lies in no region
-payload_parts : (o p : Option (ℕ × ℕ)) (block offset : ℕ) → option_or (option_map in_dataspace o) (option_map in_payload p) ≡ Some (InPayload block offset) → (o ≡ None) × (p ≡ Some (block, offset))
-payload_parts (Some d) p block offset is = absurd (cc)
-payload_parts None None block offset is = absurd (none-some (InPayload block offset) is)
-payload_parts None (Some q) block offset is =
+payload_parts : (o p q : Option (ℕ × ℕ)) (block offset : ℕ) → option_or (option_map in_dataspace o) (option_or (option_map in_payload p) (option_map in_block q)) ≡ Some (InPayload block offset) → (o ≡ None) × (p ≡ Some (block, offset))
+payload_parts (Some d) p q block offset is = absurd (cc)
+payload_parts None None None block offset is = absurd (none-some (InPayload block offset) is)
+payload_parts None None (Some b) block offset is = absurd (cc)
+payload_parts None (Some q) b block offset is =
     let place : InPayload q.0 q.1 ≡ InPayload block offset = same_Some (InPayload q.0 q.1) (InPayload block offset) is in
     let first : q.0 ≡ block = cc in
     let second : q.1 ≡ offset = cc in
     (refl, λ i. Some (first i, second i))
 
+-- and one that is found in a payload of the heap lies in no sliced block's either
+block_parts : (o p q : Option (ℕ × ℕ)) (block offset : ℕ) → option_or (option_map in_dataspace o) (option_or (option_map in_payload p) (option_map in_block q)) ≡ Some (InBlock block offset) →
+    (o ≡ None) × (p ≡ None) × (q ≡ Some (block, offset))
+block_parts (Some d) p q block offset is = absurd (cc)
+block_parts None (Some b) q block offset is = absurd (cc)
+block_parts None None None block offset is = absurd (none-some (InBlock block offset) is)
+block_parts None None (Some b) block offset is =
+    let place : InBlock b.0 b.1 ≡ InBlock block offset = same_Some (InBlock b.0 b.1) (InBlock block offset) is in
+    let first : b.0 ≡ block = cc in
+    let second : b.1 ≡ offset = cc in
+    (refl, refl, λ i. Some (first i, second i))
+
 -- the tests of a payload that holds a range
-payload_tests : (address count block size : ℕ) → nat_le block address && nat_le (address + count) (block + size) ≡ true → (block ≤ address) × (address + count ≤ block + size)
+pub payload_tests : (address count block size : ℕ) → nat_le block address && nat_le (address + count) (block + size) ≡ true → (block ≤ address) × (address + count ≤ block + size)
 payload_tests address count block size h = grind (arith, nat_tests)
 
 -- and back
-payload_holds : (address count block size : ℕ) → block ≤ address → address + count ≤ block + size → nat_le block address && nat_le (address + count) (block + size) ≡ true
+pub payload_holds : (address count block size : ℕ) → block ≤ address → address + count ≤ block + size → nat_le block address && nat_le (address + count) (block + size) ≡ true
 payload_holds address count block size from to = grind (arith, nat_tests)
 
 -- what holds a range is a payload that has all of it
@@ -67,8 +83,15 @@ block_found_fits blocks address count block offset (Some b) at is =
 pub payload_fits : (s : OwnState) (address count block offset : ℕ) → found s address count ≡ Some (InPayload block offset) →
     (payload : List ℕ) × (get s.sliced block ≡ Some payload) × (block + offset ≡ address) × (offset + count ≤ length payload)
 payload_fits s address count block offset is =
-    let parts = payload_parts (resolved s.regions address count) (block_found s.sliced address count) block offset is in
+    let parts = payload_parts (resolved s.regions address count) (block_found s.sliced address count) (block_found s.heap.payloads address count) block offset is in
     block_found_fits s.sliced address count block offset (find (holds_in_payload address count) (entries s.sliced)) refl parts.1
+
+-- and of what is found in the heap
+pub block_fits : (s : OwnState) (address count block offset : ℕ) → found s address count ≡ Some (InBlock block offset) →
+    (payload : List ℕ) × (get s.heap.payloads block ≡ Some payload) × (block + offset ≡ address) × (offset + count ≤ length payload)
+block_fits s address count block offset is =
+    let parts = block_parts (resolved s.regions address count) (block_found s.sliced address count) (block_found s.heap.payloads address count) block offset is in
+    block_found_fits s.heap.payloads address count block offset (find (holds_in_payload address count) (entries s.heap.payloads)) refl parts.2
 
 -- an entry and its size give the same place
 same_place : (address : ℕ) (o : Option (ℕ × List ℕ)) → option_map {U = ℕ × ℕ} (λ b. (b.0, address - b.0)) o ≡ option_map (λ p. (p.0, address - p.0)) (option_map (sized length) o)
@@ -98,11 +121,26 @@ payload_read s address block offset bytes some at =
     let old = fits.0 in
     let new = with_part old offset bytes in
     let next : OwnState = (payload_poked block offset bytes (Some old) s).next in
-    let parts = payload_parts (resolved s.regions address (length bytes)) (block_found s.sliced address (length bytes)) block offset at in
+    let parts = payload_parts (resolved s.regions address (length bytes)) (block_found s.sliced address (length bytes)) (block_found s.heap.payloads address (length bytes)) block offset at in
     let still = block_found_alike next.sliced s.sliced (lengths_alike s.sliced block old new fits.1 (length-with_part old offset bytes)) address (length bytes) ∙ parts.1 in
     ap (λ o. (script_step (Peek address (length bytes)) o.next).reply) (pokes_payload s address block offset bytes old some at fits.1)
-    ∙ ap (λ o. o.reply) (peeks_payload next address (length bytes) block offset new some (found_payload next address (length bytes) (Some (block, offset)) parts.0 still)
+    ∙ ap (λ o. o.reply) (peeks_payload next address (length bytes) block offset new some (found_payload next address (length bytes) (block, offset) parts.0 still)
     (get-insert_same s.sliced block new block refl))
+    ∙ ap (λ read. Bytes read) (slice_range-with_part old offset bytes fits.3)
+
+-- so it is in a payload of the heap
+pub block_read : (s : OwnState) (address block offset : ℕ) (bytes : List ℕ) → count_refusal (length bytes) ≡ None → found s address (length bytes) ≡ Some (InBlock block offset) →
+    (script_step (Peek address (length bytes)) (script_step (Poke address bytes) s).next).reply ≡ Bytes bytes
+block_read s address block offset bytes some at =
+    let fits = block_fits s address (length bytes) block offset at in
+    let old = fits.0 in
+    let new = with_part old offset bytes in
+    let next : OwnState = (block_poked block offset bytes (Some old) s).next in
+    let parts = block_parts (resolved s.regions address (length bytes)) (block_found s.sliced address (length bytes)) (block_found s.heap.payloads address (length bytes)) block offset at in
+    let still = block_found_alike next.heap.payloads s.heap.payloads (lengths_alike s.heap.payloads block old new fits.1 (length-with_part old offset bytes)) address (length bytes) ∙ parts.2 in
+    ap (λ o. (script_step (Peek address (length bytes)) o.next).reply) (pokes_block s address block offset bytes old some at fits.1)
+    ∙ ap (λ o. o.reply) (peeks_block next address (length bytes) block offset new some (found_block next address (length bytes) (Some (block, offset)) parts.0 parts.1 still)
+    (get-insert_same s.heap.payloads block new block refl))
     ∙ ap (λ read. Bytes read) (slice_range-with_part old offset bytes fits.3)
 
 -- ---- what was poked is read back, wherever it is found
@@ -114,6 +152,7 @@ is_done (Attached address) = false
 is_done (Bytes bytes) = false
 is_done Done = true
 is_done (Quotas account) = false
+is_done (Told text) = false
 is_done (Refused refusal) = false
 
 -- a refusal is no such reply
@@ -121,14 +160,15 @@ not_done : (refusal : Refusal) → ¬ (Refused refusal ≡ Done)
 not_done refusal e = true≢false (sym (ap is_done e))
 
 -- a range that is found in a dataspace lies in a region
-pub region_parts : (o p : Option (ℕ × ℕ)) (selector offset : ℕ) → option_or (option_map in_dataspace o) (option_map in_payload p) ≡ Some (InDataspace selector offset) → o ≡ Some (selector, offset)
-region_parts (Some d) p selector offset is =
+pub region_parts : (o p q : Option (ℕ × ℕ)) (selector offset : ℕ) → option_or (option_map in_dataspace o) (option_or (option_map in_payload p) (option_map in_block q)) ≡ Some (InDataspace selector offset) → o ≡ Some (selector, offset)
+region_parts (Some d) p q selector offset is =
     let place : InDataspace d.0 d.1 ≡ InDataspace selector offset = same_Some (InDataspace d.0 d.1) (InDataspace selector offset) is in
     let first : d.0 ≡ selector = cc in
     let second : d.1 ≡ offset = cc in
     λ i. Some (first i, second i)
-region_parts None None selector offset is = absurd (none-some (InDataspace selector offset) is)
-region_parts None (Some q) selector offset is = absurd (cc)
+region_parts None None None selector offset is = absurd (none-some (InDataspace selector offset) is)
+region_parts None None (Some b) selector offset is = absurd (cc)
+region_parts None (Some q) b selector offset is = absurd (cc)
 
 -- what was poked is read back where the poke was done, whatever its tests gave
 read_by : (s : OwnState) (address : ℕ) (bytes : List ℕ) → IsSound s → (refusal : Option Refusal) (place : Option Place) → count_refusal (length bytes) ≡ refusal →
@@ -136,8 +176,9 @@ read_by : (s : OwnState) (address : ℕ) (bytes : List ℕ) → IsSound s → (r
 read_by s address bytes h (Some refusal) place counted at done = absurd (not_done refusal done)
 read_by s address bytes h None None counted at done = absurd (not_done PageFault done)
 read_by s address bytes h None (Some (InDataspace selector offset)) counted at done =
-    read_after s address selector offset bytes h counted (region_parts (resolved s.regions address (length bytes)) (block_found s.sliced address (length bytes)) selector offset at)
+    read_after s address selector offset bytes h counted (region_parts (resolved s.regions address (length bytes)) (block_found s.sliced address (length bytes)) (block_found s.heap.payloads address (length bytes)) selector offset at)
 read_by s address bytes h None (Some (InPayload block offset)) counted at done = payload_read s address block offset bytes counted at
+read_by s address bytes h None (Some (InBlock block offset)) counted at done = block_read s address block offset bytes counted at
 
 -- what was poked is what a peek tells
 pub poke_read : (s : OwnState) (address : ℕ) (bytes : List ℕ) → IsSound s → (script_step (Poke address bytes) s).reply ≡ Done →
@@ -171,7 +212,13 @@ module _ (s : OwnState) (h : IsSound s) where
 
     -- the block's range
     pub own_range : get (heap_ranges s) start ≡ Some (range_of payload)
-    own_range = range_at s.sliced start payload (subst (λ k. get s.sliced k ≡ Some payload) (sym back) there)
+    own_range =
+        get-joined_first (ranges_of_blocks s.sliced) (ranges_of_heap s.heap) start (range_of payload)
+        (range_at s.sliced start payload (subst (λ k. get s.sliced k ≡ Some payload) (sym back) there))
+
+    -- a block's range is that of a sliced block
+    pub range_of_sliced : get (ranges_of_blocks s.sliced) start ≡ Some (range_of payload)
+    range_of_sliced = range_at s.sliced start payload (subst (λ k. get s.sliced k ≡ Some payload) (sym back) there)
 
     -- it lies within the heap window
     pub payload_within : (heap_low + sliced_header ≤ block) × (block + length payload ≤ heap_high largest_machine)
@@ -205,7 +252,7 @@ module _ (s : OwnState) (h : IsSound s) where
   ]
 
   -- no region holds a range above the user window
-  above_user : (address count : ℕ) → heap_low ≤ address → 0 < count → resolved s.regions address count ≡ None
+  pub above_user : (address count : ℕ) → heap_low ≤ address → 0 < count → resolved s.regions address count ≡ None
   above_user address count high some = elim (resolved s.regions address count) as (λ o. resolved s.regions address count ≡ o → o ≡ None) [
     | None ↦ λ _. refl
     | Some (of, offset) ↦ λ is.
@@ -222,18 +269,32 @@ module _ (s : OwnState) (h : IsSound s) where
     -- each range of some bytes within a payload is found there
     pub payload_is_found : found s address count ≡ Some (InPayload block (address - block))
     payload_is_found =
-        found_payload s address count (Some (block, address - block)) (above_user address count high some)
+        found_payload s address count (block, address - block) (above_user address count high some)
         (ap (option_map (λ b. (b.0, address - b.0)))
         (finds_in_map (holds_in_payload address count) s.sliced block payload there (payload_holds address count block (length payload) from to)
         (λ k w is holds. one_payload address count k block w payload some is there from to holds)))
+
+    -- no payload of the heap holds it
+    pub not_in_heap : (k : ℕ) (w : List ℕ) → get s.heap.payloads k ≡ Some w → ¬ (holds_in_payload address count (k, w) ≡ true)
+    not_in_heap k w is holds =
+        let own = own_range block payload there in
+        let found = payload_within_range (heap_high largest_machine) s.heap h.heap_parts (heap_lies s h) k w is in
+        let start' = found.0 in
+        let within = found.1 in
+        let apart = h.heap.apart (block - sliced_header) start' (range_of payload) within.range own (heap_range s h start' within.range within.there)
+        (λ same. none-some within.range (sym (h.starts start' (ap is_some (ap (get (ranges_of_blocks s.sliced)) (sym same) ∙ range_of_sliced block payload there))) ∙ within.there)) in
+        let tests = payload_tests address count k (length w) holds in
+        not_both (block - sliced_header) (block_pages payload) start' within.range.pages address apart
+        (omega (arith, from)) (omega (arith, to, some, (h.blocks block payload there).whole, (h.blocks block payload there).header)) (omega (arith, within.from, tests.0)) (omega (arith, within.to, tests.1, some))
 
     -- once the block is gone, nothing is
     pub payload_is_gone : found (script_step (Sdel block) s).next address count ≡ None
     payload_is_gone =
         ap (λ o. found (sliced_freed block o s).next address count) there
-        ∙ found_payload (sliced_freed block (Some payload) s).next address count None (above_user address count high some)
+        ∙ found_block (sliced_freed block (Some payload) s).next address count None (above_user address count high some)
         (ap (option_map (λ b. (b.0, address - b.0)))
         (finds_none_in_map (holds_in_payload address count) (remove s.sliced block)
         (λ k w is. false_from_ne_true _ (λ holds.
         let same = one_payload address count k block w payload some (before_remove s.sliced block k w is) there from to holds in
         none-some w (sym (get-remove_same s.sliced block k same) ∙ is)))))
+        (ap (option_map (λ b. (b.0, address - b.0))) (finds_none_in_map (holds_in_payload address count) s.heap.payloads (λ k w is. false_from_ne_true _ (not_in_heap k w is))))

@@ -1,18 +1,19 @@
 -- The range of addresses that a region holds, and the bytes that are read and written there.
-use Rattle.std.proofs.Common.{◌≡◌, ℕ, ◌+◌, ◌*◌, ◌≤◌, List, Some, length, refl, sym, ap, subst, ◌∙◌}
+use Rattle.std.proofs.Common.{◌≡◌, ℕ, ◌+◌, ◌*◌, ◌≤◌, List, Some, length, sym, subst, arith}
 use Rattle.std.specs.Prelude.{None}
 use Rattle.std.specs.FinMap.{get}
 pub use Rattle.own_model.proofs.ByteLemmas.{with_part-within, slice_range-with_part}
 use Rattle.own_model.proofs.CallLemmas.{peeks, pokes}
 use Rattle.own_model.proofs.NatMapLemmas.{get-insert_same}
 use Rattle.own_model.proofs.RegionLemmas.{resolved_facts}
-use Rattle.own_model.specs.OwnState.{OwnState, with_part}
+use Rattle.own_model.specs.OwnState.{OwnState}
 use Rattle.own_model.specs.OwnState.Object.{Dataspace}
 use Rattle.own_model.specs.Call.Call.{Peek, Poke}
-use Rattle.own_model.specs.OwnStep.{count_refusal, poked_at, script_step}
+use Rattle.own_model.specs.OwnStep.{count_refusal, script_step}
 use Rattle.own_model.specs.Reply.Reply.{Bytes}
 use Rattle.own_model.specs.Region.{resolved}
 use Rattle.own_model.specs.Sound.{IsSound}
+use Rattle.std.proofs.lemmas.Bool.Decides.{nat_tests}
 
 -- a range that a region holds lies within the dataspace that the region's selector names
 pub range_fits : (s : OwnState) (address count selector offset : ℕ) → IsSound s → resolved s.regions address count ≡ Some (selector, offset) →
@@ -35,11 +36,4 @@ ReadsBack s address bytes next = (script_step (Peek address (length bytes)) next
 -- what was poked is read back, where its size is accepted and its range lies in a region
 pub read_after : (s : OwnState) (address selector offset : ℕ) (bytes : List ℕ) → IsSound s → count_refusal (length bytes) ≡ None →
     resolved s.regions address (length bytes) ≡ Some (selector, offset) → ReadsBack s address bytes (script_step (Poke address bytes) s).next
-read_after s address selector offset bytes h some found =
-    let fits = range_fits s address (length bytes) selector offset h found in
-    let old = fits.0 in
-    let next : OwnState = (poked_at selector offset bytes (Some (Dataspace old)) s).next in
-    ap (λ o. (script_step (Peek address (length bytes)) o.next).reply) (pokes s address selector offset bytes (Dataspace old) some found fits.1)
-    ∙ ap (λ o. o.reply) (peeks next address (length bytes) selector offset (with_part old offset bytes) some found
-    (get-insert_same s.selectors selector (Dataspace (with_part old offset bytes)) selector refl))
-    ∙ ap (λ read. Bytes read) (slice_range-with_part old offset bytes fits.2)
+read_after s address selector offset bytes h some found = grind (arith, nat_tests, range_fits, pokes, peeks, get-insert_same, slice_range-with_part)

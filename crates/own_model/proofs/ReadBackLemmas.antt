@@ -102,6 +102,4 @@ byte_read b small =
 pub hex_read : (bytes : List ℕ) → AllByRecursion (λ b. b < 256) bytes → bytes_of_hex (hex_text bytes) ≡ Some bytes
 unfolding hex_text
 hex_read [] small = refl
-hex_read (b ∷ bs) small =
-    ap (option_and_then (λ byte. option_map (λ bytes. byte ∷ bytes) (bytes_of_hex (hex_text bs)))) (byte_read b small.0)
-    ∙ ap (option_map (λ bytes. b ∷ bytes)) (hex_read bs small.1)
+hex_read (b ∷ bs) small = grind (arith, nat_tests, byte_read, hex_read bs small.1)

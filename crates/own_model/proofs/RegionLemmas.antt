@@ -8,7 +8,7 @@ use Rattle.std.specs.List.{find, list_any, range_with_len}
 use Rattle.std.specs.FinMap.{get, insert, remove, entries, len}
 use Rattle.trade_base.specs.declared.refusal.Refusal.TheVariants.{PageFault}
 use Rattle.own_model.specs.NatMap.{NatMap, picked}
-use Rattle.own_model.specs.Region.{Region, user_low, user_high, overlap, meets, can_stand, first_gap, IsPlace, IsFirstGap, region_at, resolved, without, holds, attach_refusal, attach_at_refusal, detach_refusal}
+use Rattle.own_model.specs.Region.{Region, overlap, meets, can_stand, first_gap, IsPlace, IsFirstGap, region_at, resolved, without, holds, attach_refusal, attach_at_refusal, detach_refusal}
 use Rattle.own_model.proofs.NatMapLemmas.{same, get-picked, picked-insert_some, picked-remove, none_of}
 use Rattle.own_model.proofs.EntryLemmas.{sizes_alike, len-sizes, list_any-sized, find-sized, list_any-find, found_in_map, not_found_in_map, finds_none_in_map}
 use Rattle.own_model.proofs.Totals.{total-picked_le, len-total}
@@ -32,20 +32,11 @@ overlap_at address pages e = overlap e.0 e.1.pages address pages
 
 -- pages that meet no region overlap none
 pub meets_none : (regions : NatMap Region) (address pages start : ℕ) (region : Region) → meets regions address pages ≡ false → get regions start ≡ Some region → overlap start region.pages address pages ≡ false
-meets_none regions address pages start region clear there =
-    not_found_in_map (overlap_at address pages) regions start region (none_of _ (sym (list_any-find (overlap_at address pages) (entries regions)) ∙ clear)) there
+meets_none regions address pages start region clear there = grind (arith, nat_tests, not_found_in_map, none_of, list_any-find)
 
 -- pages that overlap no region meet none
 pub clear_of_all : (regions : NatMap Region) (address pages : ℕ) → ((start : ℕ) (region : Region) → get regions start ≡ Some region → overlap start region.pages address pages ≡ false) → meets regions address pages ≡ false
-clear_of_all regions address pages apart =
-    list_any-find (overlap_at address pages) (entries regions) ∙ ap is_some (finds_none_in_map (overlap_at address pages) regions apart)
-
--- pages that overlap a region meet one
-pub meets_one : (regions : NatMap Region) (address pages start : ℕ) (region : Region) → get regions start ≡ Some region → overlap start region.pages address pages ≡ true → meets regions address pages ≡ true
-meets_one regions address pages start region there over = elim (meets regions address pages) as (λ b. meets regions address pages ≡ b → b ≡ true) [
-  | true ↦ λ _. refl
-  | false ↦ λ clear. absurd (true≢false (sym over ∙ meets_none regions address pages start region clear there))
-] refl
+clear_of_all regions address pages apart = grind (arith, nat_tests, list_any-find, finds_none_in_map)
 
 -- ---- places
 
@@ -59,19 +50,11 @@ tests_of_place low high pages address m aligned from to clear = grind (arith, na
 
 -- where pages can stand is a place
 pub place : (low high : ℕ) (regions : NatMap Region) (pages address : ℕ) → can_stand low high regions pages address ≡ true → IsPlace low high regions pages address
-place low high regions pages address can =
-    let parts = parts_of_place low high pages address (meets regions address pages) can in
-    record {
-      aligned = parts.0;
-      from_low = parts.1;
-      to_high = parts.2;
-      free = λ start region. meets_none regions address pages start region parts.3;
-    }
+place low high regions pages address can = grind (arith, nat_tests, parts_of_place, meets_none)
 
 -- pages can stand at a place
 pub stands : (low high : ℕ) (regions : NatMap Region) (pages address : ℕ) → IsPlace low high regions pages address → can_stand low high regions pages address ≡ true
-stands low high regions pages address at =
-    tests_of_place low high pages address (meets regions address pages) at.aligned at.from_low at.to_high (clear_of_all regions address pages at.free)
+stands low high regions pages address at = grind (arith, nat_tests, tests_of_place, clear_of_all)
 
 -- no region starts where pages can stand
 pub free_place : (low high : ℕ) (regions : NatMap Region) (pages address : ℕ) → 1 ≤ pages → ((start : ℕ) (region : Region) → get regions start ≡ Some region → 1 ≤ region.pages) →
@@ -142,49 +125,26 @@ module _ (low high : ℕ) (regions : NatMap Region) (pages : ℕ) where
   one_first_gap None None x y = refl
   one_first_gap None (Some b) x y = absurd (x b y.0)
   one_first_gap (Some a) None x y = absurd (y a x.0)
-  one_first_gap (Some a) (Some b) x y =
-      let not_below : ¬ (a < b) = λ h. y.1 a h x.0 in
-      let not_above : ¬ (b < a) = λ h. x.1 b h y.0 in
-      let same : a ≡ b = omega arith in
-      ap (λ c. Some c) same
+  one_first_gap (Some a) (Some b) x y = grind (arith, nat_tests, same)
 
   -- the least place is the first gap
   pub first_gap_is : (o : Option ℕ) → IsFirstGap low high regions pages o → first_gap low high regions pages ≡ o
   first_gap_is o h = one_first_gap (first_gap low high regions pages) o first_gap_least h
-
--- pages that overlap a region still do at any later address before its end
-skipped : (start others address pages b : ℕ) → overlap start others address pages ≡ true → address ≤ b → b < start + others * 4096 → overlap start others b pages ≡ false → ⊥
-skipped start others address pages b over from below free = grind (arith, nat_tests)
-
--- no place lies between an address and the end of a region that pages at the address overlap
-pub skip_region : (low high : ℕ) (regions : NatMap Region) (pages address start : ℕ) (region : Region) → get regions start ≡ Some region → overlap start region.pages address pages ≡ true → (b : ℕ) → address ≤ b → b < start + region.pages * 4096 → ¬ IsPlace low high regions pages b
-skip_region low high regions pages address start region there over b from below at =
-    let free = at.free start region there in
-    skipped start region.pages address pages b over from below free
 
 -- ---- regions without those of a thing
 
 -- what is left of the regions without those of a selector was there, and is of another
 kept_region : (selector : ℕ) (o : Option Region) (region : Region) → option_and_then (λ r. if r.of == selector then None else Some r) o ≡ Some region → (o ≡ Some region) × (region.of ≢ selector)
 kept_region selector None region is = absurd (none-some region is)
-kept_region selector (Some r) region is =
-    elim (eqb r.of selector) as (λ b. eqb r.of selector ≡ b → cond b None (Some r) ≡ Some region → (◌≡◌ {A = Option Region} (Some r) (Some region)) × (region.of ≢ selector)) [
-      | true ↦ λ same found. absurd (none-some region found)
-      | false ↦ λ other found.
-          let e = same_Some r region found in
-          (found, subst (λ x. x.of ≢ selector) e (eqb-false r.of selector other))
-    ] refl is
+kept_region selector (Some r) region is = grind (arith, nat_tests, same, none-some, same_Some, eqb-false)
 
 -- the same of the map
 pub left_without : (selector : ℕ) (regions : NatMap Region) (start : ℕ) (region : Region) → get (without selector regions) start ≡ Some region → (get regions start ≡ Some region) × (region.of ≢ selector)
-left_without selector regions start region is =
-    kept_region selector (get regions start) region (sym (get-picked (λ r. if r.of == selector then None else Some r) regions start) ∙ is)
+left_without selector regions start region is = grind (arith, nat_tests, kept_region, get-picked)
 
 -- they are no more
 pub len-without : (selector : ℕ) (regions : NatMap Region) → len (without selector regions) ≤ len regions
-len-without selector regions =
-    let fewer = total-picked_le (λ r. 1) (λ r. 1) (λ r. if r.of == selector then None else Some r) regions (λ v y e. omega arith) in
-    omega (arith, len-total (without selector regions), len-total regions, fewer)
+len-without selector regions = grind (arith, nat_tests, total-picked_le, len-total)
 
 -- ---- regions of the same starts and pages, of whatever things
 
@@ -209,25 +169,16 @@ twin xs ys alike start region there =
 
 -- a place among the one is a place among the other
 place_alike : (xs ys : NatMap Region) → AreAlike xs ys → (low high pages address : ℕ) → IsPlace low high xs pages address → IsPlace low high ys pages address
-place_alike xs ys alike low high pages address at = record {
-  aligned = at.aligned;
-  from_low = at.from_low;
-  to_high = at.to_high;
-  free = λ start region there.
-      let other = twin xs ys alike start region there in
-      subst (λ n. overlap start n address pages ≡ false) other.2 (at.free start other.0 other.1);
-}
+place_alike xs ys alike low high pages address at = grind (arith, nat_tests, twin)
 
 -- the first gap among the one is the first gap among the other
 first_gap_among : (xs ys : NatMap Region) → AreAlike xs ys → (low high pages : ℕ) (o : Option ℕ) → IsFirstGap low high xs pages o → IsFirstGap low high ys pages o
 first_gap_among xs ys alike low high pages None h = λ b at. h b (place_alike ys xs (AreAlike-sym xs ys alike) low high pages b at)
-first_gap_among xs ys alike low high pages (Some a) h =
-    (place_alike xs ys alike low high pages a h.0, λ b below at. h.1 b below (place_alike ys xs (AreAlike-sym xs ys alike) low high pages b at))
+first_gap_among xs ys alike low high pages (Some a) h = grind (arith, nat_tests, place_alike, AreAlike-sym)
 
 -- the first gap depends on starts and pages alone
 pub first_gap_alike : (xs ys : NatMap Region) → AreAlike xs ys → (low high pages : ℕ) → first_gap low high xs pages ≡ first_gap low high ys pages
-first_gap_alike xs ys alike low high pages =
-    sym (first_gap_is low high ys pages (first_gap low high xs pages) (first_gap_among xs ys alike low high pages (first_gap low high xs pages) (first_gap_least low high xs pages)))
+first_gap_alike xs ys alike low high pages = grind (arith, nat_tests, first_gap_is, first_gap_among, first_gap_least)
 
 -- a start, and how many pages
 abbrev pub shape : ℕ × Region → ℕ × ℕ
@@ -259,13 +210,11 @@ region_at_alike xs ys alike address length =
 
 -- an attachment at the first gap is refused alike
 pub attach_refusal_alike : (xs ys : NatMap Region) → AreAlike xs ys → (most pages : ℕ) → attach_refusal most xs pages ≡ attach_refusal most ys pages
-attach_refusal_alike xs ys alike most pages =
-    rw (len_alike xs ys alike, first_gap_alike xs ys alike user_low user_high pages)
+attach_refusal_alike xs ys alike most pages = grind (arith, nat_tests, len_alike, first_gap_alike)
 
 -- so is one at an address
 pub attach_at_refusal_alike : (xs ys : NatMap Region) → AreAlike xs ys → (most pages address : ℕ) → attach_at_refusal most xs pages address ≡ attach_at_refusal most ys pages address
-attach_at_refusal_alike xs ys alike most pages address =
-    rw (len_alike xs ys alike, meets_alike xs ys alike address pages)
+attach_at_refusal_alike xs ys alike most pages address = grind (arith, nat_tests, len_alike, meets_alike)
 
 -- of two options of as many pages both are regions or neither is
 some_alike : (o p : Option Region) → option_map (λ region. region.pages) o ≡ option_map (λ region. region.pages) p → is_some o ≡ is_some p
@@ -336,8 +285,7 @@ module _ (name : ℕ → Option ℕ) where
 
   -- a region whose thing has another name comes under that name
   pub renamed-insert : (regions : NatMap Region) (start of pages other : ℕ) → name of ≡ Some other → renamed name (insert regions start (record { of = of; pages = pages })) ≡ insert (renamed name regions) start (record { of = other; pages = pages })
-  renamed-insert regions start of pages other is =
-      picked-insert_some _ regions start (record { of = of; pages = pages }) (record { of = other; pages = pages }) (ap (option_map (λ n. record { of = n; pages = pages })) is)
+  renamed-insert regions start of pages other is = grind (arith, nat_tests, picked-insert_some)
 
   -- a region that is removed is removed under the other names too
   pub renamed-remove : (regions : NatMap Region) (start : ℕ) → renamed name (remove regions start) ≡ remove (renamed name regions) start
@@ -391,33 +339,15 @@ module _ (name : ℕ → Option ℕ) where
 
     -- a region of another thing gets another name
     renamed_apart : (region : Region) (n : ℕ) → name region.of ≡ Some n → eqb region.of of ≡ false → eqb n other ≡ false
-    renamed_apart region n there differs = elim (eqb n other) as (λ b. eqb n other ≡ b → b ≡ false) [
-      | true ↦ λ t. absurd (true≢false (sym (eq-eqb region.of of (alone region.of (there ∙ ap (λ m. Some m) (eqb-true n other t)))) ∙ differs))
-      | false ↦ λ t. refl
-    ] refl
+    renamed_apart region n there differs = grind (arith, nat_tests, eq-eqb, eqb-true)
 
     -- a region is of the thing before it is renamed where it is of its name after that
     rename_but : (o : Option Region) → option_and_then rename (option_and_then (but of) o) ≡ option_and_then (but other) (option_and_then rename o)
     unfolding rename but
     rename_but None = refl
-    rename_but (Some region) =
-        elim (eqb region.of of) as (λ b. eqb region.of of ≡ b → option_and_then rename (cond b None (Some region)) ≡ option_and_then (but other) (rename region)) [
-          | true ↦ λ t.
-              let named : name region.of ≡ Some other = ap name (eqb-true region.of of t) ∙ is in
-              sym (ap (λ n. option_and_then (but other) (option_map (λ m. record region { of = m }) n)) named
-              ∙ ap (λ b. cond b None (Some (record region { of = other }))) (eq-eqb other other refl))
-          | false ↦ λ t.
-              elim (name region.of) as (λ n. name region.of ≡ n → option_map (λ m. record region { of = m }) n ≡ option_and_then (but other) (option_map (λ m. record region { of = m }) n)) [
-                | None ↦ λ there. refl
-                | Some m ↦ λ there. sym (ap (λ b. cond b None (Some (record region { of = m }))) (renamed_apart region m there t))
-              ] refl
-        ] refl
+    rename_but (Some region) = grind (arith, nat_tests, rename, but, named, eqb-true, eq-eqb, renamed_apart)
 
     -- regions without those of a thing, renamed, are the renamed ones without those of its name
     pub renamed-without : (regions : NatMap Region) → renamed name (without of regions) ≡ without other (renamed name regions)
     unfolding rename but
-    renamed-without regions =
-        same _ _ (λ q.
-        get-picked rename (without of regions) q ∙ ap (option_and_then rename) (get-picked (but of) regions q)
-        ∙ rename_but (get regions q)
-        ∙ ap (option_and_then (but other)) (sym (get-picked rename regions q)) ∙ sym (get-picked (but other) (renamed name regions) q))
+    renamed-without regions = grind (arith, nat_tests, same, get-picked, rename, but, rename_but)

@@ -1,5 +1,5 @@
 -- The canonical writing of session arguments is read again.
-use Rattle.std.proofs.Common.{◌≡◌, ℕ, zero, suc, ◌+◌, ◌-◌, ◌^◌, ◌<◌, ◌&&◌, ◌||◌, not, Bool, true, false, cond, List, [], ◌∷◌, ◌++◌, length, take, get_or, Option, Some, None, refl, sym, ap, ◌∙◌, arith, codes, append_assoc}
+use Rattle.std.proofs.Common.{◌≡◌, ℕ, zero, suc, ◌+◌, ◌-◌, ◌^◌, ◌<◌, ◌&&◌, ◌||◌, not, Bool, true, false, cond, List, [], ◌∷◌, ◌++◌, length, get_or, Option, Some, None, refl, ap, ◌∙◌, arith, codes, append_assoc}
 use Rattle.std.specs.Prelude.{nat_eq, nat_lt, nat_le, reverse, decimal}
 use Rattle.std.specs.List.{list_all, before_first, after_first}
 use Rattle.std.proofs.Math.Bool.{and-false}
@@ -12,9 +12,9 @@ use Rattle.std.proofs.lemmas.Fmt.{decimal_nonempty, digits_decimal, digits_value
 use Rattle.std.proofs.lemmas.Str.Parse.{numerals_by_value, tells_all_ascii_digits}
 use Rattle.std.proofs.lemmas.List.{length-append, reverse-append, reverse-reverse, take_at, get_or-append-add}
 use Rattle.std.proofs.lemmas.List.Folds.{list_all-append}
-use Rattle.trade_base.specs.Amount.{number_of, unit_of, amount_in, amount_of}
+use Rattle.trade_base.specs.Amount.{number_of, unit_of, amount_of}
 use Rattle.own_model.specs.Text.{is_name_byte}
-use Rattle.own_model.specs.SessionArgs.{is_equals, is_quotable, onto_first, pieces_of, skip_spaces, trimmed, Pair, is_key, inner, is_bare, value_of, pair_of, each, Arguments, arguments_in, arguments_of, arguments_text, HasText}
+use Rattle.own_model.specs.SessionArgs.{is_equals, is_quotable, onto_first, pieces_of, skip_spaces, trimmed, Pair, is_key, inner, value_of, pair_of, each, Arguments, arguments_in, arguments_of, arguments_text, HasText}
 use Rattle.own_model.specs.SessionArgs.Value.{Bare, Quoted}
 
 -- ---- tests
@@ -109,34 +109,22 @@ list_all-reverse p (x ∷ xs) all =
 
 -- so nothing is trimmed
 trimmed-plain : (xs : List ℕ) → list_all is_plain xs ≡ true → trimmed xs ≡ xs
-trimmed-plain xs plain =
-    ap (λ t. reverse (skip_spaces (reverse t))) (skip-plain xs plain)
-    ∙ ap reverse (skip-plain (reverse xs) (list_all-reverse is_plain xs plain))
-    ∙ reverse-reverse xs
+trimmed-plain xs plain = grind (arith, nat_tests, skip-plain, list_all-reverse, reverse-reverse)
 
 -- nothing is trimmed after a quote
 trimmed-quote : (front : List ℕ) → reverse (skip_spaces (reverse (front ++ 34 ∷ []))) ≡ front ++ 34 ∷ []
-trimmed-quote front =
-    ap (λ t. reverse (skip_spaces t)) (reverse-append front (34 ∷ []))
-    ∙ ap reverse (sym (reverse-append front (34 ∷ [])))
-    ∙ reverse-reverse (front ++ 34 ∷ [])
+trimmed-quote front = grind (arith, nat_tests, reverse-append, reverse-reverse)
 
 -- ---- values
 
 -- digits are a value as they stand
 value-digits : (ds : List ℕ) → 0 < length ds → all_ascii_digits ds ≡ true → value_of ds ≡ Some (Bare ds)
 value-digits [] some digits = absurd (omega arith)
-value-digits (b ∷ bs) some digits =
-    let named : list_all is_name_byte (b ∷ bs) ≡ true = of_digits is_name_byte digit_named (b ∷ bs) digits in
-    let quote : nat_eq b 34 ≡ false = (none_of_three _ _ _ (digit_plain b (both _ _ digits).0)).1 in
-    let test : nat_lt 0 (length (b ∷ bs)) ≡ true = grind (arith, nat_tests) in
-    (λ i. cond (not_quoted (nat_le 2 (length (b ∷ bs))) (nat_eq b 34) (nat_eq (get_or (b ∷ bs) (length (b ∷ bs) - 1) 0) 34) (list_all is_quotable (inner (b ∷ bs))) quote i) (Some (Quoted (inner (b ∷ bs)))) (cond (test i && named i) (Some (Bare (b ∷ bs))) None))
+value-digits (b ∷ bs) some digits = grind (arith, nat_tests, of_digits, digit_named, none_of_three, digit_plain, both, not_quoted)
 
 -- what stands between quotes
 inner-quoted : (label : List ℕ) → inner (34 ∷ (label ++ 34 ∷ [])) ≡ label
-inner-quoted label =
-    let count : length (34 ∷ (label ++ 34 ∷ [])) - 2 ≡ length label = omega (arith, length-append label (34 ∷ [])) in
-    ap (λ n. take n (label ++ 34 ∷ [])) count ∙ take_at label (34 ∷ []) (length label) refl
+inner-quoted label = grind (arith, nat_tests, length-append, take_at)
 
 last-quoted : (label : List ℕ) → get_or (34 ∷ (label ++ 34 ∷ [])) (length (34 ∷ (label ++ 34 ∷ [])) - 1) 0 ≡ 34
 last-quoted label =
@@ -145,10 +133,7 @@ last-quoted label =
 
 -- a label is a value within quotes
 value-quoted : (label : List ℕ) → list_all is_quotable label ≡ true → value_of (34 ∷ (label ++ 34 ∷ [])) ≡ Some (Quoted label)
-value-quoted label quotable =
-    let two : nat_le 2 (length (34 ∷ (label ++ 34 ∷ []))) ≡ true = grind (arith, nat_tests, length-append label (34 ∷ [])) in
-    let all : list_all is_quotable (inner (34 ∷ (label ++ 34 ∷ []))) ≡ true = ap (list_all is_quotable) (inner-quoted label) ∙ quotable in
-    (λ i. cond ((two i && (true && nat_eq (last-quoted label i) 34)) && all i) (Some (Quoted (inner-quoted label i))) (cond (is_bare (34 ∷ (label ++ 34 ∷ []))) (Some (Bare (34 ∷ (label ++ 34 ∷ [])))) None))
+value-quoted label quotable = grind (arith, nat_tests, length-append, inner-quoted, last-quoted)
 
 -- ---- numbers
 
@@ -167,9 +152,7 @@ module _ (n : ℕ) (small : n < 2 ^ 64) where
 
   -- and as an amount
   amount_of-decimal : amount_of (decimal n) ≡ Some n
-  amount_of-decimal =
-      let last : length (decimal n) - 1 < length (decimal n) = omega (arith, decimal_nonempty n small) in
-      ap (λ u. amount_in u (decimal n)) (digit_no_unit (get_or (decimal n) (length (decimal n) - 1) 0) (digit_at (decimal n) (length (decimal n) - 1) last digits)) ∙ number_of-decimal
+  amount_of-decimal = grind (arith, nat_tests, decimal_nonempty, digit_no_unit, digit_at, digits, number_of-decimal)
 
   -- its digits are plain, and a value
   plain : list_all is_plain (decimal n) ≡ true
@@ -192,7 +175,7 @@ three a b c =
     option_and_then (λ x. option_map (λ xs. x ∷ xs) (option_and_then (λ y. option_map (λ ys. y ∷ ys) (option_and_then (λ z. option_map (λ zs. z ∷ zs) (Some [])) c)) b)) a
 
 -- arguments of three parts, if there are all three
-abbrev made : Option ℕ → Option ℕ → Option (List ℕ) → Option Arguments
+abbrev pub made : Option ℕ → Option ℕ → Option (List ℕ) → Option Arguments
 made r c l = option_and_then (λ ram. option_and_then (λ caps. option_map (λ label. record { ram = ram; caps = caps; label = label }) l) c) r
 
 -- the canonical writing of arguments gives them back

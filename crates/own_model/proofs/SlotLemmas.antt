@@ -15,22 +15,15 @@ module _ {X : Type 0} where
   find_below : (q first : ℕ) (slots : List (Option X)) → q < first → value_of q (taken_from first slots) ≡ None
   find_below q first [] below = refl
   find_below q first (None ∷ rest) below = find_below q (first + 1) rest (omega arith)
-  find_below q first (Some x ∷ rest) below =
-      let later = find_below q (first + 1) rest (omega arith) in
-      let head = value_of-cons q (first, x) (taken_from (first + 1) rest) in
-      grind (arith, nat_tests)
+  find_below q first (Some x ∷ rest) below = grind (arith, nat_tests, value_of-cons, find_below q (first + 1) rest (omega arith))
 
   -- a slot's number answers what is in the slot
   find_slot : (place first : ℕ) (slots : List (Option X)) → value_of (first + place) (taken_from first slots) ≡ get_or slots place None
   find_slot place first [] = refl
   find_slot zero first (None ∷ rest) = find_below (first + 0) (first + 1) rest (omega arith)
   find_slot zero first (Some x ∷ rest) = value_of_first (first + 0) (first, x) (taken_from (first + 1) rest) (grind (arith, nat_tests))
-  find_slot (suc place) first (None ∷ rest) =
-      let shift : first + suc place ≡ first + 1 + place = omega arith in
-      rw shift (find_slot place (first + 1) rest)
-  find_slot (suc place) first (Some x ∷ rest) =
-      let shift : first + suc place ≡ first + 1 + place = omega arith in
-      value_of_later (first + suc place) (first, x) (taken_from (first + 1) rest) (grind (arith, nat_tests)) ∙ rw shift (find_slot place (first + 1) rest)
+  find_slot (suc place) first (None ∷ rest) = grind (arith, nat_tests, find_slot place (first + 1) rest)
+  find_slot (suc place) first (Some x ∷ rest) = grind (arith, nat_tests, value_of_later, find_slot place (first + 1) rest)
 
   -- nothing has a number below the first
   pub get-held_from_below : (first : ℕ) (slots : List (Option X)) (q : ℕ) → q < first → get (held_from first slots) q ≡ None

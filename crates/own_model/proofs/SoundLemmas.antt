@@ -1,35 +1,41 @@
 -- Calls keep an own state sound: each region is of a dataspace that a selector names, and lies apart from the others.
-use Rattle.std.proofs.Common.{◌≡◌, ◌≢◌, ℕ, ◌+◌, ◌-◌, ◌*◌, ◌/◌, ◌^◌, ◌<◌, ◌≤◌, ◌&&◌, Bool, true, false, cond, eqb, List, length, nat_lt, nat_le, Some, refl, sym, ap, subst, ◌∙◌, eqb-true, nat_cmp, arith}
+use Rattle.std.proofs.Common.{◌≡◌, ◌≢◌, ℕ, ◌+◌, ◌-◌, ◌*◌, ◌/◌, ◌<◌, ◌≤◌, true, false, cond, eqb, List, length, nat_le, Some, refl, sym, ap, subst, ◌∙◌, eqb-true, nat_cmp, arith, is_some}
 use Rattle.std.proofs.lemmas.Bool.Decides.{nat_tests}
 use Rattle.std.proofs.lemmas.Option.{none-some, same_Some}
 use Rattle.std.specs.Prelude.{Option, None, is_none}
 use Rattle.std.specs.Option.{option_and_then}
 use Rattle.std.specs.FinMap.{get, insert, remove, empty, len, len-empty}
-use Rattle.trade_base.specs.declared.refusal.Refusal.{Refusal}
-use Rattle.trade_base.specs.declared.refusal.Refusal.TheVariants.{InvalidSize, InvalidCap, TooManyRegions, RegionConflict}
+use Rattle.trade_base.specs.declared.refusal.Refusal.TheVariants.{InvalidCap, TooManyRegions, RegionConflict}
 use Rattle.trade_base.specs.Page.{page_of}
-use Rattle.own_model.proofs.NatMapLemmas.{get-empty, get-remove_other, before_remove, apart_from_free, IsSome-at, get-insert_other, get-insert_same, each_after_insert}
+use Rattle.own_model.proofs.NatMapLemmas.{get-empty, get-remove_other, before_remove, apart_from_free, value_at, IsSome-at, get-insert_other, get-insert_same, each_after_insert}
 use Rattle.own_model.proofs.NewSelector.{new_selector_free}
 use Rattle.own_model.proofs.RegionLemmas.{place, left_without, len-without, free_place}
-use Rattle.own_model.proofs.StepLemmas.{KeptByEffects}
+use Rattle.own_model.specs.Account.{Account, parted_with}
+use Rattle.own_model.specs.Donation.{raised}
+use Rattle.own_model.specs.Session.{Session, new_session, upgraded, served}
+use Rattle.own_model.proofs.StepLemmas.{KeptBySessions, KeptByEffects, valid_some}
 use Rattle.own_model.proofs.TableLemmas.{step_keeps, run_keeps}
 use Rattle.own_model.proofs.Totals.{len-insert_new, len-remove_le}
 use Rattle.own_model.proofs.UseLemmas.{length-zeros, length-with_part, block_size-new}
-use Rattle.own_model.specs.Account.{Account, shortage}
+use Rattle.own_model.specs.Account.{alloc_refusal}
 use Rattle.own_model.specs.Call.{Call}
 use Rattle.own_model.specs.Call.Call.{Free, Attach, AttachAt}
-use Rattle.own_model.specs.NatMap.{NatMap}
+use Rattle.own_model.specs.NatMap.{NatMap, joined}
 use Rattle.own_model.specs.OwnState.{OwnState, Object, zeros, new_selector, pages_in, with_part, object_with, heap_ranges}
-use Rattle.own_model.specs.OwnState.Object.{Dataspace, RpcObject}
-use Rattle.own_model.specs.OwnStep.{own_step, own_run, script_step, refused, unless, alloc_refusal, allocated, freed, with_region, attached_first, attached_at, region_detached, poked_at, payload_poked, sliced_at, sliced_freed, own_heap_gap, cap_allocated, cap_freed}
+use Rattle.own_model.specs.OwnState.Object.{Dataspace, RpcObject, OpenSession}
+use Rattle.own_model.specs.OwnStep.{own_step, own_run, script_step, refused, unless, allocated, freed, with_region, attached_first, attached_at, region_detached, poked_at, payload_poked, sliced_at, sliced_freed, own_heap_gap, cap_allocated, cap_freed}
 use Rattle.own_model.specs.Region.{Region, user_low, user_high, most_regions, can_stand, first_gap, user_gap, IsPlace, without}
-use Rattle.own_model.specs.Sound.{IsPages, NamesDataspace, LieApart, AreMapped, IsBlock, IsSound}
+use Rattle.own_model.specs.Sound.{IsPages, NamesDataspace, LieApart, AreMapped, IsBlock, KeysApart, IsSound}
+use Rattle.own_model.specs.OwnHeap.{ranges_of_heap}
 use Rattle.own_model.specs.HeapWindow.{heap_low, heap_high, largest_machine}
 use Rattle.own_model.specs.Sliced.{sliced_header, sliced_size, block_pages, ranges_of_blocks}
 use Rattle.own_model.proofs.ApartLemmas.{LieApart-empty, LieApart-fewer, LieApart-insert}
-use Rattle.own_model.proofs.HeapRangeLemmas.{range_of, get-ranges, ranges-insert, ranges-remove, ranges-alike, gap_place, new_page}
+use Rattle.own_model.proofs.HeapRangeLemmas.{range_of, get-ranges, ranges-insert, ranges-remove, ranges-alike, gap_place, gap_open, new_page}
+use Rattle.own_model.proofs.JoinedLemmas.{joined-insert_first, joined_before, KeysApart-insert_first}
+use Rattle.own_model.proofs.OwnHeapLemmas.{ranges-no_heap, joined-no_heap}
+use Rattle.own_model.proofs.HeapSoundLemmas.{no_heap_is, sound_block_poked, sound_taken, sound_grown, sound_large, sound_given, sound_large_given}
 use Rattle.own_model.specs.StartList.{Entry, StartEntry, start_state}
-use Rattle.std.proofs.lemmas.Bool.{ltb-true, eqb-false}
+use Rattle.std.proofs.lemmas.Bool.{eqb-false}
 
 -- ---- dataspaces
 
@@ -43,15 +49,6 @@ pages_of_length bytes n e some =
     let count = page_count n some in
     record { some = subst (λ l. 1 ≤ l / 4096) (sym e) count.0; whole = subst (λ l. l ≡ l / 4096 * 4096) (sym e) count.1 }
 
--- where two tests have to pass and nothing is refused, the first one passes
-valid_parts : (a b : Bool) (o : Option Refusal) (x : Refusal) → cond (a && b) o (Some x) ≡ None → a ≡ true
-valid_parts true b o x accepted = refl
-valid_parts false b o x accepted = absurd (none-some x (sym accepted))
-
--- an allocation that is accepted is of some bytes
-valid_some : (n : ℕ) (a : Account) → alloc_refusal n a ≡ None → 0 < n
-valid_some n a accepted = ltb-true 0 n (valid_parts (nat_lt 0 n) (nat_lt (page_of n) (2 ^ 64)) (shortage a (page_of n) 1) InvalidSize accepted)
-
 -- each dataspace that a selector names is whole pages
 abbrev EachWhole : NatMap Object → Type 0
 EachWhole selectors = (selector : ℕ) (bytes : List ℕ) → get selectors selector ≡ Some (Dataspace bytes) → IsPages bytes
@@ -60,11 +57,13 @@ EachWhole selectors = (selector : ℕ) (bytes : List ℕ) → get selectors sele
 abbrev ObjectWhole : Object → Type 0
 ObjectWhole (Dataspace bytes) = IsPages bytes
 ObjectWhole RpcObject = Unit {0}
+ObjectWhole (OpenSession session) = Unit {0}
 
 -- where each dataspace is whole pages, each object is
 whole_objects : (selectors : NatMap Object) → EachWhole selectors → (q : ℕ) (w : Object) → get selectors q ≡ Some w → ObjectWhole w
 whole_objects selectors each q (Dataspace bytes) is = each q bytes is
 whole_objects selectors each q RpcObject is = tt
+whole_objects selectors each q (OpenSession session) is = tt
 
 -- one more object that is leaves each dataspace whole pages
 whole_after : (selectors : NatMap Object) (k : ℕ) (object : Object) → EachWhole selectors → ObjectWhole object → EachWhole (insert selectors k object)
@@ -113,6 +112,7 @@ pages_poked (Dataspace bytes) offset part h =
     let e = length-with_part bytes offset part in
     record { some = subst (λ l. 1 ≤ l / 4096) (sym e) h.some; whole = subst (λ l. l ≡ l / 4096 * 4096) (sym e) h.whole }
 pages_poked RpcObject offset part h = tt
+pages_poked (OpenSession session) offset part h = tt
 
 -- ---- what each effect keeps
 
@@ -139,6 +139,8 @@ sound_allocated n s h accepted =
       whole = whole_after s.selectors key space h.whole (pages_of_length (zeros (page_of n)) n (length-zeros (page_of n)) (valid_some n s.account accepted));
       mapped = mapped_named s.selectors (insert s.selectors key space) s.regions (λ region. named_new s.selectors key space region (new_selector_free s.selectors)) h.mapped;
       blocks = h.blocks;
+      heap_parts = h.heap_parts;
+      starts = h.starts;
       heap = h.heap;
     }
 
@@ -150,6 +152,8 @@ sound_cap_allocated s h =
       whole = whole_after s.selectors key RpcObject h.whole tt;
       mapped = mapped_named s.selectors (insert s.selectors key RpcObject) s.regions (λ region. named_new s.selectors key RpcObject region (new_selector_free s.selectors)) h.mapped;
       blocks = h.blocks;
+      heap_parts = h.heap_parts;
+      starts = h.starts;
       heap = h.heap;
     }
 
@@ -161,24 +165,32 @@ sound_freed selector bytes s h = record {
       (λ start region is. let left = left_without selector s.regions start region is in (left.0, named_left s.selectors selector region left.1))
       (len-without selector s.regions) h.mapped;
   blocks = h.blocks;
+  heap_parts = h.heap_parts;
+  starts = h.starts;
   heap = h.heap;
 }
 
--- an RPC object is no dataspace
+-- an RPC object is no dataspace, and a session is none
 rpc_is_none : (bytes : List ℕ) → ¬ (RpcObject ≡ Dataspace bytes)
 rpc_is_none bytes e = cc
 
--- who names an RPC object names no dataspace
-not_rpc : (selectors : NatMap Object) (k : ℕ) (region : Region) → get selectors k ≡ Some RpcObject → NamesDataspace selectors region → region.of ≢ k
-not_rpc selectors k region there h at = rpc_is_none h.bytes (object_of (get selectors k) RpcObject (Dataspace h.bytes) there (ap (get selectors) (sym at) ∙ h.there))
+session_is_none : (session : Session) (bytes : List ℕ) → ¬ (OpenSession session ≡ Dataspace bytes)
+session_is_none session bytes e = cc
+
+-- what is no dataspace has no region
+not_named : (selectors : NatMap Object) (k : ℕ) (object : Object) (region : Region) → get selectors k ≡ Some object → ((bytes : List ℕ) → ¬ (object ≡ Dataspace bytes)) →
+    NamesDataspace selectors region → region.of ≢ k
+not_named selectors k object region there none h at = none h.bytes (object_of (get selectors k) object (Dataspace h.bytes) there (ap (get selectors) (sym at) ∙ h.there))
 
 -- an RPC object that is freed keeps an own state sound
 sound_cap_freed : (selector : ℕ) (s : OwnState) → get s.selectors selector ≡ Some RpcObject → IsSound s → IsSound (cap_freed selector (Some RpcObject) s).next
 sound_cap_freed selector s there h = record {
   whole = λ q b is. h.whole q b (before_remove s.selectors selector q (Dataspace b) is);
   mapped = mapped_named s.selectors (remove s.selectors selector) s.regions
-      (λ region before. named_left s.selectors selector region (not_rpc s.selectors selector region there before) before) h.mapped;
+      (λ region before. named_left s.selectors selector region (not_named s.selectors selector RpcObject region there rpc_is_none before) before) h.mapped;
   blocks = h.blocks;
+  heap_parts = h.heap_parts;
+  starts = h.starts;
   heap = h.heap;
 }
 
@@ -189,6 +201,8 @@ sound_detached address s h = record {
   mapped = mapped_fewer s.selectors s.selectors s.regions (remove s.regions address)
       (λ start region is. (before_remove s.regions address start region is, λ named. named)) (len-remove_le s.regions address) h.mapped;
   blocks = h.blocks;
+  heap_parts = h.heap_parts;
+  starts = h.starts;
   heap = h.heap;
 }
 
@@ -201,6 +215,8 @@ sound_poked selector offset bytes object s there h = record {
   mapped = mapped_named s.selectors (insert s.selectors selector (object_with object offset bytes)) s.regions
       (λ region. named_poked s.selectors selector offset bytes object region there) h.mapped;
   blocks = h.blocks;
+  heap_parts = h.heap_parts;
+  starts = h.starts;
   heap = h.heap;
 }
 
@@ -225,6 +241,8 @@ sound_attached selector address bytes s there can room h =
         few = omega (arith, fewer most_regions (len s.regions) room, len-insert_new s.regions address region free);
       };
       blocks = h.blocks;
+      heap_parts = h.heap_parts;
+      starts = h.starts;
       heap = h.heap;
     }
 
@@ -263,7 +281,10 @@ sound_sliced n start s gap h =
       whole = h.whole;
       mapped = h.mapped;
       blocks = each_after_insert s.sliced (start + sliced_header) payload IsBlock h.blocks (new_block n start);
-      heap = subst (LieApart heap_low (heap_high largest_machine)) (sym (ranges-insert s.sliced start payload))
+      heap_parts = h.heap_parts;
+      starts = subst (λ m. KeysApart m (ranges_of_heap s.heap)) (sym (ranges-insert s.sliced start payload))
+          (KeysApart-insert_first (ranges_of_blocks s.sliced) (ranges_of_heap s.heap) start (range_of payload) h.starts (gap_open s (sliced_size n) start gap (new_page n)).1);
+      heap = subst (LieApart heap_low (heap_high largest_machine)) (sym (ap (λ m. joined m (ranges_of_heap s.heap)) (ranges-insert s.sliced start payload) ∙ joined-insert_first (ranges_of_blocks s.sliced) (ranges_of_heap s.heap) start (range_of payload)))
           (LieApart-insert heap_low (heap_high largest_machine) (heap_ranges s) start (range_of payload) some at h.heap);
     }
 
@@ -273,7 +294,10 @@ sound_unsliced address payload s h = record {
   whole = h.whole;
   mapped = h.mapped;
   blocks = λ q other is. h.blocks q other (before_remove s.sliced address q other is);
-  heap = LieApart-fewer heap_low (heap_high largest_machine) (heap_ranges s) (ranges_of_blocks (remove s.sliced address)) (ranges-remove s.sliced address) h.heap;
+  heap_parts = h.heap_parts;
+  starts = λ q some. let at = value_at (ranges_of_blocks (remove s.sliced address)) q some in h.starts q (ap is_some (ranges-remove s.sliced address q at.0 at.1));
+  heap = LieApart-fewer heap_low (heap_high largest_machine) (heap_ranges s) (joined (ranges_of_blocks (remove s.sliced address)) (ranges_of_heap s.heap))
+      (joined_before (ranges_of_blocks s.sliced) (ranges_of_heap s.heap) (ranges_of_blocks (remove s.sliced address)) (ranges_of_heap s.heap) h.starts (ranges-remove s.sliced address) (λ q r there. there)) h.heap;
 }
 
 -- and bytes put over a payload's
@@ -286,7 +310,9 @@ sound_payload_poked address offset bytes payload s there h =
       whole = h.whole;
       mapped = h.mapped;
       blocks = each_after_insert s.sliced address new IsBlock h.blocks (poked_block address payload new size (h.blocks address payload there));
-      heap = subst (LieApart heap_low (heap_high largest_machine)) (sym (ranges-alike s.sliced address payload new there size)) h.heap;
+      heap_parts = h.heap_parts;
+      starts = subst (λ m. KeysApart m (ranges_of_heap s.heap)) (sym (ranges-alike s.sliced address payload new there size)) h.starts;
+      heap = subst (LieApart heap_low (heap_high largest_machine)) (sym (ap (λ m. joined m (ranges_of_heap s.heap)) (ranges-alike s.sliced address payload new there size))) h.heap;
     }
 
 -- so nothing that a call can do makes it unsound
@@ -298,10 +324,54 @@ effects_sound s h = record {
   detaches = λ address. sound_detached address s h;
   pokes = λ selector offset bytes object there. sound_poked selector offset bytes object s there h;
   pokes_payload = λ address offset bytes payload there. sound_payload_poked address offset bytes payload s there h;
+  pokes_block = λ address offset bytes payload there. sound_block_poked address offset bytes payload s there h;
+  takes = λ n hole best. sound_taken n hole s best h;
+  grows = λ n start accepted gap. sound_grown n start s accepted gap h;
+  takes_large = λ n start large accepted gap. sound_large n start s large accepted gap h;
+  gives = λ address payload there small. sound_given address payload s there small h;
+  gives_large = λ address bytes there. sound_large_given address bytes s there h;
   slices = λ n start accepted gap. sound_sliced n start s gap h;
   unslices = λ address payload there. sound_unsliced address payload s h;
   allocates_cap = λ accepted. sound_cap_allocated s h;
   frees_cap = λ selector there. sound_cap_freed selector s there h;
+}
+
+-- ---- sessions
+
+-- other selectors keep an own state sound where each dataspace is whole, and each that was named still is
+sound_named : (s : OwnState) (selectors : NatMap Object) (account : Account) → EachWhole selectors → ((region : Region) → NamesDataspace s.selectors region → NamesDataspace selectors region) →
+    IsSound s → IsSound (record s { account = account; selectors = selectors })
+sound_named s selectors account whole still h = record {
+  whole = whole;
+  mapped = mapped_named s.selectors selectors s.regions still h.mapped;
+  blocks = h.blocks;
+  heap_parts = h.heap_parts;
+  starts = h.starts;
+  heap = h.heap;
+}
+
+-- a session in place of one
+sound_session : (s : OwnState) (selector : ℕ) (old new : Session) (account : Account) → get s.selectors selector ≡ Some (OpenSession old) → IsSound s →
+    IsSound (record s { account = account; selectors = insert s.selectors selector (OpenSession new) })
+sound_session s selector old new account there h =
+    sound_named s (insert s.selectors selector (OpenSession new)) account (whole_after s.selectors selector (OpenSession new) h.whole tt) (λ region before.
+    named_same s.selectors (insert s.selectors selector (OpenSession new)) region before
+    (get-insert_other s.selectors selector (OpenSession new) region.of (not_named s.selectors selector (OpenSession old) region there (session_is_none old) before))) h
+
+-- nor do calls of sessions
+sessions_sound : (s : OwnState) → IsSound s → KeptBySessions IsSound s
+sessions_sound s h = record {
+  opens = λ wish accepted.
+      let key = new_selector s.selectors in
+      let session = OpenSession (new_session wish) in
+      sound_named s (insert s.selectors key session) (parted_with s.account wish.ram wish.caps) (whole_after s.selectors key session h.whole tt)
+      (λ region. named_new s.selectors key session region (new_selector_free s.selectors)) h;
+  upgrades = λ selector session more there accepted. sound_session s selector session (upgraded session more.ram more.caps) (parted_with s.account more.ram more.caps) there h;
+  serves = λ selector session request there. sound_session s selector session (served session request).session s.account there h;
+  closes = λ selector session there.
+      sound_named s (remove s.selectors selector) (raised s.account session.account.ram_limit session.account.caps_limit)
+      (λ q b is. h.whole q b (before_remove s.selectors selector q (Dataspace b) is))
+      (λ region before. named_left s.selectors selector region (not_named s.selectors selector (OpenSession session) region there (session_is_none session) before) before) h;
 }
 
 -- no blocks stand nowhere
@@ -318,16 +388,18 @@ start_sound start = record {
     few = omega (arith, len-empty nat_cmp Region);
   };
   blocks = λ at payload is. absurd (none-some payload (sym (get-empty at) ∙ is));
-  heap = LieApart-empty heap_low (heap_high largest_machine) (ranges_of_blocks empty) no_ranges;
+  heap_parts = no_heap_is;
+  starts = λ q some. ap (λ m. get m q) ranges-no_heap ∙ get-empty q;
+  heap = subst (LieApart heap_low (heap_high largest_machine)) (sym (joined-no_heap (ranges_of_blocks empty))) (LieApart-empty heap_low (heap_high largest_machine) (ranges_of_blocks empty) no_ranges);
 }
 
 -- a call keeps it so
 pub step_sound : (entry : Entry) (call : Call) (s : OwnState) → IsSound s → IsSound (own_step entry call s).next
-step_sound entry call s h = step_keeps IsSound s h (effects_sound s h) entry call
+step_sound entry call s h = step_keeps IsSound s h (effects_sound s h) (sessions_sound s h) entry call
 
 -- and so do calls
 pub run_sound : (entry : Entry) (calls : List Call) (s : OwnState) → IsSound s → IsSound (own_run entry calls s)
-run_sound = run_keeps IsSound effects_sound
+run_sound = run_keeps IsSound effects_sound sessions_sound
 
 -- what is freed has no region left
 pub freed_has_none : (s : OwnState) (selector : ℕ) (bytes : List ℕ) → get s.selectors selector ≡ Some (Dataspace bytes) →

@@ -1,31 +1,42 @@
 -- What a start list hands out and what init keeps are the whole machine.
-use Rattle.std.proofs.Common.{◌≡◌, ◌+◌, List, [], ◌∷◌, map, sum_by, refl, arith}
+use Rattle.std.proofs.Common.{◌≡◌, ◌+◌, List, [], ◌∷◌, map, sum_by, refl, sym, ◌∙◌, arith, lit≤}
 use Rattle.std.proofs.lemmas.List.Sums.{sum_by-cons}
 use Rattle.std.specs.List.{AllByRecursion}
-use Rattle.own_model.specs.Account.{Account, WithinLimits, parted_with}
-use Rattle.own_model.specs.StartList.{StartEntry, StartList, Boots, AllCovered, start_state, machine_account, init_keeps}
+use Rattle.std.proofs.lemmas.Option.{none-some}
+use Rattle.own_model.proofs.NatMapLemmas.{get-empty}
+use Rattle.own_model.proofs.Totals.{total-empty}
+use Rattle.own_model.specs.Account.{Account, parted_with}
+use Rattle.own_model.specs.Limits.{ram_with, caps_with, ram_limits, caps_limits, AreWithinLimits}
+use Rattle.own_model.specs.OwnState.{EachSession}
+use Rattle.own_model.specs.OwnState.Object.{OpenSession}
+use Rattle.own_model.specs.StartList.{machine_a, StartEntry, StartList, Boots, AllCovered, start_state, machine_account, init_keeps}
 use Rattle.own_model.specs.World.{IsBalanced, start_world}
+use Rattle.std.proofs.lemmas.Bool.Decides.{nat_tests}
+
+-- nobody starts with a session
+pub start_alone : (start : StartEntry) → EachSession (λ session. ⊥) (start_state start)
+start_alone start selector session is = none-some (OpenSession session) (sym (get-empty selector) ∙ is)
 
 -- nobody starts with anything in use
-starts_within : (starts : List StartEntry) → AllByRecursion (λ s. WithinLimits s.account) (map start_state starts)
+starts_within : (starts : List StartEntry) → AllByRecursion AreWithinLimits (map start_state starts)
 starts_within [] = tt
-starts_within (start ∷ starts) = (record { ram = omega arith; caps = omega arith }, starts_within starts)
+starts_within (start ∷ starts) = (record { own = record { ram = omega arith; caps = omega arith }; sessions = λ selector session is. absurd (start_alone start selector session is) }, starts_within starts)
 
 -- what init keeps, with what it hands out, is what it had
 ram_kept : (init : Account) (starts : List StartEntry) → AllCovered init starts → init.ram_used ≡ 0 →
-    (init_keeps init starts).ram_limit + sum_by (λ s. s.account.ram_limit) (map start_state starts) ≡ init.ram_limit
+    (init_keeps init starts).ram_limit + sum_by ram_limits (map start_state starts) ≡ init.ram_limit
 ram_kept init [] covered unused = omega arith
 ram_kept init (start ∷ starts) covered unused =
     let rest = ram_kept (parted_with init start.ram start.caps) starts covered.1 unused in
-    rw (sum_by-cons (λ s. s.account.ram_limit) (start_state start) (map start_state starts)) (omega (arith, rest, covered.0.ram_fits, unused))
+    rw (sum_by-cons ram_limits (start_state start) (map start_state starts)) (omega (arith, rest, covered.0.ram_fits, unused, total-empty ram_with))
 
 -- the same of capabilities
 caps_kept : (init : Account) (starts : List StartEntry) → AllCovered init starts → init.caps_used ≡ 0 →
-    (init_keeps init starts).caps_limit + sum_by (λ s. s.account.caps_limit) (map start_state starts) ≡ init.caps_limit
+    (init_keeps init starts).caps_limit + sum_by caps_limits (map start_state starts) ≡ init.caps_limit
 caps_kept init [] covered unused = omega arith
 caps_kept init (start ∷ starts) covered unused =
     let rest = caps_kept (parted_with init start.ram start.caps) starts covered.1 unused in
-    rw (sum_by-cons (λ s. s.account.caps_limit) (start_state start) (map start_state starts)) (omega (arith, rest, covered.0.caps_fit, unused))
+    rw (sum_by-cons caps_limits (start_state start) (map start_state starts)) (omega (arith, rest, covered.0.caps_fit, unused, total-empty caps_with))
 
 -- init uses nothing
 init_unused : (init : Account) (starts : List StartEntry) →
@@ -42,3 +53,13 @@ start_balanced list covered = record {
   ram_adds_up = ram_kept (machine_account list) list.starts covered refl;
   caps_add_up = caps_kept (machine_account list) list.starts covered refl;
 }
+
+-- machine A covers each of its budgets in turn, and so starts balanced
+pub machine_a_covers : Boots machine_a
+machine_a_covers = (
+  record { ram_fits = lit≤ tt; caps_fit = lit≤ tt },
+  (record { ram_fits = lit≤ tt; caps_fit = lit≤ tt }, (record { ram_fits = lit≤ tt; caps_fit = lit≤ tt }, (record { ram_fits = lit≤ tt; caps_fit = lit≤ tt }, tt))),
+)
+
+pub machine_a_balanced : IsBalanced 64 64 (start_world machine_a)
+machine_a_balanced = start_balanced machine_a machine_a_covers

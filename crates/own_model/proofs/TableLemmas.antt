@@ -1,42 +1,49 @@
 -- Each call is refused as its line in the table of calls says, or does one thing; so what all these keep, calls keep.
-use Rattle.std.proofs.Common.{◌≡◌, ℕ, ◌+◌, ◌&&◌, Bool, true, false, cond, not, List, [], ◌∷◌, length, nat_lt, nat_le, Some, refl, sym, ap, ◌∙◌, arith, subst}
+use Rattle.std.proofs.Common.{◌≡◌, ℕ, ◌+◌, ◌&&◌, Bool, true, false, cond, not, List, [], ◌∷◌, length, nat_lt, nat_le, Some, refl, sym, ap, ◌∙◌, arith, subst, true≢false}
 use Rattle.std.proofs.lemmas.Bool.Decides.{nat_tests}
 use Rattle.std.proofs.lemmas.Option.{none-some, same_Some}
 use Rattle.std.specs.Prelude.{Option, None, is_none, is_some}
+use Rattle.std.specs.Option.{option_or}
 use Rattle.std.specs.FinMap.{get, len}
 use Rattle.trade_base.specs.Page.{page_of, is_valid_size}
 use Rattle.trade_base.specs.declared.refusal.Refusal.{Refusal}
-use Rattle.trade_base.specs.declared.refusal.Refusal.TheVariants.{NotAScript, Gone, InvalidSize, InvalidCap, OutOfRam, OutOfCaps, RegionConflict, TooManyRegions, PageFault}
-use Rattle.own_model.proofs.PayloadLemmas.{payload_fits, region_parts}
+use Rattle.trade_base.specs.declared.refusal.Refusal.TheVariants.{NotAScript, Gone, InvalidSize, InvalidCap, OutOfRam, OutOfCaps, RegionConflict, TooManyRegions, PageFault, TooManyChunks, BadArgs, ServiceDenied, InvalidSession, InsufficientRamQuota, InsufficientCapQuota}
+use Rattle.own_model.proofs.PayloadLemmas.{payload_fits, block_fits, region_parts}
 use Rattle.own_model.proofs.RangeLemmas.{range_fits}
-use Rattle.own_model.proofs.StepLemmas.{KeptByEffects, attach_place, attach_at_place}
+use Rattle.own_model.proofs.StepLemmas.{KeptByEffects, KeptBySessions, attach_place, attach_at_place, size_tested}
+use Rattle.own_model.proofs.SessionLemmas.{named_there}
 use Rattle.own_model.specs.Account.{WithinLimits, shortage, alloc_refusal}
-use Rattle.own_model.specs.Call.{Call}
-use Rattle.own_model.specs.Call.Call.{Alloc, Free, Attach, AttachAt, Detach, Peek, Poke, Capalloc, Capfree, Snew, Sdel, Quota}
-use Rattle.own_model.specs.OwnState.{OwnState, Object, pages_in}
-use Rattle.own_model.specs.OwnState.Object.{Dataspace, RpcObject}
-use Rattle.own_model.specs.OwnStep.{Outcome, own_step, own_run, script_step, refused, unless, turned_away, allocated, freed, with_region, attached_first, attached_at, region_detached, count_refusal, peeked, poked, poked_at, payload_poked, most_bytes, sliced_at, sliced_in, sliced_freed, own_heap_gap, cap_allocated, cap_freed, told_quota}
+use Rattle.own_model.specs.Call.{Call, is_of_session}
+use Rattle.own_model.specs.Call.Call.{Alloc, Free, Attach, AttachAt, Detach, Peek, Poke, Capalloc, Capfree, New, Del, Snew, Sdel, Quota, Open, Upgrade, CallSession, Close}
+use Rattle.own_model.specs.BestFit.{Spot, block_size}
+use Rattle.own_model.specs.Growth.{Growth, most_chunks, is_large, hole_for, growth_of, growth_refusal, small_refusal}
+use Rattle.own_model.specs.OwnState.{OwnState, Object, pages_in, session_named}
+use Rattle.own_model.specs.OwnState.Object.{Dataspace, RpcObject, OpenSession}
+use Rattle.own_model.specs.OwnStep.{Outcome, own_step, own_run, entry_step, refused, unless, turned_away, allocated, freed, with_region, attached_first, attached_at, region_detached, count_refusal, peeked, poked, poked_at, payload_poked, block_poked, most_bytes, block_taken, grown_at, grown_in, large_at, large_in, small_new, given_back, deleted, sliced_at, sliced_in, sliced_freed, own_heap_gap, cap_allocated, cap_freed, told_quota, opened_by, session_opened, upgraded_by, session_upgraded, session_served, session_called, session_closed}
 use Rattle.own_model.specs.Place.{Place, found}
-use Rattle.own_model.specs.Place.Place.{InDataspace, InPayload}
+use Rattle.own_model.specs.Place.Place.{InDataspace, InPayload, InBlock}
 use Rattle.own_model.specs.Region.{Region, most_regions, user_low, user_high, can_stand, first_gap, user_gap, resolved, attach_refusal, attach_at_refusal}
 use Rattle.own_model.specs.Reply.Reply.{Refused}
+use Rattle.own_model.specs.Routes.{Service, provider}
+use Rattle.own_model.specs.Session.{Session, Wish, wish_of, wish_in, label_with, too_small, donation_refusal, session_ram, session_caps, served}
+use Rattle.own_model.specs.SessionArgs.{Arguments, arguments_of}
 use Rattle.own_model.specs.Sliced.{sliced_header, sliced_size, sliced_refusal, block_found}
 use Rattle.own_model.specs.Sound.{IsSound}
 use Rattle.own_model.specs.StartList.{Entry, Kind}
 use Rattle.own_model.specs.StartList.Kind.{Script, Server}
-use Rattle.own_model.specs.Table.{Test, when, first_failed, lacks_ram, lacks_caps, is_dataspace, is_rpc_object, pages_named, is_bad_count, line_of, whole_line, refusal_in}
+use Rattle.own_model.specs.Table.{Test, when, first_failed, lacks_ram, lacks_caps, is_dataspace, is_rpc_object, pages_named, is_bad_count, memory_line, small_line, open_line, upgrade_line, line_of, line_by, whole_line, refusal_in}
 
 -- an outcome is a refusal, or else one that tells none; for an account within its limits and a sound state the refusal
 -- is the first on the line for which there is reason, and P holds after what is accepted
-record Explained (P : OwnState → Type 0) (s : OwnState) (o : Outcome) (line : List Test) : Type 0 where
+record Explained (session : Bool) (P : OwnState → Type 0) (s : OwnState) (o : Outcome) (line : List Test) : Type 0 where
   -- the refusal, if there is one
   why : Option Refusal
   -- what is done where there is none
   accepted : Outcome
   -- which tells no refusal
   told : refusal_in accepted.reply ≡ None
-  -- and finishes no lines
-  quiet : accepted.lines ≡ []
+  -- and finishes no lines, unless it is of a session
+  quiet : session ≡ false → accepted.lines ≡ []
   -- the outcome is one of the two
   is : o ≡ unless why s accepted
   -- and the refusal is the line's
@@ -61,67 +68,71 @@ module _ (s : OwnState) where
   leaves None accepted refusal told is = absurd (none-some refusal (sym told ∙ ap refusal_in is))
 
 -- what holds of a state, and after each thing that a call can do to it
-module _ (P : OwnState → Type 0) (s : OwnState) (h : P s) (k : KeptByEffects P s) where
+module _ (session : Bool) (P : OwnState → Type 0) (s : OwnState) (h : P s) (k : KeptByEffects P s) (q : session ≡ true → KeptBySessions P s) where
   -- a refusal for which nothing else has to be looked at
-  refused_for : (refusal : Refusal) (line : List Test) → Some refusal ≡ first_failed line → Explained P s (refused s refusal) line
-  refused_for refusal line first = record { why = Some refusal; accepted = told_quota s; told = refl; quiet = refl; is = refl; right = λ _ _. first; kept = λ _. h }
+  refused_for : (refusal : Refusal) (line : List Test) → Some refusal ≡ first_failed line → Explained session P s (refused s refusal) line
+  refused_for refusal line first = record { why = Some refusal; accepted = told_quota s; told = refl; quiet = λ _. refl; is = refl; right = λ _ _. first; kept = λ _. h }
 
   -- what is done with no test left
-  does : (accepted : Outcome) (line : List Test) → refusal_in accepted.reply ≡ None → accepted.lines ≡ [] → None ≡ first_failed line → P accepted.next → Explained P s accepted line
-  does accepted line told quiet none after = record { why = None; accepted = accepted; told = told; quiet = quiet; is = refl; right = λ _ _. none; kept = λ _. after }
+  does : (accepted : Outcome) (line : List Test) → refusal_in accepted.reply ≡ None → accepted.lines ≡ [] → None ≡ first_failed line → P accepted.next → Explained session P s accepted line
+  does accepted line told quiet none after = record { why = None; accepted = accepted; told = told; quiet = λ _. quiet; is = refl; right = λ _ _. none; kept = λ _. after }
 
   -- a free
-  frees : (selector : ℕ) (object : Option Object) → get s.selectors selector ≡ object → Explained P s (freed selector object s) (when (not (is_dataspace object)) InvalidCap ∷ [])
+  frees : (selector : ℕ) (object : Option Object) → get s.selectors selector ≡ object → Explained session P s (freed selector object s) (when (not (is_dataspace object)) InvalidCap ∷ [])
   frees selector (Some (Dataspace bytes)) e = does (freed selector (Some (Dataspace bytes)) s) _ refl refl refl (k.frees selector bytes e)
   frees selector (Some RpcObject) e = refused_for InvalidCap _ refl
+  frees selector (Some (OpenSession session)) e = refused_for InvalidCap _ refl
   frees selector None e = refused_for InvalidCap _ refl
 
   -- a free of an RPC object
-  frees_cap : (selector : ℕ) (object : Option Object) → get s.selectors selector ≡ object → Explained P s (cap_freed selector object s) (when (not (is_rpc_object object)) InvalidCap ∷ [])
+  frees_cap : (selector : ℕ) (object : Option Object) → get s.selectors selector ≡ object → Explained session P s (cap_freed selector object s) (when (not (is_rpc_object object)) InvalidCap ∷ [])
   frees_cap selector (Some (Dataspace bytes)) e = refused_for InvalidCap _ refl
+  frees_cap selector (Some (OpenSession session)) e = refused_for InvalidCap _ refl
   frees_cap selector (Some RpcObject) e = does (cap_freed selector (Some RpcObject) s) _ refl refl refl (k.frees_cap selector e)
   frees_cap selector None e = refused_for InvalidCap _ refl
 
   -- a free of a sliced block
-  frees_block : (address : ℕ) (payload : Option (List ℕ)) → get s.sliced address ≡ payload → Explained P s (sliced_freed address payload s) (when (is_none payload) PageFault ∷ [])
+  frees_block : (address : ℕ) (payload : Option (List ℕ)) → get s.sliced address ≡ payload → Explained session P s (sliced_freed address payload s) (when (is_none payload) PageFault ∷ [])
   frees_block address (Some payload) e = does (sliced_freed address (Some payload) s) _ refl refl refl (k.unslices address payload e)
   frees_block address None e = refused_for PageFault _ refl
 
   -- an attachment at the first gap
-  attaches : (selector : ℕ) (object : Option Object) → get s.selectors selector ≡ object → Explained P s (attached_first selector object s)
+  attaches : (selector : ℕ) (object : Option Object) → get s.selectors selector ≡ object → Explained session P s (attached_first selector object s)
       (when (not (is_dataspace object)) InvalidCap ∷ when (nat_le most_regions (len s.regions)) TooManyRegions
       ∷ when (is_none (first_gap user_low user_high s.regions (pages_named object))) RegionConflict ∷ [])
   attaches selector (Some (Dataspace bytes)) e = record {
     why = attach_refusal most_regions s.regions (pages_in bytes);
     accepted = with_region selector (pages_in bytes) (user_gap s.regions (pages_in bytes)) s;
     told = refl;
-    quiet = refl;
+    quiet = λ _. refl;
     is = refl;
     right = λ _ _. refl;
     kept = λ accepted. let at = attach_place most_regions s.regions (pages_in bytes) accepted in k.attaches selector (user_gap s.regions (pages_in bytes)) bytes e at.0 at.1;
   }
   attaches selector (Some RpcObject) e = refused_for InvalidCap _ refl
+  attaches selector (Some (OpenSession session)) e = refused_for InvalidCap _ refl
   attaches selector None e = refused_for InvalidCap _ refl
 
   -- and one at an address
-  attaches_at : (selector address : ℕ) (object : Option Object) → get s.selectors selector ≡ object → Explained P s (attached_at selector address object s)
+  attaches_at : (selector address : ℕ) (object : Option Object) → get s.selectors selector ≡ object → Explained session P s (attached_at selector address object s)
       (when (not (is_dataspace object)) InvalidCap ∷ when (nat_le most_regions (len s.regions)) TooManyRegions
       ∷ when (not (can_stand user_low user_high s.regions (pages_named object) address)) RegionConflict ∷ [])
   attaches_at selector address (Some (Dataspace bytes)) e = record {
     why = attach_at_refusal most_regions s.regions (pages_in bytes) address;
     accepted = with_region selector (pages_in bytes) address s;
     told = refl;
-    quiet = refl;
+    quiet = λ _. refl;
     is = refl;
     right = λ _ _. ap (cond (nat_le most_regions (len s.regions)) (Some TooManyRegions)) (flip (can_stand user_low user_high s.regions (pages_in bytes) address) None (Some RegionConflict));
     kept = λ accepted. let at = attach_at_place most_regions s.regions (pages_in bytes) address accepted in k.attaches selector address bytes e at.0 at.1;
   }
   attaches_at selector address (Some RpcObject) e = refused_for InvalidCap _ refl
+  attaches_at selector address (Some (OpenSession session)) e = refused_for InvalidCap _ refl
   attaches_at selector address None e = refused_for InvalidCap _ refl
 
   -- a detachment
   detaches : (address : ℕ) (region : Option Region) →
-      Explained P s (unless (cond (is_some region) None (Some PageFault)) s (region_detached address s)) (when (is_none region) PageFault ∷ [])
+      Explained session P s (unless (cond (is_some region) None (Some PageFault)) s (region_detached address s)) (when (is_none region) PageFault ∷ [])
   detaches address (Some region) = does (region_detached address s) _ refl refl refl (k.detaches address)
   detaches address None = refused_for PageFault _ refl
 
@@ -131,142 +142,296 @@ module _ (P : OwnState → Type 0) (s : OwnState) (h : P s) (k : KeptByEffects P
   faults false = refl
 
   -- where no place is found
-  no_place : (count : ℕ) → Explained P s (unless (count_refusal count) s (refused s PageFault)) (when (is_bad_count count) InvalidSize ∷ when true PageFault ∷ [])
+  no_place : (count : ℕ) → Explained session P s (unless (count_refusal count) s (refused s PageFault)) (when (is_bad_count count) InvalidSize ∷ when true PageFault ∷ [])
   no_place count =
       let counts = nat_lt 0 count && nat_le count most_bytes in
-      record { why = cond counts (Some PageFault) (Some InvalidSize); accepted = told_quota s; told = refl; quiet = refl; is = faults counts; right = λ _ _. flip counts (Some PageFault) (Some InvalidSize); kept = λ _. h }
+      record { why = cond counts (Some PageFault) (Some InvalidSize); accepted = told_quota s; told = refl; quiet = λ _. refl; is = faults counts; right = λ _ _. flip counts (Some PageFault) (Some InvalidSize); kept = λ _. h }
 
   -- where one is
-  at_place : (count : ℕ) (accepted : Outcome) → refusal_in accepted.reply ≡ None → accepted.lines ≡ [] → P accepted.next → Explained P s (unless (count_refusal count) s accepted) (when (is_bad_count count) InvalidSize ∷ when false PageFault ∷ [])
+  at_place : (count : ℕ) (accepted : Outcome) → refusal_in accepted.reply ≡ None → accepted.lines ≡ [] → P accepted.next → Explained session P s (unless (count_refusal count) s accepted) (when (is_bad_count count) InvalidSize ∷ when false PageFault ∷ [])
   at_place count accepted told quiet after = record {
     why = count_refusal count;
     accepted = accepted;
     told = told;
-    quiet = quiet;
+    quiet = λ _. quiet;
     is = refl;
     right = λ _ _. flip (nat_lt 0 count && nat_le count most_bytes) None (Some InvalidSize);
     kept = λ _. after;
   }
 
   -- where one is found that names nothing, which doesn't happen to a sound state
-  never : (count : ℕ) → (IsSound s → ⊥) → Explained P s (unless (count_refusal count) s (refused s PageFault)) (when (is_bad_count count) InvalidSize ∷ when false PageFault ∷ [])
+  never : (count : ℕ) → (IsSound s → ⊥) → Explained session P s (unless (count_refusal count) s (refused s PageFault)) (when (is_bad_count count) InvalidSize ∷ when false PageFault ∷ [])
   never count unsound = let fault = no_place count in record { why = fault.why; accepted = fault.accepted; told = fault.told; quiet = fault.quiet; is = fault.is; right = λ _ sound. absurd (unsound sound); kept = fault.kept }
 
   -- a peek
-  peeks : (count : ℕ) (place : Option Place) → Explained P s (unless (count_refusal count) s (peeked count place s)) (when (is_bad_count count) InvalidSize ∷ when (is_none place) PageFault ∷ [])
+  peeks : (count : ℕ) (place : Option Place) → Explained session P s (unless (count_refusal count) s (peeked count place s)) (when (is_bad_count count) InvalidSize ∷ when (is_none place) PageFault ∷ [])
   peeks count (Some place) = at_place count (peeked count (Some place) s) refl refl h
   peeks count None = no_place count
 
   module _ (address : ℕ) (bytes : List ℕ) where
     -- a poke in a dataspace
     pokes_object : (selector offset : ℕ) → found s address (length bytes) ≡ Some (InDataspace selector offset) → (object : Option Object) → get s.selectors selector ≡ object →
-        Explained P s (unless (count_refusal (length bytes)) s (poked_at selector offset bytes object s)) (when (is_bad_count (length bytes)) InvalidSize ∷ when false PageFault ∷ [])
+        Explained session P s (unless (count_refusal (length bytes)) s (poked_at selector offset bytes object s)) (when (is_bad_count (length bytes)) InvalidSize ∷ when false PageFault ∷ [])
     pokes_object selector offset at (Some object) there = at_place (length bytes) (poked_at selector offset bytes (Some object) s) refl refl (k.pokes selector offset bytes object there)
     pokes_object selector offset at None free = never (length bytes) (λ sound.
-        let region = region_parts (resolved s.regions address (length bytes)) (block_found s.sliced address (length bytes)) selector offset at in
+        let region = region_parts (resolved s.regions address (length bytes)) (block_found s.sliced address (length bytes)) (block_found s.heap.payloads address (length bytes)) selector offset at in
         let named = range_fits s address (length bytes) selector offset sound region in
         none-some (Dataspace named.0) (sym free ∙ named.1))
 
     -- and one in a payload
     pokes_payload : (block offset : ℕ) → found s address (length bytes) ≡ Some (InPayload block offset) → (payload : Option (List ℕ)) → get s.sliced block ≡ payload →
-        Explained P s (unless (count_refusal (length bytes)) s (payload_poked block offset bytes payload s)) (when (is_bad_count (length bytes)) InvalidSize ∷ when false PageFault ∷ [])
+        Explained session P s (unless (count_refusal (length bytes)) s (payload_poked block offset bytes payload s)) (when (is_bad_count (length bytes)) InvalidSize ∷ when false PageFault ∷ [])
     pokes_payload block offset at (Some payload) there = at_place (length bytes) (payload_poked block offset bytes (Some payload) s) refl refl (k.pokes_payload block offset bytes payload there)
     pokes_payload block offset at None free = never (length bytes) (λ _. let fits = payload_fits s address (length bytes) block offset at in none-some fits.0 (sym free ∙ fits.1))
 
+    -- and one in a payload of the heap
+    pokes_block : (block offset : ℕ) → found s address (length bytes) ≡ Some (InBlock block offset) → (payload : Option (List ℕ)) → get s.heap.payloads block ≡ payload →
+        Explained session P s (unless (count_refusal (length bytes)) s (block_poked block offset bytes payload s)) (when (is_bad_count (length bytes)) InvalidSize ∷ when false PageFault ∷ [])
+    pokes_block block offset at (Some payload) there = at_place (length bytes) (block_poked block offset bytes (Some payload) s) refl refl (k.pokes_block block offset bytes payload there)
+    pokes_block block offset at None free = never (length bytes) (λ _. let fits = block_fits s address (length bytes) block offset at in none-some fits.0 (sym free ∙ fits.1))
+
     -- a poke, wherever it is found
     pokes : (place : Option Place) → found s address (length bytes) ≡ place →
-        Explained P s (unless (count_refusal (length bytes)) s (poked bytes place s)) (when (is_bad_count (length bytes)) InvalidSize ∷ when (is_none place) PageFault ∷ [])
+        Explained session P s (unless (count_refusal (length bytes)) s (poked bytes place s)) (when (is_bad_count (length bytes)) InvalidSize ∷ when (is_none place) PageFault ∷ [])
     pokes (Some (InDataspace selector offset)) at = pokes_object selector offset at (get s.selectors selector) refl
     pokes (Some (InPayload block offset)) at = pokes_payload block offset at (get s.sliced block) refl
+    pokes (Some (InBlock block offset)) at = pokes_block block offset at (get s.heap.payloads block) refl
     pokes None at = no_place (length bytes)
 
-  -- a size and an account that are tested, and then the gap
-  gapless : (valid ram caps : Bool) →
-      unless (cond valid (cond ram (Some OutOfRam) (cond caps (Some OutOfCaps) None)) (Some InvalidSize)) s (refused s OutOfRam)
-      ≡ unless (cond valid (cond ram (Some OutOfRam) (cond caps (Some OutOfCaps) (Some OutOfRam))) (Some InvalidSize)) s (told_quota s)
-  gapless true true caps = refl
-  gapless true false true = refl
-  gapless true false false = refl
-  gapless false ram caps = refl
+  -- a size, the chunks and an account that are tested, and then the gap
+  gapless : (valid full ram caps : Bool) →
+      unless (cond valid (cond full (Some TooManyChunks) (cond ram (Some OutOfRam) (cond caps (Some OutOfCaps) None))) (Some InvalidSize)) s (refused s OutOfRam)
+      ≡ unless (cond valid (cond full (Some TooManyChunks) (cond ram (Some OutOfRam) (cond caps (Some OutOfCaps) (Some OutOfRam)))) (Some InvalidSize)) s (told_quota s)
+  gapless true true ram caps = refl
+  gapless true false true caps = refl
+  gapless true false false true = refl
+  gapless true false false false = refl
+  gapless false full ram caps = refl
+
+  -- what finds no gap
+  no_gap : (valid : Bool) (bytes : ℕ) → Explained session P s (unless (cond valid (shortage s.account bytes 1) (Some InvalidSize)) s (refused s OutOfRam)) (when (not valid) InvalidSize ∷ memory_line bytes None s)
+  no_gap valid bytes =
+      let short = cond (lacks_ram s.account bytes) (Some OutOfRam) (cond (lacks_caps s.account 1) (Some OutOfCaps) (Some OutOfRam)) in
+      record { why = cond valid short (Some InvalidSize); accepted = told_quota s; told = refl; quiet = λ _. refl; is = gapless valid false (lacks_ram s.account bytes) (lacks_caps s.account 1); right = λ _ _. flip valid short (Some InvalidSize); kept = λ _. h }
+
+  -- and what finds one
+  at_gap : (valid : Bool) (bytes start : ℕ) (accepted : Outcome) → refusal_in accepted.reply ≡ None → accepted.lines ≡ [] → (cond valid (shortage s.account bytes 1) (Some InvalidSize) ≡ None → P accepted.next) →
+      Explained session P s (unless (cond valid (shortage s.account bytes 1) (Some InvalidSize)) s accepted) (when (not valid) InvalidSize ∷ memory_line bytes (Some start) s)
+  at_gap valid bytes start accepted told quiet after = record {
+    why = cond valid (shortage s.account bytes 1) (Some InvalidSize);
+    accepted = accepted;
+    told = told;
+    quiet = λ _. quiet;
+    is = refl;
+    right = λ _ _. flip valid (shortage s.account bytes 1) (Some InvalidSize);
+    kept = after;
+  }
+
+  module _ (n : ℕ) where
+    -- a large block
+    larges : is_large n ≡ true → (gap : Option ℕ) → own_heap_gap (page_of n) s ≡ gap → Explained session P s (unless (alloc_refusal n s.account) s (large_in n gap s)) (when (not (is_valid_size n)) InvalidSize ∷ memory_line (page_of n) gap s)
+    larges large (Some start) e = at_gap (is_valid_size n) (page_of n) start (large_at n start s) refl refl (λ accepted. k.takes_large n start large accepted e)
+    larges large None e = no_gap (is_valid_size n) (page_of n)
+
+    -- what a heap without a hole is given
+    abbrev growth : Growth
+    growth = growth_of n s.heap.shape s.account
+
+    -- a block in a new chunk
+    grows : (gap : Option ℕ) → own_heap_gap growth.bytes s ≡ gap →
+        Explained session P s (unless (cond (is_valid_size n) (growth_refusal n s.heap.shape s.account) (Some InvalidSize)) s (grown_in n growth gap s))
+        (when (not (is_valid_size n)) InvalidSize ∷ when (nat_le most_chunks (length s.heap.shape.chunks)) TooManyChunks ∷ memory_line (page_of (block_size n)) gap s)
+    grows (Some start) e = record {
+      why = cond (is_valid_size n) (growth_refusal n s.heap.shape s.account) (Some InvalidSize);
+      accepted = grown_at n growth start s;
+      told = refl;
+      quiet = λ _. refl;
+      is = refl;
+      right = λ _ _. flip (is_valid_size n) (growth_refusal n s.heap.shape s.account) (Some InvalidSize);
+      kept = λ accepted. k.grows n start (size_tested (is_valid_size n) (growth_refusal n s.heap.shape s.account) InvalidSize accepted) e;
+    }
+    grows None e =
+        let full = nat_le most_chunks (length s.heap.shape.chunks) in
+        let ram = lacks_ram s.account (page_of (block_size n)) in
+        let caps = lacks_caps s.account 1 in
+        let short = cond full (Some TooManyChunks) (cond ram (Some OutOfRam) (cond caps (Some OutOfCaps) (Some OutOfRam))) in
+        record { why = cond (is_valid_size n) short (Some InvalidSize); accepted = told_quota s; told = refl; quiet = λ _. refl; is = gapless (is_valid_size n) full ram caps; right = λ _ _. flip (is_valid_size n) short (Some InvalidSize); kept = λ _. h }
+
+    -- a block of a chunk
+    smalls : (hole : Option Spot) → hole_for n s.heap.shape ≡ hole →
+        Explained session P s (unless (cond (is_valid_size n) (small_refusal n hole s.heap.shape s.account) (Some InvalidSize)) s (small_new n hole s)) (when (not (is_valid_size n)) InvalidSize ∷ small_line n hole s)
+    smalls (Some hole) e = record {
+      why = cond (is_valid_size n) None (Some InvalidSize);
+      accepted = block_taken n hole s;
+      told = refl;
+      quiet = λ _. refl;
+      is = refl;
+      right = λ _ _. flip (is_valid_size n) None (Some InvalidSize);
+      kept = λ _. k.takes n hole e;
+    }
+    smalls None e = grows (own_heap_gap growth.bytes s) refl
+
+    -- any block of the heap
+    news : (large : Bool) → is_large n ≡ large →
+        Explained session P s (unless (cond (is_valid_size n) (cond large (shortage s.account (page_of n) 1) (small_refusal n (hole_for n s.heap.shape) s.heap.shape s.account)) (Some InvalidSize)) s
+        (cond large (large_in n (own_heap_gap (page_of n) s) s) (small_new n (hole_for n s.heap.shape) s)))
+        (when (not (is_valid_size n)) InvalidSize ∷ cond large (memory_line (page_of n) (own_heap_gap (page_of n) s) s) (small_line n (hole_for n s.heap.shape) s))
+    news true e = larges e (own_heap_gap (page_of n) s) refl
+    news false e = smalls (hole_for n s.heap.shape) refl
+
+  -- a block of the heap given back
+  gives : (address : ℕ) (payload : List ℕ) → get s.heap.payloads address ≡ Some payload → (large : Option ℕ) → get s.heap.large address ≡ large →
+      Explained session P s (given_back address large s) (when false PageFault ∷ [])
+  gives address payload there (Some bytes) e = does (given_back address (Some bytes) s) _ refl refl refl (k.gives_large address bytes e)
+  gives address payload there None e = does (given_back address None s) _ refl refl refl (k.gives address payload there e)
+
+  deletes : (address : ℕ) (payload : Option (List ℕ)) → get s.heap.payloads address ≡ payload → Explained session P s (deleted address payload s) (when (is_none payload) PageFault ∷ [])
+  deletes address (Some payload) e = gives address payload e (get s.heap.large address) refl
+  deletes address None e = refused_for PageFault _ refl
 
   -- a sliced block
-  slices : (n : ℕ) (gap : Option ℕ) → own_heap_gap (sliced_size n) s ≡ gap → Explained P s (unless (sliced_refusal n s.account) s (sliced_in n gap s))
-      (when (not (nat_lt 0 n && is_valid_size (sliced_header + n))) InvalidSize ∷ when (lacks_ram s.account (sliced_size n)) OutOfRam
-      ∷ when (lacks_caps s.account 1) OutOfCaps ∷ when (is_none gap) OutOfRam ∷ [])
-  slices n (Some start) e = record {
-    why = sliced_refusal n s.account;
-    accepted = sliced_at n start s;
-    told = refl;
-    quiet = refl;
-    is = refl;
-    right = λ _ _. flip (nat_lt 0 n && is_valid_size (sliced_header + n)) (shortage s.account (sliced_size n) 1) (Some InvalidSize);
-    kept = λ accepted. k.slices n start accepted e;
-  }
-  slices n None e =
-      let valid = nat_lt 0 n && is_valid_size (sliced_header + n) in
-      let ram = lacks_ram s.account (sliced_size n) in
-      let caps = lacks_caps s.account 1 in
-      let short = cond ram (Some OutOfRam) (cond caps (Some OutOfCaps) (Some OutOfRam)) in
-      record { why = cond valid short (Some InvalidSize); accepted = told_quota s; told = refl; quiet = refl; is = gapless valid ram caps; right = λ _ _. flip valid short (Some InvalidSize); kept = λ _. h }
+  slices : (n : ℕ) (gap : Option ℕ) → own_heap_gap (sliced_size n) s ≡ gap → Explained session P s (unless (sliced_refusal n s.account) s (sliced_in n gap s))
+      (when (not (nat_lt 0 n && is_valid_size (sliced_header + n))) InvalidSize ∷ memory_line (sliced_size n) gap s)
+  slices n (Some start) e =
+      at_gap (nat_lt 0 n && is_valid_size (sliced_header + n)) (sliced_size n) start (sliced_at n start s) refl refl (λ accepted. k.slices n start accepted e)
+  slices n None e = no_gap (nat_lt 0 n && is_valid_size (sliced_header + n)) (sliced_size n)
 
   -- an account within its limits lacks no RAM for nothing
   no_ram : WithinLimits s.account → lacks_ram s.account 0 ≡ false
   no_ram within = let ram = within.ram in grind (arith, nat_tests)
 
+  -- tests of an account, and then others
+  in_order : (ram caps : Bool) (o : Option Refusal) → option_or (cond ram (Some OutOfRam) (cond caps (Some OutOfCaps) None)) o ≡ cond ram (Some OutOfRam) (cond caps (Some OutOfCaps) o)
+  in_order true caps o = refl
+  in_order false true o = refl
+  in_order false false o = refl
+
+  -- an open, where the route leads somewhere or not
+  opens_to : (name : List ℕ) (arguments : Arguments) (to : Option Service) → session ≡ true → Explained session P s (opened_by (wish_of name arguments to) s)
+      (when false BadArgs ∷ when (is_none to) ServiceDenied ∷ when (lacks_ram s.account arguments.ram) OutOfRam ∷ when (lacks_caps s.account arguments.caps) OutOfCaps
+      ∷ when (nat_lt arguments.ram session_ram) InsufficientRamQuota ∷ when (nat_lt arguments.caps session_caps) InsufficientCapQuota ∷ [])
+  opens_to name arguments (Some service) of =
+      let asked : Wish = record { service = service; label = label_with name arguments.label; ram = arguments.ram; caps = arguments.caps } in
+      record {
+        why = donation_refusal s.account arguments.ram arguments.caps;
+        accepted = session_opened asked s;
+        told = refl;
+        quiet = λ _. refl;
+        is = refl;
+        right = λ _ _. in_order (lacks_ram s.account arguments.ram) (lacks_caps s.account arguments.caps) (too_small arguments.ram arguments.caps);
+        kept = λ accepted. (q of).opens asked accepted;
+      }
+  opens_to name arguments None of = refused_for ServiceDenied _ refl
+
+  opens : (entry : Entry) (service : List ℕ) (arguments : Option Arguments) → session ≡ true →
+      Explained session P s (opened_by (wish_in entry.name entry.routes service arguments) s) (open_line entry.routes service arguments s)
+  opens entry service (Some arguments) of = opens_to entry.name arguments (provider entry.routes service arguments.label) of
+  opens entry service None of = refused_for BadArgs _ refl
+
+  module _ (selector : ℕ) where
+    -- an upgrade
+    upgrades : (found : Option Session) → ((x : Session) → found ≡ Some x → get s.selectors selector ≡ Some (OpenSession x)) → (arguments : Option Arguments) → session ≡ true →
+        Explained session P s (upgraded_by selector found arguments s) (upgrade_line found arguments s)
+    upgrades (Some x) at (Some more) of = record {
+      why = shortage s.account more.ram more.caps;
+      accepted = session_upgraded selector x more s;
+      told = refl;
+      quiet = λ _. refl;
+      is = refl;
+      right = λ _ _. refl;
+      kept = λ accepted. (q of).upgrades selector x more (at x refl) accepted;
+    }
+    upgrades (Some x) at None of = refused_for BadArgs _ refl
+    upgrades None at arguments of = refused_for InvalidSession _ refl
+
+    -- a request
+    serves : (found : Option Session) → ((x : Session) → found ≡ Some x → get s.selectors selector ≡ Some (OpenSession x)) → (request : List ℕ) → session ≡ true →
+        Explained session P s (session_called selector found request s) (when (is_none found) InvalidSession ∷ [])
+    serves (Some x) at request of = record {
+      why = None;
+      accepted = session_served selector (served x request) s;
+      told = refl;
+      quiet = λ other. absurd (true≢false (sym of ∙ other));
+      is = refl;
+      right = λ _ _. refl;
+      kept = λ _. (q of).serves selector x request (at x refl);
+    }
+    serves None at request of = refused_for InvalidSession _ refl
+
+    -- a close
+    closes : (found : Option Session) → ((x : Session) → found ≡ Some x → get s.selectors selector ≡ Some (OpenSession x)) → session ≡ true →
+        Explained session P s (session_closed selector found s) (when (is_none found) InvalidSession ∷ [])
+    closes (Some x) at of = does (session_closed selector (Some x) s) _ refl refl refl ((q of).closes selector x (at x refl))
+    closes None at of = refused_for InvalidSession _ refl
+
   -- any call of a script
-  explained : (call : Call) → Explained P s (script_step call s) (line_of call s)
-  explained (Alloc n) = record {
+  explained : (entry : Entry) (call : Call) → is_of_session call ≡ session → Explained session P s (entry_step entry call s) (line_of entry call s)
+  explained entry (Alloc n) of = record {
     why = alloc_refusal n s.account;
     accepted = allocated n s;
     told = refl;
-    quiet = refl;
+    quiet = λ _. refl;
     is = refl;
     right = λ _ _. flip (is_valid_size n) (shortage s.account (page_of n) 1) (Some InvalidSize);
     kept = k.allocates n;
   }
-  explained (Free selector) = frees selector (get s.selectors selector) refl
-  explained (Attach selector) = attaches selector (get s.selectors selector) refl
-  explained (AttachAt selector address) = attaches_at selector address (get s.selectors selector) refl
-  explained (Detach address) = detaches address (get s.regions address)
-  explained (Peek address count) = peeks count (found s address count)
-  explained (Poke address bytes) = pokes address bytes (found s address (length bytes)) refl
-  explained Capalloc = record {
+  explained entry (Free selector) of = frees selector (get s.selectors selector) refl
+  explained entry (Attach selector) of = attaches selector (get s.selectors selector) refl
+  explained entry (AttachAt selector address) of = attaches_at selector address (get s.selectors selector) refl
+  explained entry (Detach address) of = detaches address (get s.regions address)
+  explained entry (Peek address count) of = peeks count (found s address count)
+  explained entry (Poke address bytes) of = pokes address bytes (found s address (length bytes)) refl
+  explained entry Capalloc of = record {
     why = shortage s.account 0 1;
     accepted = cap_allocated s;
     told = refl;
-    quiet = refl;
+    quiet = λ _. refl;
     is = refl;
     right = λ within _. ap (λ b. cond b (Some OutOfRam) (cond (lacks_caps s.account 1) (Some OutOfCaps) None)) (no_ram within);
     kept = k.allocates_cap;
   }
-  explained (Capfree selector) = frees_cap selector (get s.selectors selector) refl
-  explained (Snew n) = slices n (own_heap_gap (sliced_size n) s) refl
-  explained (Sdel address) = frees_block address (get s.sliced address) refl
-  explained Quota = does (told_quota s) _ refl refl refl h
+  explained entry (Capfree selector) of = frees_cap selector (get s.selectors selector) refl
+  explained entry (New n) of = news n (is_large n) refl
+  explained entry (Del address) of = deletes address (get s.heap.payloads address) refl
+  explained entry (Snew n) of = slices n (own_heap_gap (sliced_size n) s) refl
+  explained entry (Sdel address) of = frees_block address (get s.sliced address) refl
+  explained entry Quota of = does (told_quota s) _ refl refl refl h
+  explained entry (Open service text) of = opens entry service (arguments_of text) (sym of)
+  explained entry (Upgrade selector text) of = upgrades selector (session_named (get s.selectors selector)) (named_there (get s.selectors selector)) (arguments_of text) (sym of)
+  explained entry (CallSession selector request) of = serves selector (session_named (get s.selectors selector)) (named_there (get s.selectors selector)) request (sym of)
+  explained entry (Close selector) of = closes selector (session_named (get s.selectors selector)) (named_there (get s.selectors selector)) (sym of)
 
   -- one that has exited does no call
-  by_gone : (gone : Bool) (o : Outcome) (line : List Test) → Explained P s o line → Explained P s (unless (cond gone (Some Gone) None) s o) (when gone Gone ∷ line)
+  by_gone : (gone : Bool) (o : Outcome) (line : List Test) → Explained session P s o line → Explained session P s (unless (cond gone (Some Gone) None) s o) (when gone Gone ∷ line)
   by_gone true o line e = refused_for Gone _ refl
   by_gone false o line e = record { why = e.why; accepted = e.accepted; told = e.told; quiet = e.quiet; is = e.is; right = e.right; kept = e.kept }
 
   -- any call of a component
-  by_kind : (kind : Kind) (call : Call) → Explained P s (unless (turned_away kind s) s (script_step call s)) (whole_line kind call s)
-  by_kind Server call = refused_for NotAScript _ refl
-  by_kind Script call = by_gone s.gone (script_step call s) (line_of call s) (explained call)
+  by_kind : (kind : Kind) (entry : Entry) (call : Call) → is_of_session call ≡ session → Explained session P s (unless (turned_away kind s) s (entry_step entry call s)) (line_by kind entry call s)
+  by_kind Server entry call of = refused_for NotAScript _ refl
+  by_kind Script entry call of = by_gone s.gone (entry_step entry call s) (line_of entry call s) (explained entry call of)
 
   -- what is accepted or refused keeps it
   unless_keeps : (why : Option Refusal) (accepted : Outcome) → (why ≡ None → P accepted.next) → P (unless why s accepted).next
   unless_keeps (Some refusal) accepted after = h
   unless_keeps None accepted after = after refl
 
-  -- so any call keeps it
-  pub step_keeps : (entry : Entry) (call : Call) → P (own_step entry call s).next
-  step_keeps entry call = let e = by_kind entry.kind call in subst (λ o. P o.next) (sym e.is) (unless_keeps e.why e.accepted e.kept)
+  -- so any such call keeps it
+  step_keeps_by : (entry : Entry) (call : Call) → is_of_session call ≡ session → P (own_step entry call s).next
+  step_keeps_by entry call of = let e = by_kind entry.kind entry call of in subst (λ o. P o.next) (sym e.is) (unless_keeps e.why e.accepted e.kept)
+
+-- any call but one of a session keeps what all other effects keep
+pub others_keep : (P : OwnState → Type 0) (s : OwnState) → P s → KeptByEffects P s → (entry : Entry) (call : Call) → is_of_session call ≡ false → P (own_step entry call s).next
+others_keep P s h k entry call other = step_keeps_by false P s h k (λ e. absurd (true≢false (sym e))) entry call other
+
+-- and any call what all effects keep
+pub step_keeps : (P : OwnState → Type 0) (s : OwnState) → P s → KeptByEffects P s → KeptBySessions P s → (entry : Entry) (call : Call) → P (own_step entry call s).next
+step_keeps P s h k q entry call = step_keeps_by (is_of_session call) P s h k (λ _. q) entry call refl
 
 -- and so do calls, where what a call can do keeps it in each state
-pub run_keeps : (P : OwnState → Type 0) → ((s : OwnState) → P s → KeptByEffects P s) → (entry : Entry) (calls : List Call) (s : OwnState) → P s → P (own_run entry calls s)
-run_keeps P each entry [] s h = h
-run_keeps P each entry (call ∷ calls) s h = run_keeps P each entry calls (own_step entry call s).next (step_keeps P s h (each s h) entry call)
+pub run_keeps : (P : OwnState → Type 0) → ((s : OwnState) → P s → KeptByEffects P s) → ((s : OwnState) → P s → KeptBySessions P s) → (entry : Entry) (calls : List Call) (s : OwnState) → P s → P (own_run entry calls s)
+run_keeps P each sessions entry [] s h = h
+run_keeps P each sessions entry (call ∷ calls) s h = run_keeps P each sessions entry calls (own_step entry call s).next (step_keeps P s h (each s h) (sessions s h) entry call)
 
 -- ---- refusals
 
@@ -279,32 +444,48 @@ anything s = record {
   detaches = λ address. tt;
   pokes = λ selector offset bytes object there. tt;
   pokes_payload = λ address offset bytes payload there. tt;
+  pokes_block = λ address offset bytes payload there. tt;
+  takes = λ n hole best. tt;
+  grows = λ n start accepted gap. tt;
+  takes_large = λ n start large accepted gap. tt;
+  gives = λ address payload there small. tt;
+  gives_large = λ address bytes there. tt;
   slices = λ n start accepted gap. tt;
   unslices = λ address payload there. tt;
   allocates_cap = λ accepted. tt;
   frees_cap = λ selector there. tt;
 }
 
+anything_of_sessions : (s : OwnState) → KeptBySessions (λ _. Unit {0}) s
+anything_of_sessions s = record {
+  opens = λ wish accepted. tt;
+  upgrades = λ selector session more there accepted. tt;
+  serves = λ selector session request there. tt;
+  closes = λ selector session there. tt;
+}
+
+-- what a call is refused for, and what it does else
+why_call : (entry : Entry) (call : Call) (s : OwnState) → Explained (is_of_session call) (λ _. Unit {0}) s (own_step entry call s) (whole_line entry call s)
+why_call entry call s = by_kind (is_of_session call) (λ _. Unit {0}) s tt (anything s) (λ _. anything_of_sessions s) entry.kind entry call refl
+
 -- what is refused finishes no lines, nor does what is accepted where it finishes none
 unless_quiet : (why : Option Refusal) (s : OwnState) (accepted : Outcome) → accepted.lines ≡ [] → (unless why s accepted).lines ≡ []
 unless_quiet (Some refusal) s accepted quiet = refl
 unless_quiet None s accepted quiet = quiet
 
--- no call finishes lines yet
-pub no_lines : (entry : Entry) (call : Call) (s : OwnState) → (own_step entry call s).lines ≡ []
-no_lines entry call s =
-    let e = by_kind (λ _. Unit {0}) s tt (anything s) entry.kind call in
-    ap (λ o. o.lines) e.is ∙ unless_quiet e.why s e.accepted e.quiet
+-- no call but one of a session finishes lines
+pub no_lines : (entry : Entry) (call : Call) (s : OwnState) → is_of_session call ≡ false → (own_step entry call s).lines ≡ []
+no_lines entry call s other = let e = why_call entry call s in ap (λ o. o.lines) e.is ∙ unless_quiet e.why s e.accepted (e.quiet other)
 
 -- a call is refused as its line says
 pub refused_in_order : (entry : Entry) (call : Call) (s : OwnState) → WithinLimits s.account → IsSound s →
-    refusal_in (own_step entry call s).reply ≡ first_failed (whole_line entry.kind call s)
+    refusal_in (own_step entry call s).reply ≡ first_failed (whole_line entry call s)
 refused_in_order entry call s within sound =
-    let e = by_kind (λ _. Unit {0}) s tt (anything s) entry.kind call in
+    let e = why_call entry call s in
     ap (λ o. refusal_in o.reply) e.is ∙ tells s e.why e.accepted e.told ∙ e.right within sound
 
 -- and a refused one leaves the state
 pub refused_leaves : (entry : Entry) (call : Call) (s : OwnState) (refusal : Refusal) → (own_step entry call s).reply ≡ Refused refusal → own_step entry call s ≡ refused s refusal
 refused_leaves entry call s refusal told =
-    let e = by_kind (λ _. Unit {0}) s tt (anything s) entry.kind call in
+    let e = why_call entry call s in
     e.is ∙ leaves s e.why e.accepted refusal e.told (sym (ap (λ o. o.reply) e.is) ∙ told)

@@ -1,5 +1,5 @@
 -- Sums over what a map holds: after a change, compared, and by who pays.
-use Rattle.std.proofs.Common.{◌≡◌, ℕ, ◌+◌, ◌*◌, ◌≤◌, ◌≢◌, true, false, cond, eqb, List, [], ◌∷◌, map, length, IsSome, is_some, Some, unwrap_or, refl, sym, ap, ◌∙◌, true≢false, nat_cmp, is_eq, Less, Equal, Greater, arith, add-zero, add-mul}
+use Rattle.std.proofs.Common.{◌≡◌, ℕ, ◌+◌, ◌*◌, ◌≤◌, ◌≢◌, cond, eqb, List, [], ◌∷◌, map, length, IsSome, is_some, Some, unwrap_or, refl, sym, ap, ◌∙◌, true≢false, nat_cmp, is_eq, Less, Equal, Greater, arith, add-zero, add-mul}
 use Rattle.std.proofs.lemmas.Bool.Decides.{nat_tests}
 use Rattle.std.proofs.lemmas.List.Sums.{sum_by-cons}
 use Rattle.std.proofs.lemmas.Option.{none-some}
@@ -65,16 +65,11 @@ module _ {X : Type 0} where
 
   -- a value of the same size in place of the old one leaves the sum
   pub total-insert_same : (f : X → ℕ) (m : NatMap X) (k : ℕ) (v w : X) → get m k ≡ Some w → f v ≡ f w → total f (insert m k v) ≡ total f m
-  total-insert_same f m k v w there e =
-      let at = total-insert_at f m k v w there in
-      omega arith
+  total-insert_same f m k v w there e = grind (arith, nat_tests, total-insert_at)
 
   -- what one value parts with for a new one leaves the sum
   pub total_parted : (f : X → ℕ) (m : NatMap X) (k l : ℕ) (v w new : X) → get m k ≡ Some w → get m l ≡ None → f v + f new ≡ f w → total f (insert (insert m k v) l new) ≡ total f m
-  total_parted f m k l v w new there free e =
-      let other = apart_from_free m l k free (ap is_some there) in
-      let still_free : get (insert m k v) l ≡ None = grind (arith, natmaps) in
-      omega (arith, total-insert_new f (insert m k v) l new still_free, total-insert_at f m k v w there)
+  total_parted f m k l v w new there free e = grind (arith, nat_tests, apart_from_free, natmaps, total-insert_new, total-insert_at)
 
   -- each value is within the sum
   pub total_at_le : (f : X → ℕ) (m : NatMap X) (k : ℕ) (v : X) → get m k ≡ Some v → f v ≤ total f m
@@ -112,8 +107,7 @@ module _ {X : Type 0} where
 module _ {X : Type 0} where
   -- what holds of each value after a free key was filled holds of each before
   before_insert : (P : ℕ → X → Type 0) (m : NatMap X) (k : ℕ) (v : X) → get m k ≡ None → ((q : ℕ) (w : X) → get (insert m k v) q ≡ Some w → P q w) → (q : ℕ) (w : X) → get m q ≡ Some w → P q w
-  before_insert P m k v free each q w there =
-      each q w (get-insert_other m k v q (apart_from_free m k q free (ap is_some there)) ∙ there)
+  before_insert P m k v free each q w there = grind (arith, nat_tests, get-insert_other, apart_from_free)
 
   -- larger values have a larger sum
   pub total_le : (f g : X → ℕ) (m : NatMap X) → ((k : ℕ) (v : X) → get m k ≡ Some v → f v ≤ g v) → total f m ≤ total g m
@@ -135,10 +129,7 @@ module _ {X : Type 0} where
 
   -- values of equal sizes have equal sums
   pub total_same : (f g : X → ℕ) (m : NatMap X) → ((k : ℕ) (v : X) → get m k ≡ Some v → f v ≡ g v) → total f m ≡ total g m
-  total_same f g m each =
-      let up = total_le f g m (λ k v there. let e = each k v there in omega arith) in
-      let down = total_le g f m (λ k v there. let e = each k v there in omega arith) in
-      omega arith
+  total_same f g m each = grind (arith, nat_tests, total_le)
 
   -- sizes of 0 add up to 0
   pub total-zero : (m : NatMap X) → total (λ v. 0) m ≡ 0
@@ -177,9 +168,7 @@ module _ {X Y : Type 0} where
 
   -- a picked map's sum is within that of the map, where each that is picked is within its own
   pub total-picked_le : (g : Y → ℕ) (f : X → ℕ) (p : X → Option Y) (m : NatMap X) → ((v : X) (y : Y) → p v ≡ Some y → g y ≤ f v) → total g (picked p m) ≤ total f m
-  total-picked_le g f p m each =
-      let within = total_le (λ v. unwrap_or (option_map g (p v)) 0) f m (λ k v there. within_by g (f v) (p v) (each v)) in
-      omega (arith, total-picked g p m)
+  total-picked_le g f p m each = grind (arith, nat_tests, total_le, within_by, total-picked)
 
 -- ---- by who pays
 
@@ -222,9 +211,7 @@ module _ {S : Type 0} (size payer : S → ℕ) where
   -- each value is within what its payer owes
   pub owed_at_le : (m : NatMap S) (d : ℕ) (s : S) (k : ℕ) → get m d ≡ Some s → payer s ≡ k → size s ≤ owed size payer m k
   unfolding owed
-  owed_at_le m d s k there e =
-      let within = total_at_le (λ s. cond (eqb (payer s) k) (size s) 0) m d s there in
-      grind (arith, nat_tests)
+  owed_at_le m d s k there e = grind (arith, nat_tests, total_at_le)
 
   -- a sum is what one payer owes and what the others owe
   pub owed_and_others : (m : NatMap S) (k : ℕ) → total size m ≡ owed size payer m k + total (λ s. cond (eqb (payer s) k) 0 (size s)) m
@@ -247,11 +234,7 @@ module _ {S : Type 0} (payer : S → ℕ) where
 
   -- what one account pays for left out, the other accounts cover the rest
   covered_by_others : {A : Type 0} (size : S → ℕ) (m : NatMap S) (accounts : NatMap A) (k : ℕ) (a : A) → Covered size m (insert accounts k a) → Covered (size_of_others size k) m accounts
-  covered_by_others size m accounts k a covered d s there free =
-      elim (eqb (payer s) k) as (λ b. eqb (payer s) k ≡ b → cond b 0 (size s) ≡ 0) [
-        | true ↦ λ _. refl
-        | false ↦ λ e. covered d s there (rw e at (get-insert accounts k a (payer s)) ∙ free)
-      ] refl
+  covered_by_others size m accounts k a covered d s there free = grind (arith, nat_tests, get-insert)
 
   -- where there are no accounts, all that is covered adds up to 0
   covered_by_none : {A : Type 0} (size : S → ℕ) (m : NatMap S) → Covered {A = A} size m empty → total size m ≡ 0
@@ -308,10 +291,7 @@ module _ {S A : Type 0} (size payer : S → ℕ) (paid : A → ℕ) (spaces : Na
 
   -- where each payer is there and pays for exactly what it owes, all is paid for exactly
   pub total-owed : ((d : ℕ) (s : S) → get spaces d ≡ Some s → IsSome (get accounts (payer s))) → ((k : ℕ) (a : A) → get accounts k ≡ Some a → owed size payer spaces k ≡ paid a) → total size spaces ≡ total paid accounts
-  total-owed payers exact =
-      let up = total_owed_le payers (λ k a there. let e = exact k a there in omega arith) in
-      let down = total_owed_ge (λ k a there. let e = exact k a there in omega arith) in
-      omega arith
+  total-owed payers exact = grind (arith, nat_tests, total_owed_le, total_owed_ge)
 
 -- the equations by which `grind` reads totals
 pub ruleset totals = (total-empty, total-insert_new, total-insert_at, total-remove, owed-empty, owed-insert_new, owed-insert_at, owed-remove, len-insert_new, len-insert_at, len-remove_at)

@@ -1,26 +1,40 @@
 -- The use of an account is what its selectors name, before and after a call.
-use Rattle.std.proofs.Common.{◌≡◌, ℕ, ◌+◌, ◌-◌, List, Some, refl, ap, nat_cmp, arith}
-use Rattle.std.specs.FinMap.{get, len-empty}
+use Rattle.std.proofs.Common.{◌≡◌, ℕ, ◌+◌, ◌-◌, List, [], ◌∷◌, Some, refl, ap, nat_cmp, arith, set}
+use Rattle.std.specs.Prelude.{None}
+use Rattle.std.specs.FinMap.{get, remove, len-empty}
 use Rattle.trade_base.specs.Page.{page_of}
 use Rattle.own_model.proofs.NewSelector.{new_selector_free}
-use Rattle.own_model.proofs.StepLemmas.{KeptByEffects}
+use Rattle.own_model.proofs.BlockLemmas.{bytes-taken, bytes-given}
+use Rattle.own_model.proofs.OwnHeapLemmas.{chunk_bytes-set}
+use Rattle.own_model.specs.BestFit.{Spot, block_size as block_for, chunk_of, taken_in, given_in}
+use Rattle.own_model.specs.Growth.{Growth, growth_of, new_hole}
+use Rattle.own_model.specs.Heap.{Block, Hole, header, bytes_in}
+use Rattle.own_model.specs.HeapStep.{with_block}
+use Rattle.own_model.specs.NatMap.{NatMap}
+use Rattle.own_model.specs.OwnHeap.{chunk_with, offset_of}
+use Rattle.std.proofs.lemmas.List.{length-set, length-append}
+use Rattle.std.proofs.lemmas.List.Sums.{sum_by-append}
+use Rattle.own_model.proofs.StepLemmas.{KeptBySessions, KeptByEffects, valid_some}
 use Rattle.own_model.proofs.TableLemmas.{run_keeps}
 pub use Rattle.own_model.proofs.ByteLemmas.{length-zeros, length-with_part}
 use Rattle.own_model.proofs.Totals.{total-empty, total-insert_new, total-insert_same, total-remove, len-insert_new, len-insert_at, len-remove_at}
 use Rattle.own_model.specs.Call.{Call}
 use Rattle.own_model.specs.OwnState.{OwnState, Object, zeros, new_selector, with_part, object_with}
-use Rattle.own_model.specs.OwnState.Object.{Dataspace, RpcObject}
-use Rattle.own_model.specs.OwnStep.{own_run, allocated, freed, poked_at, payload_poked, sliced_at, sliced_freed, own_heap_gap, cap_allocated, cap_freed}
+use Rattle.own_model.specs.OwnState.Object.{Dataspace, RpcObject, OpenSession}
+use Rattle.own_model.specs.OwnStep.{own_run, allocated, freed, poked_at, payload_poked, block_taken, chunk_added, large_at, given_back, sliced_at, sliced_freed, own_heap_gap, cap_allocated, cap_freed}
+use Rattle.own_model.specs.Account.{Account, parted_with, alloc_refusal}
+use Rattle.own_model.specs.Session.{Session, new_session, upgraded, served}
+use Rattle.std.specs.FinMap.{insert}
 use Rattle.own_model.specs.Sliced.{sliced_header, sliced_size, block_size}
-use Rattle.own_model.proofs.HeapRangeLemmas.{gap_free, new_page}
+use Rattle.own_model.proofs.HeapRangeLemmas.{gap_free, gap_free_large, new_page}
 use Rattle.own_model.specs.StartList.{Entry, StartEntry, start_state}
-use Rattle.own_model.specs.Use.{UsesWhatItHolds, object_size}
+use Rattle.own_model.specs.Use.{UsesWhatItHolds, object_size, object_caps}
 
 -- nothing is held at the start, and nothing used
 pub start_uses : (start : StartEntry) → UsesWhatItHolds (start_state start)
 start_uses start = record {
-  ram = omega (arith, total-empty object_size, total-empty block_size);
-  caps = omega (arith, len-empty nat_cmp Object, len-empty nat_cmp (List ℕ));
+  ram = omega (arith, total-empty object_size, total-empty block_size, total-empty (λ (bytes : ℕ). bytes));
+  caps = omega (arith, total-empty object_caps, len-empty nat_cmp (List ℕ), len-empty nat_cmp ℕ);
 }
 
 -- a new dataspace uses its bytes and a capability
@@ -30,7 +44,7 @@ allocated_uses n s h =
     let space = Dataspace (zeros (page_of n)) in
     let free = new_selector_free s.selectors in
     let bytes = total-insert_new object_size s.selectors key space free in
-    let count = len-insert_new s.selectors key space free in
+    let count = total-insert_new object_caps s.selectors key space free in
     record { ram = omega (arith, h.ram, bytes, length-zeros (page_of n)); caps = omega (arith, h.caps, count) }
 
 -- one that is freed gives them back
@@ -38,13 +52,19 @@ freed_uses : (selector : ℕ) (bytes : List ℕ) (s : OwnState) →
     get s.selectors selector ≡ Some (Dataspace bytes) → UsesWhatItHolds s → UsesWhatItHolds (freed selector (Some (Dataspace bytes)) s).next
 freed_uses selector bytes s there h =
     let left = total-remove object_size s.selectors selector (Dataspace bytes) there in
-    let count = len-remove_at s.selectors selector (Dataspace bytes) there in
+    let count = total-remove object_caps s.selectors selector (Dataspace bytes) there in
     record { ram = omega (arith, h.ram, left); caps = omega (arith, h.caps, count) }
 
 -- the same of what a selector names
 object_size-with : (object : Object) (offset : ℕ) (part : List ℕ) → object_size (object_with object offset part) ≡ object_size object
 object_size-with (Dataspace bytes) offset part = length-with_part bytes offset part
 object_size-with RpcObject offset part = refl
+object_size-with (OpenSession session) offset part = refl
+
+object_caps-with : (object : Object) (offset : ℕ) (part : List ℕ) → object_caps (object_with object offset part) ≡ object_caps object
+object_caps-with (Dataspace bytes) offset part = refl
+object_caps-with RpcObject offset part = refl
+object_caps-with (OpenSession session) offset part = refl
 
 -- bytes that are poked change nothing of what is held
 poked_uses : (selector offset : ℕ) (bytes : List ℕ) (object : Object) (s : OwnState) →
@@ -52,7 +72,7 @@ poked_uses : (selector offset : ℕ) (bytes : List ℕ) (object : Object) (s : O
 poked_uses selector offset bytes object s there h =
     let new = object_with object offset bytes in
     let same = total-insert_same object_size s.selectors selector new object there (object_size-with object offset bytes) in
-    let count = len-insert_at s.selectors selector new object there in
+    let count = total-insert_same object_caps s.selectors selector new object there (object_caps-with object offset bytes) in
     record { ram = omega (arith, h.ram, same); caps = omega (arith, h.caps, count) }
 
 -- bytes put over a payload's leave what it uses
@@ -85,13 +105,54 @@ sliced_freed_uses address payload s there h =
     let count = len-remove_at s.sliced address payload there in
     record { ram = omega (arith, h.ram, left); caps = omega (arith, h.caps, count) }
 
+-- ---- the heap
+
+-- blocks that change leave what a heap uses, where its chunks have as many bytes
+pub chunks_use : (s : OwnState) (i : ℕ) (blocks : List Block) (payloads : NatMap (List ℕ)) → bytes_in blocks ≡ bytes_in (chunk_of s.heap.shape.chunks i) → UsesWhatItHolds s →
+    UsesWhatItHolds (record s { heap = record s.heap { shape = record s.heap.shape { chunks = set s.heap.shape.chunks i blocks }; payloads = payloads } })
+chunks_use s i blocks payloads as_many h = record {
+  ram = omega (arith, h.ram, chunk_bytes-set s.heap.shape.chunks i blocks as_many);
+  caps = omega (arith, h.caps, length-set s.heap.shape.chunks i blocks);
+}
+
+-- a block taken uses nothing more
+taken_uses : (n : ℕ) (hole : Spot) (s : OwnState) → UsesWhatItHolds s → UsesWhatItHolds (block_taken n hole s).next
+taken_uses n hole s h =
+    chunks_use s hole.chunk (taken_in (block_for n) hole.offset (chunk_of s.heap.shape.chunks hole.chunk)) (with_block n hole s.heap).payloads
+    (bytes-taken (block_for n) hole.offset (chunk_of s.heap.shape.chunks hole.chunk)) h
+
+-- a chunk more uses its bytes and a capability
+chunk_uses : (growth : Growth) (start : ℕ) (s : OwnState) → UsesWhatItHolds s → UsesWhatItHolds (chunk_added growth start s)
+chunk_uses growth start s h =
+    let chunk = Hole growth.bytes ∷ [] in
+    record {
+      ram = omega (arith, h.ram, sum_by-append bytes_in s.heap.shape.chunks (chunk ∷ []));
+      caps = omega (arith, h.caps, length-append s.heap.shape.chunks (chunk ∷ []));
+    }
+
+-- a large block uses its bytes and a capability
+large_uses : (n start : ℕ) (s : OwnState) → alloc_refusal n s.account ≡ None → own_heap_gap (page_of n) s ≡ Some start → UsesWhatItHolds s → UsesWhatItHolds (large_at n start s).next
+large_uses n start s accepted gap h =
+    let some = valid_some n s.account accepted in
+    let free = gap_free_large s (page_of n) start gap (omega arith) in
+    let bytes = total-insert_new (λ (bytes : ℕ). bytes) s.heap.large start (page_of n) free in
+    let count = len-insert_new s.heap.large start (page_of n) free in
+    record { ram = omega (arith, h.ram, bytes); caps = omega (arith, h.caps, count) }
+
+-- and gives them back
+large_freed_uses : (address bytes : ℕ) (s : OwnState) → get s.heap.large address ≡ Some bytes → UsesWhatItHolds s → UsesWhatItHolds (given_back address (Some bytes) s).next
+large_freed_uses address bytes s there h =
+    let left = total-remove (λ (bytes : ℕ). bytes) s.heap.large address bytes there in
+    let count = len-remove_at s.heap.large address bytes there in
+    record { ram = omega (arith, h.ram, left); caps = omega (arith, h.caps, count) }
+
 -- an RPC object uses a capability
 cap_allocated_uses : (s : OwnState) → UsesWhatItHolds s → UsesWhatItHolds (cap_allocated s).next
 cap_allocated_uses s h =
     let key = new_selector s.selectors in
     let free = new_selector_free s.selectors in
     let bytes = total-insert_new object_size s.selectors key RpcObject free in
-    let count = len-insert_new s.selectors key RpcObject free in
+    let count = total-insert_new object_caps s.selectors key RpcObject free in
     record { ram = omega (arith, h.ram, bytes); caps = omega (arith, h.caps, count) }
 
 -- and gives it back
@@ -99,7 +160,7 @@ cap_freed_uses : (selector : ℕ) (s : OwnState) →
     get s.selectors selector ≡ Some RpcObject → UsesWhatItHolds s → UsesWhatItHolds (cap_freed selector (Some RpcObject) s).next
 cap_freed_uses selector s there h =
     let left = total-remove object_size s.selectors selector RpcObject there in
-    let count = len-remove_at s.selectors selector RpcObject there in
+    let count = total-remove object_caps s.selectors selector RpcObject there in
     record { ram = omega (arith, h.ram, left); caps = omega (arith, h.caps, count) }
 
 -- nothing that a call can do parts what is used from what is held
@@ -111,12 +172,47 @@ effects_use s h = record {
   detaches = λ address. record { ram = h.ram; caps = h.caps };
   pokes = λ selector offset bytes object there. poked_uses selector offset bytes object s there h;
   pokes_payload = λ address offset bytes payload there. payload_poked_uses address offset bytes payload s there h;
+  pokes_block = λ address offset bytes payload there. record { ram = h.ram; caps = h.caps };
+  takes = λ n hole best. taken_uses n hole s h;
+  grows = λ n start accepted gap.
+      let growth = growth_of n s.heap.shape s.account in
+      taken_uses n (new_hole growth s.heap.shape) (chunk_added growth start s) (chunk_uses growth start s h);
+  takes_large = λ n start large accepted gap. large_uses n start s accepted gap h;
+  gives = λ address payload there small.
+      let i = chunk_with s.heap (address - header) in
+      let offset = offset_of s.heap (address - header) in
+      chunks_use s i (given_in offset (chunk_of s.heap.shape.chunks i)) (remove s.heap.payloads address) (bytes-given offset (chunk_of s.heap.shape.chunks i)) h;
+  gives_large = λ address bytes there. large_freed_uses address bytes s there h;
   slices = λ n start accepted gap. sliced_uses n start s gap h;
   unslices = λ address payload there. sliced_freed_uses address payload s there h;
   allocates_cap = λ accepted. cap_allocated_uses s h;
   frees_cap = λ selector there. cap_freed_uses selector s there h;
 }
 
+-- a session in place of one, where the account uses as much
+replaced_uses : (s : OwnState) (selector : ℕ) (old new : Session) (account : Account) → account.ram_used ≡ s.account.ram_used → account.caps_used ≡ s.account.caps_used →
+    get s.selectors selector ≡ Some (OpenSession old) → UsesWhatItHolds s → UsesWhatItHolds (record s { account = account; selectors = insert s.selectors selector (OpenSession new) })
+replaced_uses s selector old new account ram caps there h = record {
+  ram = omega (arith, h.ram, ram, total-insert_same object_size s.selectors selector (OpenSession new) (OpenSession old) there refl);
+  caps = omega (arith, h.caps, caps, total-insert_same object_caps s.selectors selector (OpenSession new) (OpenSession old) there refl);
+}
+
+-- a session more, another in place of one, and one less use nothing of the client's account
+sessions_use : (s : OwnState) → UsesWhatItHolds s → KeptBySessions UsesWhatItHolds s
+sessions_use s h = record {
+  opens = λ wish accepted.
+      let key = new_selector s.selectors in
+      let session = OpenSession (new_session wish) in
+      let free = new_selector_free s.selectors in
+      record { ram = omega (arith, h.ram, total-insert_new object_size s.selectors key session free); caps = omega (arith, h.caps, total-insert_new object_caps s.selectors key session free) };
+  upgrades = λ selector session more there accepted. replaced_uses s selector session (upgraded session more.ram more.caps) (parted_with s.account more.ram more.caps) refl refl there h;
+  serves = λ selector session request there. replaced_uses s selector session (served session request).session s.account refl refl there h;
+  closes = λ selector session there. record {
+    ram = omega (arith, h.ram, total-remove object_size s.selectors selector (OpenSession session) there);
+    caps = omega (arith, h.caps, total-remove object_caps s.selectors selector (OpenSession session) there);
+  };
+}
+
 -- calls keep what is used equal to what is held
 pub run_uses : (entry : Entry) (calls : List Call) (s : OwnState) → UsesWhatItHolds s → UsesWhatItHolds (own_run entry calls s)
-run_uses = run_keeps UsesWhatItHolds effects_use
+run_uses = run_keeps UsesWhatItHolds effects_use sessions_use

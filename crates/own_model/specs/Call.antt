@@ -1,10 +1,10 @@
 -- The calls of a component, and the lines that make them.
-use Rattle.std.specs.Prelude.{ℕ, ◌&&◌, List, length, nat_lt, if◌then◌else◌, Option, Some, None, is_none, codes}
+use Rattle.std.specs.Prelude.{ℕ, ◌&&◌, Bool, true, false, List, length, nat_lt, if◌then◌else◌, Option, Some, None, is_none, codes}
 use Rattle.std.specs.Option.{option_map, option_and_then}
 use Rattle.std.specs.Str.{bytes_eq}
 use Rattle.own_model.specs.Text.{first_word, is_name, number_of, address_of, bytes_of_hex}
 
--- a call: one case a form
+-- a call: one case a form. A session is opened and upgraded by the text of arguments, and called by the text of a request
 pub data Call : Type 0 where
   Alloc : ℕ → Call
   Free : ℕ → Call
@@ -15,9 +15,23 @@ pub data Call : Type 0 where
   Poke : ℕ → List ℕ → Call
   Capalloc : Call
   Capfree : ℕ → Call
+  New : ℕ → Call
+  Del : ℕ → Call
   Snew : ℕ → Call
   Sdel : ℕ → Call
   Quota : Call
+  Open : List ℕ → List ℕ → Call
+  Upgrade : ℕ → List ℕ → Call
+  CallSession : ℕ → List ℕ → Call
+  Close : ℕ → Call
+
+-- a call opens a session, or is of one
+abbrev pub is_of_session : Call → Bool
+is_of_session (Open service text) = true
+is_of_session (Upgrade selector text) = true
+is_of_session (CallSession selector request) = true
+is_of_session (Close selector) = true
+is_of_session call = false
 
 -- a call, and the name of the component that makes it
 pub record Spoken : Type 0 where
@@ -45,8 +59,10 @@ call_of form arguments =
     else (if bytes_eq form (codes "poke") then option_and_then (call_of_two Poke address_of some_bytes_of_hex) arguments
     else (if bytes_eq form (codes "capalloc") && is_none arguments then Some Capalloc
     else (if bytes_eq form (codes "capfree") then option_map Capfree (option_and_then number_of arguments)
+    else (if bytes_eq form (codes "snew") then option_map Snew (option_and_then number_of arguments)
+    else (if bytes_eq form (codes "sdel") then option_map Sdel (option_and_then address_of arguments)
     else (if bytes_eq form (codes "quota") && is_none arguments then Some Quota
-    else None)))))))))
+    else None)))))))))))
 
 -- what follows the name: a form, and its arguments
 abbrev pub form_of : List ℕ → Option Call

@@ -1,12 +1,14 @@
 -- The laws of runs and of answers, as statements.
-use Rattle.std.specs.Prelude.{◌≡◌, ◌≢◌, ◌<◌, ◌≤◌, ℕ, ◌+◌, ◌^◌, ◌++◌, List, [], ◌∷◌, length, Some, None}
+use Rattle.std.specs.Prelude.{false, ◌≡◌, ◌≢◌, ◌<◌, ◌≤◌, ℕ, ◌+◌, ◌^◌, ◌++◌, List, [], ◌∷◌, length, Some, None}
 use Rattle.std.specs.FinMap.{get, len}
 use Rattle.std.specs.List.{AllByRecursion}
 use Rattle.trade_base.specs.declared.refusal.Refusal.{Refusal}
 use Rattle.trade_base.specs.declared.refusal.Refusal.TheVariants.{InvalidCap, OutOfCaps, TooManyRegions}
 use Rattle.own_model.specs.Account.{WithinLimits}
-use Rattle.own_model.specs.Call.{Call}
+use Rattle.own_model.specs.Call.{Call, is_of_session}
 use Rattle.own_model.specs.Call.Call.{Free, Attach, AttachAt, Peek, Poke, Capalloc}
+use Rattle.own_model.specs.Limits.{ram_limits, caps_limits, AreWithinLimits}
+use Rattle.own_model.specs.Routes.{Rule}
 use Rattle.own_model.specs.OwnState.{OwnState, IsLeastUnused, new_selector}
 use Rattle.own_model.specs.OwnState.Object.{Dataspace}
 use Rattle.own_model.specs.OwnStep.{own_run, own_step, script_step, refused}
@@ -102,12 +104,19 @@ LongLinesAreNoCalls = (entries : List Entry) (line : List ℕ) → longest_line 
 -- every call leaves a server's own state
 abbrev pub ServersStay : Type 0
 ServersStay =
-    (name : List ℕ) (calls : List Call) (s : OwnState) → own_run (record { name = name; kind = Server }) calls s ≡ s
+    (name : List ℕ) (routes : List Rule) (calls : List Call) (s : OwnState) →
+    own_run (record { name = name; kind = Server; routes = routes }) calls s ≡ s
 
--- no call changes the limits of its caller's account
+-- no call changes the limits of its caller and of the caller's open sessions together
 abbrev pub StepKeepsLimits : Type 0
 StepKeepsLimits =
     (entry : Entry) (call : Call) (s : OwnState) →
+    (ram_limits (own_step entry call s).next ≡ ram_limits s) × (caps_limits (own_step entry call s).next ≡ caps_limits s)
+
+-- nor the limits of its caller's account alone, but for calls of sessions
+abbrev pub OthersKeepOwnLimits : Type 0
+OthersKeepOwnLimits =
+    (entry : Entry) (call : Call) (s : OwnState) → is_of_session call ≡ false →
     ((own_step entry call s).next.account.ram_limit ≡ s.account.ram_limit)
     × ((own_step entry call s).next.account.caps_limit ≡ s.account.caps_limit)
 
@@ -120,6 +129,11 @@ CapallocLacksCapsAlone =
 abbrev pub StepKeepsWithinLimits : Type 0
 StepKeepsWithinLimits =
     (entry : Entry) (call : Call) (s : OwnState) → WithinLimits s.account → WithinLimits (own_step entry call s).next.account
+
+-- nor the account of one of the caller's sessions
+abbrev pub StepKeepsAllWithin : Type 0
+StepKeepsAllWithin =
+    (entry : Entry) (call : Call) (s : OwnState) → AreWithinLimits s → AreWithinLimits (own_step entry call s).next
 
 -- no calls overdraw an account
 abbrev pub RunKeepsWithinLimits : Type 0
@@ -197,7 +211,7 @@ BootsBalanced = (list : StartList) → Boots list → IsBalanced list.pages list
 abbrev pub RefusedInOrder : Type 0
 RefusedInOrder =
     (entry : Entry) (call : Call) (s : OwnState) → WithinLimits s.account → IsSound s →
-    refusal_in (own_step entry call s).reply ≡ first_failed (whole_line entry.kind call s)
+    refusal_in (own_step entry call s).reply ≡ first_failed (whole_line entry call s)
 
 -- a refused call tells its refusal, finishes no lines and leaves the state
 abbrev pub RefusedLeaves : Type 0

@@ -1,5 +1,5 @@
 -- Finite maps from numbers.
-use Rattle.std.specs.Prelude.{ℕ, ◌+◌, ◌-◌, ◌==◌, nat_le, cond, List, [], ◌∷◌, if◌then◌else◌, Option, Some, None, sum_by}
+use Rattle.std.specs.Prelude.{ℕ, ◌+◌, ◌-◌, ◌==◌, nat_le, cond, List, [], ◌∷◌, if◌then◌else◌, Option, Some, None, ◌++◌, sum_by}
 use Rattle.std.specs.Ordering.{nat_cmp}
 use Rattle.std.specs.List.{filter_map}
 use Rattle.std.specs.Option.{option_map}
@@ -16,6 +16,10 @@ picked f m = from_entries (filter_map (λ e. option_map (λ y. (e.0, y)) (f e.1)
 -- what a map has, each under a key that is so much lower; what has a key below that is left out
 unfoldable pub moved_down : {X : Type 0} → ℕ → NatMap X → NatMap X
 moved_down by m = from_entries (filter_map (λ e. if nat_le by e.0 then Some (e.0 - by, e.1) else None) (entries m))
+
+-- what two maps have; a key of both has what it has in the first
+unfoldable pub joined : {X : Type 0} → NatMap X → NatMap X → NatMap X
+joined m n = from_entries (entries m ++ entries n)
 
 -- the sum of f over what a map holds
 unfoldable pub total : {X : Type 0} → (X → ℕ) → NatMap X → ℕ

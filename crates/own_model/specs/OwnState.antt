@@ -2,29 +2,37 @@
 use Rattle.std.specs.Prelude.{◌≡◌, ℕ, ◌+◌, ◌/◌, ◌<◌, List, [], length, Bool, nat_le, if◌then◌else◌, Option, Some, None, IsSome, replicate}
 use Rattle.std.specs.FinMap.{get, keys}
 use Rattle.trade_base.specs.Bytes.{with_bytes}
-use Rattle.own_model.specs.NatMap.{NatMap, least_gap}
+use Rattle.own_model.specs.NatMap.{NatMap, joined, least_gap}
 use Rattle.own_model.specs.Account.{Account}
+use Rattle.own_model.specs.OwnHeap.{OwnHeap, ranges_of_heap}
 use Rattle.own_model.specs.Region.{Region}
+use Rattle.own_model.specs.Session.{Session}
 use Rattle.own_model.specs.Sliced.{ranges_of_blocks}
 
--- what a selector names: a dataspace, by its bytes, or an RPC object, which is a capability alone
+-- what a selector names: a dataspace, by its bytes, an RPC object, which is a capability alone, or a session
 pub data Object : Type 0 where
   Dataspace : List ℕ → Object
   RpcObject : Object
+  OpenSession : Session → Object
 
--- a component's account, what its selectors name, its regions by their start addresses, each of a selector,
+-- a component's account, what its selectors name, its regions by their start addresses, each of a selector, its heap,
 -- its sliced blocks by the addresses of their payloads, each by its payload's bytes, and whether it has exited.
 -- A server has its account alone
 pub record OwnState : Type 0 where
   pub account : Account
   pub selectors : NatMap Object
   pub regions : NatMap Region
+  pub heap : OwnHeap
   pub sliced : NatMap (List ℕ)
   pub gone : Bool
 
--- what stands in the heap window, as ranges of pages by their starts
+-- Q holds of each session that a selector names
+abbrev pub EachSession : (Session → Type 0) → OwnState → Type 0
+EachSession Q s = (selector : ℕ) (session : Session) → get s.selectors selector ≡ Some (OpenSession session) → Q session
+
+-- what stands in the heap window: sliced blocks, chunks and large blocks, as ranges of pages by their starts
 abbrev pub heap_ranges : OwnState → NatMap Region
-heap_ranges s = ranges_of_blocks s.sliced
+heap_ranges s = joined (ranges_of_blocks s.sliced) (ranges_of_heap s.heap)
 
 -- so many zero bytes
 unfoldable pub zeros : ℕ → List ℕ
@@ -43,12 +51,21 @@ with_part bytes offset part =
 abbrev pub bytes_named : Option Object → List ℕ
 bytes_named (Some (Dataspace bytes)) = bytes
 bytes_named (Some RpcObject) = []
+bytes_named (Some (OpenSession session)) = []
 bytes_named None = []
 
 -- what a selector names, with a part put over its bytes at an offset
 abbrev pub object_with : Object → ℕ → List ℕ → Object
 object_with (Dataspace bytes) offset part = Dataspace (with_part bytes offset part)
 object_with RpcObject offset part = RpcObject
+object_with (OpenSession session) offset part = OpenSession session
+
+-- the session that a selector names, if it names one
+abbrev pub session_named : Option Object → Option Session
+session_named (Some (OpenSession session)) = Some session
+session_named (Some (Dataspace bytes)) = None
+session_named (Some RpcObject) = None
+session_named None = None
 
 -- a selector is the least positive number that is not in use
 pub record IsLeastUnused {X : Type 0} (selectors : NatMap X) (selector : ℕ) : Type 0 where

@@ -1,23 +1,28 @@
 -- What a call does to its caller's own state, and what it is answered; and runs of calls.
-use Rattle.std.specs.Prelude.{ℕ, ◌+◌, ◌-◌, ◌/◌, ◌&&◌, List, [], ◌∷◌, length, nat_lt, nat_le, if◌then◌else◌, Option, Some, None}
+use Rattle.std.specs.Prelude.{ℕ, ◌+◌, ◌-◌, ◌/◌, ◌&&◌, List, [], ◌∷◌, length, nat_lt, nat_le, if◌then◌else◌, Option, Some, None, Result, Ok, Err}
 use Rattle.std.specs.FinMap.{get, insert, remove}
 use Rattle.trade_base.specs.declared.refusal.Refusal.{Refusal}
-use Rattle.trade_base.specs.declared.refusal.Refusal.TheVariants.{NotAScript, Gone, InvalidSize, InvalidCap, OutOfRam, PageFault}
-use Rattle.trade_base.specs.Page.{page_of}
-use Rattle.own_model.specs.Account.{shortage, charged, credited}
-pub use Rattle.own_model.specs.Account.{alloc_refusal}
-pub use Rattle.trade_base.specs.Page.{is_valid_size}
+use Rattle.trade_base.specs.declared.refusal.Refusal.TheVariants.{NotAScript, Gone, BadArgs, InvalidSize, InvalidCap, InvalidSession, OutOfRam, PageFault}
+use Rattle.trade_base.specs.Page.{page_of, is_valid_size}
+use Rattle.own_model.specs.Account.{shortage, charged, credited, parted_with, alloc_refusal}
 use Rattle.own_model.specs.Call.{Call}
-use Rattle.own_model.specs.Call.Call.{Alloc, Free, Attach, AttachAt, Detach, Peek, Poke, Capalloc, Capfree, Snew, Sdel, Quota}
-use Rattle.own_model.specs.OwnState.{OwnState, Object, zeros, new_selector, pages_in, with_part, object_with, heap_ranges}
-use Rattle.own_model.specs.OwnState.Object.{Dataspace, RpcObject}
+use Rattle.own_model.specs.Call.Call.{Alloc, Free, Attach, AttachAt, Detach, Peek, Poke, Capalloc, Capfree, New, Del, Snew, Sdel, Quota, Open, Upgrade, CallSession, Close}
+use Rattle.own_model.specs.OwnState.{OwnState, Object, zeros, new_selector, pages_in, with_part, object_with, session_named, heap_ranges}
+use Rattle.own_model.specs.OwnState.Object.{Dataspace, RpcObject, OpenSession}
+use Rattle.own_model.specs.BestFit.{Spot}
+use Rattle.own_model.specs.Growth.{Growth, is_large, hole_for, new_hole, growth_of, heap_refusal}
+use Rattle.own_model.specs.HeapStep.{with_block, without_block, with_chunk, with_large, without_large, with_poked}
+use Rattle.own_model.specs.OwnHeap.{payload_start}
 use Rattle.own_model.specs.HeapWindow.{heap_gap, largest_machine}
 use Rattle.own_model.specs.Place.{Place, found, bytes_from}
-use Rattle.own_model.specs.Place.Place.{InDataspace, InPayload}
+use Rattle.own_model.specs.Place.Place.{InDataspace, InPayload, InBlock}
 use Rattle.own_model.specs.Sliced.{sliced_header, sliced_size, sliced_refusal, block_size}
 use Rattle.own_model.specs.Region.{most_regions, without, user_gap, attach_refusal, attach_at_refusal, detach_refusal}
 use Rattle.own_model.specs.Reply.{Reply, LogLine}
-use Rattle.own_model.specs.Reply.Reply.{Selected, Attached, Bytes, Done, Quotas, Refused}
+use Rattle.own_model.specs.Reply.Reply.{Selected, Attached, Bytes, Done, Quotas, Told, Refused}
+use Rattle.own_model.specs.Donation.{raised}
+use Rattle.own_model.specs.Session.{Session, Wish, Served, wish, donation_refusal, new_session, upgraded, served}
+use Rattle.own_model.specs.SessionArgs.{Arguments, arguments_of}
 use Rattle.own_model.specs.StartList.{Entry, Kind}
 use Rattle.own_model.specs.StartList.Kind.{Script, Server}
 
@@ -64,6 +69,7 @@ freed selector (Some (Dataspace bytes)) s = record {
   };
 }
 freed selector (Some RpcObject) s = refused s InvalidCap
+freed selector (Some (OpenSession session)) s = refused s InvalidCap
 freed selector None s = refused s InvalidCap
 
 -- so many pages of what the selector names stand from an address on
@@ -80,6 +86,7 @@ attached_first selector (Some (Dataspace bytes)) s =
     unless (attach_refusal most_regions s.regions (pages_in bytes)) s
     (with_region selector (pages_in bytes) (user_gap s.regions (pages_in bytes)) s)
 attached_first selector (Some RpcObject) s = refused s InvalidCap
+attached_first selector (Some (OpenSession session)) s = refused s InvalidCap
 attached_first selector None s = refused s InvalidCap
 
 -- the dataspace that the selector names is attached at an address
@@ -88,6 +95,7 @@ attached_at selector address (Some (Dataspace bytes)) s =
     unless (attach_at_refusal most_regions s.regions (pages_in bytes) address) s
     (with_region selector (pages_in bytes) address s)
 attached_at selector address (Some RpcObject) s = refused s InvalidCap
+attached_at selector address (Some (OpenSession session)) s = refused s InvalidCap
 attached_at selector address None s = refused s InvalidCap
 
 -- the region that starts at an address goes
@@ -125,10 +133,20 @@ payload_poked address offset bytes (Some payload) s = record {
 }
 payload_poked address offset bytes None s = refused s PageFault
 
+-- the same of a payload of the heap
+abbrev pub block_poked : ℕ → ℕ → List ℕ → Option (List ℕ) → OwnState → Outcome
+block_poked address offset bytes (Some payload) s = record {
+  reply = Done;
+  lines = [];
+  next = record s { heap = with_poked address payload offset bytes s.heap };
+}
+block_poked address offset bytes None s = refused s PageFault
+
 -- bytes are put at the place that a range of addresses finds
 abbrev pub poked : List ℕ → Option Place → OwnState → Outcome
 poked bytes (Some (InDataspace selector offset)) s = poked_at selector offset bytes (get s.selectors selector) s
 poked bytes (Some (InPayload address offset)) s = payload_poked address offset bytes (get s.sliced address) s
+poked bytes (Some (InBlock address offset)) s = block_poked address offset bytes (get s.heap.payloads address) s
 poked bytes None s = refused s PageFault
 
 -- an RPC object under the new selector
@@ -150,7 +168,54 @@ cap_freed selector (Some RpcObject) s = record {
   next = record s { account = credited s.account 0 1; selectors = remove s.selectors selector };
 }
 cap_freed selector (Some (Dataspace bytes)) s = refused s InvalidCap
+cap_freed selector (Some (OpenSession session)) s = refused s InvalidCap
 cap_freed selector None s = refused s InvalidCap
+
+-- a block of the heap for n bytes, all zero, in a hole
+abbrev pub block_taken : ℕ → Spot → OwnState → Outcome
+block_taken n hole s = record {
+  reply = Attached (payload_start s.heap hole);
+  lines = [];
+  next = record s { heap = with_block n hole s.heap };
+}
+
+-- a chunk more, charged, which starts at an address
+abbrev pub chunk_added : Growth → ℕ → OwnState → OwnState
+chunk_added growth start s = record s { account = charged s.account growth.bytes 1; heap = with_chunk growth start s.heap }
+
+-- and a block taken from it
+abbrev pub grown_at : ℕ → Growth → ℕ → OwnState → Outcome
+grown_at n growth start s = block_taken n (new_hole growth s.heap.shape) (chunk_added growth start s)
+
+-- the same at a gap of the heap window, as for sliced blocks
+abbrev pub grown_in : ℕ → Growth → Option ℕ → OwnState → Outcome
+grown_in n growth (Some start) s = grown_at n growth start s
+grown_in n growth None s = refused s OutOfRam
+
+-- a large block of n bytes in whole pages, all zero, at an address
+abbrev pub large_at : ℕ → ℕ → OwnState → Outcome
+large_at n start s = record {
+  reply = Attached start;
+  lines = [];
+  next = record s { account = charged s.account (page_of n) 1; heap = with_large n start s.heap };
+}
+
+abbrev pub large_in : ℕ → Option ℕ → OwnState → Outcome
+large_in n (Some start) s = large_at n start s
+large_in n None s = refused s OutOfRam
+
+-- the block whose payload starts at an address goes: a large block of so many bytes, with a credit, or a block of a chunk
+abbrev pub given_back : ℕ → Option ℕ → OwnState → Outcome
+given_back address (Some bytes) s = record {
+  reply = Done;
+  lines = [];
+  next = record s { account = credited s.account bytes 1; heap = without_large address s.heap };
+}
+given_back address None s = record { reply = Done; lines = []; next = record s { heap = without_block address s.heap } }
+
+abbrev pub deleted : ℕ → Option (List ℕ) → OwnState → Outcome
+deleted address (Some payload) s = given_back address (get s.heap.large address) s
+deleted address None s = refused s PageFault
 
 -- a sliced block of n bytes, all zero, whose pages start at an address
 abbrev pub sliced_at : ℕ → ℕ → OwnState → Outcome
@@ -181,29 +246,109 @@ sliced_freed address None s = refused s PageFault
 abbrev pub own_heap_gap : ℕ → OwnState → Option ℕ
 own_heap_gap bytes s = heap_gap largest_machine (heap_ranges s) (bytes / 4096)
 
+-- a block for fewer bytes than a large block's, with the best hole for it, if there is one: the heap grows where there is none
+abbrev pub small_new : ℕ → Option Spot → OwnState → Outcome
+small_new n (Some hole) s = block_taken n hole s
+small_new n None s =
+    let growth = growth_of n s.heap.shape s.account in
+    grown_in n growth (own_heap_gap growth.bytes s) s
+
+-- a block for n bytes
+abbrev pub newed : ℕ → OwnState → Outcome
+newed n s = if is_large n then large_in n (own_heap_gap (page_of n) s) s else small_new n (hole_for n s.heap.shape) s
+
 -- the use and the limits of the caller's account
 abbrev pub told_quota : OwnState → Outcome
 told_quota s = record { reply = Quotas s.account; lines = []; next = s }
 
--- what a call of a script does
-abbrev pub script_step : Call → OwnState → Outcome
-script_step (Alloc n) s = unless (alloc_refusal n s.account) s (allocated n s)
-script_step (Free selector) s = freed selector (get s.selectors selector) s
-script_step (Attach selector) s = attached_first selector (get s.selectors selector) s
-script_step (AttachAt selector address) s = attached_at selector address (get s.selectors selector) s
-script_step (Detach address) s = unless (detach_refusal s.regions address) s (region_detached address s)
-script_step (Peek address count) s = unless (count_refusal count) s (peeked count (found s address count) s)
-script_step (Poke address bytes) s =
+-- a session that is asked for, under the new selector: what is donated for it leaves the client's limits
+abbrev pub session_opened : Wish → OwnState → Outcome
+session_opened wish s = record {
+  reply = Selected (new_selector s.selectors);
+  lines = [];
+  next = record s {
+    account = parted_with s.account wish.ram wish.caps;
+    selectors = insert s.selectors (new_selector s.selectors) (OpenSession (new_session wish));
+  };
+}
+
+abbrev pub opened_by : Result Wish Refusal → OwnState → Outcome
+opened_by (Err refusal) s = refused s refusal
+opened_by (Ok wish) s = unless (donation_refusal s.account wish.ram wish.caps) s (session_opened wish s)
+
+-- more is donated for a session
+abbrev pub session_upgraded : ℕ → Session → Arguments → OwnState → Outcome
+session_upgraded selector session more s = record {
+  reply = Done;
+  lines = [];
+  next = record s {
+    account = parted_with s.account more.ram more.caps;
+    selectors = insert s.selectors selector (OpenSession (upgraded session more.ram more.caps));
+  };
+}
+
+abbrev pub upgraded_by : ℕ → Option Session → Option Arguments → OwnState → Outcome
+upgraded_by selector (Some session) (Some more) s = unless (shortage s.account more.ram more.caps) s (session_upgraded selector session more s)
+upgraded_by selector (Some session) None s = refused s BadArgs
+upgraded_by selector None arguments s = refused s InvalidSession
+
+-- a request of a session is served
+abbrev pub session_served : ℕ → Served → OwnState → Outcome
+session_served selector o s = record {
+  reply = Told o.reply;
+  lines = o.lines;
+  next = record s { selectors = insert s.selectors selector (OpenSession o.session) };
+}
+
+abbrev pub session_called : ℕ → Option Session → List ℕ → OwnState → Outcome
+session_called selector (Some session) request s = session_served selector (served session request) s
+session_called selector None request s = refused s InvalidSession
+
+-- a session goes, and all that was donated for it comes back to the client's limits
+abbrev pub session_closed : ℕ → Option Session → OwnState → Outcome
+session_closed selector (Some session) s = record {
+  reply = Done;
+  lines = [];
+  next = record s {
+    account = raised s.account session.account.ram_limit session.account.caps_limit;
+    selectors = remove s.selectors selector;
+  };
+}
+session_closed selector None s = refused s InvalidSession
+
+-- what a call of a script does, whose name and routes its entry tells
+abbrev pub entry_step : Entry → Call → OwnState → Outcome
+entry_step entry (Alloc n) s = unless (alloc_refusal n s.account) s (allocated n s)
+entry_step entry (Free selector) s = freed selector (get s.selectors selector) s
+entry_step entry (Attach selector) s = attached_first selector (get s.selectors selector) s
+entry_step entry (AttachAt selector address) s = attached_at selector address (get s.selectors selector) s
+entry_step entry (Detach address) s = unless (detach_refusal s.regions address) s (region_detached address s)
+entry_step entry (Peek address count) s = unless (count_refusal count) s (peeked count (found s address count) s)
+entry_step entry (Poke address bytes) s =
     unless (count_refusal (length bytes)) s (poked bytes (found s address (length bytes)) s)
-script_step Capalloc s = unless (shortage s.account 0 1) s (cap_allocated s)
-script_step (Capfree selector) s = cap_freed selector (get s.selectors selector) s
-script_step (Snew n) s = unless (sliced_refusal n s.account) s (sliced_in n (own_heap_gap (sliced_size n) s) s)
-script_step (Sdel address) s = sliced_freed address (get s.sliced address) s
-script_step Quota s = told_quota s
+entry_step entry Capalloc s = unless (shortage s.account 0 1) s (cap_allocated s)
+entry_step entry (Capfree selector) s = cap_freed selector (get s.selectors selector) s
+entry_step entry (New n) s = unless (heap_refusal n s.heap.shape s.account) s (newed n s)
+entry_step entry (Del address) s = deleted address (get s.heap.payloads address) s
+entry_step entry (Snew n) s = unless (sliced_refusal n s.account) s (sliced_in n (own_heap_gap (sliced_size n) s) s)
+entry_step entry (Sdel address) s = sliced_freed address (get s.sliced address) s
+entry_step entry Quota s = told_quota s
+entry_step entry (Open service text) s = opened_by (wish entry.name entry.routes service text) s
+entry_step entry (Upgrade selector text) s = upgraded_by selector (session_named (get s.selectors selector)) (arguments_of text) s
+entry_step entry (CallSession selector request) s = session_called selector (session_named (get s.selectors selector)) request s
+entry_step entry (Close selector) s = session_closed selector (session_named (get s.selectors selector)) s
+
+-- a script without a name and without routes: no session is opened for it
+abbrev pub unrouted : Entry
+unrouted = record { name = []; kind = Script; routes = [] }
+
+-- what a call of a script does that leads along no route
+abbrev pub script_step : Call → OwnState → Outcome
+script_step call s = entry_step unrouted call s
 
 -- what a call of a component does
 abbrev pub own_step : Entry → Call → OwnState → Outcome
-own_step entry call s = unless (turned_away entry.kind s) s (script_step call s)
+own_step entry call s = unless (turned_away entry.kind s) s (entry_step entry call s)
 
 -- the own state after these calls
 abbrev pub own_run : Entry → List Call → OwnState → OwnState

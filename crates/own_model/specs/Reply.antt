@@ -5,13 +5,14 @@ use Rattle.trade_base.specs.declared.refusal.Refusal.{Refusal}
 use Rattle.trade_base.specs.Refusal.{refusal_name}
 use Rattle.own_model.specs.Account.{Account}
 
--- what a call is answered
+-- what a call is answered. A service's reply is told as it stands
 pub data Reply : Type 0 where
   Selected : ℕ → Reply
   Attached : ℕ → Reply
   Bytes : List ℕ → Reply
   Done : Reply
   Quotas : Account → Reply
+  Told : List ℕ → Reply
   Refused : Refusal → Reply
 
 -- an address in hex, with small letters and without leading zeros
@@ -39,6 +40,7 @@ reply_text (Attached address) = codes "at " ++ address_text address
 reply_text (Bytes bytes) = codes "data " ++ hex_text bytes
 reply_text Done = codes "ok"
 reply_text (Quotas account) = quota_text account
+reply_text (Told text) = text
 reply_text (Refused refusal) = refusal_name refusal
 
 -- a line that a log server finished: the label of the session, and the bytes

@@ -1,12 +1,19 @@
 -- What is true of every own state: of its dataspaces, of its regions and of what stands in the heap window.
-use Rattle.std.specs.Prelude.{◌≡◌, ◌≢◌, ℕ, ◌+◌, ◌*◌, ◌%◌, ◌≤◌, false, List, length, Some}
-use Rattle.std.specs.FinMap.{get, len}
+use Rattle.std.specs.Prelude.{◌≡◌, ◌≢◌, ℕ, ◌+◌, ◌*◌, ◌%◌, ◌/◌, ◌≤◌, false, List, length, Some, None, IsSome}
+use Rattle.std.specs.FinMap.{get, len, from_entries}
+use Rattle.std.specs.List.{AllByRecursion}
 use Rattle.own_model.specs.HeapWindow.{heap_low, heap_high, largest_machine}
+use Rattle.own_model.specs.Growth.{most_chunks, least_large}
+use Rattle.own_model.specs.Entries.{KeysDiffer}
+use Rattle.own_model.specs.Heap.{Block, bytes_in, AreBlocks}
+use Rattle.own_model.specs.HeapStep.{payload_size}
+use Rattle.std.specs.Option.{option_map}
 use Rattle.own_model.specs.NatMap.{NatMap}
+use Rattle.own_model.specs.OwnHeap.{OwnHeap, chunk_ranges, ranges_of_large, ranges_of_heap}
 use Rattle.own_model.specs.OwnState.{OwnState, Object, pages_in, heap_ranges}
 use Rattle.own_model.specs.OwnState.Object.{Dataspace}
 use Rattle.own_model.specs.Region.{Region, user_low, user_high, most_regions, overlap}
-use Rattle.own_model.specs.Sliced.{sliced_header, block_size, block_pages}
+use Rattle.own_model.specs.Sliced.{sliced_header, block_size, block_pages, ranges_of_blocks}
 
 -- the bytes are whole pages, and at least one
 pub record IsPages (bytes : List ℕ) : Type 0 where
@@ -36,15 +43,48 @@ pub record IsBlock (address : ℕ) (payload : List ℕ) : Type 0 where
   pub header : sliced_header ≤ address
   pub whole : block_size payload ≡ block_pages payload * 4096
 
+-- so many bytes are whole pages, and at least one
+pub record ArePages (bytes : ℕ) : Type 0 where
+  pub some : 1 ≤ bytes / 4096
+  pub whole : bytes ≡ bytes / 4096 * 4096
+
+-- a large block of so many bytes has whole pages, and isn't too small for one
+pub record IsLarge (bytes : ℕ) : Type 0 where
+  pub pages : ArePages bytes
+  pub least : least_large ≤ bytes
+
+-- no key is in both maps
+abbrev pub KeysApart : {X Y : Type 0} → NatMap X → NatMap Y → Type 0
+KeysApart m n = (q : ℕ) → IsSome (get m q) → get n q ≡ None
+
+-- a chunk's blocks are blocks, and fill whole pages
+pub record IsChunk (blocks : List Block) : Type 0 where
+  pub sizes : AreBlocks blocks
+  pub pages : ArePages (bytes_in blocks)
+
+-- each chunk is one and has a start of its own, they are no more than the most, each large block is one and starts with no
+-- chunk, and the payloads are those of the used blocks and the large ones, with as many bytes as these have
+pub record IsHeap (heap : OwnHeap) : Type 0 where
+  pub chunks : AllByRecursion IsChunk heap.shape.chunks
+  pub starts : length heap.starts ≡ length heap.shape.chunks
+  pub few : length heap.shape.chunks ≤ most_chunks
+  pub differ : KeysDiffer (chunk_ranges heap.starts heap.shape.chunks)
+  pub large : (start bytes : ℕ) → get heap.large start ≡ Some bytes → IsLarge bytes
+  pub apart : KeysApart (from_entries (chunk_ranges heap.starts heap.shape.chunks)) (ranges_of_large heap.large)
+  pub filled : (address : ℕ) → option_map length (get heap.payloads address) ≡ payload_size heap address
+
 -- each region is of a dataspace that a selector names, they lie apart in the user window, and there are no more than the most
 pub record AreMapped (selectors : NatMap Object) (regions : NatMap Region) : Type 0 where
   pub named : (start : ℕ) (region : Region) → get regions start ≡ Some region → NamesDataspace selectors region
   pub lie : LieApart user_low user_high regions
   pub few : len regions ≤ most_regions
 
--- each dataspace is pages, regions are mapped, each sliced block is pages, and what stands in the heap window lies apart
+-- each dataspace is pages, regions are mapped, each sliced block is pages, the heap is one, and what stands in the heap
+-- window lies apart
 pub record IsSound (s : OwnState) : Type 0 where
   pub whole : (selector : ℕ) (bytes : List ℕ) → get s.selectors selector ≡ Some (Dataspace bytes) → IsPages bytes
   pub mapped : AreMapped s.selectors s.regions
   pub blocks : (address : ℕ) (payload : List ℕ) → get s.sliced address ≡ Some payload → IsBlock address payload
+  pub heap_parts : IsHeap s.heap
+  pub starts : KeysApart (ranges_of_blocks s.sliced) (ranges_of_heap s.heap)
   pub heap : LieApart heap_low (heap_high largest_machine) (heap_ranges s)

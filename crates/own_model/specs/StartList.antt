@@ -2,17 +2,20 @@
 use Rattle.std.specs.Prelude.{ℕ, ◌*◌, false, List, [], ◌∷◌, map, codes}
 use Rattle.std.specs.FinMap as map
 use Rattle.own_model.specs.Account.{Account, opened, parted_with, Fits}
+use Rattle.own_model.specs.OwnHeap.{no_heap}
 use Rattle.own_model.specs.OwnState.{OwnState}
+use Rattle.own_model.specs.Routes.{Rule, fixed_routes}
 
 -- a script makes calls, a server answers those of others
 pub data Kind : Type 0 where
   Script : Kind
   Server : Kind
 
--- what a start list says of a component, but for its budget
+-- what a start list says of a component, but for its budget: its name, its kind, and where its wishes for sessions lead
 pub record Entry : Type 0 where
   pub name : List ℕ
   pub kind : Kind
+  pub routes : List Rule
 
 -- an entry with its budget of RAM (bytes) and capabilities
 pub record StartEntry : Type 0 where
@@ -31,7 +34,7 @@ entries_of list = map (λ start. start.entry) list.starts
 
 -- a component starts with its budget and nothing else
 abbrev pub start_state : StartEntry → OwnState
-start_state start = record { account = opened start.ram start.caps; selectors = map.empty; regions = map.empty; sliced = map.empty; gone = false }
+start_state start = record { account = opened start.ram start.caps; selectors = map.empty; regions = map.empty; heap = no_heap; sliced = map.empty; gone = false }
 
 abbrev pub start_states : StartList → List OwnState
 start_states list = map start_state list.starts
@@ -60,9 +63,9 @@ abbrev pub machine_a : StartList
 machine_a = record {
   pages = 64;
   caps = 64;
-  starts = record { entry = record { name = codes "log"; kind = Server }; ram = 16384; caps = 8 }
-      ∷ record { entry = record { name = codes "files"; kind = Server }; ram = 16384; caps = 8 }
-      ∷ record { entry = record { name = codes "alice"; kind = Script }; ram = 65536; caps = 16 }
-      ∷ record { entry = record { name = codes "bob"; kind = Script }; ram = 65536; caps = 16 }
+  starts = record { entry = record { name = codes "log"; kind = Server; routes = fixed_routes }; ram = 16384; caps = 8 }
+      ∷ record { entry = record { name = codes "files"; kind = Server; routes = fixed_routes }; ram = 16384; caps = 8 }
+      ∷ record { entry = record { name = codes "alice"; kind = Script; routes = fixed_routes }; ram = 65536; caps = 16 }
+      ∷ record { entry = record { name = codes "bob"; kind = Script; routes = fixed_routes }; ram = 65536; caps = 16 }
       ∷ [];
 }

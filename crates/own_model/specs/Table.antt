@@ -3,19 +3,24 @@ use Rattle.std.specs.Prelude.{ℕ, ◌+◌, ◌&&◌, Bool, true, false, not, Li
 use Rattle.std.specs.FinMap.{get, len}
 use Rattle.trade_base.specs.Page.{page_of, is_valid_size}
 use Rattle.trade_base.specs.declared.refusal.Refusal.{Refusal}
-use Rattle.trade_base.specs.declared.refusal.Refusal.TheVariants.{NotAScript, Gone, InvalidSize, InvalidCap, OutOfRam, OutOfCaps, RegionConflict, TooManyRegions, PageFault}
+use Rattle.trade_base.specs.declared.refusal.Refusal.TheVariants.{NotAScript, Gone, InvalidSize, InvalidCap, InvalidSession, BadArgs, ServiceDenied, InsufficientRamQuota, InsufficientCapQuota, OutOfRam, OutOfCaps, RegionConflict, TooManyRegions, PageFault, TooManyChunks}
 use Rattle.own_model.specs.Account.{Account}
+use Rattle.own_model.specs.BestFit.{Spot, block_size}
 use Rattle.own_model.specs.Call.{Call}
-use Rattle.own_model.specs.Call.Call.{Alloc, Free, Attach, AttachAt, Detach, Peek, Poke, Capalloc, Capfree, Snew, Sdel, Quota}
-use Rattle.own_model.specs.OwnState.{OwnState, Object, pages_in, bytes_named}
-use Rattle.own_model.specs.OwnState.Object.{Dataspace, RpcObject}
+use Rattle.own_model.specs.Call.Call.{Alloc, Free, Attach, AttachAt, Detach, Peek, Poke, Capalloc, Capfree, New, Del, Snew, Sdel, Quota, Open, Upgrade, CallSession, Close}
+use Rattle.own_model.specs.Growth.{most_chunks, is_large, hole_for, growth_of}
+use Rattle.own_model.specs.OwnState.{OwnState, Object, pages_in, bytes_named, session_named}
+use Rattle.own_model.specs.OwnState.Object.{Dataspace, RpcObject, OpenSession}
 use Rattle.own_model.specs.OwnStep.{most_bytes, own_heap_gap}
 use Rattle.own_model.specs.Place.{found}
 use Rattle.own_model.specs.Region.{most_regions, user_low, user_high, can_stand, first_gap}
 use Rattle.own_model.specs.Reply.{Reply}
-use Rattle.own_model.specs.Reply.Reply.{Selected, Attached, Bytes, Done, Quotas, Refused}
+use Rattle.own_model.specs.Reply.Reply.{Selected, Attached, Bytes, Done, Quotas, Told, Refused}
+use Rattle.own_model.specs.Routes.{Rule, provider}
+use Rattle.own_model.specs.Session.{Session, session_ram, session_caps, given_by}
+use Rattle.own_model.specs.SessionArgs.{Arguments, arguments_of}
 use Rattle.own_model.specs.Sliced.{sliced_header, sliced_size}
-use Rattle.own_model.specs.StartList.{Kind}
+use Rattle.own_model.specs.StartList.{Entry, Kind}
 use Rattle.own_model.specs.StartList.Kind.{Script, Server}
 
 -- a refusal, and whether there is reason for it
@@ -42,11 +47,13 @@ lacks_caps a caps = nat_lt a.caps_limit (a.caps_used + caps)
 abbrev pub is_dataspace : Option Object → Bool
 is_dataspace (Some (Dataspace bytes)) = true
 is_dataspace (Some RpcObject) = false
+is_dataspace (Some (OpenSession session)) = false
 is_dataspace None = false
 
 abbrev pub is_rpc_object : Option Object → Bool
 is_rpc_object (Some (Dataspace bytes)) = false
 is_rpc_object (Some RpcObject) = true
+is_rpc_object (Some (OpenSession session)) = false
 is_rpc_object None = false
 
 -- the pages of the dataspace that a selector names
@@ -57,33 +64,71 @@ pages_named object = pages_in (bytes_named object)
 abbrev pub is_bad_count : ℕ → Bool
 is_bad_count count = not (nat_lt 0 count && nat_le count most_bytes)
 
--- a script's line for each call. A sliced block finds no gap only where no machine has the RAM that is in use
-abbrev pub line_of : Call → OwnState → List Test
-line_of (Alloc n) s =
+-- the end of a line for what takes so many bytes and a capability, and stands at a gap of the heap window: it finds none only
+-- where no machine has the RAM that is in use
+abbrev pub memory_line : ℕ → Option ℕ → OwnState → List Test
+memory_line bytes gap s = when (lacks_ram s.account bytes) OutOfRam ∷ when (lacks_caps s.account 1) OutOfCaps ∷ when (is_none gap) OutOfRam ∷ []
+
+-- that for a block of the heap, with the best hole for it, if there is one: where there is none, a chunk of the block's own
+-- pages decides
+abbrev pub small_line : ℕ → Option Spot → OwnState → List Test
+small_line n (Some hole) s = []
+small_line n None s =
+    when (nat_le most_chunks (length s.heap.shape.chunks)) TooManyChunks
+    ∷ memory_line (page_of (block_size n)) (own_heap_gap (growth_of n s.heap.shape s.account).bytes s) s
+
+abbrev pub new_line : ℕ → OwnState → List Test
+new_line n s = if is_large n then memory_line (page_of n) (own_heap_gap (page_of n) s) s else small_line n (hole_for n s.heap.shape) s
+
+-- the line for a session of a service: the arguments, the route, the client's account, and the least donation
+abbrev pub open_line : List Rule → List ℕ → Option Arguments → OwnState → List Test
+open_line routes service arguments s =
+    when (is_none arguments) BadArgs ∷ when (is_none (provider routes service (given_by arguments).label)) ServiceDenied
+    ∷ when (lacks_ram s.account (given_by arguments).ram) OutOfRam ∷ when (lacks_caps s.account (given_by arguments).caps) OutOfCaps
+    ∷ when (nat_lt (given_by arguments).ram session_ram) InsufficientRamQuota
+    ∷ when (nat_lt (given_by arguments).caps session_caps) InsufficientCapQuota ∷ []
+
+-- the line for more of a donation
+abbrev pub upgrade_line : Option Session → Option Arguments → OwnState → List Test
+upgrade_line session arguments s =
+    when (is_none session) InvalidSession ∷ when (is_none arguments) BadArgs
+    ∷ when (lacks_ram s.account (given_by arguments).ram) OutOfRam ∷ when (lacks_caps s.account (given_by arguments).caps) OutOfCaps ∷ []
+
+-- a script's line for each call
+abbrev pub line_of : Entry → Call → OwnState → List Test
+line_of entry (Alloc n) s =
     when (not (is_valid_size n)) InvalidSize ∷ when (lacks_ram s.account (page_of n)) OutOfRam ∷ when (lacks_caps s.account 1) OutOfCaps ∷ []
-line_of (Free selector) s = when (not (is_dataspace (get s.selectors selector))) InvalidCap ∷ []
-line_of (Attach selector) s =
+line_of entry (Free selector) s = when (not (is_dataspace (get s.selectors selector))) InvalidCap ∷ []
+line_of entry (Attach selector) s =
     when (not (is_dataspace (get s.selectors selector))) InvalidCap ∷ when (nat_le most_regions (len s.regions)) TooManyRegions
     ∷ when (is_none (first_gap user_low user_high s.regions (pages_named (get s.selectors selector)))) RegionConflict ∷ []
-line_of (AttachAt selector address) s =
+line_of entry (AttachAt selector address) s =
     when (not (is_dataspace (get s.selectors selector))) InvalidCap ∷ when (nat_le most_regions (len s.regions)) TooManyRegions
     ∷ when (not (can_stand user_low user_high s.regions (pages_named (get s.selectors selector)) address)) RegionConflict ∷ []
-line_of (Detach address) s = when (is_none (get s.regions address)) PageFault ∷ []
-line_of (Peek address count) s = when (is_bad_count count) InvalidSize ∷ when (is_none (found s address count)) PageFault ∷ []
-line_of (Poke address bytes) s =
+line_of entry (Detach address) s = when (is_none (get s.regions address)) PageFault ∷ []
+line_of entry (Peek address count) s = when (is_bad_count count) InvalidSize ∷ when (is_none (found s address count)) PageFault ∷ []
+line_of entry (Poke address bytes) s =
     when (is_bad_count (length bytes)) InvalidSize ∷ when (is_none (found s address (length bytes))) PageFault ∷ []
-line_of Capalloc s = when (lacks_caps s.account 1) OutOfCaps ∷ []
-line_of (Capfree selector) s = when (not (is_rpc_object (get s.selectors selector))) InvalidCap ∷ []
-line_of (Snew n) s =
-    when (not (nat_lt 0 n && is_valid_size (sliced_header + n))) InvalidSize ∷ when (lacks_ram s.account (sliced_size n)) OutOfRam
-    ∷ when (lacks_caps s.account 1) OutOfCaps ∷ when (is_none (own_heap_gap (sliced_size n) s)) OutOfRam ∷ []
-line_of (Sdel address) s = when (is_none (get s.sliced address)) PageFault ∷ []
-line_of Quota s = []
+line_of entry Capalloc s = when (lacks_caps s.account 1) OutOfCaps ∷ []
+line_of entry (Capfree selector) s = when (not (is_rpc_object (get s.selectors selector))) InvalidCap ∷ []
+line_of entry (New n) s = when (not (is_valid_size n)) InvalidSize ∷ new_line n s
+line_of entry (Del address) s = when (is_none (get s.heap.payloads address)) PageFault ∷ []
+line_of entry (Snew n) s =
+    when (not (nat_lt 0 n && is_valid_size (sliced_header + n))) InvalidSize ∷ memory_line (sliced_size n) (own_heap_gap (sliced_size n) s) s
+line_of entry (Sdel address) s = when (is_none (get s.sliced address)) PageFault ∷ []
+line_of entry Quota s = []
+line_of entry (Open service text) s = open_line entry.routes service (arguments_of text) s
+line_of entry (Upgrade selector text) s = upgrade_line (session_named (get s.selectors selector)) (arguments_of text) s
+line_of entry (CallSession selector request) s = when (is_none (session_named (get s.selectors selector))) InvalidSession ∷ []
+line_of entry (Close selector) s = when (is_none (session_named (get s.selectors selector))) InvalidSession ∷ []
 
--- any component's line: a server's, one's that has exited, or else the call's
-abbrev pub whole_line : Kind → Call → OwnState → List Test
-whole_line Server call s = when true NotAScript ∷ []
-whole_line Script call s = when s.gone Gone ∷ line_of call s
+-- any component's line, by its kind: a server's, one's that has exited, or else the call's
+abbrev pub line_by : Kind → Entry → Call → OwnState → List Test
+line_by Server entry call s = when true NotAScript ∷ []
+line_by Script entry call s = when s.gone Gone ∷ line_of entry call s
+
+abbrev pub whole_line : Entry → Call → OwnState → List Test
+whole_line entry call s = line_by entry.kind entry call s
 
 -- the refusal that a reply tells, if it tells one
 abbrev pub refusal_in : Reply → Option Refusal
@@ -92,4 +137,5 @@ refusal_in (Attached address) = None
 refusal_in (Bytes bytes) = None
 refusal_in Done = None
 refusal_in (Quotas account) = None
+refusal_in (Told text) = None
 refusal_in (Refused refusal) = Some refusal

@@ -1,7 +1,7 @@
 -- Lines, words, names, numbers, addresses and hex.
 use Rattle.std.specs.Prelude.{ℕ, ◌+◌, ◌-◌, ◌*◌, ◌==◌, ◌&&◌, ◌||◌, Bool, List, [], ◌∷◌, length, take, drop, codes, nat_le, if◌then◌else◌, Option, Some, None}
 use Rattle.std.specs.List.{list_all, slice_split}
-use Rattle.std.specs.Option.{option_map, option_and_then}
+use Rattle.std.specs.Option.{option_map, option_and_then, unwrap_or}
 use Rattle.std.specs.Char.{is_ascii_alphanumeric}
 use Rattle.std.specs.Str.{bytes_eq}
 pub use Rattle.trade_base.specs.Amount.{number_of}
@@ -66,3 +66,7 @@ bytes_of_hex [] = Some []
 bytes_of_hex (digit ∷ []) = None
 bytes_of_hex (high ∷ low ∷ rest) =
     option_and_then (λ byte. option_map (λ bytes. byte ∷ bytes) (bytes_of_hex rest)) (byte_of_hex high low)
+
+-- the same, or nothing where a text isn't that
+abbrev pub hex_bytes : List ℕ → List ℕ
+hex_bytes text = unwrap_or (bytes_of_hex text) []

@@ -6,6 +6,7 @@ use Rattle.std.specs.FinMap as map
 use Rattle.trade_base.specs.declared.refusal.Refusal.TheVariants.{BadLine, UnknownComponent}
 use Rattle.own_model.specs.Account.{opened}
 use Rattle.own_model.specs.Call.{Call, Spoken, spoken}
+use Rattle.own_model.specs.OwnHeap.{no_heap}
 use Rattle.own_model.specs.OwnState.{OwnState}
 use Rattle.own_model.specs.OwnStep.{Outcome, own_step, own_run}
 use Rattle.own_model.specs.Reply.{Reply, reply_text, log_text}
@@ -28,13 +29,13 @@ own_part component (made ∷ rest) =
 
 -- a number that the list doesn't have is a server without anything
 abbrev pub nobody : Entry
-nobody = record { name = []; kind = Server }
+nobody = record { name = []; kind = Server; routes = [] }
 
 abbrev pub entry_at : List Entry → ℕ → Entry
 entry_at entries component = slice_index_or entries component nobody
 
 abbrev pub nothing : OwnState
-nothing = record { account = opened 0 0; selectors = map.empty; regions = map.empty; sliced = map.empty; gone = false }
+nothing = record { account = opened 0 0; selectors = map.empty; regions = map.empty; heap = no_heap; sliced = map.empty; gone = false }
 
 abbrev pub state_at : List OwnState → ℕ → OwnState
 state_at states component = slice_index_or states component nothing

@@ -1,17 +1,40 @@
 -- What an account's use is made of.
-use Rattle.std.specs.Prelude.{◌≡◌, ℕ, ◌+◌, length}
+use Rattle.std.specs.Prelude.{◌≡◌, ℕ, ◌+◌, length, sum_by}
 use Rattle.std.specs.FinMap.{len}
+use Rattle.own_model.specs.Heap.{bytes_in}
 use Rattle.own_model.specs.NatMap.{total}
+use Rattle.own_model.specs.OwnHeap.{OwnHeap}
 use Rattle.own_model.specs.OwnState.{OwnState, Object}
+use Rattle.own_model.specs.Session.{Session, session_ram, session_caps}
 use Rattle.own_model.specs.Sliced.{block_size}
-use Rattle.own_model.specs.OwnState.Object.{Dataspace, RpcObject}
+use Rattle.own_model.specs.OwnState.Object.{Dataspace, RpcObject, OpenSession}
 
 -- the bytes of what a selector names
 abbrev pub object_size : Object → ℕ
 object_size (Dataspace bytes) = length bytes
 object_size RpcObject = 0
+object_size (OpenSession session) = 0
 
--- the account uses the bytes of what its selectors name and of its sliced blocks, and a capability for each, and no more
+-- the capabilities of what a selector names: a session pays for itself
+abbrev pub object_caps : Object → ℕ
+object_caps (Dataspace bytes) = 1
+object_caps RpcObject = 1
+object_caps (OpenSession session) = 0
+
+-- a session's account uses what a session is charged for
+pub record UsesItsCharge (session : Session) : Type 0 where
+  pub ram : session.account.ram_used ≡ session_ram
+  pub caps : session.account.caps_used ≡ session_caps
+
+-- the bytes of a heap's chunks and large blocks, and how many of them there are
+abbrev pub heap_size : OwnHeap → ℕ
+heap_size heap = sum_by bytes_in heap.shape.chunks + total (λ bytes. bytes) heap.large
+
+abbrev pub heap_count : OwnHeap → ℕ
+heap_count heap = length heap.shape.chunks + len heap.large
+
+-- the account uses the bytes of what its selectors name, of its sliced blocks, and of its heap's chunks and large blocks,
+-- and a capability for each but the sessions, and no more
 pub record UsesWhatItHolds (s : OwnState) : Type 0 where
-  pub ram : s.account.ram_used ≡ total object_size s.selectors + total block_size s.sliced
-  pub caps : s.account.caps_used ≡ len s.selectors + len s.sliced
+  pub ram : s.account.ram_used ≡ total object_size s.selectors + total block_size s.sliced + heap_size s.heap
+  pub caps : s.account.caps_used ≡ total object_caps s.selectors + len s.sliced + heap_count s.heap

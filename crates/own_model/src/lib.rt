@@ -5,12 +5,15 @@
 
 mod answers;
 mod calls;
+mod heap;
 mod heap_window;
 mod limits;
+mod log_service;
 mod regions;
 mod rows;
 mod runs;
 mod session_args;
+mod sessions;
 mod sliced;
 mod start;
 
@@ -22,11 +25,16 @@ pub use calls::{
     addresses_are_read_back, calls_are_refused_in_order, hex_is_read_back,
     new_selector_is_least_unused,
 };
+pub use heap::{
+    covered_heap_blocks_are_given, heap_payloads_are_found, heap_payloads_lie_apart,
+    heap_takes_and_gives, new_heap_blocks_are_zero,
+};
 pub use heap_window::heap_has_gap;
 pub use limits::{
     calls_keep_balance, calls_keep_limits, capalloc_lacks_caps_alone, servers_stay,
     use_is_what_is_held,
 };
+pub use log_service::writes_are_lines;
 pub use regions::{
     found_ranges_fit, freed_has_no_regions, full_maps_refuse, pokes_are_read, regions_stay_sound,
 };
@@ -36,6 +44,7 @@ pub use rows::{
 };
 pub use runs::{own_part_over_append, own_run_over_append};
 pub use session_args::arguments_are_read_back;
+pub use sessions::{closes_return_donations, sessions_stand_alone, sessions_stay_sound};
 pub use sliced::{
     gaps_fit_the_machine, new_blocks_are_zero, payloads_are_found, payloads_lie_apart,
 };

@@ -1,15 +1,18 @@
 //! Laws of limits: what a call leaves of them, and of the whole machine's balance.
-ghost use Rattle.own_model.specs.Laws.{ServersStay, CapallocLacksCapsAlone, StepKeepsLimits, StepKeepsWithinLimits, RunKeepsWithinLimits, StartsWithoutUse, RunKeepsUse, StepKeepsBalance, LinesKeepBalance};
+ghost use Rattle.own_model.specs.Laws.{ServersStay, CapallocLacksCapsAlone, StepKeepsLimits, OthersKeepOwnLimits, StepKeepsWithinLimits, StepKeepsAllWithin, RunKeepsWithinLimits, StartsWithoutUse, RunKeepsUse, StepKeepsBalance, LinesKeepBalance};
 
 /// Every call leaves a server's own state.
 pub fn servers_stay()
     ensures { ServersStay }
 {}
 
-/// No call changes the limits of its caller's account, and none overdraws it.
+/// No call changes the limits of its caller and of the caller's open sessions together, and but for calls of sessions none
+/// changes those of the caller's account alone. No call overdraws any of these accounts.
 pub fn calls_keep_limits()
     ensures same { StepKeepsLimits }
+    ensures own { OthersKeepOwnLimits }
     ensures within { StepKeepsWithinLimits }
+    ensures all { StepKeepsAllWithin }
     ensures run { RunKeepsWithinLimits }
 {}
 
@@ -18,7 +21,8 @@ pub fn capalloc_lacks_caps_alone()
     ensures { CapallocLacksCapsAlone }
 {}
 
-/// At the start and after any calls an account uses exactly the bytes of its component's dataspaces, and a capability for each selector.
+/// At the start and after any calls an account uses exactly what its component's dataspaces and heap are charged for, and a
+/// capability for each of these and each RPC object. Sessions are charged to accounts of their own.
 pub fn use_is_what_is_held()
     ensures start { StartsWithoutUse }
     ensures run { RunKeepsUse }

@@ -14,6 +14,12 @@ returns-clause-at c = refl
 pub returns-clause-bytes : goal.returns-clause-bytes
 returns-clause-bytes c = refl
 
+pub returns-clause-block : goal.returns-clause-block
+returns-clause-block c = refl
+
+pub returns-clause-payload : goal.returns-clause-payload
+returns-clause-payload c = refl
+
 pub returns-clause-addresses : goal.returns-clause-addresses
 returns-clause-addresses c = refl
 

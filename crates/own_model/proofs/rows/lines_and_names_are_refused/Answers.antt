@@ -10,3 +10,6 @@ returns-clause-forms c = refl
 
 pub returns-clause-sizes : goal.returns-clause-sizes
 returns-clause-sizes c = refl
+
+pub returns-clause-sliced : goal.returns-clause-sliced
+returns-clause-sliced c = refl

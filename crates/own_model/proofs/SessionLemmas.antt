@@ -1,0 +1,120 @@
+-- What calls leave of sessions.
+use Rattle.std.proofs.Common.{◌≡◌, ℕ, ◌≤◌, Bool, true, false, cond, Some, refl, sym, ap, List, nat_lt}
+use Rattle.std.proofs.lemmas.Option.{none-some, same_Some}
+use Rattle.std.specs.Prelude.{Option, None}
+use Rattle.std.specs.Option.{option_or}
+use Rattle.std.specs.FinMap.{get, insert}
+use Rattle.own_model.proofs.NatMapLemmas.{each_after_insert, before_remove}
+use Rattle.own_model.proofs.StepLemmas.{KeptByEffects, KeptBySessions, covers}
+use Rattle.own_model.specs.Account.{Account, Fits, shortage}
+use Rattle.own_model.specs.NatMap.{NatMap}
+use Rattle.own_model.specs.OwnState.{OwnState, Object, EachSession, session_named, new_selector, zeros, object_with}
+use Rattle.own_model.specs.OwnState.Object.{Dataspace, RpcObject, OpenSession}
+use Rattle.own_model.specs.Session.{Session, Wish, donation_refusal, too_small, new_session, upgraded, served, session_ram, session_caps}
+use Rattle.trade_base.specs.Page.{page_of}
+use Rattle.trade_base.specs.declared.refusal.Refusal.{Refusal}
+use Rattle.trade_base.specs.declared.refusal.Refusal.TheVariants.{InsufficientRamQuota, InsufficientCapQuota}
+use Rattle.std.proofs.lemmas.Bool.{ltb-false}
+
+-- ---- what a donation that is accepted has
+
+-- where neither of two reasons is there
+neither_of : (o p : Option Refusal) → option_or o p ≡ None → (o ≡ None) × (p ≡ None)
+neither_of None p accepted = (refl, accepted)
+neither_of (Some refusal) p accepted = absurd (none-some refusal (sym accepted))
+
+-- the client covers it, and it is large enough
+pub donation_covered : (a : Account) (ram caps : ℕ) → donation_refusal a ram caps ≡ None → Fits a ram caps × (too_small ram caps ≡ None)
+donation_covered a ram caps accepted =
+    let parts = neither_of (shortage a ram caps) (too_small ram caps) accepted in
+    (covers a ram caps parts.0, parts.1)
+
+-- two tests that refuse nothing
+untold : (a b : Bool) (x y : Refusal) → cond a (Some x) (cond b (Some y) None) ≡ None → (a ≡ false) × (b ≡ false)
+untold true b x y accepted = absurd (none-some x (sym accepted))
+untold false true x y accepted = absurd (none-some y (sym accepted))
+untold false false x y accepted = (refl, refl)
+
+-- a donation that isn't too small has what a session is charged for
+pub large_enough : (ram caps : ℕ) → too_small ram caps ≡ None → (session_ram ≤ ram) × (session_caps ≤ caps)
+large_enough ram caps accepted =
+    let parts = untold (nat_lt ram session_ram) (nat_lt caps session_caps) InsufficientRamQuota InsufficientCapQuota accepted in
+    (ltb-false ram session_ram parts.0, ltb-false caps session_caps parts.1)
+
+-- what names a session is that session
+pub named_there : (o : Option Object) (x : Session) → session_named o ≡ Some x → o ≡ Some (OpenSession x)
+named_there (Some (OpenSession y)) x is = ap (λ z. Some (OpenSession z)) (same_Some y x is)
+named_there (Some (Dataspace bytes)) x is = absurd (none-some x is)
+named_there (Some RpcObject) x is = absurd (none-some x is)
+named_there None x is = absurd (none-some x is)
+
+-- ---- what holds of each session
+
+module _ (Q : ℕ → Session → Type 0) where
+  -- Q holds of each session, with the selector that names it
+  abbrev pub EachNamed : OwnState → Type 0
+  EachNamed s = (selector : ℕ) (session : Session) → get s.selectors selector ≡ Some (OpenSession session) → Q selector session
+
+  -- it holds of an object, if it is a session
+  abbrev OfObject : ℕ → Object → Type 0
+  OfObject q (OpenSession session) = Q q session
+  OfObject q (Dataspace bytes) = Unit {0}
+  OfObject q RpcObject = Unit {0}
+
+  of_objects : (selectors : NatMap Object) → ((selector : ℕ) (session : Session) → get selectors selector ≡ Some (OpenSession session) → Q selector session) →
+      (q : ℕ) (object : Object) → get selectors q ≡ Some object → OfObject q object
+  of_objects selectors each q (OpenSession session) is = each q session is
+  of_objects selectors each q (Dataspace bytes) is = tt
+  of_objects selectors each q RpcObject is = tt
+
+  -- one more object of which it holds
+  after_one : (selectors : NatMap Object) (k : ℕ) (object : Object) → ((selector : ℕ) (session : Session) → get selectors selector ≡ Some (OpenSession session) → Q selector session) →
+      OfObject k object → (selector : ℕ) (session : Session) → get (insert selectors k object) selector ≡ Some (OpenSession session) → Q selector session
+  after_one selectors k object each here selector session is =
+      each_after_insert selectors k object OfObject (of_objects selectors each) here selector (OpenSession session) is
+
+  -- the same object with other bytes
+  of_poked : (q : ℕ) (object : Object) (offset : ℕ) (part : List ℕ) → OfObject q object → OfObject q (object_with object offset part)
+  of_poked q (OpenSession session) offset part h = h
+  of_poked q (Dataspace bytes) offset part h = tt
+  of_poked q RpcObject offset part h = tt
+
+  -- the calls that are of no session change none
+  pub effects_named : (s : OwnState) → EachNamed s → KeptByEffects EachNamed s
+  effects_named s h = record {
+    allocates = λ n accepted. after_one s.selectors (new_selector s.selectors) (Dataspace (zeros (page_of n))) h tt;
+    frees = λ selector bytes there. λ q x is. h q x (before_remove s.selectors selector q (OpenSession x) is);
+    attaches = λ selector address bytes there stands room. h;
+    detaches = λ address. h;
+    pokes = λ selector offset bytes object there. after_one s.selectors selector (object_with object offset bytes) h (of_poked selector object offset bytes (of_objects s.selectors h selector object there));
+    pokes_payload = λ address offset bytes payload there. h;
+    pokes_block = λ address offset bytes payload there. h;
+    takes = λ n hole best. h;
+    grows = λ n start accepted gap. h;
+    takes_large = λ n start large accepted gap. h;
+    gives = λ address payload there small. h;
+    gives_large = λ address bytes there. h;
+    slices = λ n start accepted gap. h;
+    unslices = λ address payload there. h;
+    allocates_cap = λ accepted. after_one s.selectors (new_selector s.selectors) RpcObject h tt;
+    frees_cap = λ selector there. λ q x is. h q x (before_remove s.selectors selector q (OpenSession x) is);
+  }
+
+module _ (Q : Session → Type 0) where
+  abbrev Named : ℕ → Session → Type 0
+  Named selector session = Q session
+
+  -- the same of each session
+  pub effects_each : (s : OwnState) → EachSession Q s → KeptByEffects (EachSession Q) s
+  effects_each s h = effects_named Named s h
+
+  -- calls of sessions keep what holds of a new session, of one with more, and of one that has served
+  pub sessions_each : ((wish : Wish) → too_small wish.ram wish.caps ≡ None → Q (new_session wish)) →
+      ((x : Session) (ram caps : ℕ) → Q x → Q (upgraded x ram caps)) → ((x : Session) (request : List ℕ) → Q x → Q (served x request).session) →
+      (s : OwnState) → EachSession Q s → KeptBySessions (EachSession Q) s
+  sessions_each new more serve s h = record {
+    opens = λ wish accepted. after_one Named s.selectors (new_selector s.selectors) (OpenSession (new_session wish)) h (new wish (donation_covered s.account wish.ram wish.caps accepted).1);
+    upgrades = λ selector x given there accepted. after_one Named s.selectors selector (OpenSession (upgraded x given.ram given.caps)) h (more x given.ram given.caps (h selector x there));
+    serves = λ selector x request there. after_one Named s.selectors selector (OpenSession (served x request).session) h (serve x request (h selector x there));
+    closes = λ selector x there. λ q y is. h q y (before_remove s.selectors selector q (OpenSession y) is);
+  }

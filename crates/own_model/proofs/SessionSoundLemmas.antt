@@ -1,0 +1,50 @@
+-- What is charged to sessions, and what servers keep for them, before and after calls.
+use Rattle.std.proofs.Common.{ℕ, List, Some, None, Option, arith}
+use Rattle.std.proofs.lemmas.List.Elements.{All-nil}
+use Rattle.own_model.proofs.LogLemmas.{writes_lines}
+use Rattle.own_model.proofs.SessionLemmas.{effects_each, sessions_each}
+use Rattle.own_model.proofs.TableLemmas.{run_keeps}
+use Rattle.own_model.specs.LogService.{IsUnbroken, IsPartial, log_served_bytes}
+use Rattle.own_model.specs.LogText.{log_request}
+use Rattle.own_model.specs.OwnState.{EachSession}
+use Rattle.own_model.specs.Routes.{Service}
+use Rattle.own_model.specs.Routes.Service.{Log}
+use Rattle.own_model.specs.Session.{Session, ServiceState, IsKept, state_at_first, served_by}
+use Rattle.own_model.specs.Session.ServiceState.{Logging}
+use Rattle.own_model.specs.SessionLaws.{RunKeepsCharges, RunKeepsKept}
+use Rattle.own_model.specs.Use.{UsesItsCharge}
+
+-- a session that serves uses what it did
+serve_charges : (state : ServiceState) (x : Session) (request : List ℕ) → UsesItsCharge x → UsesItsCharge (served_by state x request).session
+serve_charges (Logging partial) x request h = record { ram = h.ram; caps = h.caps }
+
+-- calls leave each session using what it is charged for
+pub run_charges : RunKeepsCharges
+run_charges =
+    run_keeps (EachSession UsesItsCharge) (effects_each UsesItsCharge)
+    (sessions_each UsesItsCharge
+    (λ wish enough. record { ram = omega arith; caps = omega arith })
+    (λ x ram caps h. record { ram = h.ram; caps = h.caps })
+    (λ x request h. serve_charges x.state x request h))
+
+-- what is kept for a session is as it should be
+abbrev Keeps : Session → Type 0
+Keeps x = IsKept x.state
+
+-- at first
+kept_at_first : (service : Service) → IsKept (state_at_first service)
+kept_at_first Log = record { short = omega arith; whole = All-nil IsUnbroken }
+
+-- after a request that has bytes or none
+partial_after : (partial : List ℕ) (bytes : Option (List ℕ)) → IsPartial partial → IsPartial (log_served_bytes partial bytes).partial
+partial_after partial None h = h
+partial_after partial (Some bytes) h = (writes_lines partial bytes h).1
+
+kept_after : (state : ServiceState) (x : Session) (request : List ℕ) → IsKept state → Keeps (served_by state x request).session
+kept_after (Logging partial) x request h = partial_after partial (log_request request) h
+
+-- and after calls
+pub run_kept : RunKeepsKept
+run_kept =
+    run_keeps (EachSession Keeps) (effects_each Keeps)
+    (sessions_each Keeps (λ wish enough. kept_at_first wish.service) (λ x ram caps h. h) (λ x request h. kept_after x.state x request h))

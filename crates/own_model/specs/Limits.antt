@@ -1,0 +1,30 @@
+-- The limits of a component and of its open sessions together.
+use Rattle.std.specs.Prelude.{ℕ, ◌+◌}
+use Rattle.own_model.specs.Account.{WithinLimits}
+use Rattle.own_model.specs.NatMap.{total}
+use Rattle.own_model.specs.OwnState.{OwnState, Object, EachSession}
+use Rattle.own_model.specs.OwnState.Object.{Dataspace, RpcObject, OpenSession}
+
+-- the limits of the account that an object has, if it is a session
+abbrev pub ram_with : Object → ℕ
+ram_with (Dataspace bytes) = 0
+ram_with RpcObject = 0
+ram_with (OpenSession session) = session.account.ram_limit
+
+abbrev pub caps_with : Object → ℕ
+caps_with (Dataspace bytes) = 0
+caps_with RpcObject = 0
+caps_with (OpenSession session) = session.account.caps_limit
+
+-- all limits of RAM that a component has
+abbrev pub ram_limits : OwnState → ℕ
+ram_limits s = s.account.ram_limit + total ram_with s.selectors
+
+-- all limits of capabilities
+abbrev pub caps_limits : OwnState → ℕ
+caps_limits s = s.account.caps_limit + total caps_with s.selectors
+
+-- neither the component's account is overdrawn nor that of a session
+pub record AreWithinLimits (s : OwnState) : Type 0 where
+  pub own : WithinLimits s.account
+  pub sessions : EachSession (λ session. WithinLimits session.account) s

@@ -1,0 +1,129 @@
+-- Sessions: what is donated for one, why it is refused, and what its requests do.
+use Rattle.std.specs.Prelude.{ℕ, List, [], ◌∷◌, ◌++◌, codes, nat_lt, if◌then◌else◌, Option, Some, None, Result, Ok, Err}
+use Rattle.std.specs.Option.{option_or, unwrap_or}
+use Rattle.trade_base.specs.declared.refusal.Refusal.{Refusal}
+use Rattle.trade_base.specs.declared.refusal.Refusal.TheVariants.{BadArgs, ServiceDenied, InsufficientRamQuota, InsufficientCapQuota}
+use Rattle.own_model.specs.Account.{Account, shortage, charged, opened}
+use Rattle.own_model.specs.Donation.{raised}
+use Rattle.own_model.specs.LogService.{LogServed, IsPartial, labelled, log_served}
+use Rattle.own_model.specs.Reply.{LogLine}
+use Rattle.own_model.specs.Routes.{Rule, Service, provider}
+use Rattle.own_model.specs.SessionArgs.{Arguments, arguments_of}
+use Rattle.own_model.specs.Sliced.{sliced_size}
+
+-- what a server keeps for a session: the log server the line that isn't finished yet
+pub data ServiceState : Type 0 where
+  Logging : List ℕ → ServiceState
+
+-- a session: its label, its account, of which all is what its client donated, and what its server keeps for it
+pub record Session : Type 0 where
+  pub label : List ℕ
+  pub account : Account
+  pub state : ServiceState
+
+-- what is true of it: a line that isn't finished yet is shorter than the longest, and has no newline
+abbrev pub IsKept : ServiceState → Type 0
+IsKept (Logging partial) = IsPartial partial
+
+-- the kind of server that keeps this
+abbrev pub service_of : ServiceState → Service
+service_of (Logging partial) = Service.Log
+
+-- what a server keeps at first
+abbrev pub state_at_first : Service → ServiceState
+state_at_first Service.Log = Logging []
+
+-- ---- donations
+
+-- the bytes of the object that stands for a session: a sliced block of that size is charged to the session's account
+abbrev pub session_object : ℕ
+session_object = 256
+
+-- what a session uses of its account from the start: the block, and a capability for that and one for the session itself
+abbrev pub session_ram : ℕ
+session_ram = sliced_size session_object
+
+abbrev pub session_caps : ℕ
+session_caps = 2
+
+-- why a donation is too small for a session
+abbrev pub too_small : ℕ → ℕ → Option Refusal
+too_small ram caps =
+    if nat_lt ram session_ram then Some InsufficientRamQuota
+    else (if nat_lt caps session_caps then Some InsufficientCapQuota else None)
+
+-- why a donation for a new session is refused: the client's account doesn't cover it, or else it is too small
+abbrev pub donation_refusal : Account → ℕ → ℕ → Option Refusal
+donation_refusal client ram caps = option_or (shortage client ram caps) (too_small ram caps)
+
+-- the account of a new session
+abbrev pub session_account : ℕ → ℕ → Account
+session_account ram caps = charged (opened ram caps) session_ram session_caps
+
+-- what arguments give: nothing where their text isn't in the grammar
+abbrev pub given_by : Option Arguments → Arguments
+given_by arguments = unwrap_or arguments (record { ram = 0; caps = 0; label = [] })
+
+abbrev pub given : List ℕ → Arguments
+given text = given_by (arguments_of text)
+
+-- ---- what is asked for
+
+-- the label of a session: the client's name, and what it gave
+abbrev pub label_with : List ℕ → List ℕ → List ℕ
+label_with name [] = name
+label_with name (b ∷ given) = name ++ codes " -> " ++ b ∷ given
+
+-- a session that is asked for: the kind of server, the label, and the donation
+pub record Wish : Type 0 where
+  pub service : Service
+  pub label : List ℕ
+  pub ram : ℕ
+  pub caps : ℕ
+
+-- what arguments ask for where the route leads to a kind of server
+abbrev pub wish_of : List ℕ → Arguments → Option Service → Result Wish Refusal
+wish_of name arguments None = Err ServiceDenied
+wish_of name arguments (Some service) =
+    Ok (record { service = service; label = label_with name arguments.label; ram = arguments.ram; caps = arguments.caps })
+
+-- what a client of this name and with these routes asks for: the arguments are read first, and then the route is taken
+abbrev pub wish_in : List ℕ → List Rule → List ℕ → Option Arguments → Result Wish Refusal
+wish_in name routes service None = Err BadArgs
+wish_in name routes service (Some arguments) = wish_of name arguments (provider routes service arguments.label)
+
+abbrev pub wish : List ℕ → List Rule → List ℕ → List ℕ → Result Wish Refusal
+wish name routes service text = wish_in name routes service (arguments_of text)
+
+-- the session that is made of it
+abbrev pub new_session : Wish → Session
+new_session wish = record {
+  label = wish.label;
+  account = session_account wish.ram wish.caps;
+  state = state_at_first wish.service;
+}
+
+-- a session with more of a donation
+abbrev pub upgraded : Session → ℕ → ℕ → Session
+upgraded session ram caps = record session { account = raised session.account ram caps }
+
+-- ---- requests
+
+-- what a request is answered, the lines that it finished, and the session after it
+pub record Served : Type 0 where
+  pub reply : List ℕ
+  pub lines : List LogLine
+  pub session : Session
+
+abbrev pub logged_by : Session → LogServed → Served
+logged_by session o = record {
+  reply = o.reply;
+  lines = labelled session.label o.lines;
+  session = record session { state = Logging o.partial };
+}
+
+abbrev pub served_by : ServiceState → Session → List ℕ → Served
+served_by (Logging partial) session request = logged_by session (log_served partial request)
+
+abbrev pub served : Session → List ℕ → Served
+served session request = served_by session.state session request

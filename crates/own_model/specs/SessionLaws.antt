@@ -1,0 +1,57 @@
+-- The laws of sessions, as statements.
+use Rattle.std.specs.Prelude.{◌≡◌, ℕ, ◌==◌, Bool, false, List, Some}
+use Rattle.std.specs.FinMap.{get}
+use Rattle.own_model.specs.Call.{Call}
+use Rattle.own_model.specs.Call.Call.{Upgrade, CallSession, Close}
+use Rattle.own_model.specs.Donated.{donated}
+use Rattle.own_model.specs.Donation.{raised}
+use Rattle.own_model.specs.OwnState.{OwnState, EachSession}
+use Rattle.own_model.specs.OwnState.Object.{OpenSession}
+use Rattle.own_model.specs.OwnStep.{own_step, own_run}
+use Rattle.own_model.specs.Reply.Reply.{Done}
+use Rattle.own_model.specs.Session.{Session, IsKept}
+use Rattle.own_model.specs.StartList.{Entry, StartEntry, start_state}
+use Rattle.own_model.specs.Use.{UsesItsCharge}
+
+-- nobody starts with a session
+abbrev pub StartsWithoutSessions : Type 0
+StartsWithoutSessions = (start : StartEntry) → EachSession (λ session. ⊥) (start_state start)
+
+-- calls leave each session's account using what a session is charged for, and no more
+abbrev pub RunKeepsCharges : Type 0
+RunKeepsCharges = (entry : Entry) (calls : List Call) (s : OwnState) → EachSession UsesItsCharge s → EachSession UsesItsCharge (own_run entry calls s)
+
+-- and what each server keeps for its sessions as it should be
+abbrev pub RunKeepsKept : Type 0
+RunKeepsKept =
+    (entry : Entry) (calls : List Call) (s : OwnState) → EachSession (λ session. IsKept session.state) s →
+    EachSession (λ session. IsKept session.state) (own_run entry calls s)
+
+-- a call is of the session under this selector
+abbrev pub is_of : ℕ → Call → Bool
+is_of selector (Upgrade of text) = of == selector
+is_of selector (CallSession of request) = of == selector
+is_of selector (Close of) = of == selector
+is_of selector call = false
+
+-- a session stays as it is but for the calls that are of it
+abbrev pub SessionsStandAlone : Type 0
+SessionsStandAlone =
+    (entry : Entry) (call : Call) (s : OwnState) (selector : ℕ) (session : Session) →
+    get s.selectors selector ≡ Some (OpenSession session) → is_of selector call ≡ false →
+    get (own_step entry call s).next.selectors selector ≡ Some (OpenSession session)
+
+-- after any calls of a client that began without sessions, the limits of a session's account are what the client donated for it
+abbrev pub LimitsAreDonations : Type 0
+LimitsAreDonations =
+    (entry : Entry) (calls : List Call) (s : OwnState) (selector : ℕ) (session : Session) → EachSession (λ session. ⊥) s →
+    get (own_run entry calls s).selectors selector ≡ Some (OpenSession session) →
+    (session.account.ram_limit ≡ (donated entry selector calls s).ram) × (session.account.caps_limit ≡ (donated entry selector calls s).caps)
+
+-- so a close that is done raises the client's limits by exactly that, and leaves its use
+abbrev pub ClosesReturnDonations : Type 0
+ClosesReturnDonations =
+    (entry : Entry) (calls : List Call) (s : OwnState) (selector : ℕ) → EachSession (λ session. ⊥) s →
+    (own_step entry (Close selector) (own_run entry calls s)).reply ≡ Done →
+    (own_step entry (Close selector) (own_run entry calls s)).next.account
+    ≡ raised (own_run entry calls s).account (donated entry selector calls s).ram (donated entry selector calls s).caps

@@ -1,0 +1,22 @@
+//! Laws of sessions: what is charged to them, what servers keep for them, and that a close returns what was donated.
+ghost use Rattle.own_model.specs.SessionLaws.{StartsWithoutSessions, RunKeepsCharges, RunKeepsKept, SessionsStandAlone, LimitsAreDonations, ClosesReturnDonations};
+
+/// Nobody starts with a session. After any calls each session's account uses exactly what a session is charged for, and what
+/// its server keeps for it is as it should be.
+pub fn sessions_stay_sound()
+    ensures start { StartsWithoutSessions }
+    ensures charges { RunKeepsCharges }
+    ensures kept { RunKeepsKept }
+{}
+
+/// A session stays as it is but for the upgrades, requests and the close that name its selector.
+pub fn sessions_stand_alone()
+    ensures { SessionsStandAlone }
+{}
+
+/// What a close returns to its client is the sum of what the client named in the open that was accepted and in the upgrades
+/// that were, read off the client's own calls. The client's use stays.
+pub fn closes_return_donations()
+    ensures limits { LimitsAreDonations }
+    ensures closes { ClosesReturnDonations }
+{}
