@@ -1,7 +1,7 @@
 -- A part put into bytes, seen by ranges of them.
 use Rattle.std.proofs.Common.{◌≡◌, ℕ, ◌+◌, ◌≤◌, List, length, take, drop, sym, arith, rules}
 use Rattle.std.specs.Prelude.{slice_range, replicate}
-use Rattle.std.proofs.lemmas.List.{same_lists, places, drop-drop, append_assoc, length-take-le, length-drop}
+use Rattle.std.proofs.lemmas.List.{same_lists, places, drop-drop, append_assoc}
 use borrow.Rule.Slice.PartMut.{put_mid}
 use Rattle.trade_base.specs.Bytes.{with_bytes}
 use Rattle.page_pool.specs.Pages.{zero_page}
@@ -25,10 +25,6 @@ range_after_part bytes part at from size after fits = same_lists _ _ (search (ru
 pub put_part : (bytes now part : List ℕ) (start size : ℕ) → now ≡ bytes → size ≡ length part → put_mid start size now part ≡ with_bytes bytes start part
 unfolding with_bytes
 put_part bytes now part start size same sized = rw (same, sized, drop-drop) (sym (append_assoc (take start bytes) part (drop (start + length part) bytes)))
-
--- the length of a range that is inside
-pub length-range : (bytes : List ℕ) (from size : ℕ) → from + size ≤ length bytes → length (slice_range bytes from (from + size)) ≡ size
-length-range bytes from size inside = grind (arith, length-take-le, length-drop)
 
 -- a page's worth of zeros is a page of zeros
 pub zeros_of_page : (bytes : List ℕ) (size : ℕ) → bytes ≡ replicate size 0 → size ≡ 4096 → bytes ≡ zero_page

@@ -69,9 +69,7 @@ pub record Took (rest bytes' : List ℕ) (pages : List (Option (List ℕ))) (pag
 
 -- where there is a head it lies in the bytes
 pub LiesIn-from_head : (bytes : List ℕ) (count head : ℕ) → IsLaidOut (linked bytes count head) bytes → count ≢ 0 → LiesIn bytes head
-LiesIn-from_head bytes count head laid some =
-    let rest = linked bytes (count - 1) (word_at bytes (head * 4096)) in
-    LiesIn-from_listed (linked bytes count head) rest bytes head laid (linked-last bytes (count - 1) count head (omega (arith, some)))
+LiesIn-from_head bytes count head laid some = grind (arith, nat_tests, LiesIn-from_listed, linked-last)
 
 -- the page that is listed last is handed out once it is cleared
 take_listed : (free rest bytes bytes' : List ℕ) (pages : List (Option (List ℕ))) (page : ℕ) → IsLaidOut free bytes → pages_of free bytes ≡ pages → free ≡ rest ++ page ∷ [] → bytes' ≡ with_bytes bytes (page * 4096 + 0) zero_page → Took rest bytes' pages page
@@ -238,9 +236,4 @@ write_page bytes bytes' count head pages page offset part laid view taken fits c
 
 -- with a taken page, fewer pages are linked than there are
 pub room_for_page : (bytes : List ℕ) (count head : ℕ) (pages : List (Option (List ℕ))) (page : ℕ) → IsLaidOut (linked bytes count head) bytes → pages_of (linked bytes count head) bytes ≡ pages → is_taken pages page ≡ true → count ≤ 4096
-room_for_page bytes count head pages page laid view taken =
-    let free = linked bytes count head in
-    let all = free_count-le-length (pages_of free bytes) in
-    let counted = laid.counted in
-    let few = laid.few in
-    omega (arith, all, counted, few, length-pages_of free bytes, length-linked bytes count head)
+room_for_page bytes count head pages page laid view taken = grind (arith, nat_tests, free_count-le-length, length-pages_of, length-linked)

@@ -6,10 +6,11 @@ use Rattle.std.proofs.lemmas.List.FromFn.{get_or-map-range_with_len, length-map-
 use Rattle.std.proofs.lemmas.Bool.{cases_eq, cases_lt}
 use Rattle.std.proofs.lemmas.Bool.Decides.{nat_tests}
 use Rattle.trade_base.specs.Bytes.{with_bytes}
+use Rattle.trade_base.proofs.BytesLemmas.{length-slice_range}
 use Rattle.page_pool.specs.Pages.{is_taken, page_bytes}
 use Rattle.page_pool.specs.Layout.{is_listed, page_count, bytes_at, page_at, pages_of, IsLaidOut}
 use Rattle.page_pool.proofs.NumberLemmas.{is_listed-push}
-use Rattle.page_pool.proofs.ByteLemmas.{range_before_part, range_after_part, length-range}
+use Rattle.page_pool.proofs.ByteLemmas.{range_before_part, range_after_part}
 
 -- there are as many pages as the bytes are
 pub length-pages_of : (free bytes : List ℕ) → length (pages_of free bytes) ≡ page_count bytes
@@ -63,14 +64,11 @@ page_bytes-pages_of free bytes page held =
 
 -- each page has 4096 bytes
 pub length-bytes_at : (bytes : List ℕ) (page : ℕ) → length bytes ≡ page_count bytes * 4096 → page < page_count bytes → length (bytes_at bytes page) ≡ 4096
-length-bytes_at bytes page whole here = length-range bytes (page * 4096) 4096 (omega arith)
+length-bytes_at bytes page whole here = length-slice_range bytes (page * 4096) 4096 (omega arith)
 
 -- bytes put into one page leave the others
 pub bytes_at_other : (bytes part : List ℕ) (page other offset : ℕ) → length bytes ≡ page_count bytes * 4096 → page < page_count bytes → offset + length part ≤ 4096 → other ≢ page → bytes_at (with_bytes bytes (page * 4096 + offset) part) other ≡ bytes_at bytes other
-bytes_at_other bytes part page other offset whole here fits apart = ⊎_elim
-    (λ (below : other < page). range_before_part bytes part (page * 4096 + offset) (other * 4096) 4096 (omega arith) (omega arith))
-    (λ (above : page ≤ other). range_after_part bytes part (page * 4096 + offset) (other * 4096) 4096 (omega arith) (omega arith))
-    (cases_lt other page)
+bytes_at_other bytes part page other offset whole here fits apart = grind (arith, nat_tests, range_before_part, range_after_part, cases_lt)
 
 -- where a page lies in the bytes
 pub record LiesIn (bytes : List ℕ) (page : ℕ) : Type 0 where

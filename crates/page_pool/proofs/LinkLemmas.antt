@@ -1,5 +1,5 @@
 -- The links of the free list, which stand in its pages.
-use Rattle.std.proofs.Common.{◌≡◌, ◌≢◌, ℕ, zero, suc, ◌+◌, ◌*◌, ◌<◌, ◌≤◌, ◌^◌, false, List, [], ◌∷◌, ◌++◌, length, refl, ap, ◌∙◌, ⊎_elim, arith}
+use Rattle.std.proofs.Common.{◌≡◌, ◌≢◌, ℕ, zero, suc, ◌+◌, ◌*◌, ◌<◌, ◌≤◌, ◌^◌, false, List, [], ◌∷◌, ◌++◌, length, refl, ap, ◌∙◌, arith}
 use Rattle.std.proofs.lemmas.List.{length_push}
 use Rattle.std.proofs.lemmas.Bool.{cases_lt}
 use Rattle.std.proofs.lemmas.Bool.Decides.{nat_tests}
@@ -14,8 +14,7 @@ use Rattle.page_pool.proofs.ByteLemmas.{range_before_part, range_after_part}
 -- so many pages are linked
 pub length-linked : (bytes : List ℕ) (count head : ℕ) → length (linked bytes count head) ≡ count
 length-linked bytes zero head = refl
-length-linked bytes (suc count) head =
-    length_push (linked bytes count (word_at bytes (head * 4096))) head ∙ omega (arith, length-linked bytes count (word_at bytes (head * 4096)))
+length-linked bytes (suc count) head = grind (arith, nat_tests, length_push, length-linked bytes count (word_at bytes (head * 4096)))
 
 -- the head is the last of them, and before it come those from its link on
 pub linked-last : (bytes : List ℕ) (count more head : ℕ) → more ≡ count + 1 → linked bytes more head ≡ linked bytes count (word_at bytes (head * 4096)) ++ head ∷ []
@@ -32,10 +31,7 @@ word_at-written bytes start word inside small =
 -- a change of one page leaves the links in the others
 word_at_other : (bytes part : List ℕ) (page other offset : ℕ) → length bytes ≡ page_count bytes * 4096 → page < page_count bytes → offset + length part ≤ 4096 → other ≢ page → word_at (with_bytes bytes (page * 4096 + offset) part) (other * 4096) ≡ word_at bytes (other * 4096)
 unfolding word_at
-word_at_other bytes part page other offset whole here fits apart = ⊎_elim
-    (λ (below : other < page). ap word_of (range_before_part bytes part (page * 4096 + offset) (other * 4096) 8 (omega arith) (omega arith)))
-    (λ (above : page ≤ other). ap word_of (range_after_part bytes part (page * 4096 + offset) (other * 4096) 8 (omega arith) (omega arith)))
-    (cases_lt other page)
+word_at_other bytes part page other offset whole here fits apart = grind (arith, nat_tests, range_before_part, range_after_part, cases_lt)
 
 -- a page that isn't listed is neither the last nor one before it
 record IsUnlisted (rest : List ℕ) (last page : ℕ) : Type 0 where

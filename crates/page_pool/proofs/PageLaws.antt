@@ -1,5 +1,5 @@
 -- Laws for callers: the pages of a pool after a change.
-use Rattle.std.proofs.Common.{◌≡◌, ◌≢◌, ℕ, ◌<◌, ◌≤◌, true, false, cond, eqb, ◌||◌, ◌&&◌, not, List, [], length, get_or, Option, Some, None, sym, ap, ◌∙◌, arith, ⊎_elim}
+use Rattle.std.proofs.Common.{◌≡◌, ℕ, ◌<◌, true, false, cond, eqb, ◌||◌, ◌&&◌, not, List, [], length, get_or, Option, Some, None, ap, arith}
 use Rattle.std.specs.Prelude.{slice_get, slice_set, is_some}
 use Rattle.std.proofs.lemmas.List.{get_or-set_same, get_or-set_other, get_or-replicate, get_or_past, length-replicate, set_past}
 use Rattle.std.proofs.lemmas.Option.{slice_get_within, get_or_from_slice_get}
@@ -10,19 +10,10 @@ use Rattle.page_pool.specs.Pages.{fresh_pages, is_taken, page_bytes, zero_page}
 
 -- what stands at a place after a change
 get_or-set_there : (pages : List (Option (List ℕ))) (page other : ℕ) (value : Option (List ℕ)) → page < length pages → get_or (slice_set pages page value) other None ≡ cond (eqb other page) value (get_or pages other None)
-get_or-set_there pages page other value here = ⊎_elim
-    (λ (e : other ≡ page). rw (e, get_or-set_same pages page value None here) (grind (arith, nat_tests)))
-    (λ (apart : other ≢ page). rw (get_or-set_other pages page other value None apart) (grind (arith, nat_tests)))
-    (cases_eq other page)
+get_or-set_there pages page other value here = grind (arith, nat_tests, get_or-set_same, get_or-set_other, cases_eq)
 
 get_or-set_none : (pages : List (Option (List ℕ))) (page other : ℕ) → get_or (slice_set pages page None) other None ≡ cond (eqb other page) None (get_or pages other None)
-get_or-set_none pages page other = ⊎_elim
-    (λ (here : page < length pages). get_or-set_there pages page other None here)
-    (λ (past : length pages ≤ page). rw (set_past pages page None past) (⊎_elim
-    (λ (e : other ≡ page). rw (e, get_or_past pages page None past) (grind (arith, nat_tests)))
-    (λ (apart : other ≢ page). grind (arith, nat_tests))
-    (cases_eq other page)))
-    (cases_lt page (length pages))
+get_or-set_none pages page other = grind (arith, nat_tests, get_or-set_there, set_past, get_or_past, cases_eq, cases_lt)
 
 -- a taken page is there
 pub is_taken-lt-length : (pages : List (Option (List ℕ))) (page : ℕ) → is_taken pages page ≡ true → page < length pages
@@ -45,10 +36,7 @@ is_taken-set_free pages page other bytes free = let e = get_or-set_there pages p
 -- a write leaves taken what is taken
 pub is_taken-set_taken : (pages : List (Option (List ℕ))) (page other : ℕ) (bytes : List ℕ) → is_taken pages page ≡ true → is_taken (slice_set pages page (Some bytes)) other ≡ is_taken pages other
 unfolding is_taken
-is_taken-set_taken pages page other bytes taken = ⊎_elim
-    (λ (same : other ≡ page). rw same (ap is_some (get_or-set_same pages page (Some bytes) None (is_taken-lt-length pages page taken)) ∙ sym taken))
-    (λ (apart : other ≢ page). ap is_some (get_or-set_other pages page other (Some bytes) None apart))
-    (cases_eq other page)
+is_taken-set_taken pages page other bytes taken = grind (arith, nat_tests, get_or-set_same, is_taken-lt-length, get_or-set_other, cases_eq)
 
 -- once a page is given back, the others are taken that were
 pub is_taken-set_none : (pages : List (Option (List ℕ))) (page other : ℕ) → is_taken (slice_set pages page None) other ≡ (not (eqb other page) && is_taken pages other)

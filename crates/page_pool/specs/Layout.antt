@@ -18,7 +18,8 @@ has_no_repeat (first ∷ rest) = not (is_listed rest first) && has_no_repeat res
 unfoldable pub word_at : List ℕ → ℕ → ℕ
 word_at bytes start = word_of (slice_range bytes start (start + 8))
 
--- the free pages in the bytes, of which there are so many: the head is the last of the list, and each begins with the number of the one before it
+-- the free pages in the bytes, of which there are so many: the head is the last of the list, and each begins with
+-- the number of the one before it
 abbrev pub linked : List ℕ → ℕ → ℕ → List ℕ
 linked bytes zero head = []
 linked bytes (suc count) head = linked bytes count (word_at bytes (head * 4096)) ++ head ∷ []

@@ -2,7 +2,8 @@
 use Rattle.std.proofs.Common.{◌≡◌, ℕ, ◌+◌, ◌-◌, List, length, ap, ◌∙◌, arith}
 use Rattle.page_pool.specs.Pages.{zero_page}
 use Rattle.page_pool.proofs.PageLaws.{length-zero_page}
-use Rattle.page_pool.proofs.ByteLemmas.{put_part, zeros_of_page, length-range}
+use Rattle.trade_base.proofs.BytesLemmas.{length-slice_range}
+use Rattle.page_pool.proofs.ByteLemmas.{put_part, zeros_of_page}
 use Rattle.page_pool.proofs.bytes.Bytes.clear_page.Goals as goal
 
 pub returns : goal.returns
@@ -10,7 +11,7 @@ returns c =
     let bytes : List ℕ = c.args.self.now in
     let lent : List ℕ = c.bytes_mut-bytes.result.now in
     let same : lent ≡ bytes = c.bytes_mut-bytes.ensures.value ∙ c.self.view_is in
-    let sized = length-range lent c.args.start 4096 (omega (arith, c.requires, ap length same)) in
+    let sized = length-slice_range lent c.args.start 4096 (omega (arith, c.requires, ap length same)) in
     let zeros = zeros_of_page c.fill.new.self _ (c.fill.ensures.after (λ y h. h)) sized in
     let count : c.args.start + 4096 - c.args.start ≡ length zero_page = omega (arith, length-zero_page) in
     rw zeros (put_part bytes lent zero_page c.args.start (c.args.start + 4096 - c.args.start) same count)
