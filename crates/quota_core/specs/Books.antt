@@ -1,16 +1,18 @@
 -- What a contract sees of the books.
-use Rattle.std.specs.Prelude.{ℕ, ◌-◌, IsSome}
+use Rattle.std.specs.Prelude.{◌≡◌, ◌≢◌, ℕ, ◌+◌, ◌-◌, ◌^◌, ◌<◌, Some, None, IsSome}
 use Rattle.std.specs.Option.{unwrap_or}
 use Rattle.std.proofs.Common.{refl}
 use Rattle.std.specs.Coded.{Coded, code_by, coded×, coded_ℕ}
 use Rattle.std.specs.FinMap as map
-use Rattle.std.specs.FinMap.{get, insert, empty}
+use Rattle.std.specs.FinMap.{get, insert, remove, empty}
 use Rattle.own_model.specs.NatMap.{NatMap, total}
 use Rattle.own_model.specs.Account.{Account, coded_account, opened, parted_with}
+use Rattle.own_model.specs.Donation.{raised}
 
--- the accounts by their keys, the root's key, and how many more accounts find a place
+-- the accounts by their keys, the parent's key of each but the root, the root's key, and how many more accounts find a place
 pub record Books : Type 0 where
   pub accounts : NatMap Account
+  pub parents : NatMap ℕ
   pub root : ℕ
   pub room : ℕ
 
@@ -18,10 +20,10 @@ pub record Books : Type 0 where
 abbrev pub coded_books : Coded Books
 coded_books =
     code_by
-    (NatMap Account × (ℕ × ℕ))
-    (coded× (map.code coded_ℕ coded_account) (coded× coded_ℕ coded_ℕ))
-    (λ b. (b.accounts, (b.root, b.room)))
-    (λ p. record { accounts = p.0; root = p.1.0; room = p.1.1 })
+    (NatMap Account × (NatMap ℕ × (ℕ × ℕ)))
+    (coded× (map.code coded_ℕ coded_account) (coded× (map.code coded_ℕ coded_ℕ) (coded× coded_ℕ coded_ℕ)))
+    (λ b. (b.accounts, (b.parents, (b.root, b.room))))
+    (λ p. record { accounts = p.0; parents = p.1.0; root = p.1.1.0; room = p.1.1.1 })
     (λ _. refl)
 
 -- the account is open
@@ -32,10 +34,22 @@ IsOpen books account = IsSome (get books.accounts account)
 abbrev pub account_at : Books → ℕ → Account
 account_at books account = unwrap_or (get books.accounts account) (opened 0 0)
 
+-- the child was opened under this parent
+abbrev pub IsChildOf : Books → ℕ → ℕ → Type 0
+IsChildOf books child parent = get books.parents child ≡ Some parent
+
+-- no account was opened under this one
+abbrev pub HasNoChild : Books → ℕ → Type 0
+HasNoChild books account = (other : ℕ) → get books.parents other ≢ Some account
+
+-- the account's parent, or the root where it has none
+abbrev pub parent_at : Books → ℕ → ℕ
+parent_at books account = unwrap_or (get books.parents account) books.root
+
 -- books of one account, the root, which has the whole machine, with so many places in all
 abbrev pub fresh_books : ℕ → ℕ → ℕ → ℕ → Books
 fresh_books root ram caps places =
-    record { accounts = insert empty root (opened ram caps); root = root; room = places - 1 }
+    record { accounts = insert empty root (opened ram caps); parents = empty; root = root; room = places - 1 }
 
 -- the books with another account under a key
 abbrev pub with_account : Books → ℕ → Account → Books
@@ -45,8 +59,26 @@ with_account books key account = record books { accounts = insert books.accounts
 abbrev pub with_child : Books → ℕ → ℕ → ℕ → ℕ → Books
 with_child books parent child ram caps = record books {
   accounts = insert (insert books.accounts parent (parted_with (account_at books parent) ram caps)) child (opened ram caps);
+  parents = insert books.parents child parent;
   room = books.room - 1;
 }
+
+-- limits moved from one account to another
+abbrev pub with_moved : Books → ℕ → ℕ → ℕ → ℕ → Books
+with_moved books from to ram caps = record books {
+  accounts = insert (insert books.accounts from (parted_with (account_at books from) ram caps)) to (raised (account_at books to) ram caps);
+}
+
+-- an account goes, and its parent has its limits
+abbrev pub without_account : Books → ℕ → Books
+without_account books account =
+    let parent = parent_at books account in
+    let limits = account_at books account in
+    record books {
+      accounts = insert (remove books.accounts account) parent (raised (account_at books parent) limits.ram_limit limits.caps_limit);
+      parents = remove books.parents account;
+      room = books.room + 1;
+    }
 
 -- all limits of RAM, in bytes
 abbrev pub ram_limits : Books → ℕ
@@ -55,3 +87,18 @@ ram_limits books = total (λ a. a.ram_limit) books.accounts
 -- all limits of capabilities
 abbrev pub caps_limits : Books → ℕ
 caps_limits books = total (λ a. a.caps_limit) books.accounts
+
+-- a child and its parent are two accounts, and both are open
+pub record AreRelated (books : Books) (child parent : ℕ) : Type 0 where
+  pub apart : parent ≢ child
+  pub child_open : IsOpen books child
+  pub parent_open : IsOpen books parent
+
+-- the root is open and has no parent, each child and its parent are open, and all limits together are a number of bytes in
+-- 64 bits and one of capabilities in 32
+pub record AreSound (books : Books) : Type 0 where
+  pub root : IsOpen books books.root
+  pub first : get books.parents books.root ≡ None
+  pub related : (child parent : ℕ) → IsChildOf books child parent → AreRelated books child parent
+  pub ram : ram_limits books < 2 ^ 64
+  pub caps : caps_limits books < 2 ^ 32

@@ -1,7 +1,8 @@
 //! One account of RAM and capabilities.
-ghost use Rattle.std.specs.Prelude.{◌≡◌, ◌≤◌, IfOk, OnOk, OnErr};
+ghost use Rattle.std.specs.Prelude.{◌≡◌, ◌+◌, ◌^◌, ◌<◌, ◌≤◌, IfOk, OnOk, OnErr};
 ghost use Rattle.std.specs.Result.{result_err};
 ghost use Rattle.own_model.specs.Account.{shortage, charged, credited, opened, parted_with, WithinLimits};
+ghost use Rattle.own_model.specs.Donation.{raised};
 
 use std::marker::Model;
 use trade_base::{Caps, Ram, Refusal};
@@ -29,7 +30,9 @@ impl Model for Account {
 impl Account {
     // An account of which nothing is used.
     pub(crate) fn opened(ram: Ram, caps: Caps) -> Account
-        ensures { result ≡ opened ram.0 caps.0 }
+        ensures is { result ≡ opened ram.0 caps.0 }
+        ensures ram { ram.0 < 2 ^ 64 }
+        ensures caps { caps.0 < 2 ^ 32 }
     {
         Account {
             ram_limit: ram.0,
@@ -83,6 +86,16 @@ impl Account {
         self.ram_limit -= ram.0;
         self.caps_limit -= caps.0;
         Ok(Account::opened(ram, caps))
+    }
+
+    // Takes the limits of another account over.
+    pub(crate) fn take_over(&mut self, other: Account)
+        requires ram { self.old.ram_limit + other.ram_limit < 2 ^ 64 }
+        requires caps { self.old.caps_limit + other.caps_limit < 2 ^ 32 }
+        ensures { self.new ≡ raised self.old other.ram_limit other.caps_limit }
+    {
+        self.ram_limit += other.ram_limit;
+        self.caps_limit += other.caps_limit;
     }
 
     pub(crate) fn limits(&self) -> (Ram, Caps)

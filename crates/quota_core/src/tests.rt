@@ -62,3 +62,86 @@ fn boots_at_its_largest(rt: HostRuntime) {
         .expect(&rt, "the root has it");
     assert_eq!(rt; plain(books.limits(child)), (4096 * 4096, 4096));
 }
+
+#[test]
+fn child_is_raised_by_what_its_parent_parts_with(rt: HostRuntime) {
+    let mut books = Books::boot(rt.alloc(), Ram(8192), Caps(8), 2).expect(&rt, "memory");
+    let root = books.root();
+    let child = books
+        .open(root, Ram(4096), Caps(2))
+        .expect(&rt, "the root has it");
+    assert_eq!(rt; books.charge(child, Ram(4096), Caps(1)), Ok(()));
+    assert_eq!(rt; books.raise(root, child, Ram(4096), Caps(3)), Ok(()));
+    assert_eq!(rt; plain(books.limits(root)), (0, 3));
+    assert_eq!(rt; plain(books.limits(child)), (8192, 5));
+    assert_eq!(rt; plain(books.used(child)), (4096, 1));
+}
+
+#[test]
+fn refused_raise_changes_nothing(rt: HostRuntime) {
+    for (ram, caps, want) in [
+        (101, 3, Refusal::OutOfRam),
+        (101, 2, Refusal::OutOfRam),
+        (100, 3, Refusal::OutOfCaps),
+    ] {
+        let mut books = Books::boot(rt.alloc(), Ram(150), Caps(4), 2).expect(&rt, "memory");
+        let root = books.root();
+        let child = books
+            .open(root, Ram(50), Caps(2))
+            .expect(&rt, "the root has it");
+        assert_eq!(rt; books.raise(root, child, Ram(ram), Caps(caps)), Err(want));
+        assert_eq!(rt; plain(books.limits(root)), (100, 2));
+        assert_eq!(rt; plain(books.limits(child)), (50, 2));
+    }
+}
+
+#[test]
+fn close_gives_every_limit_back(rt: HostRuntime) {
+    let mut books = Books::boot(rt.alloc(), Ram(8192), Caps(8), 2).expect(&rt, "memory");
+    let root = books.root();
+    let child = books
+        .open(root, Ram(4096), Caps(2))
+        .expect(&rt, "the root has it");
+    assert_eq!(rt; books.raise(root, child, Ram(1), Caps(6)), Ok(()));
+    books.close(child);
+    assert_eq!(rt; plain(books.limits(root)), (8192, 8));
+    assert_eq!(rt; plain(books.used(root)), (0, 0));
+    let again = books
+        .open(root, Ram(8192), Caps(8))
+        .expect(&rt, "there is a place again");
+    assert_eq!(rt; plain(books.limits(again)), (8192, 8));
+}
+
+#[test]
+fn chain_closes_from_its_end(rt: HostRuntime) {
+    let mut books = Books::boot(rt.alloc(), Ram(900), Caps(90), 3).expect(&rt, "memory");
+    let root = books.root();
+    let middle = books
+        .open(root, Ram(600), Caps(60))
+        .expect(&rt, "the root has it");
+    let last = books
+        .open(middle, Ram(200), Caps(20))
+        .expect(&rt, "the middle has it");
+    assert_eq!(rt; books.raise(middle, last, Ram(100), Caps(10)), Ok(()));
+    books.close(last);
+    assert_eq!(rt; plain(books.limits(middle)), (600, 60));
+    assert_eq!(rt; plain(books.limits(root)), (300, 30));
+    books.close(middle);
+    assert_eq!(rt; plain(books.limits(root)), (900, 90));
+}
+
+#[test]
+fn limits_at_their_largest_come_back(rt: HostRuntime) {
+    let mut books = Books::boot(rt.alloc(), Ram(u64::MAX), Caps(u32::MAX), 2).expect(&rt, "memory");
+    let root = books.root();
+    let child = books
+        .open(root, Ram(1), Caps(1))
+        .expect(&rt, "the root has it");
+    assert_eq!(rt;
+        books.raise(root, child, Ram(u64::MAX - 1), Caps(u32::MAX - 1)),
+        Ok(())
+    );
+    assert_eq!(rt; plain(books.limits(child)), (u64::MAX, u32::MAX));
+    books.close(child);
+    assert_eq!(rt; plain(books.limits(root)), (u64::MAX, u32::MAX));
+}

@@ -1,29 +1,49 @@
 -- The parent's limits are parted, and the child is inserted.
-use Rattle.std.proofs.Common.{◌≡◌, None, ap, sym, ◌∙◌}
-use Rattle.own_model.specs.Account.{shortage}
-use Rattle.quota_core.specs.Books.{account_at, ram_limits, caps_limits}
-use Rattle.quota_core.proofs.BooksLemmas.{account_at-slab, free_key, child_inserted, ram_moved, caps_moved}
+use Rattle.std.proofs.Common.{◌≡◌, ◌-◌, ap, sym, subst, ◌∙◌, arith}
+use Rattle.std.specs.FinMap.{get, insert}
+use Rattle.own_model.proofs.NatMapLemmas.{IsSome-insert}
+use Rattle.quota_core.specs.Books.{Books, AreSound, HasNoChild, ram_limits, caps_limits}
+use Rattle.quota_core.specs.Kept.{books_of}
+use Rattle.quota_core.proofs.BooksLemmas.{free_key, entry_inserted}
+use Rattle.quota_core.proofs.BooksLaws.{free_before, sound_entered, leaf_entered, opened_in_two, opened_ram, opened_caps}
 use Rattle.quota_core.proofs.books.Books.open.Goals as goal
 
--- the parent covers the child's limits
-enough : (c : goal.After-insert_reserved) → shortage (account_at c.args.self.now c.args.parent.0) c.args.ram.0 c.args.caps.0 ≡ None
-enough c =
-    ap (λ a. shortage a c.args.ram.0 c.args.caps.0) (account_at-slab _ _ _ c.self.view_is _ _ c.index_mut.ensures.value)
-    ∙ sym c.in_ok-child.ensures.refusal
+-- the account is entered in the books in which its parent has parted with its limits
+entered : (c : goal.After-insert_reserved-child) → books_of c.insert_reserved-child.new.self c.self.inside.root ≡ record c.part_with.new.self { accounts = insert c.part_with.new.self.accounts c.insert_reserved-child.result c.in_ok-account.account; parents = insert c.part_with.new.self.parents c.insert_reserved-child.result c.args.parent.0; room = c.part_with.new.self.room - 1 }
+entered c =
+    let inserted = c.insert_reserved-child.ensures in
+    entry_inserted _ _ _ c.self.view_is _ _ _ (subst AreSound c.self.view_is c.self.invariant) inserted.was_vacant inserted.updates inserted.len inserted.capacity
+
+pub invariant_of-self : goal.invariant_of-self
+invariant_of-self c =
+    let parted = c.in_ok-account.ensures in
+    subst AreSound (sym (entered c))
+    (sound_entered c.part_with.new.self (subst AreSound c.self.view_is c.self.invariant) c.insert_reserved-child.result c.args.parent.0 c.in_ok-account.account _
+    (free_key _ _ _ c.self.view_is _ c.insert_reserved-child.ensures.was_vacant)
+    (rw parted.ok (IsSome-insert c.args.self.now.accounts _ _ _ c.requires.parent))
+    (omega (arith, parted.ram, parted.few_ram))
+    (omega (arith, parted.caps, parted.few_caps)))
 
 pub returns-clause-ok : goal.returns-clause-ok
 returns-clause-ok c =
-    let inserted = c.insert_reserved.ensures in
-    let parted = c.in_ok-child.ensures in
-    child_inserted _ _ _ c.self.view_is _ _ _ _ _ _ _ _ c.index_mut.ensures.value parted.rest parted.part inserted.updates inserted.len inserted.capacity
+    entered c
+    ∙ opened_in_two c.args.self.now _ _ _ _ _ _ c.in_ok-account.ensures.ok c.in_ok-account.ensures.part
 
 pub returns-clause-fresh : goal.returns-clause-fresh
-returns-clause-fresh c = free_key _ _ _ c.self.view_is _ _ _ _ c.index_mut.ensures.value c.insert_reserved.ensures.was_vacant
+returns-clause-fresh c =
+    free_before c.args.self.now _ _ _ (ap (λ (b : Books). get b.accounts c.insert_reserved-child.result) (sym c.in_ok-account.ensures.ok) ∙ free_key _ _ _ c.self.view_is _ c.insert_reserved-child.ensures.was_vacant)
 
 pub returns-clause-ram_moved : goal.returns-clause-ram_moved
 returns-clause-ram_moved c =
-    ap ram_limits (returns-clause-ok c) ∙ ram_moved c.args.self.now _ _ _ _ c.requires.parent (returns-clause-fresh c) (enough c)
+    ap ram_limits (entered c) ∙ opened_ram c.part_with.new.self _ c.args.parent.0 (c.part_with.new.self.room - 1) _ (free_key _ _ _ c.self.view_is _ c.insert_reserved-child.ensures.was_vacant) ∙ c.in_ok-account.ensures.ram
 
 pub returns-clause-caps_moved : goal.returns-clause-caps_moved
 returns-clause-caps_moved c =
-    ap caps_limits (returns-clause-ok c) ∙ caps_moved c.args.self.now _ _ _ _ c.requires.parent (returns-clause-fresh c) (enough c)
+    ap caps_limits (entered c) ∙ opened_caps c.part_with.new.self _ c.args.parent.0 (c.part_with.new.self.room - 1) _ (free_key _ _ _ c.self.view_is _ c.insert_reserved-child.ensures.was_vacant) ∙ c.in_ok-account.ensures.caps
+
+pub returns-clause-leaf : goal.returns-clause-leaf
+returns-clause-leaf c =
+    subst (λ (b : Books). HasNoChild b c.insert_reserved-child.result) (sym (entered c))
+    (leaf_entered c.part_with.new.self (subst AreSound c.self.view_is c.self.invariant) c.insert_reserved-child.result c.args.parent.0 c.in_ok-account.account (c.part_with.new.self.room - 1)
+    (free_key _ _ _ c.self.view_is _ c.insert_reserved-child.ensures.was_vacant)
+    (rw c.in_ok-account.ensures.ok (IsSome-insert c.args.self.now.accounts _ _ _ c.requires.parent)))
