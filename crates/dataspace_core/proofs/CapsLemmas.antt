@@ -14,7 +14,7 @@ use Rattle.own_model.specs.Account.{Account, shortage, charged, credited, opened
 use Rattle.own_model.proofs.Totals.{len-total, total_same, total-picked, owed-total, owed_nothing}
 use Rattle.own_model.proofs.StepLemmas.{covers, short_of_caps}
 use Rattle.quota_core.specs.Books.{Books, IsOpen, account_at, with_account}
-use Rattle.quota_core.proofs.BooksLemmas.{account_there}
+use Rattle.quota_core.proofs.BooksLaws.{account_there}
 use Rattle.dataspace_core.specs.Store.{Store, part, bytes_paid_by, PartBecomes, charged_part}
 use Rattle.dataspace_core.specs.Layout.{store_of}
 use Rattle.dataspace_core.specs.Paid.{IsPaid, IsSound, payer_of}

@@ -13,4 +13,5 @@ pub mod MemoryLemmas
 pub mod CapsLemmas
 pub mod PartLaws
 pub mod ShareLaws
+pub mod WindowLaws
 pub mod LimitLaws

@@ -1,6 +1,6 @@
 -- A memory stays sound over each call, and is what the call's contract says.
 use Rattle.std.proofs.Common.{[], get_or, ◌≡◌, ◌≢◌, ℕ, ◌+◌, ◌*◌, ◌/◌, ◌^◌, ◌<◌, ◌≤◌, min, List, length, Some, Ok, Err, refl, sym, ap, subst, ◌∙◌, arith, inl, inr}
-use Rattle.std.specs.Prelude.{Option, None, Result, IfOk, OnErr}
+use Rattle.std.specs.Prelude.{⊤, Option, None, Result, IfOk, OnOk, OnErr}
 use Rattle.std.specs.Result.{result_err}
 use Rattle.std.specs.FinMap.{get, insert, remove}
 use Rattle.std.proofs.lemmas.Bool.{cases_lt}
@@ -19,17 +19,17 @@ use Rattle.own_model.specs.Account.{Account, Fits, shortage, charged, credited}
 use Rattle.own_model.specs.OwnState.{zeros}
 use Rattle.own_model.proofs.StepLemmas.{covers}
 use Rattle.own_model.proofs.NatMapLemmas.{apart_from_free}
-use Rattle.quota_core.specs.Books.{Books, IsOpen, account_at, fresh_books, with_account, with_child, ram_limits, caps_limits}
+use Rattle.quota_core.specs.Books.{Books, IsOpen, account_at, fresh_books, with_account, with_child, with_moved, without_account, parent_at, AreRelated, ram_limits, caps_limits}
 use Rattle.quota_core.specs.SlabMap.{map_of}
-use Rattle.quota_core.proofs.BooksLemmas.{account_there}
+use Rattle.quota_core.proofs.BooksLaws.{account_there}
 use Rattle.quota_core.proofs.SlabMap.{map_of-empty, get-map_of_at, get-map_of_none, ContainsKey-map_of, len-map_of}
-use Rattle.dataspace_core.specs.Store.{Store, Space, fresh_store, room_in, Exists, space_at, with_space, without_space, with_bytes_at, OpensPart}
+use Rattle.dataspace_core.specs.Store.{Store, Space, fresh_store, room_in, Exists, space_at, with_space, without_space, with_bytes_at, OpensPart, RaisesPart, ClosesPart}
 use Rattle.dataspace_core.specs.Layout.{IsNewRun, IsGiven, IsClosed, IsWritten, IsRun, HasMovedDown, NoneLiesBehind, run_bytes, space_of, store_of}
 use Rattle.dataspace_core.specs.Paid.{IsPaid, IsSound, size_of}
 use Rattle.dataspace_core.specs.declared.dataspace.Dataspace.{Dataspace}
-use Rattle.dataspace_core.proofs.PartLemmas.{space_at-some, opens-with_child}
+use Rattle.dataspace_core.proofs.PartLemmas.{space_at-some, opens-with_child, raises-with_moved, closes-without_account}
 use Rattle.dataspace_core.proofs.LaidOutLemmas.{IsRun-laid_out, length-space_of, IsLaidOut-insert, map_of-insert_space, IsLaidOut-remove, map_of-remove_space, IsLaidOut-written, map_of-written, after_remove, ends_behind}
-use Rattle.dataspace_core.proofs.PaidLemmas.{free_covers, places_cover, size_fits, use_covers, payer_apart, IsPaid-more, IsPaid-less, IsPaid-same, IsPaid-opened, IsPaid-fresh}
+use Rattle.dataspace_core.proofs.PaidLemmas.{free_covers, places_cover, size_fits, use_covers, payer_apart, IsPaid-more, IsPaid-less, IsPaid-same, IsPaid-opened, IsPaid-raised, IsPaid-closed, pays_for_none, IsPaid-fresh}
 
 -- the same facts of equal memories
 moved : (s t : Store) (free pages more : ℕ) → t ≡ s → pages ≡ more → IsPaid s free pages → IsPaid t free more
@@ -278,6 +278,46 @@ module _ {books : Books} {pool : List (Option (List ℕ))} {table : List PageNo}
     pub IsSound-open : (r : Result AccountId Refusal) → result_err r ≡ shortage (account_at books parent) ram caps → IfOk r (λ child. new_books ≡ with_child books parent child.0 ram caps) → IfOk r (λ child. get books.accounts child.0 ≡ None) → OnErr r (new_books ≡ books) → IsSound new_books pool table room spaces
     IsSound-open (Ok child) refusal ok fresh err = IsSound-with_child child.0 refusal ok fresh
     IsSound-open (Err e) refusal ok fresh err = subst (λ b. IsSound b pool table room spaces) (sym err) sound
+
+  -- ---- an account is raised
+
+  module _ (parent child ram caps : ℕ) (related : AreRelated books child parent) (new_books : Books) (ram_moved : ram_limits new_books ≡ ram_limits books) (caps_moved : caps_limits new_books ≡ caps_limits books) where
+    -- where it is granted the memory stays sound, and so it does where it is refused
+    pub IsSound-raise : (r : Result ⊤ Refusal) → result_err r ≡ shortage (account_at books parent) ram caps → OnOk r (new_books ≡ with_moved books parent child ram caps) → OnErr r (new_books ≡ books) → IsSound new_books pool table room spaces
+    IsSound-raise (Ok done) refusal is err = record {
+      laid_out = sound.laid_out;
+      paid = moved _ (store_of new_books pool table spaces) _ _ _ (same_store new_books _ pool table spaces is) refl
+          (IsPaid-raised store _ _ sound.paid parent child ram caps (account_at books parent) (account_at books child) (account_there books parent related.parent_open) (account_there books child related.child_open) (covers (account_at books parent) ram caps (sym refusal))
+          (sym (ap ram_limits is) ∙ ram_moved) (sym (ap caps_limits is) ∙ caps_moved));
+      counted = sound.counted;
+      roomy = sound.roomy;
+    }
+    IsSound-raise (Err e) refusal is err = subst (λ b. IsSound b pool table room spaces) (sym err) sound
+
+    -- the child's part has more limits, and its parent's fewer
+    pub raises-part : (r : Result ⊤ Refusal) → OnOk r (new_books ≡ with_moved books parent child ram caps) → OnOk r (RaisesPart parent child ram caps store (store_of new_books pool table spaces))
+    raises-part (Ok done) is = rw is (raises-with_moved store parent child ram caps related.apart)
+    raises-part (Err e) is = tt
+
+  -- ---- an account is closed
+
+  module _ (account : ℕ) (related : AreRelated books account (parent_at books account)) (unused : (account_at books account).caps_used ≡ 0) (new_books : Books) (is : new_books ≡ without_account books account) where
+    -- the memory stays sound
+    pub IsSound-close : ram_limits new_books ≡ ram_limits books → caps_limits new_books ≡ caps_limits books → IsSound new_books pool table room spaces
+    IsSound-close ram_moved caps_moved = record {
+      laid_out = sound.laid_out;
+      paid = moved _ (store_of new_books pool table spaces) _ _ _ (same_store new_books _ pool table spaces is) refl
+          (IsPaid-closed store _ _ sound.paid account (account_at books account) (account_at books (parent_at books account)) (account_there books account related.child_open) unused (account_there books (parent_at books account) related.parent_open)
+          (sym (ap ram_limits is) ∙ ram_moved) (sym (ap caps_limits is) ∙ caps_moved));
+      counted = sound.counted;
+      roomy = sound.roomy;
+    }
+
+    -- its part is gone, and its parent's has its limits
+    pub closes-part : ClosesPart account (parent_at books account) store (store_of new_books pool table spaces)
+    closes-part =
+        rw is (closes-without_account store account related.apart
+        (pays_for_none store _ _ sound.paid account (account_at books account) (account_there books account related.child_open) unused))
 
   -- an open account is not a key that was free
   parent_apart : (parent child : ℕ) → IsOpen books parent → get books.accounts child ≡ None → parent ≢ child

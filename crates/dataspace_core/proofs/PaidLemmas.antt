@@ -1,5 +1,5 @@
 -- Dataspaces stay paid for, and what an account has left the machine has.
-use Rattle.std.proofs.Common.{◌≡◌, ◌≢◌, ℕ, ◌+◌, ◌*◌, ◌≤◌, min, Some, unwrap_or, refl, sym, ap, subst, ◌∙◌, inl, inr, arith, zero-add}
+use Rattle.std.proofs.Common.{◌≡◌, ◌≢◌, ℕ, ◌+◌, ◌*◌, ◌≤◌, min, Some, is_some, unwrap_or, refl, sym, ap, subst, ◌∙◌, inl, inr, arith, zero-add}
 use Rattle.std.proofs.lemmas.Bool.Decides.{nat_tests}
 use Rattle.std.proofs.lemmas.Option.{none-some}
 use Rattle.std.specs.Prelude.{Option, None}
@@ -7,12 +7,13 @@ use Rattle.std.specs.Ordering.{nat_cmp}
 use Rattle.std.specs.FinMap.{get, insert, remove, empty, len, len-empty}
 use Rattle.own_model.specs.NatMap.{NatMap, total, owed}
 use Rattle.own_model.specs.Account.{Account, Fits, charged, credited, opened, parted_with}
+use Rattle.own_model.specs.Donation.{raised}
 use Rattle.own_model.specs.OwnState.{zeros}
-use Rattle.own_model.proofs.NatMapLemmas.{get-empty, IsSome-insert, IsSome-at, after_insert, apart_from_free, before_remove, by_insertions}
+use Rattle.own_model.proofs.NatMapLemmas.{get-empty, get-remove_other, IsSome-insert, IsSome-at, after_insert, each_after_insert, apart_from_free, before_remove, by_insertions}
 use Rattle.own_model.proofs.UseLemmas.{length-zeros}
 use Rattle.own_model.proofs.Totals.{total-empty, total-insert_new, total-insert_same, total-remove, total_spare, total_le, len-insert_new, len-total, owed-empty, owed-insert_new, owed-insert_same, owed-remove, owed_nothing, owed_at_le, total_owed_le, total-owed, total_at_le}
-use Rattle.quota_core.specs.Books.{Books, account_at, with_child, ram_limits, caps_limits}
-use Rattle.dataspace_core.specs.Store.{Store, Space, fresh_store, IsOpenIn, account_in, places_in, ram_limits_in, caps_limits_in}
+use Rattle.quota_core.specs.Books.{Books, IsOpen, account_at, with_child, with_moved, without_account, ram_limits, caps_limits}
+use Rattle.dataspace_core.specs.Store.{Store, Space, fresh_store, IsOpenIn, account_in, parent_in, places_in, ram_limits_in, caps_limits_in}
 use Rattle.dataspace_core.specs.Paid.{IsPaid, IsPaying, size_of, payer_of}
 
 -- ---- how many pages there are dataspaces for
@@ -171,25 +172,47 @@ module _ (store : Store) (free pages : ℕ) (paid : IsPaid store free pages) whe
       few = paid.few;
     }
 
-  -- ---- a parent opens an account
+  -- ---- limits move
 
+  -- an account pays for what it paid for once it has parted with limits that it covers
+  parted_pays : (account ram caps : ℕ) (a : Account) → get store.books.accounts account ≡ Some a → Fits a ram caps → IsPaying store.spaces account (parted_with (account_in store account) ram caps)
+  parted_pays account ram caps a opens fits =
+      let was = paid.paying account a opens in
+      subst (λ (v : Account). IsPaying store.spaces account (parted_with v ram caps)) (sym (account_at-some store.books account a opens))
+      (record { within = record { ram = omega (arith, fits.ram_fits); caps = omega (arith, fits.caps_fit) }; ram = was.ram; caps = was.caps })
+
+  -- and once it is given limits
+  raised_pays : (account ram caps : ℕ) (a : Account) → get store.books.accounts account ≡ Some a → IsPaying store.spaces account (raised (account_in store account) ram caps)
+  raised_pays account ram caps a opens =
+      let was = paid.paying account a opens in
+      subst (λ (v : Account). IsPaying store.spaces account (raised v ram caps)) (sym (account_at-some store.books account a opens))
+      (record { within = record { ram = omega (arith, was.within.ram); caps = omega (arith, was.within.caps) }; ram = was.ram; caps = was.caps })
+
+  -- all is paid for where each payer is open, each open account pays for what is its own, and all limits are what they were
+  module _ (moved : Books) (ram_moved : ram_limits moved ≡ ram_limits_in store) (caps_moved : caps_limits moved ≡ caps_limits_in store) where
+    IsPaid-moved : ((ds : ℕ) (space : Space) → get store.spaces ds ≡ Some space → IsOpen moved space.payer) → ((k : ℕ) (v : Account) → get moved.accounts k ≡ Some v → IsPaying store.spaces k v) → IsPaid (record store { books = moved }) free pages
+    IsPaid-moved payers paying = record {
+      payers = payers;
+      sized = paid.sized;
+      paying = paying;
+      ram_limits = ram_moved ∙ paid.ram_limits;
+      covered = omega (arith, caps_moved, paid.covered);
+      backed = paid.backed;
+      few = paid.few;
+    }
+
+  -- what holds of each account, of one that is written and of another, holds of each after both are written
+  each_of_two : (P : ℕ → Account → Type 0) (accounts : NatMap Account) (j k : ℕ) (x y : Account) → ((q : ℕ) (w : Account) → get accounts q ≡ Some w → P q w) → P j x → P k y → (q : ℕ) (w : Account) → get (insert (insert accounts j x) k y) q ≡ Some w → P q w
+  each_of_two P accounts j k x y each first second =
+      each_after_insert (insert accounts j x) k y P (each_after_insert accounts j x P each first) second
+
+  -- a parent opens an account
   module _ (parent child ram caps : ℕ) (a : Account) (opens : get store.books.accounts parent ≡ Some a) (fits : Fits a ram caps) (new : get store.books.accounts child ≡ None) where
     -- the books with the new account
     abbrev opening : Books
     opening = with_child store.books parent child ram caps
 
-    -- what the parent keeps
-    abbrev rest : Account
-    rest = parted_with (account_in store parent) ram caps
-
-    -- the parent still pays for what it paid for
-    parent_pays : IsPaying store.spaces parent rest
-    parent_pays =
-        let was = paid.paying parent a opens in
-        subst (λ (v : Account). IsPaying store.spaces parent (parted_with v ram caps)) (sym (account_at-some store.books parent a opens))
-        (record { within = record { ram = omega (arith, fits.ram_fits); caps = omega (arith, fits.caps_fit) }; ram = was.ram; caps = was.caps })
-
-    -- and the new account for nothing
+    -- which pays for nothing
     child_pays : IsPaying store.spaces child (opened ram caps)
     child_pays =
         let none = λ (f : Space → ℕ). owed_nothing f payer_of store.spaces child (payer_apart child new) in
@@ -197,21 +220,49 @@ module _ (store : Store) (free pages : ℕ) (paid : IsPaid store free pages) whe
 
     -- all is paid for
     pub IsPaid-opened : ram_limits opening ≡ ram_limits_in store → caps_limits opening ≡ caps_limits_in store → IsPaid (record store { books = opening }) free pages
-    IsPaid-opened ram_moved caps_moved = record {
-      payers = λ q s found. IsSome-insert (insert store.books.accounts parent rest) child (opened ram caps) s.payer (IsSome-insert store.books.accounts parent rest s.payer (paid.payers q s found));
-      sized = paid.sized;
-      paying = λ k v found. elim (after_insert (insert store.books.accounts parent rest) child (opened ram caps) k v found) [
-        | inl young ↦ subst (λ (w : Account). IsPaying store.spaces k w) (sym young.1) (subst (λ q. IsPaying store.spaces q (opened ram caps)) (sym young.0) child_pays)
-        | inr there ↦ elim (after_insert store.books.accounts parent rest k v there.1) [
-          | inl old ↦ subst (λ (w : Account). IsPaying store.spaces k w) (sym old.1) (subst (λ q. IsPaying store.spaces q rest) (sym old.0) parent_pays)
-          | inr other ↦ paid.paying k v other.1
-        ]
-      ];
-      ram_limits = ram_moved ∙ paid.ram_limits;
-      covered = omega (arith, caps_moved, paid.covered);
-      backed = paid.backed;
-      few = paid.few;
-    }
+    IsPaid-opened ram_moved caps_moved =
+        IsPaid-moved opening ram_moved caps_moved
+        (λ q s found. IsSome-insert (insert store.books.accounts parent _) child _ s.payer (IsSome-insert store.books.accounts parent _ s.payer (paid.payers q s found)))
+        (each_of_two (IsPaying store.spaces) store.books.accounts parent child _ _ paid.paying (parted_pays parent ram caps a opens fits) child_pays)
+
+  -- a parent raises an account
+  module _ (parent child ram caps : ℕ) (a b : Account) (opens : get store.books.accounts parent ≡ Some a) (child_opens : get store.books.accounts child ≡ Some b) (fits : Fits a ram caps) where
+    -- the books with the limits moved
+    abbrev raising : Books
+    raising = with_moved store.books parent child ram caps
+
+    pub IsPaid-raised : ram_limits raising ≡ ram_limits_in store → caps_limits raising ≡ caps_limits_in store → IsPaid (record store { books = raising }) free pages
+    IsPaid-raised ram_moved caps_moved =
+        IsPaid-moved raising ram_moved caps_moved
+        (λ q s found. IsSome-insert (insert store.books.accounts parent _) child _ s.payer (IsSome-insert store.books.accounts parent _ s.payer (paid.payers q s found)))
+        (each_of_two (IsPaying store.spaces) store.books.accounts parent child _ _ paid.paying (parted_pays parent ram caps a opens fits) (raised_pays child ram caps b child_opens))
+
+  -- an account that uses no capability pays for nothing
+  pub pays_for_none : (account : ℕ) (a : Account) → get store.books.accounts account ≡ Some a → a.caps_used ≡ 0 → (ds : ℕ) (space : Space) → get store.spaces ds ≡ Some space → space.payer ≢ account
+  pays_for_none account a opens unused ds space there same =
+      let one = owed_at_le (λ (_ : Space). 1) payer_of store.spaces ds space account there same in
+      absurd (omega (arith, one, unused, (paid.paying account a opens).caps))
+
+  -- so it uses no RAM
+  pub no_ram_used : (account : ℕ) (o : Option Account) → get store.books.accounts account ≡ o → (unwrap_or o (opened 0 0)).caps_used ≡ 0 → (unwrap_or o (opened 0 0)).ram_used ≡ 0
+  no_ram_used account None closed unused = refl
+  no_ram_used account (Some a) opens unused =
+      let none = owed_nothing size_of payer_of store.spaces account (pays_for_none account a opens unused) in
+      omega (arith, none, (paid.paying account a opens).ram)
+
+  -- and may go
+  module _ (account : ℕ) (a b : Account) (opens : get store.books.accounts account ≡ Some a) (unused : a.caps_used ≡ 0) (parent_opens : get store.books.accounts (parent_in store account) ≡ Some b) where
+    -- the books without it
+    abbrev closing : Books
+    closing = without_account store.books account
+
+    pub IsPaid-closed : ram_limits closing ≡ ram_limits_in store → caps_limits closing ≡ caps_limits_in store → IsPaid (record store { books = closing }) free pages
+    IsPaid-closed ram_moved caps_moved =
+        IsPaid-moved closing ram_moved caps_moved
+        (λ q s found. IsSome-insert (remove store.books.accounts account) (parent_in store account) _ s.payer (ap is_some (get-remove_other store.books.accounts account s.payer (pays_for_none account a opens unused q s found)) ∙ paid.payers q s found))
+        (each_after_insert (remove store.books.accounts account) (parent_in store account) _ (IsPaying store.spaces)
+        (λ q w found. paid.paying q w (before_remove store.books.accounts account q w found))
+        (raised_pays (parent_in store account) (account_in store account).ram_limit (account_in store account).caps_limit b parent_opens))
 
 -- ---- boot
 

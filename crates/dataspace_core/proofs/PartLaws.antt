@@ -11,7 +11,7 @@ use Rattle.dataspace_core.proofs.PartLemmas.{part-payer}
 
 -- a call that changes nothing leaves the part
 pub becomes_same : (account : ℕ) (store : Store) → PartBecomes account (part account store) store store
-becomes_same account store = record { own = refl; others = λ other apart. refl; root = refl }
+becomes_same account store = record { own = refl; others = λ other apart. refl; root = refl; parents = refl; room = refl }
 
 -- a call after another: the part is what the last one left, and the others are still what they were
 pub becomes_then : {account : ℕ} {p q : Part} {s t u : Store} → PartBecomes account p s t → PartBecomes account q t u → PartBecomes account q s u
@@ -19,6 +19,8 @@ becomes_then first next = record {
   own = next.own;
   others = λ other apart. next.others other apart ∙ first.others other apart;
   root = next.root ∙ first.root;
+  parents = next.parents ∙ first.parents;
+  room = next.room ∙ first.room;
 }
 
 -- ---- the account of a part

@@ -9,9 +9,9 @@ use Rattle.trade_base.specs.Page.{page_of}
 use Rattle.own_model.specs.NatMap.{NatMap, picked}
 use Rattle.own_model.specs.Account.{Account, credited, opened}
 use Rattle.own_model.specs.OwnState.{zeros}
-use Rattle.own_model.proofs.NatMapLemmas.{same, get-empty, get-insert_same, get-insert_other, get-picked, get-picked_none, get-picked_at, picked-insert_some, picked-insert_hidden, picked-insert_alike, picked-remove, picked-remove_hidden}
-use Rattle.dataspace_core.specs.Store.{Store, Space, space_at, with_space, without_space, with_bytes_at, account_in, with_account_in, with_child_in, room_in}
-use Rattle.dataspace_core.specs.Store.{Part, part, bytes_paid_by, bytes_of, part_with_space, part_without_space, part_with_bytes, PartBecomes, OpensPart}
+use Rattle.own_model.proofs.NatMapLemmas.{same, get-empty, get-insert_same, get-insert_other, get-remove_same, get-remove_other, get-picked, get-picked_none, get-picked_at, picked-insert_some, picked-insert_hidden, picked-insert_alike, picked-remove, picked-remove_hidden}
+use Rattle.dataspace_core.specs.Store.{Store, Space, space_at, with_space, without_space, with_bytes_at, account_in, with_account_in, with_child_in, with_moved_in, without_account_in, parent_in, room_in}
+use Rattle.dataspace_core.specs.Store.{Part, part, bytes_paid_by, bytes_of, part_with_space, part_without_space, part_with_bytes, PartBecomes, OpensPart, RaisesPart, ClosesPart}
 
 -- its payer has the bytes of a dataspace in its part, and nobody else
 paid_by : (account : ℕ) (space : Space) → space.payer ≡ account → bytes_paid_by account space ≡ Some space.bytes
@@ -48,6 +48,8 @@ module _ (store : Store) (ds payer n : ℕ) (free : get store.spaces ds ≡ None
         (get-insert_other store.books.accounts payer _ other apart)
         (picked-insert_hidden (bytes_paid_by other) store.spaces ds _ (paid_by_another other _ (λ e. apart (sym e))) (get-picked_none (bytes_paid_by other) store.spaces ds free));
     root = refl;
+    parents = refl;
+    room = refl;
   }
 
 -- ---- a dataspace goes, or is written
@@ -87,6 +89,8 @@ module _ (store : Store) (ds : ℕ) (space : Space) (there : get store.spaces ds
         (get-insert_other store.books.accounts (space_at store ds).payer _ other apart)
         (picked-remove_hidden (bytes_paid_by other) store.spaces ds (hidden other apart));
     root = refl;
+    parents = refl;
+    room = refl;
   }
 
   -- the payer's account stays, and its part has the dataspace with the new bytes
@@ -101,23 +105,25 @@ module _ (store : Store) (ds : ℕ) (space : Space) (there : get store.spaces ds
         refl
         (picked-insert_alike (bytes_paid_by other) store.spaces ds _ (paid_by_another other _ (λ e. apart (sym e)) ∙ sym (hidden other apart)));
     root = refl;
+    parents = refl;
+    room = refl;
   }
 
 -- ---- an account is opened
 
-module _ (store : Store) (parent child ram caps : ℕ) where
-  -- nothing is picked where it pays for nothing
-  nothing_picked : (o : Option Space) → ((space : Space) → o ≡ Some space → space.payer ≢ child) → option_and_then (bytes_paid_by child) o ≡ None
-  nothing_picked None apart = refl
-  nothing_picked (Some space) apart = paid_by_another child space (apart space refl)
+-- nothing is picked where an account pays for nothing
+nothing_picked : (account : ℕ) (o : Option Space) → ((space : Space) → o ≡ Some space → space.payer ≢ account) → option_and_then (bytes_paid_by account) o ≡ None
+nothing_picked account None apart = refl
+nothing_picked account (Some space) apart = paid_by_another account space (apart space refl)
 
+module _ (store : Store) (parent child ram caps : ℕ) where
   -- the new account pays for nothing, and its parent has parted with its limits
   pub opens-with_child : parent ≢ child → 0 < room_in store → ((ds : ℕ) (space : Space) → get store.spaces ds ≡ Some space → space.payer ≢ child) → OpensPart parent child ram caps store (with_child_in store parent child ram caps)
   unfolding part
   opens-with_child apart place pays_for_none = record {
     opened_one = same_part _ _ _ _
         (get-insert_same _ child (opened ram caps) child refl)
-        (same _ _ (λ q. get-picked (bytes_paid_by child) store.spaces q ∙ nothing_picked (get store.spaces q) (pays_for_none q) ∙ sym (get-empty q)));
+        (same _ _ (λ q. get-picked (bytes_paid_by child) store.spaces q ∙ nothing_picked child (get store.spaces q) (pays_for_none q) ∙ sym (get-empty q)));
     parted_one = same_part _ _ _ _
         (get-insert_other _ child (opened ram caps) parent apart ∙ get-insert_same store.books.accounts parent _ parent refl)
         refl;
@@ -125,8 +131,45 @@ module _ (store : Store) (parent child ram caps : ℕ) where
         (get-insert_other _ child (opened ram caps) other apart_child ∙ get-insert_other store.books.accounts parent _ other apart_parent)
         refl;
     root = refl;
+    parents = refl;
     room = omega (arith, place);
   }
+
+-- ---- an account is raised
+
+-- the child has the limits that its parent has parted with
+pub raises-with_moved : (store : Store) (parent child ram caps : ℕ) → parent ≢ child → RaisesPart parent child ram caps store (with_moved_in store parent child ram caps)
+unfolding part
+raises-with_moved store parent child ram caps apart = record {
+  raised_one = same_part _ _ _ _ (get-insert_same _ child _ child refl) refl;
+  parted_one = same_part _ _ _ _
+      (get-insert_other _ child _ parent apart ∙ get-insert_same store.books.accounts parent _ parent refl)
+      refl;
+  others = λ other apart_parent apart_child. same_part _ _ _ _
+      (get-insert_other _ child _ other apart_child ∙ get-insert_other store.books.accounts parent _ other apart_parent)
+      refl;
+  root = refl;
+  parents = refl;
+  room = refl;
+}
+
+-- ---- an account goes
+
+-- its parent has its limits, where it paid for nothing
+pub closes-without_account : (store : Store) (account : ℕ) → parent_in store account ≢ account → ((ds : ℕ) (space : Space) → get store.spaces ds ≡ Some space → space.payer ≢ account) → ClosesPart account (parent_in store account) store (without_account_in store account)
+unfolding part
+closes-without_account store account apart pays_for_none = record {
+  closed_one = same_part _ _ _ _
+      (get-insert_other _ (parent_in store account) _ account (λ e. apart (sym e)) ∙ get-remove_same store.books.accounts account account refl)
+      (same _ _ (λ q. get-picked (bytes_paid_by account) store.spaces q ∙ nothing_picked account (get store.spaces q) (pays_for_none q) ∙ sym (get-empty q)));
+  raised_one = same_part _ _ _ _ (get-insert_same _ (parent_in store account) _ (parent_in store account) refl) refl;
+  others = λ other apart_account apart_parent. same_part _ _ _ _
+      (get-insert_other _ (parent_in store account) _ other apart_parent ∙ get-remove_other store.books.accounts account other apart_account)
+      refl;
+  root = refl;
+  parents = refl;
+  room = refl;
+}
 
 -- ---- an account is another
 
@@ -137,4 +180,6 @@ becomes-with_account store account b = record {
   own = same_part _ _ _ _ (get-insert_same store.books.accounts account b account refl) refl;
   others = λ other apart. same_part _ _ _ _ (get-insert_other store.books.accounts account b other apart) refl;
   root = refl;
+  parents = refl;
+  room = refl;
 }

@@ -1,9 +1,11 @@
 -- What one account has of a memory and of a heap window that several accounts use.
-use Rattle.std.specs.Prelude.{◌≡◌, ℕ, ◌*◌, ◌≤◌, List, length, Option, Some, None, is_some, if◌then◌else◌}
+use Rattle.std.specs.Prelude.{◌≡◌, ◌≢◌, ℕ, ◌*◌, ◌≤◌, List, length, Option, Some, None, is_some, if◌then◌else◌}
 use Rattle.std.specs.FinMap.{get, retain_keys}
+use Rattle.own_model.specs.HeapWindow.{heap_low, heap_high, largest_machine}
 use Rattle.own_model.specs.NatMap.{NatMap, picked}
 use Rattle.own_model.specs.Region.{Region}
-use Rattle.dataspace_core.specs.Store.{Store, Space, Part, part}
+use Rattle.own_model.specs.Sound.{LieApart}
+use Rattle.dataspace_core.specs.Store.{Store, Space, Part, part, root_in, ram_limits_in}
 
 -- a region that shows one of these dataspaces
 abbrev pub shown : NatMap (List ℕ) → Region → Option Region
@@ -37,3 +39,18 @@ pub record IsShown (spaces : NatMap Space) (region : Region) : Type 0 where
   pub there : get spaces region.of ≡ Some space
   pub some : 1 ≤ region.pages
   pub whole : length space.bytes ≡ region.pages * 4096
+
+-- a heap window of a machine of so many pages, with so many regions at most, is as large as the memory, and each region in it
+-- shows the whole of a dataspace of its own, and they lie apart
+pub record IsWindowOf (store : Store) (pages most : ℕ) (heap : NatMap Region) : Type 0 where
+  pub size : pages * 4096 ≡ ram_limits_in store
+  pub few : pages ≤ largest_machine
+  pub lie : LieApart heap_low (heap_high pages) heap
+  pub most_is : most ≡ pages
+  pub shown_whole : (s : ℕ) (r : Region) → get heap s ≡ Some r → IsShown store.spaces r
+  pub once : (s t : ℕ) (r q : Region) → get heap s ≡ Some r → get heap t ≡ Some q → r.of ≡ q.of → s ≡ t
+
+-- what calls for an account leave as it was: every other account's share, and the root's key
+pub record KeepsShares (account : ℕ) (old new : Store) (heap : NatMap Region) (tags : NatMap ℕ) (after : NatMap Region) (numbers : NatMap ℕ) : Type 0 where
+  pub shares : (other : ℕ) → other ≢ account → share other new after numbers ≡ share other old heap tags
+  pub root : root_in new ≡ root_in old

@@ -8,8 +8,10 @@ use Rattle.trade_base.specs.Bytes.{with_bytes}
 use Rattle.trade_base.specs.Page.{page_of}
 use Rattle.own_model.specs.NatMap.{NatMap, picked}
 use Rattle.own_model.specs.Account.{Account, charged, credited, opened, parted_with}
+use Rattle.own_model.specs.Donation.{raised}
 use Rattle.own_model.specs.OwnState.{zeros}
 use Rattle.quota_core.specs.Books.{Books, IsOpen, coded_books, fresh_books, account_at, with_account, with_child, ram_limits, caps_limits}
+use Rattle.quota_core.specs.Books.{IsChildOf, HasNoChild, AreRelated, parent_at, with_moved, without_account}
 
 -- a dataspace: the account that pays for it, and its bytes
 pub record Space : Type 0 where
@@ -48,6 +50,10 @@ fresh_store root pages caps accounts places =
 abbrev pub accounts_in : Store → NatMap Account
 accounts_in store = store.books.accounts
 
+-- the parents' keys by the keys of their children
+abbrev pub parents_in : Store → NatMap ℕ
+parents_in store = store.books.parents
+
 -- the root's key
 abbrev pub root_in : Store → ℕ
 root_in store = store.books.root
@@ -75,6 +81,30 @@ with_account_in store key account = record store { books = with_account store.bo
 -- the memory with limits moved from the parent to a new account
 abbrev pub with_child_in : Store → ℕ → ℕ → ℕ → ℕ → Store
 with_child_in store parent child ram caps = record store { books = with_child store.books parent child ram caps }
+
+-- the child was opened under this parent
+abbrev pub IsChildIn : Store → ℕ → ℕ → Type 0
+IsChildIn store child parent = IsChildOf store.books child parent
+
+-- no account was opened under this one
+abbrev pub IsLeafIn : Store → ℕ → Type 0
+IsLeafIn store account = HasNoChild store.books account
+
+-- a child and its parent are two accounts, and both are open
+abbrev pub AreRelatedIn : Store → ℕ → ℕ → Type 0
+AreRelatedIn store child parent = AreRelated store.books child parent
+
+-- the account's parent, or the root where it has none
+abbrev pub parent_in : Store → ℕ → ℕ
+parent_in store account = parent_at store.books account
+
+-- the memory with limits moved from one account to another
+abbrev pub with_moved_in : Store → ℕ → ℕ → ℕ → ℕ → Store
+with_moved_in store from to ram caps = record store { books = with_moved store.books from to ram caps }
+
+-- the memory without an account, whose parent has its limits
+abbrev pub without_account_in : Store → ℕ → Store
+without_account_in store account = record store { books = without_account store.books account }
 
 -- all limits of RAM, in bytes
 abbrev pub ram_limits_in : Store → ℕ
@@ -168,15 +198,26 @@ credited_part p caps = record p { account = Some (credited (account_of p) 0 caps
 abbrev pub parted_part : Part → ℕ → ℕ → Part
 parted_part p ram caps = record p { account = Some (parted_with (account_of p) ram caps) }
 
+-- its account is given limits
+abbrev pub raised_part : Part → ℕ → ℕ → Part
+raised_part p ram caps = record p { account = Some (raised (account_of p) ram caps) }
+
 -- the part of an account that is opened with these limits: it pays for nothing
 abbrev pub opened_part : ℕ → ℕ → Part
 opened_part ram caps = record { account = Some (opened ram caps); spaces = empty }
 
--- an account's part becomes this one; every other account's part stays, and so does the root's key
+-- the part of an account that isn't open
+abbrev pub closed_part : Part
+closed_part = record { account = None; spaces = empty }
+
+-- an account's part becomes this one; every other account's part stays, and so do the root's key, who is whose parent, and
+-- the places for accounts
 pub record PartBecomes (account : ℕ) (after : Part) (old new : Store) : Type 0 where
   pub own : part account new ≡ after
   pub others : (other : ℕ) → other ≢ account → part other new ≡ part other old
   pub root : root_in new ≡ root_in old
+  pub parents : parents_in new ≡ parents_in old
+  pub room : room_in new ≡ room_in old
 
 -- a parent's account parts with limits, with which a new account is opened in one of the places; every other account's part
 -- stays, and so does the root's key
@@ -185,4 +226,26 @@ pub record OpensPart (parent child ram caps : ℕ) (old new : Store) : Type 0 wh
   pub parted_one : part parent new ≡ parted_part (part parent old) ram caps
   pub others : (other : ℕ) → other ≢ parent → other ≢ child → part other new ≡ part other old
   pub root : root_in new ≡ root_in old
+  pub parents : parents_in new ≡ insert (parents_in old) child parent
   pub room : room_in new + 1 ≡ room_in old
+
+-- a parent's account parts with limits, and its child's is given them; every other account's part stays, and so do the root's
+-- key, who is whose parent, and the places
+pub record RaisesPart (parent child ram caps : ℕ) (old new : Store) : Type 0 where
+  pub raised_one : part child new ≡ raised_part (part child old) ram caps
+  pub parted_one : part parent new ≡ parted_part (part parent old) ram caps
+  pub others : (other : ℕ) → other ≢ parent → other ≢ child → part other new ≡ part other old
+  pub root : root_in new ≡ root_in old
+  pub parents : parents_in new ≡ parents_in old
+  pub room : room_in new ≡ room_in old
+
+-- an account goes, its parent's is given its limits, and its place is free again; every other account's part stays, and so
+-- does the root's key
+pub record ClosesPart (account parent : ℕ) (old new : Store) : Type 0 where
+  pub closed_one : part account new ≡ closed_part
+  pub raised_one : let limits = account_of (part account old) in
+      part parent new ≡ raised_part (part parent old) limits.ram_limit limits.caps_limit
+  pub others : (other : ℕ) → other ≢ account → other ≢ parent → part other new ≡ part other old
+  pub root : root_in new ≡ root_in old
+  pub parents : parents_in new ≡ remove (parents_in old) account
+  pub room : room_in new ≡ room_in old + 1

@@ -1,5 +1,5 @@
 //! Dataspaces over a pool of pages and the books of accounts.
-ghost use Rattle.std.specs.Prelude.{◌≡◌, ◌+◌, ◌%◌, ◌^◌, ◌<◌, ◌≤◌, length, if◌then◌else◌, Some, None, IfOk, IfErr, IfSome, OnOk, OnErr, slice_range};
+ghost use Rattle.std.specs.Prelude.{◌≡◌, ◌+◌, ◌%◌, ◌^◌, ◌<◌, ◌≤◌, length, if◌then◌else◌, Some, None, IsSome, IfOk, IfErr, IfSome, OnOk, OnErr, slice_range};
 ghost use Rattle.std.specs.Result.{result_err};
 ghost use Rattle.std.specs.FinMap.{get, len};
 ghost use Rattle.trade_base.specs.Page.{is_valid_size, page_of};
@@ -9,6 +9,7 @@ ghost use Rattle.own_model.specs.NatMap.{total};
 ghost use Rattle.own_model.specs.Account.{alloc_refusal, shortage, charged, credited, WithinLimits};
 ghost use Rattle.dataspace_core.specs.Store.{fresh_store, accounts_in, root_in, room_in, places_in, IsOpenIn, account_in, with_account_in, with_child_in, ram_limits_in, caps_limits_in};
 ghost use Rattle.dataspace_core.specs.Store.{Exists, space_at, with_space, without_space, with_bytes_at};
+ghost use Rattle.dataspace_core.specs.Store.{parents_in, parent_in, IsChildIn, IsLeafIn, AreRelatedIn, with_moved_in, without_account_in, RaisesPart, ClosesPart};
 ghost use Rattle.dataspace_core.specs.Store.{part, PartBecomes, OpensPart, part_with_space, part_without_space, part_with_bytes, charged_part, credited_part};
 
 use crate::dataspace::{Dataspace, move_down, no_spaces, size_of, space_under};
@@ -239,12 +240,51 @@ impl Memory {
         ensures refusal { result_err result ≡ shortage (account_in self.old parent.0) ram.0 caps.0 }
         ensures ok { IfOk result (λ child. self.new ≡ with_child_in self.old parent.0 child.0 ram.0 caps.0) }
         ensures fresh { IfOk result (λ child. get (accounts_in self.old) child.0 ≡ None) }
+        ensures leaf { IfOk result (λ child. IsLeafIn self.new child.0) }
         ensures part { IfOk result (λ child. OpensPart parent.0 child.0 ram.0 caps.0 self.old self.new) }
         ensures err { OnErr result (self.new ≡ self.old) }
         ensures ram_moved { ram_limits_in self.new ≡ ram_limits_in self.old }
         ensures caps_moved { caps_limits_in self.new ≡ caps_limits_in self.old }
     {
         self.books.open(parent, ram, caps)
+    }
+
+    /// Moves so much of the parent's limits to its child: RAM in bytes, and capabilities.
+    ///
+    /// It is refused with `OutOfRam` where less RAM of the parent's limit is free, and else with `OutOfCaps` where fewer
+    /// capabilities are.
+    pub fn raise(
+        &mut self,
+        parent: AccountId,
+        child: AccountId,
+        ram: Ram,
+        caps: Caps,
+    ) -> Result<(), Refusal>
+        requires { IsChildIn self.old child.0 parent.0 }
+        ensures refusal { result_err result ≡ shortage (account_in self.old parent.0) ram.0 caps.0 }
+        ensures ok { OnOk result (self.new ≡ with_moved_in self.old parent.0 child.0 ram.0 caps.0) }
+        ensures part { OnOk result (RaisesPart parent.0 child.0 ram.0 caps.0 self.old self.new) }
+        ensures err { OnErr result (self.new ≡ self.old) }
+        ensures ram_moved { ram_limits_in self.new ≡ ram_limits_in self.old }
+        ensures caps_moved { caps_limits_in self.new ≡ caps_limits_in self.old }
+        ensures related { AreRelatedIn self.old child.0 parent.0 }
+    {
+        self.books.raise(parent, child, ram, caps)
+    }
+
+    /// Closes an account that isn't the root and that has no child. It may use no capability, so it pays for no dataspace.
+    /// Its limits go back to its parent.
+    pub fn close(&mut self, account: AccountId)
+        requires child { IsSome (get (parents_in self.old) account.0) }
+        requires leaf { IsLeafIn self.old account.0 }
+        requires unused { (account_in self.old account.0).caps_used ≡ 0 }
+        ensures closed { self.new ≡ without_account_in self.old account.0 }
+        ensures part { ClosesPart account.0 (parent_in self.old account.0) self.old self.new }
+        ensures ram_moved { ram_limits_in self.new ≡ ram_limits_in self.old }
+        ensures caps_moved { caps_limits_in self.new ≡ caps_limits_in self.old }
+        ensures related { AreRelatedIn self.old account.0 (parent_in self.old account.0) }
+    {
+        self.books.close(account);
     }
 
     /// An account's limits, of RAM in bytes and of capabilities.

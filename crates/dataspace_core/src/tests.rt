@@ -140,3 +140,33 @@ fn largest_memory_is_granted_page_by_page(rt: HostRuntime) {
             .expect(&rt, "the root has a capability");
     }
 }
+
+#[test]
+fn closed_account_gives_back_what_it_was_raised_to(rt: HostRuntime) {
+    let mut memory = Memory::boot(rt.alloc(), 4, Caps(4), 2).expect(&rt, "memory for four pages");
+    let root = memory.root();
+    let child = memory
+        .open(root, Ram(4096), Caps(1))
+        .expect(&rt, "the root has it");
+    memory
+        .raise(root, child, Ram(12288), Caps(3))
+        .expect(&rt, "the root has the rest");
+    memory.close(child);
+    memory
+        .alloc(root, 16384)
+        .expect(&rt, "the root has all again");
+}
+
+#[test]
+fn place_of_a_closed_account_is_free_again(rt: HostRuntime) {
+    let mut memory = Memory::boot(rt.alloc(), 1, Caps(2), 2).expect(&rt, "memory for a page");
+    let root = memory.root();
+    let first = memory
+        .open(root, Ram(4096), Caps(2))
+        .expect(&rt, "the root has it");
+    memory.close(first);
+    let again = memory
+        .open(root, Ram(4096), Caps(2))
+        .expect(&rt, "the root has it again");
+    memory.alloc(again, 1).expect(&rt, "the page is free");
+}
