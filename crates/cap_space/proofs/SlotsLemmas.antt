@@ -1,5 +1,5 @@
 -- What the slots hold, and what a change of one slot does to it.
-use Rattle.std.proofs.Common.{◌≡◌, ℕ, zero, suc, ◌+◌, ◌-◌, ◌<◌, ◌≤◌, true, true≢false, cond, eqb, List, [], ◌∷◌, length, replicate, get_or, ◌⊎◌, set, Some, is_some, count_by, refl, sym, ap, ◌∙◌, arith, inl, inr}
+use Rattle.std.proofs.Common.{◌≡◌, ℕ, zero, suc, ◌+◌, ◌-◌, ◌<◌, ◌≤◌, ◌≢◌, min, true, true≢false, cond, eqb, List, [], ◌∷◌, length, replicate, get_or, ◌⊎◌, set, Some, is_some, IsSome, count_by, subst, refl, sym, ap, ◌∙◌, arith, inl, inr}
 use Rattle.std.proofs.lemmas.Bool.{cases_eq, cases_lt}
 use Rattle.std.proofs.lemmas.Bool.Decides.{nat_tests}
 use Rattle.std.proofs.lemmas.List.{get_or-set_same, get_or-set_other, get_or-replicate, get_or_past, length-replicate, length-set}
@@ -10,10 +10,10 @@ use Rattle.std.specs.Ordering.{nat_cmp}
 use Rattle.std.specs.FinMap.{get, insert, remove, empty, len}
 use Rattle.own_model.specs.NatMap.{NatMap}
 use Rattle.own_model.specs.OwnState.{new_selector}
-use Rattle.own_model.proofs.NatMapLemmas.{same, get-insert, get-remove, get-empty, remove_free}
+use Rattle.own_model.proofs.NatMapLemmas.{same, get-insert, get-remove, get-empty}
 use Rattle.own_model.proofs.NewSelector.{new_selector_is}
 use Rattle.own_model.proofs.SlotLemmas.{get-held_from, get-held_from_below, len-held_from}
-use Rattle.cap_space.specs.Slots.{held, space_of, IsTakenBefore}
+use Rattle.cap_space.specs.Slots.{held, space_of, IsTakenBefore, IsKept}
 use Rattle.cap_space.specs.Space.{Space, fresh_space, with_cap, without_cap}
 use Rattle.cap_space.specs.declared.cap.Cap.{Cap}
 
@@ -81,11 +81,11 @@ module _ {X : Type 0} where
     | inr past ↦ absurd (none-some x (sym (get_or_past slots place None past) ∙ there))
   ]
 
-  -- to empty a slot that is taken is to count one less
-  count-set_none : (slots : List (Option X)) (place : ℕ) (x : X) → place < length slots → get_or slots place None ≡ Some x → count_by is_some (set slots place None) + 1 ≡ count_by is_some slots
-  count-set_none slots place x within there =
-      let one : cond (is_some (get_or slots place None)) 1 0 ≡ 1 = ap {B = ℕ} (λ o. cond (is_some o) 1 0) there in
-      omega (arith, one, sum_by-set (λ o. cond (is_some o) 1 0) slots place None None within)
+  -- to empty the slot of a selector in use is to count one less
+  pub count-vacated : (slots : List (Option X)) (selector : ℕ) → IsSome (get (held slots) selector) → 0 < selector → selector - 1 < length slots → count_by is_some (set slots (selector - 1) None) + 1 ≡ count_by is_some slots
+  count-vacated slots selector taken positive within =
+      let one : cond (is_some (get_or slots (selector - 1) None)) 1 0 ≡ 1 = ap {B = ℕ} (λ b. cond b 1 0) (ap is_some (sym (get-held slots selector positive)) ∙ taken) in
+      omega (arith, one, sum_by-set (λ o. cond (is_some o) 1 0) slots (selector - 1) None None within)
 
   -- a selector has nothing, or a place that is taken. The first part gives `grind` the term to match
   pub held_cases : (slots : List (Option X)) (selector : ℕ) → (get (held slots) selector ≡ get (held slots) selector) × ((get (held slots) selector ≡ None) ⊎ ((1 ≤ selector) × (selector - 1 < length slots) × (1 ≤ count_by is_some slots)))
@@ -99,6 +99,13 @@ module _ {X : Type 0} where
       | inr low ↦ inl (get-held_zero slots selector (omega arith))
     ],
   )
+
+  -- a selector in use has a place
+  pub in_use : (slots : List (Option X)) (selector : ℕ) → IsSome (get (held slots) selector) → (0 < selector) × (selector - 1 < length slots)
+  in_use slots selector taken = elim ((held_cases slots selector).1) [
+    | inl free ↦ absurd (true≢false (sym taken ∙ ap is_some free))
+    | inr at ↦ (omega (arith, at.0), at.1)
+  ]
 
   -- no more are taken than there are
   pub held_le : (slots : List (Option X)) → count_by is_some slots ≤ length slots
@@ -117,17 +124,34 @@ same_space caps places i = record { caps = caps i; places = places i }
 pub space_fresh : (slots : List (Option Cap)) (places : ℕ) → slots ≡ replicate places None → space_of slots ≡ fresh_space places
 space_fresh slots places free = same_space (ap held free ∙ held-replicate places) (ap length free ∙ length-replicate places None)
 
--- nothing changes where nothing is
-pub without_free : (space : Space) (selector : ℕ) → get space.caps selector ≡ None → space ≡ without_cap space selector
-without_free space selector free = same_space (sym (remove_free space.caps selector free)) refl
-
 module _ (slots : List (Option Cap)) (space : Space) (keeps : space_of slots ≡ space) where
   -- a slot that is filled
   pub space_filled : (place : ℕ) (cap : Cap) → place < length slots → space_of (set slots place (Some cap)) ≡ with_cap space (place + 1) cap
   space_filled place cap within =
       same_space (held-set_some slots place cap within ∙ ap (λ s. insert s.caps (place + 1) cap) keeps) (length-set slots place (Some cap) ∙ ap (λ s. s.places) keeps)
 
-  -- a slot that is emptied, if it wasn't empty
-  pub space_emptied : (place selector : ℕ) (slot : Option Cap) → slot ≡ None → place < length slots → place + 1 ≡ selector → space_of (set slots place slot) ≡ without_cap space selector
-  space_emptied place selector slot free within number =
-      same_space (ap (λ s. held (set slots place s)) free ∙ held-set_none slots place within ∙ ap (remove (held slots)) number ∙ ap (λ s. remove s.caps selector) keeps) (length-set slots place slot ∙ ap (λ s. s.places) keeps)
+  module _ (selector : ℕ) (taken : IsSome (get space.caps selector)) where
+    -- the selector has a slot, which is taken
+    here : IsSome (get (held slots) selector)
+    here = subst (λ (s : Space). IsSome (get s.caps selector)) (sym keeps) taken
+
+    -- where it is emptied
+    pub space_emptied : space_of (set slots (selector - 1) None) ≡ without_cap space selector
+    space_emptied =
+        let at = in_use slots selector here in
+        let number : selector - 1 + 1 ≡ selector = omega (arith, at.0) in
+        same_space (held-set_none slots (selector - 1) at.1 ∙ ap (remove (held slots)) number ∙ ap (λ s. remove s.caps selector) keeps)
+        (length-set slots (selector - 1) None ∙ ap (λ s. s.places) keeps)
+
+    -- the slots are kept so
+    pub kept_emptied : (capacity first_free used hint : ℕ) → IsKept slots capacity first_free used → hint ≡ min first_free (selector - 1) → IsKept (set slots (selector - 1) None) capacity hint (used - 1)
+    kept_emptied capacity first_free used hint kept least =
+        let at = in_use slots selector here in
+        let same = length-set slots (selector - 1) None in
+        record {
+          reserved = kept.reserved ∙ sym same;
+          few = omega (arith, same, kept.few);
+          before = λ place below. let other : place ≢ selector - 1 = omega arith in
+              ap is_some (get_or-set_other slots (selector - 1) place None None other) ∙ kept.before place (omega arith);
+          counted = omega (arith, count-vacated slots selector here at.0 at.1, kept.counted);
+        }

@@ -1,5 +1,5 @@
 -- What a contract sees of a capability space.
-use Rattle.std.specs.Prelude.{ℕ}
+use Rattle.std.specs.Prelude.{ℕ, Bool, true, false, Option, Some, None}
 use Rattle.std.proofs.Common.{refl}
 use Rattle.std.specs.Coded.{Coded, code_by, coded×, coded_ℕ}
 use Rattle.std.specs.FinMap as map
@@ -7,6 +7,8 @@ use Rattle.std.specs.FinMap.{insert, remove, empty}
 use Rattle.own_model.specs.NatMap.{NatMap}
 use Rattle.cap_space.specs.contracts.cap.Cap as cap
 use Rattle.cap_space.specs.declared.cap.Cap.{Cap}
+use Rattle.cap_space.specs.declared.cap.Cap.TheVariants.{Dataspace, RpcObject, Session}
+use Rattle.trade_base.specs.declared.id.DsId.{DsId}
 
 -- the capabilities by their selectors, and how many find a place in all
 pub record Space : Type 0 where
@@ -22,6 +24,20 @@ coded_space =
     (λ s. (s.caps, s.places))
     (λ p. record { caps = p.0; places = p.1 })
     (λ _. refl)
+
+-- the dataspace that what a selector has is a capability of
+abbrev pub dataspace_of : Option Cap → Option DsId
+dataspace_of (Some (Dataspace ds)) = Some ds
+dataspace_of (Some RpcObject) = None
+dataspace_of (Some (Session server session)) = None
+dataspace_of None = None
+
+-- it is an RPC object
+abbrev pub is_rpc_object : Option Cap → Bool
+is_rpc_object (Some RpcObject) = true
+is_rpc_object (Some (Dataspace ds)) = false
+is_rpc_object (Some (Session server session)) = false
+is_rpc_object None = false
 
 -- an empty space of so many places
 abbrev pub fresh_space : ℕ → Space

@@ -1,14 +1,14 @@
 //! The capability space: a table with a place for each selector.
-ghost use Rattle.std.specs.Prelude.{◌≡◌, ◌<◌, ◌≤◌, ◌↔◌, None, IsTrue, IfOk, IfSome, IfNone, count_by, is_some, length, slice_index_or};
+ghost use Rattle.std.specs.Prelude.{◌≡◌, ◌<◌, ◌≤◌, ◌↔◌, None, IsTrue, IsFalse, IsSome, IfOk, IfSome, IfNone, count_by, is_some, length, slice_index_or};
 ghost use Rattle.std.specs.FinMap.{get, len};
 ghost use Rattle.own_model.specs.OwnState.{new_selector, IsLeastUnused};
-ghost use Rattle.cap_space.specs.Space.{fresh_space, with_cap, without_cap};
+ghost use Rattle.cap_space.specs.Space.{dataspace_of, is_rpc_object, fresh_space, with_cap, without_cap};
 ghost use Rattle.cap_space.specs.Slots.{IsTakenBefore};
 
 use crate::cap::Cap;
 use std::alloc::Global;
 use std::marker::Model;
-use trade_base::{NoMemory, Selector};
+use trade_base::{DsId, NoMemory, Selector};
 
 /// The capabilities of one component, each under its selector: a positive number.
 ///
@@ -85,19 +85,48 @@ impl CapSpace {
         *slots.get(place as usize)?
     }
 
-    /// Takes the capability under a selector out again, which frees the selector. It takes any number, as `get` does,
-    /// and changes nothing where that isn't in use.
-    pub fn remove(&mut self, selector: u64) -> Option<Cap>
-        ensures found { result ≡ get self.old.caps selector }
-        ensures gone { self.new ≡ without_cap self.old selector }
+    /// Takes the dataspace that a selector names out again, which frees the selector. It takes any number, as `get`
+    /// does, and changes nothing where that names no dataspace.
+    pub fn take_dataspace(&mut self, selector: u64) -> Option<DsId>
+        ensures found { result ≡ dataspace_of (get self.old.caps selector) }
+        ensures gone { IfSome result (λ _. self.new ≡ without_cap self.old selector) }
         ensures none { IfNone result (self.new ≡ self.old) }
     {
+        match self.get(selector) {
+            Some(Cap::Dataspace(space)) => {
+                self.vacate(selector);
+                Some(space)
+            }
+            _ => None,
+        }
+    }
+
+    /// Takes the RPC object that a selector names out again, and tells whether it names one. It takes any number, and
+    /// changes nothing where that names none.
+    pub fn take_rpc_object(&mut self, selector: u64) -> bool
+        ensures found { result ≡ is_rpc_object (get self.old.caps selector) }
+        ensures gone { IsTrue result → self.new ≡ without_cap self.old selector }
+        ensures none { IsFalse result → self.new ≡ self.old }
+    {
+        match self.get(selector) {
+            Some(Cap::RpcObject) => {
+                self.vacate(selector);
+                true
+            }
+            _ => false,
+        }
+    }
+
+    // Frees a selector that is in use.
+    fn vacate(&mut self, selector: u64)
+        requires taken { IsSome (get self.old.caps selector) }
+        ensures gone { self.new ≡ without_cap self.old selector }
+    {
         let slots = &mut self.slots;
-        let place = selector.checked_sub(1)? as usize;
-        let cap = slots.get_mut(place)?.take()?;
+        let place = (selector - 1) as usize;
+        slots[place] = None;
         self.first_free = self.first_free.min(place);
         self.used -= 1;
-        Some(cap)
     }
 
     /// Whether each place has a capability.

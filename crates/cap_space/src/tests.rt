@@ -11,12 +11,16 @@ fn freed_selector_is_given_again(rt: HostRuntime) {
         assert_eq!(rt; space.insert(Cap::RpcObject), Selector(selector));
     }
     assert!(rt; space.is_full());
-    assert_eq!(rt; space.remove(2), Some(Cap::RpcObject));
-    assert_eq!(rt; space.remove(2), None);
+    assert_eq!(rt; space.take_dataspace(2), None);
+    assert!(rt; space.take_rpc_object(2));
+    assert!(rt; !space.take_rpc_object(2));
     assert!(rt; !space.is_full());
     let dataspace = Cap::Dataspace(DsId(7));
     assert_eq!(rt; space.insert(dataspace), Selector(2));
     assert_eq!(rt; space.get(2), Some(dataspace));
+    assert!(rt; !space.take_rpc_object(2));
+    assert_eq!(rt; space.take_dataspace(2), Some(DsId(7)));
+    assert_eq!(rt; space.get(2), None);
 }
 
 #[test]
@@ -26,7 +30,8 @@ fn numbers_not_in_use_name_nothing(rt: HostRuntime) {
     space.insert(Cap::RpcObject);
     for selector in [0, 2, 3, 1 << 32, (1 << 32) + 1, u64::MAX] {
         assert_eq!(rt; space.get(selector), None, "at {selector}");
-        assert_eq!(rt; space.remove(selector), None, "at {selector}");
+        assert_eq!(rt; space.take_dataspace(selector), None, "at {selector}");
+        assert!(rt; !space.take_rpc_object(selector), "at {selector}");
     }
     assert_eq!(rt; space.get(1), Some(Cap::RpcObject));
 }
