@@ -1,10 +1,11 @@
 -- What is known after pairs, and the arguments that they make.
-use Rattle.std.proofs.Common.{◌≡◌, ℕ, Bool, true, false, cond, List, [], ◌∷◌, Option, Some, None, refl, sym, ap, ◌∙◌, codes}
+use Rattle.std.proofs.Common.{◌≡◌, ℕ, Bool, true, false, cond, List, ◌∷◌, Option, Some, None, refl, sym, ap, ◌∙◌, codes}
 use Rattle.std.specs.Prelude.{find}
-use Rattle.std.specs.Option.{option_map, option_and_then, unwrap_or}
+use Rattle.std.specs.Option.{option_map, option_and_then}
 use Rattle.std.specs.Str.{bytes_eq}
 use Rattle.own_model.specs.SessionArgs.{Arguments, Pair, Value, pair_of, pieces_of, each, value_under, ram_of, caps_of, label_of}
-use Rattle.session_proto.specs.Found.{Known, known_with, with_pair, told}
+use Rattle.own_model.proofs.SessionArgsLemmas.{made}
+use Rattle.session_proto.specs.Found.{Known, known_with, all_known, with_pair}
 use Rattle.session_proto.specs.Pieces.{pieces_after}
 
 -- ---- one key
@@ -31,16 +32,7 @@ resolved-cons : {X : Type 0} (read : Option Value → Option X) (k : Option X) (
     resolved read k (value_under key (pair ∷ pairs)) ≡ option_and_then (λ x. resolved read x (value_under key pairs)) (known_with k (bytes_eq pair.key key) read pair.value)
 resolved-cons read k key pair pairs = ap (resolved read k) (under-cons key pair pairs) ∙ resolved-next read k (bytes_eq pair.key key) pair.value (value_under key pairs)
 
--- without pairs to come it is what is known, or what stands for nothing
-resolved-end : {X : Type 0} (read : Option Value → Option X) (k : Option X) (nothing : X) → read None ≡ Some nothing → resolved read k None ≡ Some (unwrap_or k nothing)
-resolved-end read None nothing e = e
-resolved-end read (Some x) nothing e = refl
-
 -- ---- three keys
-
--- arguments of three parts, if there are all three
-abbrev made : Option ℕ → Option ℕ → Option (List ℕ) → Option Arguments
-made r c l = option_and_then (λ ram. option_and_then (λ caps. option_map (λ label. record { ram = ram; caps = caps; label = label }) l) c) r
 
 -- the arguments of what is known, and of the pairs to come
 abbrev pub arguments_after : Known → List Pair → Option Arguments
@@ -57,8 +49,7 @@ nowhere (Some x) = refl
 -- three steps, each in two parts, are three first parts and then three second ones
 in_turn : (r c : Option (Option ℕ)) (l : Option (Option (List ℕ))) (f g : Option ℕ → Option ℕ) (h : Option (List ℕ) → Option (List ℕ)) →
     made (option_and_then f r) (option_and_then g c) (option_and_then h l)
-    ≡ option_and_then (λ (k : Known). made (f k.ram) (g k.caps) (h k.label))
-    (option_and_then (λ ram. option_and_then (λ caps. option_map (λ label. record { ram = ram; caps = caps; label = label }) l) c) r)
+    ≡ option_and_then (λ (k : Known). made (f k.ram) (g k.caps) (h k.label)) (all_known r c l)
 in_turn None c l f g h = refl
 in_turn (Some r) None l f g h = nowhere (f r)
 in_turn (Some r) (Some c) None f g h = elim (f r) as (λ o. made o (g c) None ≡ None) [ None ↦ refl | Some ram ↦ nowhere (g c) ]
@@ -69,10 +60,6 @@ after_pair : (k : Known) (pair : Pair) (pairs : List Pair) → arguments_after k
 after_pair k pair pairs =
     (λ i. made (resolved-cons ram_of k.ram (codes "ram_quota") pair pairs i) (resolved-cons caps_of k.caps (codes "cap_quota") pair pairs i) (resolved-cons label_of k.label (codes "label") pair pairs i))
     ∙ in_turn _ _ _ (λ x. resolved ram_of x (value_under (codes "ram_quota") pairs)) (λ x. resolved caps_of x (value_under (codes "cap_quota") pairs)) (λ x. resolved label_of x (value_under (codes "label") pairs))
-
--- without pairs to come the arguments are what is known
-pub arguments_after-end : (k : Known) → arguments_after k [] ≡ Some (told k)
-arguments_after-end k i = made (resolved-end ram_of k.ram 0 refl i) (resolved-end caps_of k.caps 0 refl i) (resolved-end label_of k.label [] refl i)
 
 -- ---- a text
 

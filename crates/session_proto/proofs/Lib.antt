@@ -1,6 +1,3 @@
 pub mod PieceLemmas
 pub mod ArgsLemmas
-pub mod WordLemmas
-pub mod HexLemmas
-pub mod SearchLemmas
 pub mod ReplyLemmas

@@ -1,37 +1,11 @@
 -- Where a text is cut.
-use Rattle.std.proofs.Common.{◌≡◌, ℕ, suc, ◌+◌, ◌&&◌, not, ◌-◌, ◌<◌, ◌≤◌, Bool, true, false, cond, List, [], ◌∷◌, length, take, drop, Option, Some, None, refl, sym, ap, ◌∙◌, arith}
+use Rattle.std.proofs.Common.{◌≡◌, ℕ, suc, ◌+◌, ◌&&◌, not, ◌-◌, ◌<◌, ◌≤◌, Bool, true, false, cond, List, [], ◌∷◌, length, take, drop, Some, None, refl, sym, ap, ◌∙◌, arith}
 use Rattle.std.specs.Prelude.{nat_eq, nat_lt}
-use Rattle.std.specs.List.{position, before_first, after_first}
-use Rattle.std.proofs.lemmas.List.{take_all, drop_all, take_rest}
+use Rattle.std.proofs.lemmas.List.{take_all, take_rest}
 use Rattle.std.proofs.lemmas.Bool.Decides.{nat_tests}
-use Rattle.own_model.specs.SessionArgs.{is_equals, is_quote, pieces_of, onto_first}
+use Rattle.own_model.specs.SessionArgs.{is_quote, pieces_of, onto_first}
+use Rattle.text_read.proofs.WordLemmas.{after, after-next}
 use Rattle.session_proto.specs.Pieces.{first_len, pieces_after}
-
--- ---- the first equals sign
-
--- what stands before it and after it
-pub before_equals : (text : List ℕ) (n : ℕ) → Some n ≡ position is_equals text → before_first is_equals text ≡ take n text
-before_equals text n e = grind (arith, nat_tests)
-
-pub after_equals : (text : List ℕ) (n : ℕ) → Some n ≡ position is_equals text → after_first is_equals text ≡ drop (n + 1) text
-after_equals text n e = grind (arith, nat_tests)
-
--- without one all stands before it, and nothing after it
-pub before_none : (text : List ℕ) → None ≡ position is_equals text → before_first is_equals text ≡ text
-before_none text e = grind (arith, nat_tests, take_all)
-
-pub after_none : (text : List ℕ) → None ≡ position is_equals text → after_first is_equals text ≡ []
-after_none text e = grind (arith, nat_tests, drop_all)
-
--- ---- the first comma outside quotes
-
--- what stands after a comma at this place, if one is there
-abbrev after : ℕ → List ℕ → Option (List ℕ)
-after n text = cond (nat_lt n (length text)) (Some (drop (n + 1) text)) None
-
--- with one more byte in front the place is one further, and the same stands after it
-after-next : (n : ℕ) (b : ℕ) (bs : List ℕ) → after n bs ≡ after (1 + n) (b ∷ bs)
-after-next n b bs = grind (arith, nat_tests)
 
 -- a byte in front, which is such a comma or isn't, where the rest is cut so
 cut-next : (stop quoted : Bool) (b : ℕ) (bs : List ℕ) (n : ℕ) (next : List (List ℕ)) → next ≡ take n bs ∷ pieces_after (after n bs) → (stop ≡ true → quoted ≡ false) →

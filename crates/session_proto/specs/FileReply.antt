@@ -22,7 +22,12 @@ model_error OutOfCaps = model.FileError.OutOfCaps
 
 -- use and limits, as the account that has them
 abbrev pub account_of : Shares → Account
-account_of shares = record { ram_limit = shares.ram_limit.0; ram_used = shares.ram_used.0; caps_limit = shares.caps_limit.0; caps_used = shares.caps_used.0 }
+account_of shares = record {
+  ram_limit = shares.ram_limit.0;
+  ram_used = shares.ram_used.0;
+  caps_limit = shares.caps_limit.0;
+  caps_used = shares.caps_used.0;
+}
 
 abbrev pub model_reply : FileReply → model.FileReply
 model_reply Done = model.FileReply.Done

@@ -29,13 +29,20 @@ abbrev pub known_with : {X : Type 0} → Option X → Bool → (Option Value →
 known_with None true read value = option_map Some (read (Some value))
 known_with x has read value = Some x
 
+-- the same of a pair
+abbrev pub known_after : {X : Type 0} → Option X → List ℕ → (Option Value → Option X) → Pair → Option (Option X)
+known_after k key read pair = known_with k (bytes_eq pair.key key) read pair.value
+
+-- three parts that are known, if all of them can be
+abbrev pub all_known : Option (Option ℕ) → Option (Option ℕ) → Option (Option (List ℕ)) → Option Known
+all_known ram caps label =
+    option_and_then (λ r. option_and_then (λ c. option_map (λ l. record { ram = r; caps = c; label = l }) label) caps) ram
+
 -- what is known after one pair more, unless that is the first with its key and has no value for it
 abbrev pub with_pair : Known → Pair → Option Known
 with_pair k pair =
-    option_and_then (λ ram. option_and_then (λ caps. option_map (λ label. record { ram = ram; caps = caps; label = label })
-    (known_with k.label (bytes_eq pair.key (codes "label")) label_of pair.value))
-    (known_with k.caps (bytes_eq pair.key (codes "cap_quota")) caps_of pair.value))
-    (known_with k.ram (bytes_eq pair.key (codes "ram_quota")) ram_of pair.value)
+    all_known (known_after k.ram (codes "ram_quota") ram_of pair) (known_after k.caps (codes "cap_quota") caps_of pair)
+    (known_after k.label (codes "label") label_of pair)
 
 -- the arguments of what is known, where what isn't known is nothing
 abbrev pub told : Known → Arguments

@@ -1,7 +1,6 @@
 pub mod View
 pub mod Found
 pub mod Pieces
-pub mod Words
 pub mod LogReply
 pub mod File
 pub mod FileReply

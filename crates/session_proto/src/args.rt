@@ -5,7 +5,7 @@ ghost use Rattle.std.specs.Option.{option_map, option_copied};
 ghost use Rattle.trade_base.specs.declared.refusal.Refusal.TheVariants.{BadArgs};
 ghost use Rattle.own_model.specs.SessionArgs.{arguments_of, ram_of, caps_of, label_of};
 ghost use Rattle.session_proto.specs.View.{model_pair, model_value};
-ghost use Rattle.session_proto.specs.Found.{ram_in, caps_in, known, known_with, with_pair, told};
+ghost use Rattle.session_proto.specs.Found.{ram_in, caps_in, known, known_after, with_pair, told};
 
 use crate::pair::{Pair, Value, read_pair};
 use crate::text::{is_blank, split_piece};
@@ -121,7 +121,7 @@ impl<'a> Found<'a> {
 
 /// The RAM that is known after a pair, of which the first with its key tells it.
 fn ram_with(known: Option<Ram>, pair: Pair<'_>) -> Option<Option<Ram>>
-    ensures { option_map ram_in result ≡ known_with (ram_in known) (bytes_eq pair.entry.key.now (codes "ram_quota")) ram_of (model_value pair.entry.value) }
+    ensures { option_map ram_in result ≡ known_after (ram_in known) (codes "ram_quota") ram_of (model_pair pair.entry) }
 {
     if known.is_none() && pair.key == b"ram_quota".as_slice() {
         Some(Some(read_ram(pair.value)?))
@@ -132,7 +132,7 @@ fn ram_with(known: Option<Ram>, pair: Pair<'_>) -> Option<Option<Ram>>
 
 /// The capabilities that are known after a pair, of which the first with their key tells them.
 fn caps_with(known: Option<Caps>, pair: Pair<'_>) -> Option<Option<Caps>>
-    ensures { option_map caps_in result ≡ known_with (caps_in known) (bytes_eq pair.entry.key.now (codes "cap_quota")) caps_of (model_value pair.entry.value) }
+    ensures { option_map caps_in result ≡ known_after (caps_in known) (codes "cap_quota") caps_of (model_pair pair.entry) }
 {
     if known.is_none() && pair.key == b"cap_quota".as_slice() {
         Some(Some(read_caps(pair.value)?))
@@ -143,7 +143,8 @@ fn caps_with(known: Option<Caps>, pair: Pair<'_>) -> Option<Option<Caps>>
 
 /// The label that is known after a pair, of which the first with its key tells it.
 fn label_with<'a>(known: Option<&'a [u8]>, pair: Pair<'a>) -> Option<Option<&'a [u8]>>
-    ensures { option_map option_copied result ≡ known_with (option_copied known.entry) (bytes_eq pair.entry.key.now (codes "label")) label_of (model_value pair.entry.value) }
+    ensures { option_map option_copied result
+        ≡ known_after (option_copied known.entry) (codes "label") label_of (model_pair pair.entry) }
 {
     if known.is_none() && pair.key == b"label".as_slice() {
         Some(Some(read_label(pair.value)?))

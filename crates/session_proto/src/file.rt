@@ -5,8 +5,9 @@ ghost use Rattle.std.specs.List.{list_all};
 ghost use Rattle.own_model.specs.FileText.{file_request, file_word, of_file, read_of, write_of, request_of};
 ghost use Rattle.session_proto.specs.File.{model_request, HasHex};
 
+use crate::hex_text::hex_or_nothing;
 use crate::log::LONGEST_REQUEST;
-use crate::words::{hex_or_nothing, split_first_word};
+use text_read::split_first_word;
 use trade_base::read_number;
 
 /// A request. A file is named by one or more bytes without a space, and bytes are hexadecimal digits, two a byte.

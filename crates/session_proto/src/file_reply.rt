@@ -129,7 +129,7 @@ fn add_bytes<const N: usize>(text: &mut ArrayVec<u8, N>, bytes: &[u8])
 }
 
 /// Appends bytes in hexadecimal digits.
-#[tactic(auto, using(crate::proofs::ReplyLemmas::hex_text_is))]
+#[tactic(auto, using(own_model::proofs::HexLemmas::hex_text_is))]
 fn add_hex<const N: usize>(text: &mut ArrayVec<u8, N>, bytes: &[u8])
     requires few { length bytes.now ≤ MOST_BYTES }
     requires room { array_vec_len text.old + 2 * length bytes.now ≤ N }

@@ -5,12 +5,12 @@ mod args;
 mod buffer;
 mod file;
 mod file_reply;
+mod hex_text;
 mod log;
 mod pair;
 #[cfg(test)]
 mod tests;
 mod text;
-mod words;
 
 pub use args::SessionArgs;
 pub use file::FileRequest;

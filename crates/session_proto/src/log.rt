@@ -1,14 +1,14 @@
 //! The log service's requests and replies.
-ghost use Rattle.std.specs.Prelude.{◌≡◌, ◌+◌, ◌≤◌, ◌++◌, length, None, Some, IfSome, IfNone};
+ghost use Rattle.std.specs.Prelude.{◌≡◌, ◌+◌, ◌≤◌, ◌++◌, length, None, Some, IfSome, IfNone, IsSome};
 ghost use Rattle.arrayvec.specs.ArrayVec.{array_vec_len};
-ghost use Rattle.own_model.specs.Text.{bytes_of_hex};
+ghost use Rattle.own_model.specs.Text.{bytes_of_hex, hex_bytes};
 ghost use Rattle.own_model.specs.LogText.{log_request};
-ghost use Rattle.session_proto.specs.Words.{bytes_in};
 ghost use Rattle.session_proto.specs.LogReply.{log_reply_text};
 
 use crate::buffer::{add, add_number};
-use crate::words::{hex_or_nothing, split_first_word};
+use crate::hex_text::hex_or_nothing;
 use arrayvec::ArrayVec;
+use text_read::split_first_word;
 
 /// The most bytes of a request.
 pub(crate) const LONGEST_REQUEST: usize = 8192;
@@ -22,8 +22,8 @@ pub struct LogRequest<'a> {
 impl<'a> LogRequest<'a> {
     /// The request that a text is, or `None` where it is none.
     pub fn read(text: &'a [u8]) -> Option<LogRequest<'a>>
-        ensures bytes { IfSome result (λ request. log_request text.now ≡ Some (bytes_in request.hex.now)) }
-        ensures hex { IfSome result (λ request. bytes_of_hex request.hex.now ≡ Some (bytes_in request.hex.now)) }
+        ensures bytes { IfSome result (λ request. log_request text.now ≡ Some (hex_bytes request.hex.now)) }
+        ensures hex { IfSome result (λ request. IsSome (bytes_of_hex request.hex.now)) }
         ensures none { IfNone result (log_request text.now ≡ None) }
     {
         if text.len() > LONGEST_REQUEST {

@@ -2,11 +2,11 @@
 ghost use Rattle.std.specs.Prelude.{◌≡◌};
 ghost use Rattle.std.specs.Option.{option_map};
 ghost use Rattle.std.specs.List.{list_all};
-ghost use Rattle.own_model.specs.Text.{is_name_byte};
 ghost use Rattle.own_model.specs.SessionArgs.{is_key, is_key_start, is_key_byte, is_quotable, is_bare, value_of, pair_of};
 ghost use Rattle.session_proto.specs.View.{model_value, model_pair};
 
 use crate::text::{split_at_equals, trim};
+use text_read::has_name_bytes;
 
 /// A key and its value.
 #[derive(Clone, Copy)]
@@ -90,16 +90,4 @@ fn is_bare(text: &[u8]) -> bool
     ensures { result ≡ is_bare text.now }
 {
     !text.is_empty() && has_name_bytes(text)
-}
-
-fn has_name_bytes(text: &[u8]) -> bool
-    ensures { result ≡ list_all is_name_byte text.now }
-{
-    text.iter().all(|byte| is_name_byte(*byte))
-}
-
-fn is_name_byte(byte: u8) -> bool
-    ensures { result ≡ is_name_byte byte }
-{
-    byte.is_ascii_alphanumeric() || matches!(byte, b'_' | b'-' | b'.')
 }

@@ -1,9 +1,11 @@
 //! Pieces of a text.
 ghost use Rattle.std.specs.Prelude.{◌≡◌, ◌<◌, ◌≤◌, ◌∷◌, length, IfSome, reverse, false};
 ghost use Rattle.std.specs.Option.{option_copied};
-ghost use Rattle.std.specs.List.{before_first, after_first, list_all, position};
+ghost use Rattle.std.specs.List.{before_first, after_first, list_all};
 ghost use Rattle.own_model.specs.SessionArgs.{is_space, is_equals, skip_spaces, trimmed, pieces_of};
 ghost use Rattle.session_proto.specs.Pieces.{first_len, pieces_after};
+
+use text_read::find_byte;
 
 /// Whether a text is spaces alone, or nothing.
 pub(crate) fn is_blank(text: &[u8]) -> bool
@@ -46,18 +48,10 @@ pub(crate) fn split_at_equals(text: &[u8]) -> (&[u8], &[u8])
     ensures before { result.0.now ≡ before_first is_equals text.now }
     ensures after { result.1.now ≡ after_first is_equals text.now }
 {
-    match first_equals(text) {
+    match find_byte(b'=', text) {
         Some(end) => (&text[..end], &text[end + 1..]),
         None => (text, &[]),
     }
-}
-
-/// Where the first `=` of a text stands.
-fn first_equals(text: &[u8]) -> Option<usize>
-    ensures place { result ≡ position is_equals text.now }
-    ensures inside { IfSome result (λ end. end < length text.now) }
-{
-    text.iter().position(|byte| *byte == b'=')
 }
 
 /// A text up to its first comma that doesn't stand within quotes, and what stands after that, if there is one.

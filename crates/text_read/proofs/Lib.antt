@@ -1,0 +1,4 @@
+pub mod SearchLemmas
+pub mod WordLemmas
+pub mod AddressLemmas
+pub mod HexLemmas

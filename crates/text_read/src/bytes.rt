@@ -1,0 +1,14 @@
+//! Where a byte stands.
+ghost use Rattle.std.specs.Prelude.{◌≡◌, ◌==◌, ◌<◌, length, IfSome, position};
+
+use memchr::memchr;
+
+/// Where a byte stands first in a text.
+#[inline]
+#[tactic(auto, using(crate::proofs::SearchLemmas::first_byte_is))]
+pub fn find_byte(byte: u8, text: &[u8]) -> Option<usize>
+    ensures place { result ≡ position (λ b. b == byte) text.now }
+    ensures inside { IfSome result (λ at. at < length text.now) }
+{
+    memchr(byte, text)
+}

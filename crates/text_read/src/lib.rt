@@ -1,0 +1,14 @@
+//! Reading of texts: the place of a byte, words, names, addresses, and bytes in hexadecimal digits.
+#![tactic(auto)]
+
+mod address;
+mod bytes;
+mod hex_text;
+#[cfg(test)]
+mod tests;
+mod words;
+
+pub use address::read_address;
+pub use bytes::find_byte;
+pub use hex_text::read_hex;
+pub use words::{has_name_bytes, is_name, split_first_word};
