@@ -1,8 +1,8 @@
 -- A chain after a block is put before it, and after one is taken out.
-use Rattle.std.proofs.Common.{◌≡◌, ◌≢◌, ℕ, true, false, cond, eqb, List, [], ◌∷◌, refl, sym, ap, ◌∙◌, ⊎_elim, true≢false, arith}
+use Rattle.std.proofs.Common.{◌≡◌, ◌≢◌, ℕ, true, false, cond, eqb, List, [], ◌∷◌, not, ◌&&◌, refl, sym, ap, ◌∙◌, ⊎_elim, true≢false, arith}
 use Rattle.std.proofs.lemmas.Bool.{cases_eq}
 use Rattle.std.proofs.lemmas.Bool.Decides.{nat_tests}
-use Rattle.sliced_heap.specs.Chain.{link_to, is_listed, has_no_repeat, Linked, IsChain, taken_out}
+use Rattle.sliced_heap.specs.Chain.{link_to, is_listed, has_no_repeat, Linked, IsChain}
 
 -- a block that isn't listed is none of those listed
 unlisted : (xs : List ℕ) (a b : ℕ) → is_listed xs a ≡ false → is_listed xs b ≡ true → b ≢ a
@@ -22,27 +22,31 @@ once_first x xs once = grind (arith, nat_tests)
 once_later : (x : ℕ) (xs : List ℕ) → has_no_repeat (x ∷ xs) ≡ true → has_no_repeat xs ≡ true
 once_later x xs once = grind (arith, nat_tests)
 
--- what is listed is listed under an equal number
-listed_here : (b x : ℕ) (xs : List ℕ) → b ≡ x → is_listed xs b ≡ true → is_listed xs x ≡ true
-listed_here b x xs same there = rw (← same) there
+-- the list without a block
+abbrev pub taken_out : ℕ → List ℕ → List ℕ
+taken_out block [] = []
+taken_out block (x ∷ xs) = cond (eqb x block) (taken_out block xs) (x ∷ taken_out block xs)
 
--- where it isn't shown to be listed it isn't
-not_listed : (xs : List ℕ) (b : ℕ) → ¬ (is_listed xs b ≡ true) → is_listed xs b ≡ false
-not_listed xs b none = grind (arith, nat_tests)
-
--- what is listed after a block was taken out was listed before
-pub listed_before : (block b : ℕ) (xs : List ℕ) → is_listed (taken_out block xs) b ≡ true → is_listed xs b ≡ true
-listed_before block b [] there = there
-listed_before block b (x ∷ xs) there = ⊎_elim
-    (λ (same : x ≡ block). let e : eqb x block ≡ true = grind (arith, nat_tests) in
-    listed_later x b xs (sym (ap (λ t. is_listed (cond t xs (x ∷ taken_out block xs)) b) e) ∙ there))
-    (λ (apart : x ≢ block). let e : eqb x block ≡ false = grind (arith, nat_tests) in
-    let h : is_listed (x ∷ taken_out block xs) b ≡ true = sym (ap (λ t. is_listed (cond t xs (x ∷ taken_out block xs)) b) e) ∙ there in
-    ⊎_elim
-    (λ (here : b ≡ x). rw here (listed_first x xs))
-    (λ (other : b ≢ x). listed_later x b xs (listed_before block b xs (grind (arith, nat_tests))))
-    (cases_eq b x))
+-- it lists the others that were listed
+pub listed_without : (block b : ℕ) (xs : List ℕ) → is_listed (taken_out block xs) b ≡ (is_listed xs b && not (eqb b block))
+listed_without block b [] = refl
+listed_without block b (x ∷ xs) = let rest = listed_without block b xs in ⊎_elim
+    (λ (same : x ≡ block). grind (arith, nat_tests))
+    (λ (other : x ≢ block). grind (arith, nat_tests))
     (cases_eq x block)
+
+pub left_listed : (block b : ℕ) (xs : List ℕ) → is_listed (taken_out block xs) b ≡ true → (is_listed xs b ≡ true) × (b ≢ block)
+left_listed block b xs t = let l = listed_without block b xs in (grind (arith, nat_tests), λ e. true≢false (sym t ∙ grind (arith, nat_tests)))
+
+-- where the block isn't listed it is the same
+without_none : (block : ℕ) (xs : List ℕ) → is_listed xs block ≡ false → taken_out block xs ≡ xs
+without_none block [] none = refl
+without_none block (x ∷ xs) none = let rest = without_none block xs (grind (arith, nat_tests)) in grind (arith, nat_tests)
+
+-- nothing comes twice that didn't before
+pub once_without : (block : ℕ) (xs : List ℕ) → has_no_repeat xs ≡ true → has_no_repeat (taken_out block xs) ≡ true
+once_without block [] once = once
+once_without block (x ∷ xs) once = let rest = once_without block xs (once_later x xs once) in let l = listed_without block x xs in grind (arith, nat_tests)
 
 module _ (next previous new_next new_previous : ℕ → ℕ) where
   -- the links of a chain stay where those of its blocks do
@@ -88,71 +92,30 @@ module _ (next previous : ℕ → ℕ) (block : ℕ) where
       (λ (other : block ≢ y). ahead_apart (z ∷ zs) (link_to y) (next y) x (grind (arith, nat_tests)) (grind (arith, nat_tests)) h.1.1)
       (cases_eq block y)
 
--- a chain from which a block is taken out
+-- a chain from which a block is taken out: its neighbours are linked to each other in its place
 module _ (next previous new_next new_previous : ℕ → ℕ) (block : ℕ) where
-  -- nothing comes twice that didn't before
-  pub once_without : (xs : List ℕ) → has_no_repeat xs ≡ true → has_no_repeat (taken_out block xs) ≡ true
-  once_without [] once = once
-  once_without (x ∷ xs) once = ⊎_elim
-      (λ (same : x ≡ block). let e : eqb x block ≡ true = grind (arith, nat_tests) in ap (λ t. has_no_repeat (cond t xs (x ∷ taken_out block xs))) e ∙ once_later x xs once)
-      (λ (apart : x ≢ block).
-      let e : eqb x block ≡ false = grind (arith, nat_tests) in
-      let rest = once_without xs (once_later x xs once) in
-      let free : is_listed (taken_out block xs) x ≡ false = not_listed _ x (λ t. true≢false (sym (listed_before block x xs t) ∙ once_first x xs once)) in
-      ap (λ t. has_no_repeat (cond t xs (x ∷ taken_out block xs))) e ∙ grind (arith, nat_tests))
-      (cases_eq x block)
-
-  -- its neighbours are linked to each other in its place
-  pub linked_without : (xs : List ℕ) (before link : ℕ) → is_listed xs block ≡ true → has_no_repeat xs ≡ true → ((b : ℕ) → is_listed xs b ≡ true → link_to b ≢ before) → ((b : ℕ) → is_listed (taken_out block xs) b ≡ true → new_next b ≡ cond (eqb (link_to b) (previous block)) (next block) (next b)) → ((b : ℕ) → is_listed (taken_out block xs) b ≡ true → new_previous b ≡ cond (eqb (link_to b) (next block)) (previous block) (previous b)) → Linked next previous before link xs → Linked new_next new_previous before (cond (eqb before (previous block)) (next block) link) (taken_out block xs)
+  pub linked_without : (xs : List ℕ) (before link : ℕ) → is_listed xs block ≡ true → has_no_repeat xs ≡ true → ((b : ℕ) → is_listed xs b ≡ true → link_to b ≢ before) →
+      ((b : ℕ) → is_listed xs b ≡ true → b ≢ block → new_next b ≡ cond (eqb (link_to b) (previous block)) (next block) (next b)) → ((b : ℕ) → is_listed xs b ≡ true → b ≢ block → new_previous b ≡ cond (eqb (link_to b) (next block)) (previous block) (previous b)) →
+      Linked next previous before link xs → Linked new_next new_previous before (cond (eqb before (previous block)) (next block) link) (taken_out block xs)
   linked_without [] before link there once apart ahead back h = absurd (true≢false (sym there))
-  linked_without (x ∷ xs) before link there once apart ahead back h = ⊎_elim
+  linked_without (x ∷ xs) before link there once apart ahead back h =
+      let none = once_first x xs once in ⊎_elim
       (λ (same : x ≡ block).
-      let e : eqb x block ≡ true = grind (arith, nat_tests) in
-      let out : taken_out block (x ∷ xs) ≡ xs = ap (λ t. cond t xs (x ∷ taken_out block xs)) e in
-      let p : previous block ≡ before = ap previous (sym same) ∙ h.1.0 in
-      let t : eqb before (previous block) ≡ true = grind (arith, nat_tests) in
-      let rest : Linked next previous (link_to x) (next block) xs = rw (ap next (sym same)) h.1.1 in
+      let out : taken_out block (x ∷ xs) ≡ xs = let w = without_none block xs (rw (← same) none) in grind (arith, nat_tests) in
+      let t : eqb before (previous block) ≡ true = let p = ap previous (sym same) ∙ h.1.0 in grind (arith, nat_tests) in
+      let beside : (b : ℕ) → is_listed xs b ≡ true → b ≢ block = λ b l e. unlisted xs x b none l (e ∙ sym same) in
       rw (t, out) (linked_behind next previous new_next new_previous xs (link_to x) before (next block) (once_later x xs once)
-      (λ b l. let a = ahead b (rw out l) in let q = apart b (listed_later x b xs l) in grind (arith, nat_tests))
-      (λ b l. let a = back b (rw out l) in grind (arith, nat_tests))
-      rest))
+      (λ b l. let a = ahead b (listed_later x b xs l) (beside b l) in let q = apart b (listed_later x b xs l) in grind (arith, nat_tests))
+      (λ b l. let a = back b (listed_later x b xs l) (beside b l) in grind (arith, nat_tests))
+      (rw (ap next (sym same)) h.1.1)))
       (λ (other : x ≢ block).
-      let e : eqb x block ≡ false = grind (arith, nat_tests) in
-      let out : taken_out block (x ∷ xs) ≡ x ∷ taken_out block xs = ap (λ t. cond t xs (x ∷ taken_out block xs)) e in
+      let out : taken_out block (x ∷ xs) ≡ x ∷ taken_out block xs = grind (arith, nat_tests) in
       let later : is_listed xs block ≡ true = grind (arith, nat_tests) in
-      let x_once = once_first x xs once in
       let not_first : previous block ≢ before = back_apart next previous block xs (link_to x) (next x) before later (apart x (listed_first x xs)) (λ b t. apart b (listed_later x b xs t)) h.1.1 in
-      let not_next : link_to x ≢ next block = ahead_apart next previous block xs (link_to x) (next x) x later x_once h.1.1 in
-      let keep : (b : ℕ) → is_listed (taken_out block xs) b ≡ true → is_listed (taken_out block (x ∷ xs)) b ≡ true = λ b t. rw out (listed_later x b (taken_out block xs) t) in
-      let first : is_listed (taken_out block (x ∷ xs)) x ≡ true = rw out (listed_first x (taken_out block xs)) in
-      let rest = linked_without xs (link_to x) (next x) later (once_later x xs once)
-      (λ b t l. true≢false (sym (listed_here b x xs (omega (arith, l)) t) ∙ x_once))
-      (λ b t. ahead b (keep b t)) (λ b t. back b (keep b t)) h.1.1 in
+      let not_next : link_to x ≢ next block = ahead_apart next previous block xs (link_to x) (next x) x later none h.1.1 in
+      let rest = linked_without xs (link_to x) (next x) later (once_later x xs once) (λ b t l. unlisted xs x b none t (omega (arith, l)))
+      (λ b t. ahead b (listed_later x b xs t)) (λ b t. back b (listed_later x b xs t)) h.1.1 in
       let u : eqb before (previous block) ≡ false = grind (arith, nat_tests) in
-      let begins : new_previous x ≡ before = let b = back x first in let l = h.1.0 in grind (arith, nat_tests) in
-      rw (u, out) (h.0, (begins, rw (ahead x first) rest)))
+      let begins : new_previous x ≡ before = let b = back x (listed_first x xs) other in let l = h.1.0 in grind (arith, nat_tests) in
+      rw (u, out) (h.0, (begins, rw (ahead x (listed_first x xs) other) rest)))
       (cases_eq x block)
-
--- what is listed beside a block stays listed without it
-pub still_listed : (block b : ℕ) (xs : List ℕ) → b ≢ block → is_listed xs b ≡ true → is_listed (taken_out block xs) b ≡ true
-still_listed block b [] apart there = there
-still_listed block b (x ∷ xs) apart there = ⊎_elim
-    (λ (same : x ≡ block). let e : eqb x block ≡ true = grind (arith, nat_tests) in
-    ap (λ t. is_listed (cond t xs (x ∷ taken_out block xs)) b) e ∙ grind (arith, nat_tests))
-    (λ (other : x ≢ block). let e : eqb x block ≡ false = grind (arith, nat_tests) in
-    ap (λ t. is_listed (cond t xs (x ∷ taken_out block xs)) b) e ∙ ⊎_elim
-    (λ (here : b ≡ x). rw here (listed_first x (taken_out block xs)))
-    (λ (later : b ≢ x). listed_later x b (taken_out block xs) (still_listed block b xs apart (grind (arith, nat_tests))))
-    (cases_eq b x))
-    (cases_eq x block)
-
--- a block that came once isn't listed without it
-pub gone_from : (block : ℕ) (xs : List ℕ) → has_no_repeat xs ≡ true → is_listed (taken_out block xs) block ≡ false
-gone_from block [] once = refl
-gone_from block (x ∷ xs) once = ⊎_elim
-    (λ (same : x ≡ block). let e : eqb x block ≡ true = grind (arith, nat_tests) in
-    ap (λ t. is_listed (cond t xs (x ∷ taken_out block xs)) block) e ∙ rw (← same) (once_first x xs once))
-    (λ (other : x ≢ block). let e : eqb x block ≡ false = grind (arith, nat_tests) in
-    let rest = gone_from block xs (once_later x xs once) in
-    ap (λ t. is_listed (cond t xs (x ∷ taken_out block xs)) block) e ∙ grind (arith, nat_tests))
-    (cases_eq x block)

@@ -1,26 +1,30 @@
 -- A dataspace is entered as the first block.
-use Rattle.std.proofs.Common.{◌≡◌, ◌≢◌, ◌<◌, ◌+◌, ◌^◌, ℕ, true, false, cond, eqb, ◌||◌, List, [], ◌∷◌, drop, length, Some, is_some, refl, sym, ap, subst, ◌∙◌, ⊎_elim, true≢false, unwrap_or, arith}
+use Rattle.std.proofs.Common.{◌≡◌, ◌≢◌, ◌<◌, ◌+◌, ◌^◌, ℕ, true, false, eqb, ◌||◌, List, [], ◌∷◌, drop, length, Some, is_some, refl, sym, ap, subst, ◌∙◌, ⊎_elim, inl, inr, true≢false, unwrap_or, arith}
 use Rattle.std.proofs.lemmas.Bool.{cases_eq}
 use Rattle.std.proofs.lemmas.Bool.Decides.{nat_tests}
-use Rattle.std.proofs.lemmas.Option.{none-some, same_Some}
+use Rattle.std.proofs.lemmas.Option.{none-some}
 use Rattle.std.specs.Prelude.{Option, None}
-use Rattle.std.specs.Option.{option_map, option_and_then}
+use Rattle.std.specs.Option.{option_map}
 use Rattle.std.specs.FinMap.{get, insert}
 use Rattle.own_model.specs.NatMap.{NatMap}
 use Rattle.own_model.specs.Region.{Region, IsFirstGap}
 use Rattle.own_model.specs.Sliced.{sliced_header as header}
 use Rattle.own_model.specs.HeapWindow.{heap_low, heap_high, heap_gap, largest_machine}
-use Rattle.own_model.proofs.NatMapLemmas.{get-picked, get-insert_same, get-insert_other}
+use Rattle.own_model.proofs.NatMapLemmas.{after_insert, each_after_insert}
 use Rattle.own_model.proofs.RegionLemmas.{first_gap_least}
 use Rattle.region_map.specs.Regions.{Regions, heap_attached}
-use Rattle.dataspace_core.specs.Store.{Store, Part, part, account_in, IsOpenIn, PartBecomes}
-use Rattle.dataspace_core.specs.Share.{Share, IsShown, share_in, shown}
+use Rattle.dataspace_core.specs.Store.{Store, part, account_in, IsOpenIn, PartBecomes}
+use Rattle.dataspace_core.specs.Share.{Share, IsShown, share_in}
 use Rattle.dataspace_core.proofs.ShareLaws.{share_attached, share_attached_other, nothing_shown}
+use Rattle.dataspace_core.proofs.PartLaws.{open_in_part}
+use Rattle.sliced_heap.specs.declared.heap.SlicedHeap.{SlicedHeap}
 use Rattle.sliced_heap.specs.Chain.{link_to, is_listed}
-use Rattle.sliced_heap.specs.Sliced.{sliced_tag, sliced_of, HasHeader, IsLinked, HeadersChange, PutFirst}
-use Rattle.sliced_heap.specs.Heap.{share_at, blocks_at, MapsMemory, KeepsOthers, CanEnter, Enters}
-use Rattle.sliced_heap.proofs.LinkedLemmas.{sliced_is_region, no_block_unlisted, first_is_listed, stands_header, put_linked, put_payloads}
-use Rattle.sliced_heap.proofs.WindowLemmas.{in_no_other, shown_of_part, shown_after, account_after, own_account}
+use Rattle.sliced_heap.specs.Sliced.{sliced_tag, block_regions, HasHeader, IsLinked, HeadersChange, PutFirst}
+use Rattle.sliced_heap.specs.Heap.{payer_of, share_at, blocks_at, MapsMemory, IsSound, KeepsOthers, CanEnter, Enters}
+use Rattle.sliced_heap.proofs.ShareLemmas.{shown_block, no_sliced, sliced-insert}
+use Rattle.sliced_heap.proofs.LinkedLemmas.{no_block_unlisted, first_is_listed, stands_header, put_linked, put_payloads}
+use Rattle.sliced_heap.proofs.WindowLemmas.{in_no_other, shown_of_part, own_account}
+use Rattle.sliced_heap.proofs.HeapLaws.{map_stays_for_payer}
 use Rattle.sliced_heap.proofs.HeaderLemmas.{length_some}
 
 -- the start of a gap and a header beyond it fit 64 bits
@@ -30,27 +34,30 @@ gap_small regions pages start gap =
     let high = least.0.to_high in
     omega (arith, high)
 
--- what is shown is there
-seen : (p : NatMap (List ℕ)) (o : Option Region) (r : Region) → option_and_then (shown p) o ≡ Some r → o ≡ Some r
-seen p None r h = h
-seen p (Some q) r h = elim (is_some (get p q.of)) as (λ b. cond b (Some q) None ≡ Some r → Some q ≡ Some r) [ true ↦ λ e. e | false ↦ λ e. absurd (none-some r e) ] h
-
 -- options of the same length are both there or not
-some_alike : (o p : Option (List ℕ)) → option_map length o ≡ option_map length p → is_some o ≡ is_some p
+pub some_alike : (o p : Option (List ℕ)) → option_map length o ≡ option_map length p → is_some o ≡ is_some p
 some_alike None None e = refl
 some_alike None (Some x) e = absurd (none-some (length x) e)
 some_alike (Some x) None e = absurd (none-some (length x) (sym e))
 some_alike (Some x) (Some y) e = refl
 
--- what a share shows the map has
-pub shown_in_map : (p : Part) (heap : NatMap Region) (tags : NatMap ℕ) (s : ℕ) (r : Region) → get (share_in p heap tags).heap s ≡ Some r → get heap s ≡ Some r
-unfolding share_in
-shown_in_map p heap tags s r h = seen p.spaces (get heap s) r (sym (get-picked (shown p.spaces) heap s) ∙ h)
+module _ (heap : SlicedHeap) (ds pages : ℕ) (old : Store) (regions : Regions) (sound : IsSound heap old regions) (can : CanEnter (payer_of heap) ds pages old regions) where
+  -- the account, its first block, and its share
+  abbrev account : ℕ
+  account = payer_of heap
 
-module _ (account first ds pages : ℕ) (old : Store) (regions : Regions) (opens : IsOpenIn old account) (maps : MapsMemory old regions) (linked : IsLinked (share_at account old regions) first) (can : CanEnter account ds pages old regions) where
+  abbrev first : ℕ
+  first = heap.first
+
+  abbrev S : Share
+  S = share_at account old regions
+
+  abbrev linked : IsLinked S first
+  linked = sound.linked
+
   -- no block is of it
   pub none_yet : is_listed linked.blocks ds ≡ false
-  none_yet = no_block_unlisted (share_at account old regions) first linked ds (λ s r h. can.unshown s r (shown_in_map (part account old) regions.heap regions.tags s r (sliced_is_region _ _ s r h)))
+  none_yet = no_block_unlisted (share_at account old regions) first linked ds (λ s r h. can.unshown s r (shown_block account old regions s r h).there)
 
   -- the first block has room for a header, and is another
   pub first_header : (b : ℕ) → first ≡ link_to b → HasHeader (part account old) b
@@ -70,7 +77,7 @@ module _ (account first ds pages : ℕ) (old : Store) (regions : Regions) (opens
   pub first_touched : (b : ℕ) → first ≡ link_to b → is_listed touched b ≡ true
   first_touched b is = let t = first_is_listed _ _ first b linked.blocks linked.chain is in grind (arith, nat_tests)
 
-  module _ (new : Store) (start : ℕ) (gap : heap_gap regions.pages regions.heap pages ≡ Some start) (free : get regions.heap start ≡ None)
+  module _ (new : Store) (start : ℕ) (gap : heap_gap regions.pages regions.heap pages ≡ Some start) (lowest : heap_gap largest_machine regions.heap pages ≡ Some start) (free : get regions.heap start ≡ None)
       (becomes : PartBecomes account (part account new) old new) (headers : HeadersChange touched (part account old) (part account new)) (put : PutFirst first ds start (part account old) (part account new)) where
     -- the map then
     abbrev pub after : Regions
@@ -81,13 +88,12 @@ module _ (account first ds pages : ℕ) (old : Store) (regions : Regions) (opens
     region = record { of = ds; pages = pages }
 
     -- the same dataspaces are there
-    same_keys : (k : ℕ) → is_some (get (part account new).spaces k) ≡ is_some (get (part account old).spaces k)
-    same_keys k = some_alike _ _ (headers.lengths k)
-
     keys : (k : ℕ) → is_some (get (part account new).spaces k) ≡ (eqb k ds || is_some (get (part account old).spaces k))
-    keys k = ⊎_elim
-        (λ (same : k ≡ ds). let t = same_keys k in let h : is_some (get (part account old).spaces k) ≡ true = ap (λ q. is_some (get (part account old).spaces q)) same ∙ ap is_some can.there in grind (arith, nat_tests))
-        (λ (other : k ≢ ds). let t = same_keys k in grind (arith, nat_tests))
+    keys k =
+        let same_key = some_alike (get (part account new).spaces k) (get (part account old).spaces k) (headers.lengths k) in
+        ⊎_elim
+        (λ (same : k ≡ ds). let h : is_some (get (part account old).spaces k) ≡ true = ap (λ q. is_some (get (part account old).spaces q)) same ∙ ap is_some can.there in grind (arith, nat_tests))
+        (λ (other : k ≢ ds). grind (arith, nat_tests))
         (cases_eq k ds)
 
     -- the share then
@@ -99,6 +105,13 @@ module _ (account first ds pages : ℕ) (old : Store) (regions : Regions) (opens
     unfolding share_in
     free_in_share = nothing_shown (part account old).spaces regions.heap start free
 
+    -- its blocks' regions are one more
+    blocks_then : block_regions (share_at account new after) ≡ insert (block_regions (share_at account old regions)) start region
+    blocks_then = ap block_regions share_then ∙ sliced-insert _ _ start region
+
+    block_free : get (block_regions (share_at account old regions)) start ≡ None
+    block_free = no_sliced _ _ start free_in_share
+
     -- the shares of others stay
     pub enter_others : KeepsOthers account old new regions after
     enter_others = record {
@@ -106,62 +119,51 @@ module _ (account first ds pages : ℕ) (old : Store) (regions : Regions) (opens
           ap (λ p. share_in p after.heap after.tags) (becomes.others other apart)
           ∙ share_attached_other regions.heap regions.tags start region sliced_tag free (part other old) (in_no_other account other ds can.bytes old can.there apart);
       root = becomes.root;
+      parents = becomes.parents;
+      room = becomes.room;
       rest = refl;
     }
 
-    -- a region of the map shows what it showed, and the new one its dataspace
-    shown_then : (s : ℕ) (r : Region) → get after.heap s ≡ Some r → IsShown new.spaces r
-    shown_then s r h = ⊎_elim
-        (λ (here : s ≡ start).
-        let is = same_Some region r (sym (get-insert_same regions.heap start region s here) ∙ h) in
-        let now = length_some (get (part account new).spaces ds) (length can.bytes) (headers.lengths ds ∙ ap (option_map length) can.there) in
-        subst (IsShown new.spaces) is (shown_of_part account new region now.0 now.1 can.some (now.2 ∙ can.whole)))
-        (λ (other : s ≢ start).
-        shown_after account (part account new) old new becomes r (λ bytes has. headers.lengths r.of ∙ ap (option_map length) has)
-        (maps.shown s r (sym (get-insert_other regions.heap start region s other) ∙ h)))
-        (cases_eq s start)
-
-    -- what a region that isn't the new one was
-    was_there : (s : ℕ) (r : Region) → s ≢ start → get after.heap s ≡ Some r → get regions.heap s ≡ Some r
-    was_there s r other h = sym (get-insert_other regions.heap start region s other) ∙ h
-
-    of_new : (s : ℕ) (r : Region) → s ≡ start → get after.heap s ≡ Some r → r.of ≡ ds
-    of_new s r here h = ap (λ (x : Region). x.of) (sym (same_Some region r (sym (get-insert_same regions.heap start region s here) ∙ h)))
-
-    -- and no two show one dataspace
-    once_then : (s t : ℕ) (r q : Region) → get after.heap s ≡ Some r → get after.heap t ≡ Some q → r.of ≡ q.of → s ≡ t
-    once_then s t r q h g e = ⊎_elim
-        (λ (here : s ≡ start). ⊎_elim
-        (λ (there : t ≡ start). here ∙ sym there)
-        (λ (other : t ≢ start). absurd (can.unshown t q (was_there t q other g) (sym e ∙ of_new s r here h)))
-        (cases_eq t start))
-        (λ (other : s ≢ start). ⊎_elim
-        (λ (there : t ≡ start). absurd (can.unshown s r (was_there s r other h) (e ∙ of_new t q there g)))
-        (λ (also : t ≢ start). maps.once s t r q (was_there s r other h) (was_there t q also g) e)
-        (cases_eq t start))
-        (cases_eq s start)
-
     -- the account stays as it is
     same_account : (part account new).account ≡ Some (account_in old account)
-    same_account = headers.account ∙ own_account account old opens
+    same_account = headers.account ∙ own_account account old sound.opens
 
     pub enter_open : IsOpenIn new account
-    enter_open = (account_after account (part account new) old new becomes (account_in old account) same_account refl opens).0
+    enter_open = open_in_part account new (ap is_some same_account)
 
-    -- the map is still one of the memory
+    -- the map as it was is still one of the memory
+    same_maps : MapsMemory new regions
+    same_maps = map_stays_for_payer account (part account new) (account_in old account) old new regions regions sound.maps (record { heap = refl; tags = refl; most = refl; pages = refl })
+        becomes sound.opens same_account refl (λ s r h. headers.lengths r.of)
+
+    -- no two regions show one dataspace, the new one among them
+    once_then : (s t : ℕ) (r q : Region) → get after.heap s ≡ Some r → get after.heap t ≡ Some q → r.of ≡ q.of → s ≡ t
+    once_then s t r q h g e = elim (after_insert regions.heap start region s r h) [
+      | inl a ↦ elim (after_insert regions.heap start region t q g) [
+        | inl b ↦ a.0 ∙ sym b.0
+        | inr b ↦ absurd (can.unshown t q b.1 (sym e ∙ ap (λ (x : Region). x.of) a.1))
+      ]
+      | inr a ↦ elim (after_insert regions.heap start region t q g) [
+        | inl b ↦ absurd (can.unshown s r a.1 (e ∙ ap (λ (x : Region). x.of) b.1))
+        | inr b ↦ sound.maps.once s t r q a.1 b.1 e
+      ]
+    ]
+
+    -- and with it the map is one of the memory
     pub enter_maps : MapsMemory new after
-    enter_maps = record {
-      pages = maps.pages ∙ sym (account_after account (part account new) old new becomes (account_in old account) same_account refl opens).1;
-      most = maps.most;
-      shown = shown_then;
-      once = once_then;
-    }
+    enter_maps =
+        let now = length_some (get (part account new).spaces ds) (length can.bytes) (headers.lengths ds ∙ ap (option_map length) can.there) in
+        record {
+          pages = same_maps.pages;
+          most = same_maps.most;
+          shown = each_after_insert regions.heap start region (λ s r. IsShown new.spaces r) same_maps.shown (shown_of_part account new region now.0 now.1 can.some (now.2 ∙ can.whole));
+          once = once_then;
+        }
 
     -- the blocks are linked, the new one first
     pub enter_linked : IsLinked (share_at account new after) (link_to ds)
     unfolding share_in
-    enter_linked = subst (λ (S : Share). IsLinked S (link_to ds)) (sym share_then)
-        (put_linked (share_at account old regions) first ds start pages (part account new) can.bytes linked none_yet free_in_share can.there can.some can.whole touched headers put)
+    enter_linked = put_linked (share_at account old regions) (share_at account new after) first ds start pages can.bytes linked none_yet block_free can.there can.some can.whole blocks_then touched headers put
 
     -- and its payload is one more
     pub enters : Enters account ds pages (start + header) old new regions after
@@ -170,10 +172,11 @@ module _ (account first ds pages : ℕ) (old : Store) (regions : Regions) (opens
       start = start;
       at = refl;
       gap = gap;
+      lowest = lowest;
       attached = refl;
       charge = headers.account;
-      blocks = ap sliced_of share_then
-          ∙ put_payloads (share_at account old regions) first ds start pages (part account new) can.bytes linked none_yet free_in_share can.there can.some can.whole touched headers put
+      stands = blocks_then;
+      blocks = put_payloads (share_at account old regions) (share_at account new after) first ds start pages can.bytes linked none_yet block_free can.there can.some can.whole blocks_then touched headers put
           ∙ ap (λ b. insert (blocks_at account old regions) (start + header) (drop header b)) (sym (ap (λ (o : Option (List ℕ)). unwrap_or o []) can.there));
       dataspaces = λ k other none. headers.others k (let t = no_block_unlisted (share_at account old regions) first linked k none in grind (arith, nat_tests));
       count = headers.count;

@@ -1,10 +1,10 @@
--- A word of a header that is stored: it reads back, and all else stays.
-use Rattle.std.proofs.Common.{◌≡◌, ◌≢◌, ◌<◌, ◌≤◌, ◌^◌, ◌+◌, ℕ, true, ◌⊎◌, List, [], ◌∷◌, drop, length, refl, sym, ap, ◌∙◌, ⊎_elim, unwrap_or, arith}
+-- What bytes put over those of a dataspace leave; a word of a header that is stored reads back, and all else stays.
+use Rattle.std.proofs.Common.{◌≡◌, ◌≢◌, ◌<◌, ◌≤◌, ◌^◌, ◌+◌, ◌-◌, ℕ, true, ◌⊎◌, List, [], ◌∷◌, drop, length, refl, sym, ap, ◌∙◌, ⊎_elim, unwrap_or, arith}
 use Rattle.std.proofs.lemmas.Bool.{cases_eq}
 use Rattle.std.proofs.lemmas.Bool.Decides.{nat_tests}
 use Rattle.std.specs.Prelude.{Option, None, Some, slice_range}
 use Rattle.std.specs.Option.{option_map}
-use Rattle.std.specs.FinMap.{get, len}
+use Rattle.std.specs.FinMap.{get}
 use Rattle.trade_base.specs.Bytes.{with_bytes}
 use Rattle.trade_base.specs.Word.{word_of, word_bytes}
 use Rattle.trade_base.proofs.BytesLemmas.{slice_range-with_bytes, length-with_bytes}
@@ -14,91 +14,95 @@ use Rattle.own_model.proofs.NatMapLemmas.{get-insert_same, get-insert_other}
 use Rattle.own_model.proofs.Totals.{len-insert_at}
 use Rattle.dataspace_core.specs.Store.{Part, bytes_of, part_with_bytes}
 use Rattle.sliced_heap.specs.Sliced.{word_at, HasHeader, HeadersChange, IsStored}
-use Rattle.sliced_heap.specs.Chain.{is_listed}
+use Rattle.sliced_heap.specs.Chain.{link_to, is_listed}
+
+-- the words of a dataspace whose bytes stay
+pub word_same : (p q : Part) (offset b : ℕ) → get q.spaces b ≡ get p.spaces b → word_at q offset b ≡ word_at p offset b
+unfolding word_at
+word_same p q offset b e = ap (λ (o : Option (List ℕ)). word_of (slice_range (unwrap_or o []) offset (offset + 8))) e
 
 -- what is read of a dataspace that is there
 bytes_of-there : (p : Part) (ds : ℕ) (bytes : List ℕ) → get p.spaces ds ≡ Some bytes → bytes_of p ds ≡ bytes
 bytes_of-there p ds bytes there = ap (λ (o : Option (List ℕ)). unwrap_or o []) there
 
--- a part after a word is stored in the header of a dataspace that is there
-module _ (p : Part) (ds offset word : ℕ) (bytes : List ℕ) (there : get p.spaces ds ≡ Some bytes) (small : word < 2 ^ 64) (within : offset + 8 ≤ 32) (long : 32 ≤ length bytes) where
-  abbrev pub stored : Part
-  stored = part_with_bytes p ds offset (word_bytes word)
+-- a part after bytes are put over those of a dataspace that is there
+module _ (p : Part) (ds offset : ℕ) (put bytes : List ℕ) (there : get p.spaces ds ≡ Some bytes) (fits : offset + length put ≤ length bytes) where
+  abbrev pub poked : Part
+  poked = part_with_bytes p ds offset put
 
   -- the bytes that it has then
-  bytes_then : bytes_of stored ds ≡ with_bytes bytes offset (word_bytes word)
-  bytes_then =
-      bytes_of-there stored ds _ (get-insert_same p.spaces ds _ ds refl) ∙ ap (λ b. with_bytes b offset (word_bytes word)) (bytes_of-there p ds bytes there)
+  pub poked_there : get poked.spaces ds ≡ Some (with_bytes bytes offset put)
+  poked_there = get-insert_same p.spaces ds _ ds refl ∙ ap (λ b. Some (with_bytes b offset put)) (bytes_of-there p ds bytes there)
+
+  bytes_then : bytes_of poked ds ≡ with_bytes bytes offset put
+  bytes_then = bytes_of-there poked ds _ poked_there
+
+  -- other dataspaces stay
+  pub poked_other : (q : ℕ) → q ≢ ds → get poked.spaces q ≡ get p.spaces q
+  poked_other q apart = get-insert_other p.spaces ds _ q apart
+
+  -- a word before them stays, or after them, or of another dataspace
+  pub poked_word : (other b : ℕ) → (other + 8 ≤ offset) ⊎ (offset + length put ≤ other) → word_at poked other b ≡ word_at p other b
+  unfolding word_at
+  poked_word other b clear = ⊎_elim
+      (λ (same : b ≡ ds). rw same (
+      ap (λ b. word_of (slice_range b other (other + 8))) bytes_then
+      ∙ ap word_of (⊎_elim
+      (λ (before : other + 8 ≤ offset). range_before bytes offset put other (other + 8) before fits)
+      (λ (after : offset + length put ≤ other). range_after bytes offset put other (other + 8) after fits)
+      clear)
+      ∙ ap (λ b. word_of (slice_range b other (other + 8))) (sym (bytes_of-there p ds bytes there))))
+      (λ (apart : b ≢ ds). ap (λ (o : Option (List ℕ)). word_of (slice_range (unwrap_or o []) other (other + 8))) (poked_other b apart))
+      (cases_eq b ds)
+
+  -- what is told of the bytes alike, before and after, stays of each dataspace
+  poked_alike : {X : Type 0} (f : List ℕ → X) → f (with_bytes bytes offset put) ≡ f bytes → (q : ℕ) → option_map f (get poked.spaces q) ≡ option_map f (get p.spaces q)
+  poked_alike f alike q = ⊎_elim
+      (λ (same : q ≡ ds). rw same (ap (option_map f) poked_there ∙ ap Some alike ∙ ap (option_map f) (sym there)))
+      (λ (other : q ≢ ds). ap (option_map f) (poked_other q other))
+      (cases_eq q ds)
+
+  -- so the lengths stay, and what lies behind headers
+  pub poked_length : (q : ℕ) → option_map length (get poked.spaces q) ≡ option_map length (get p.spaces q)
+  poked_length = poked_alike length (length-with_bytes bytes offset put fits)
+
+  pub poked_payload : offset + length put ≤ 32 → (q : ℕ) → option_map (drop 32) (get poked.spaces q) ≡ option_map (drop 32) (get p.spaces q)
+  poked_payload within = poked_alike (drop 32) (drop_after bytes offset put 32 within fits)
+
+-- a part after a word is stored in the header of a dataspace that is there
+module _ (p : Part) (ds offset word : ℕ) (bytes : List ℕ) (there : get p.spaces ds ≡ Some bytes) (small : word < 2 ^ 64) (within : offset + 8 ≤ 32) (long : 32 ≤ length bytes) where
+  abbrev stored : Part
+  stored = part_with_bytes p ds offset (word_bytes word)
 
   -- it fits
   fits : offset + length (word_bytes word) ≤ length bytes
   fits = let l = length-word_bytes word in omega (arith, within, long, l)
 
   -- the word reads back
-  pub word_stored : word_at stored offset ds ≡ word
+  word_stored : word_at stored offset ds ≡ word
   unfolding word_at
   word_stored =
-      ap (λ b. word_of (slice_range b offset (offset + 8))) bytes_then
+      ap (λ (o : Option (List ℕ)). word_of (slice_range (unwrap_or o []) offset (offset + 8))) (poked_there p ds offset (word_bytes word) bytes there fits)
       ∙ ap (λ n. word_of (slice_range (with_bytes bytes offset (word_bytes word)) offset (offset + n))) (sym (length-word_bytes word))
       ∙ ap word_of (slice_range-with_bytes bytes offset (word_bytes word) fits)
       ∙ word_of-word_bytes word small
 
-  -- a word before or after it stays
-  pub word_elsewhere : (other : ℕ) → (other + 8 ≤ offset) ⊎ (offset + 8 ≤ other) → word_at stored other ds ≡ word_at p other ds
-  unfolding word_at
-  word_elsewhere other apart =
-      ap (λ b. word_of (slice_range b other (other + 8))) bytes_then
-      ∙ ap word_of (⊎_elim
-      (λ (before : other + 8 ≤ offset). range_before bytes offset (word_bytes word) other (other + 8) before fits)
-      (λ (after : offset + 8 ≤ other). let l = length-word_bytes word in range_after bytes offset (word_bytes word) other (other + 8) (omega (arith, after, l)) fits)
-      apart)
-      ∙ ap (λ b. word_of (slice_range b other (other + 8))) (sym (bytes_of-there p ds bytes there))
-
-  -- the words of other dataspaces stay
-  pub word_of_other : (other q : ℕ) → q ≢ ds → word_at stored other q ≡ word_at p other q
-  unfolding word_at
-  word_of_other other q apart = ap (λ (o : Option (List ℕ)). word_of (slice_range (unwrap_or o []) other (other + 8))) (get-insert_other p.spaces ds _ q apart)
-
-  -- what lies behind the headers stays
-  pub payload_kept : (q : ℕ) → option_map (drop 32) (get stored.spaces q) ≡ option_map (drop 32) (get p.spaces q)
-  payload_kept q = ⊎_elim
-      (λ (same : q ≡ ds). let l = length-word_bytes word in
-      ap (option_map (drop 32)) (get-insert_same p.spaces ds _ q same)
-      ∙ ap (λ b. Some (drop 32 (with_bytes b offset (word_bytes word)))) (bytes_of-there p ds bytes there)
-      ∙ ap Some (drop_after bytes offset (word_bytes word) 32 (omega (arith, within, l)) fits)
-      ∙ ap (option_map (drop 32)) (sym there) ∙ ap (λ k. option_map (drop 32) (get p.spaces k)) (sym same))
-      (λ (other : q ≢ ds). ap (option_map (drop 32)) (get-insert_other p.spaces ds _ q other))
-      (cases_eq q ds)
-
-  -- and so do the lengths
-  pub length_kept : (q : ℕ) → option_map length (get stored.spaces q) ≡ option_map length (get p.spaces q)
-  length_kept q = ⊎_elim
-      (λ (same : q ≡ ds).
-      ap (option_map length) (get-insert_same p.spaces ds _ q same)
-      ∙ ap (λ b. Some (length (with_bytes b offset (word_bytes word)))) (bytes_of-there p ds bytes there)
-      ∙ ap Some (length-with_bytes bytes offset (word_bytes word) fits)
-      ∙ ap (option_map length) (sym there) ∙ ap (λ k. option_map length (get p.spaces k)) (sym same))
-      (λ (other : q ≢ ds). ap (option_map length) (get-insert_other p.spaces ds _ q other))
-      (cases_eq q ds)
-
-  -- how many dataspaces there are stays
-  count_kept : len stored.spaces ≡ len p.spaces
-  count_kept = len-insert_at p.spaces ds _ bytes there
-
-  -- all of it
+  -- and all else stays
   pub is_stored : IsStored ds offset word p stored
-  is_stored = record {
-    reads = word_stored;
-    elsewhere = word_elsewhere;
-    others = word_of_other;
-    headers = record {
-      account = refl;
-      payloads = payload_kept;
-      lengths = length_kept;
-      others = λ k none. get-insert_other p.spaces ds _ k (grind (arith, nat_tests));
-      count = count_kept;
-    };
-  }
+  is_stored =
+      let l = length-word_bytes word in
+      record {
+        reads = word_stored;
+        elsewhere = λ other clear. poked_word p ds offset (word_bytes word) bytes there fits other ds (rw l clear);
+        others = λ other b apart. word_same p stored other b (poked_other p ds offset (word_bytes word) bytes there fits b apart);
+        headers = record {
+          account = refl;
+          payloads = poked_payload p ds offset (word_bytes word) bytes there fits (omega (arith, l, within));
+          lengths = poked_length p ds offset (word_bytes word) bytes there fits;
+          others = λ k none. poked_other p ds offset (word_bytes word) bytes there fits k (grind (arith, nat_tests));
+          count = len-insert_at p.spaces ds _ bytes there;
+        };
+      }
 
 -- ---- one change of headers after another
 
@@ -136,6 +140,10 @@ has_header_still blocks p q ds h header =
     let found = length_some (get q.spaces ds) (length header.bytes) (h.lengths ds ∙ ap (option_map length) header.there) in
     record { bytes = found.0; there = found.1; long = let l = header.long in let e = found.2 in omega (arith, l, e) }
 
--- a change of no headers
-pub headers_same : (blocks : List ℕ) (p : Part) → HeadersChange blocks p p
-headers_same blocks p = record { account = refl; payloads = λ k. refl; lengths = λ k. refl; others = λ k none. refl; count = refl }
+-- a store in a listed block changes headers of the list
+pub stored_in : (blocks : List ℕ) (ds offset word : ℕ) (p q : Part) → is_listed blocks ds ≡ true → IsStored ds offset word p q → HeadersChange blocks p q
+stored_in blocks ds offset word p q there h = headers_wider (ds ∷ []) blocks p q (one_listed ds blocks there) h.headers
+
+-- the block to which a link leads, as a list
+pub of_link : (link : ℕ) → (blocks : List ℕ) × ((b : ℕ) → link ≡ link_to b → is_listed blocks b ≡ true)
+of_link link = ((link - 1) ∷ [], λ b is. let e : b ≡ link - 1 = omega arith in grind (arith, nat_tests))

@@ -1,8 +1,13 @@
 pub mod ChainLemmas
 pub mod HeaderLemmas
-pub mod LinkLemmas
+pub mod ShareLemmas
 pub mod LinkedLemmas
 pub mod WindowLemmas
 pub mod EnterLemmas
 pub mod AllocLemmas
+pub mod BlockLemmas
 pub mod LookLemmas
+pub mod GiveLemmas
+pub mod HeapLaws
+pub mod EndLemmas
+pub mod TestLemmas

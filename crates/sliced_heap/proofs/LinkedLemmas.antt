@@ -1,100 +1,25 @@
--- The blocks of a share when a block is put first, and when one is taken out.
-use Rattle.std.proofs.Common.{◌≡◌, ◌≢◌, ◌≤◌, ◌+◌, ◌*◌, ◌==◌, ℕ, Bool, true, false, cond, List, [], ◌∷◌, drop, length, refl, sym, ap, subst, ◌∙◌, ⊎_elim, true≢false, arith}
+-- The blocks of a share when their headers stay, when a block is put first, and when one is taken out.
+use Rattle.std.proofs.Common.{◌≡◌, ◌≢◌, ◌≤◌, ◌+◌, ◌*◌, ◌==◌, ℕ, true, false, cond, List, [], ◌∷◌, drop, length, refl, sym, ap, subst, ◌∙◌, ⊎_elim, true≢false, arith}
 use Rattle.std.proofs.lemmas.Bool.{cases_eq}
 use Rattle.std.proofs.lemmas.Bool.Decides.{nat_tests}
 use Rattle.std.proofs.lemmas.Option.{none-some, same_Some}
-use Rattle.std.specs.Prelude.{Option, None, Some, slice_range, unwrap_or}
-use Rattle.trade_base.specs.Word.{word_of}
-use Rattle.std.specs.Option.{option_map, option_and_then}
-use Rattle.std.specs.FinMap.{get, insert, remove, get-retain_keys, nat_cmp-IsAntisymmetric}
+use Rattle.std.specs.Prelude.{None, Some}
+use Rattle.std.specs.Option.{option_map}
+use Rattle.std.specs.FinMap.{get, insert, remove}
 use Rattle.own_model.specs.NatMap.{NatMap, picked}
 use Rattle.own_model.specs.Region.{Region}
 use Rattle.own_model.specs.Moved.{moved_up}
 use Rattle.own_model.specs.Sliced.{sliced_header as header}
-use Rattle.own_model.proofs.NatMapLemmas.{same, get-picked, get-insert_same, get-insert_other, get-remove_same, get-remove_other}
+use Rattle.own_model.proofs.NatMapLemmas.{same, after_insert, get-insert_same, get-insert_other, get-remove_same, get-remove_other, before_remove, get-picked, get-picked_at, and_then_alike, picked_alike, picked-insert_some, picked-remove}
 use Rattle.own_model.proofs.MovedLemmas.{moved_up-insert, moved_up-remove}
 use Rattle.dataspace_core.specs.Store.{Part}
 use Rattle.dataspace_core.specs.Share.{Share}
-use Rattle.sliced_heap.specs.Chain.{link_to, is_listed, taken_out, IsChain}
-use Rattle.sliced_heap.specs.Sliced.{sliced_tag, is_sliced_tag, sliced_regions, payload_of, sliced_of, word_at, next_in, previous_in, start_in, HasHeader, Stands, IsLinked, HeadersChange, PutFirst, TakenOut}
-use Rattle.sliced_heap.proofs.ChainLemmas.{linked_kept, chain_pushed, linked_without, once_without, listed_before, still_listed, gone_from}
-use Rattle.sliced_heap.proofs.HeaderLemmas.{length_some}
+use Rattle.sliced_heap.specs.Chain.{link_to, is_listed, IsChain}
+use Rattle.sliced_heap.specs.Sliced.{block_regions, payload_of, sliced_of, word_at, next_in, previous_in, start_in, HasHeader, Stands, IsLinked, HeadersChange, PutFirst, TakenOut}
+use Rattle.sliced_heap.proofs.ChainLemmas.{taken_out, linked_kept, chain_pushed, linked_without, once_without, listed_without, left_listed}
+use Rattle.sliced_heap.proofs.HeaderLemmas.{length_some, word_same}
 
--- a region of a sliced block
-pub get-sliced_regions : (heap : NatMap Region) (tags : NatMap ℕ) (q : ℕ) → get (sliced_regions heap tags) q ≡ cond (is_sliced_tag (get tags q)) (get heap q) None
-get-sliced_regions heap tags q = get-retain_keys heap (λ start. is_sliced_tag (get tags start)) q (λ x e. ap (λ k. is_sliced_tag (get tags k)) (sym (nat_cmp-IsAntisymmetric q x e)))
-
--- a listed block is a dataspace of the part, so one that isn't there is none
-not_listed_free : (S : Share) (first ds : ℕ) (linked : IsLinked S first) → get S.part.spaces ds ≡ None → is_listed linked.blocks ds ≡ false
-not_listed_free S first ds linked free =
-    elim (is_listed linked.blocks ds) as (λ b. is_listed linked.blocks ds ≡ b → b ≡ false) [
-      | true ↦ λ t. let s = linked.stands ds t in absurd (none-some s.bytes (sym free ∙ s.there))
-      | false ↦ λ t. refl
-    ] refl
-
--- the words of a dataspace whose bytes stay
-word_same : (p q : Part) (offset b : ℕ) → get q.spaces b ≡ get p.spaces b → word_at q offset b ≡ word_at p offset b
-unfolding word_at
-word_same p q offset b e = ap (λ (o : Option (List ℕ)). word_of (slice_range (unwrap_or o []) offset (offset + 8))) e
-
--- what a test lets through was there
-under_test : (b : Bool) (o : Option Region) (r : Region) → cond b o None ≡ Some r → o ≡ Some r
-under_test true o r h = h
-under_test false o r h = absurd (none-some r h)
-
--- a region of a sliced block is a region
-pub sliced_is_region : (heap : NatMap Region) (tags : NatMap ℕ) (s : ℕ) (r : Region) → get (sliced_regions heap tags) s ≡ Some r → get heap s ≡ Some r
-sliced_is_region heap tags s r h = under_test (is_sliced_tag (get tags s)) (get heap s) r (sym (get-sliced_regions heap tags s) ∙ h)
-
--- maps that answer alike at a place have the same region of a sliced block there
-pub sliced_alike : (heap kept : NatMap Region) (tags numbers : NatMap ℕ) (s : ℕ) → get heap s ≡ get kept s → get tags s ≡ get numbers s → get (sliced_regions heap tags) s ≡ get (sliced_regions kept numbers) s
-sliced_alike heap kept tags numbers s e t =
-    get-sliced_regions heap tags s ∙ ap (λ o. cond (is_sliced_tag o) (get heap s) None) t ∙ ap (λ o. cond (is_sliced_tag (get numbers s)) o None) e ∙ sym (get-sliced_regions kept numbers s)
-
--- a share whose part has the same bytes in the dataspace of each region has the same blocks
-module _ (S : Share) (first : ℕ) (new : Part) (linked : IsLinked S first) (alike : (s : ℕ) (r : Region) → get S.heap s ≡ Some r → get new.spaces r.of ≡ get S.part.spaces r.of) where
-  -- the share then
-  abbrev pub with_part : Share
-  with_part = record { part = new; heap = S.heap; tags = S.tags }
-
-  -- a block's dataspace has the same bytes
-  block_alike : (b : ℕ) → is_listed linked.blocks b ≡ true → get new.spaces b ≡ get S.part.spaces b
-  block_alike b t = let s = linked.stands b t in alike _ _ s.region
-
-  pub alike_linked : IsLinked with_part first
-  alike_linked = record {
-    blocks = linked.blocks;
-    chain = record {
-      linked = linked_kept (next_in S.part) (previous_in S.part) (next_in new) (previous_in new) linked.blocks 0 first
-          (λ b t. word_same S.part new 0 b (block_alike b t)) (λ b t. word_same S.part new 8 b (block_alike b t)) linked.chain.linked;
-      once = linked.chain.once;
-    };
-    stands = λ b t.
-        let s = linked.stands b t in
-        let at = word_same S.part new 16 b (block_alike b t) in
-        record {
-          bytes = s.bytes;
-          pages = s.pages;
-          there = block_alike b t ∙ s.there;
-          some = s.some;
-          whole = s.whole;
-          region = ap (get S.heap) at ∙ s.region;
-          tag = ap (get S.tags) at ∙ s.tag;
-        };
-    all = λ s r h. let was = linked.all s r h in (was.0, word_same S.part new 16 r.of (block_alike r.of was.0) ∙ was.1);
-  }
-
-  -- and the same payloads
-  alike_payload : (o : Option Region) → ((r : Region) → o ≡ Some r → get new.spaces r.of ≡ get S.part.spaces r.of) → option_and_then (payload_of new.spaces) o ≡ option_and_then (payload_of S.part.spaces) o
-  alike_payload None same_bytes = refl
-  alike_payload (Some r) same_bytes = ap (option_map (drop header)) (same_bytes r refl)
-
-  pub alike_payloads : sliced_of with_part ≡ sliced_of S
-  unfolding sliced_of
-  alike_payloads = ap (moved_up header) (same _ _ (λ s.
-      get-picked (payload_of new.spaces) _ s
-      ∙ alike_payload (get (sliced_regions S.heap S.tags) s) (λ r h. alike s r (sliced_is_region S.heap S.tags s r h))
-      ∙ sym (get-picked (payload_of S.part.spaces) _ s)))
+-- ---- which blocks there are
 
 -- the block to which the first link leads is listed
 pub first_is_listed : (next previous : ℕ → ℕ) (first b : ℕ) (blocks : List ℕ) → IsChain next previous first blocks → first ≡ link_to b → is_listed blocks b ≡ true
@@ -105,213 +30,207 @@ first_is_listed next previous first b (x ∷ xs) chain is = let leads = chain.li
 pub stands_header : (S : Share) (ds : ℕ) → Stands S ds → HasHeader S.part ds
 stands_header S ds s = record { bytes = s.bytes; there = s.there; long = let w = s.whole in let n = s.some in omega (arith, w, n) }
 
--- a block is a listed one where a region of a sliced block is of it
-pub no_block_unlisted : (S : Share) (first : ℕ) (linked : IsLinked S first) (k : ℕ) → ((s : ℕ) (r : Region) → get (sliced_regions S.heap S.tags) s ≡ Some r → r.of ≢ k) → is_listed linked.blocks k ≡ false
-no_block_unlisted S first linked k none =
-    elim (is_listed linked.blocks k) as (λ b. is_listed linked.blocks k ≡ b → b ≡ false) [
-      | true ↦ λ t.
-          let s = linked.stands k t in
-          absurd (none (start_in S.part k) (record { of = k; pages = s.pages }) (get-sliced_regions S.heap S.tags _ ∙ ap (λ o. cond (is_sliced_tag o) (get S.heap (start_in S.part k)) None) s.tag ∙ s.region) refl)
-      | false ↦ λ t. refl
-    ] refl
+module _ (S : Share) (first : ℕ) (linked : IsLinked S first) where
+  -- a dataspace of which no region is isn't listed
+  pub no_block_unlisted : (k : ℕ) → ((s : ℕ) (r : Region) → get (block_regions S) s ≡ Some r → r.of ≢ k) → is_listed linked.blocks k ≡ false
+  no_block_unlisted k none =
+      elim (is_listed linked.blocks k) as (λ b. is_listed linked.blocks k ≡ b → b ≡ false) [
+        | true ↦ λ t. absurd (none _ _ (linked.stands k t).region refl)
+        | false ↦ λ t. refl
+      ] refl
+
+  -- no two regions are of one dataspace
+  pub one_region : (s t : ℕ) (r q : Region) → get (block_regions S) s ≡ Some r → get (block_regions S) t ≡ Some q → r.of ≡ q.of → s ≡ t
+  one_region s t r q h g e = sym (linked.all s r h).1 ∙ ap (start_in S.part) e ∙ (linked.all t q g).1
+
+-- ---- headers stay
+
+module _ (S T : Share) (first : ℕ) (linked : IsLinked S first) (regions : block_regions T ≡ block_regions S) where
+  -- a share with the same regions, and the same headers of blocks, has the same blocks
+  pub still_linked : ((offset b : ℕ) → offset + 8 ≤ header → is_listed linked.blocks b ≡ true → word_at T.part offset b ≡ word_at S.part offset b) →
+      ((b : ℕ) → is_listed linked.blocks b ≡ true → option_map length (get T.part.spaces b) ≡ option_map length (get S.part.spaces b)) → IsLinked T first
+  still_linked words lengths = record {
+    blocks = linked.blocks;
+    chain = record {
+      linked = linked_kept (next_in S.part) (previous_in S.part) (next_in T.part) (previous_in T.part) linked.blocks 0 first
+          (λ b t. words 0 b (omega arith) t) (λ b t. words 8 b (omega arith) t) linked.chain.linked;
+      once = linked.chain.once;
+    };
+    stands = λ b t.
+        let s = linked.stands b t in
+        let found = length_some (get T.part.spaces b) (length s.bytes) (lengths b t ∙ ap (option_map length) s.there) in
+        record {
+          bytes = found.0;
+          pages = s.pages;
+          there = found.1;
+          some = s.some;
+          whole = found.2 ∙ s.whole;
+          region = ap (λ (m : NatMap Region). get m (start_in T.part b)) regions ∙ ap (get (block_regions S)) (words 16 b (omega arith) t) ∙ s.region;
+        };
+    all = λ s r h.
+        let was = linked.all s r (ap (λ (m : NatMap Region). get m s) (sym regions) ∙ h) in
+        (was.0, words 16 r.of (omega arith) was.0 ∙ was.1);
+  }
+
+  module _ (bytes : (s : ℕ) (r : Region) → get (block_regions S) s ≡ Some r → get T.part.spaces r.of ≡ get S.part.spaces r.of) where
+    -- a listed block has the same bytes
+    listed_bytes : (b : ℕ) → is_listed linked.blocks b ≡ true → get T.part.spaces b ≡ get S.part.spaces b
+    listed_bytes b t = bytes _ _ (linked.stands b t).region
+
+    -- so where all bytes of blocks stay, the blocks are the same
+    pub alike_linked : IsLinked T first
+    alike_linked = still_linked (λ offset b low t. word_same S.part T.part offset b (listed_bytes b t)) (λ b t. ap (option_map length) (listed_bytes b t))
+
+    pub alike_payloads : sliced_of T ≡ sliced_of S
+    unfolding sliced_of
+    alike_payloads = ap (λ m. moved_up header (picked (payload_of T.part.spaces) m)) regions
+        ∙ ap (moved_up header) (picked_alike (payload_of T.part.spaces) (payload_of S.part.spaces) (block_regions S) (λ s r h. ap (option_map (drop header)) (bytes s r h)))
+
+-- ---- a payload is another
+
+module _ (S T : Share) (first ds start pages : ℕ) (payload : List ℕ) (linked : IsLinked S first) (regions : block_regions T ≡ block_regions S)
+    (block : get (block_regions S) start ≡ Some (record { of = ds; pages = pages })) (new : payload_of T.part.spaces (record { of = ds; pages = pages }) ≡ Some payload)
+    (others : (k : ℕ) → k ≢ ds → get T.part.spaces k ≡ get S.part.spaces k) where
+  -- at its block's start it is the new one, and elsewhere all are what they were
+  payload_now : (s : ℕ) → get (picked (payload_of T.part.spaces) (block_regions S)) s ≡ get (insert (picked (payload_of S.part.spaces) (block_regions S)) start payload) s
+  payload_now s = ⊎_elim
+      (λ (here : s ≡ start). rw here (get-picked_at (payload_of T.part.spaces) (block_regions S) start _ block ∙ new ∙ sym (get-insert_same _ start payload start refl)))
+      (λ (other : s ≢ start).
+      get-picked (payload_of T.part.spaces) (block_regions S) s
+      ∙ and_then_alike (payload_of T.part.spaces) (payload_of S.part.spaces) (get (block_regions S) s) (λ r h. ap (option_map (drop header)) (others r.of (λ e. other (one_region S first linked s start r _ h block e))))
+      ∙ sym (get-picked (payload_of S.part.spaces) (block_regions S) s) ∙ sym (get-insert_other _ start payload s other))
+      (cases_eq s start)
+
+  pub payload_put : sliced_of T ≡ insert (sliced_of S) (start + header) payload
+  unfolding sliced_of
+  payload_put = ap (λ m. moved_up header (picked (payload_of T.part.spaces) m)) regions ∙ ap (moved_up header) (same _ _ payload_now) ∙ moved_up-insert header _ start payload
 
 -- ---- a block is put first
 
-module _ (S : Share) (first ds start pages : ℕ) (q : Part) (bytes : List ℕ) (linked : IsLinked S first)
-    (unlisted : is_listed linked.blocks ds ≡ false) (free : get S.heap start ≡ None) (there : get S.part.spaces ds ≡ Some bytes)
-    (some : 1 ≤ pages) (whole : length bytes ≡ pages * 4096)
-    (blocks : List ℕ) (headers : HeadersChange blocks S.part q) (put : PutFirst first ds start S.part q) where
-  -- the share then
-  abbrev pub after_put : Share
-  after_put = record { part = q; heap = insert S.heap start (record { of = ds; pages = pages }); tags = insert S.tags start sliced_tag }
-
-  -- where a region stands, none stands now
-  elsewhere : (s : ℕ) (r : Region) → get S.heap s ≡ Some r → s ≢ start
-  elsewhere s r h e = none-some r (sym free ∙ ap (get S.heap) (sym e) ∙ h)
-
+module _ (S T : Share) (first ds start pages : ℕ) (bytes : List ℕ) (linked : IsLinked S first)
+    (unlisted : is_listed linked.blocks ds ≡ false) (free : get (block_regions S) start ≡ None) (there : get S.part.spaces ds ≡ Some bytes)
+    (some : 1 ≤ pages) (whole : length bytes ≡ pages * 4096) (regions : block_regions T ≡ insert (block_regions S) start (record { of = ds; pages = pages }))
+    (blocks : List ℕ) (headers : HeadersChange blocks S.part T.part) (put : PutFirst first ds start S.part T.part) where
   -- listed blocks are others
   apart : (b : ℕ) → is_listed linked.blocks b ≡ true → b ≢ ds
   apart b t e = true≢false (sym t ∙ ap (is_listed linked.blocks) e ∙ unlisted)
 
+  -- what stands at a place then
+  region_at_place : (s : ℕ) → get (block_regions T) s ≡ get (insert (block_regions S) start (record { of = ds; pages = pages })) s
+  region_at_place s = ap (λ (m : NatMap Region). get m s) regions
+
   -- the new block stands
-  first_stands : Stands after_put ds
+  first_stands : Stands T ds
   first_stands =
-      let found = length_some (get q.spaces ds) (length bytes) (headers.lengths ds ∙ ap (option_map length) there) in
+      let found = length_some (get T.part.spaces ds) (length bytes) (headers.lengths ds ∙ ap (option_map length) there) in
       record {
         bytes = found.0;
         pages = pages;
         there = found.1;
         some = some;
         whole = found.2 ∙ whole;
-        region = get-insert_same S.heap start _ (start_in q ds) put.starts;
-        tag = get-insert_same S.tags start _ (start_in q ds) put.starts;
+        region = region_at_place _ ∙ get-insert_same (block_regions S) start _ (start_in T.part ds) put.starts;
       }
 
   -- and the others stand as before
-  others_stand : (b : ℕ) → is_listed linked.blocks b ≡ true → Stands after_put b
+  others_stand : (b : ℕ) → is_listed linked.blocks b ≡ true → Stands T b
   others_stand b t =
       let s = linked.stands b t in
-      let other = apart b t in
-      let at : start_in q b ≡ start_in S.part b = put.others_start b other in
-      let place : start_in q b ≢ start = λ e. elsewhere _ _ s.region (sym at ∙ e) in
-      let found = length_some (get q.spaces b) (length s.bytes) (headers.lengths b ∙ ap (option_map length) s.there) in
+      let at : start_in T.part b ≡ start_in S.part b = put.others_start b (apart b t) in
+      let place : start_in T.part b ≢ start = λ e. none-some _ (sym free ∙ ap (get (block_regions S)) (sym e ∙ at) ∙ s.region) in
+      let found = length_some (get T.part.spaces b) (length s.bytes) (headers.lengths b ∙ ap (option_map length) s.there) in
       record {
         bytes = found.0;
         pages = s.pages;
         there = found.1;
         some = s.some;
         whole = found.2 ∙ s.whole;
-        region = get-insert_other S.heap start _ (start_in q b) place ∙ ap (get S.heap) at ∙ s.region;
-        tag = get-insert_other S.tags start _ (start_in q b) place ∙ ap (get S.tags) at ∙ s.tag;
+        region = region_at_place _ ∙ get-insert_other (block_regions S) start _ (start_in T.part b) place ∙ ap (get (block_regions S)) at ∙ s.region;
       }
 
   -- all blocks are linked
-  pub put_linked : IsLinked after_put (link_to ds)
+  pub put_linked : IsLinked T (link_to ds)
   put_linked = record {
     blocks = ds ∷ linked.blocks;
-    chain = chain_pushed (next_in S.part) (previous_in S.part) (next_in q) (previous_in q) first ds linked.blocks
+    chain = chain_pushed (next_in S.part) (previous_in S.part) (next_in T.part) (previous_in T.part) first ds linked.blocks
         unlisted put.leads put.begins
         (λ b t. put.others_next b (apart b t))
         (λ b t. put.others_previous b (apart b t))
         linked.chain;
     stands = λ b t. ⊎_elim
-        (λ (same_block : b ≡ ds). subst (Stands after_put) (sym same_block) first_stands)
+        (λ (same_block : b ≡ ds). subst (Stands T) (sym same_block) first_stands)
         (λ (other : b ≢ ds). others_stand b (grind (arith, nat_tests)))
         (cases_eq b ds);
     all = λ s r h. ⊎_elim
-        (λ (here : s ≡ start).
-        let is = same_Some _ r (sym (get-insert_same S.heap start (record { of = ds; pages = pages }) s here) ∙ sliced_is_region _ _ s r h) in
-        let of_ds : r.of ≡ ds = ap (λ (x : Region). x.of) (sym is) in
-        (rw of_ds (grind (arith, nat_tests)), ap (start_in q) of_ds ∙ put.starts ∙ sym here))
-        (λ (other : s ≢ start).
-        let was = linked.all s r (sym (sliced_alike _ S.heap _ S.tags s (get-insert_other S.heap start _ s other) (get-insert_other S.tags start _ s other)) ∙ h) in
-        let beside = apart r.of was.0 in
-        (let t = was.0 in grind (arith, nat_tests), put.others_start r.of beside ∙ was.1))
-        (cases_eq s start);
+        (λ (new : (s ≡ start) × (r ≡ record { of = ds; pages = pages })). let of_ds : r.of ≡ ds = ap (λ (x : Region). x.of) new.1 in
+        (rw of_ds (grind (arith, nat_tests)), ap (start_in T.part) of_ds ∙ put.starts ∙ sym new.0))
+        (λ old. let was = linked.all s r old.1 in
+        (let t = was.0 in grind (arith, nat_tests), put.others_start r.of (apart r.of was.0) ∙ was.1))
+        (after_insert (block_regions S) start _ s r (sym (region_at_place s) ∙ h));
   }
 
-  -- the payload of a region is what it was
-  each_payload : (o : Option Region) → option_and_then (payload_of q.spaces) o ≡ option_and_then (payload_of S.part.spaces) o
-  each_payload None = refl
-  each_payload (Some r) = headers.payloads r.of
-
-  -- each payload is what it was, but for the new one
-  payload_at : (s : ℕ) → get (picked (payload_of q.spaces) (sliced_regions (insert S.heap start (record { of = ds; pages = pages })) (insert S.tags start sliced_tag))) s ≡ get (insert (picked (payload_of S.part.spaces) (sliced_regions S.heap S.tags)) start (drop header bytes)) s
-  payload_at s = ⊎_elim
-      (λ (here : s ≡ start).
-      get-picked (payload_of q.spaces) _ s
-      ∙ ap (option_and_then (payload_of q.spaces)) (get-sliced_regions _ _ s ∙ ap (λ o. cond (is_sliced_tag o) (get (insert S.heap start (record { of = ds; pages = pages })) s) None) (get-insert_same S.tags start sliced_tag s here) ∙ get-insert_same S.heap start _ s here)
-      ∙ headers.payloads ds ∙ ap (option_map (drop header)) there
-      ∙ sym (get-insert_same _ start (drop header bytes) s here))
-      (λ (other : s ≢ start).
-      get-picked (payload_of q.spaces) _ s
-      ∙ ap (option_and_then (payload_of q.spaces)) (sliced_alike _ S.heap _ S.tags s (get-insert_other S.heap start _ s other) (get-insert_other S.tags start _ s other))
-      ∙ each_payload (get (sliced_regions S.heap S.tags) s)
-      ∙ sym (get-picked (payload_of S.part.spaces) _ s)
-      ∙ sym (get-insert_other _ start (drop header bytes) s other))
-      (cases_eq s start)
-
-  -- so all are
-  regions : picked (payload_of q.spaces) (sliced_regions (insert S.heap start (record { of = ds; pages = pages })) (insert S.tags start sliced_tag)) ≡ insert (picked (payload_of S.part.spaces) (sliced_regions S.heap S.tags)) start (drop header bytes)
-  regions = same _ _ payload_at
-
   -- what lies behind the headers is what was there, and the new block's payload
-  pub put_payloads : sliced_of after_put ≡ insert (sliced_of S) (start + header) (drop header bytes)
+  pub put_payloads : sliced_of T ≡ insert (sliced_of S) (start + header) (drop header bytes)
   unfolding sliced_of
-  put_payloads = ap (moved_up header) regions ∙ moved_up-insert header _ start (drop header bytes)
+  put_payloads =
+      ap (λ m. moved_up header (picked (payload_of T.part.spaces) m)) regions
+      ∙ ap (moved_up header) (picked-insert_some (payload_of T.part.spaces) (block_regions S) start _ (drop header bytes) (headers.payloads ds ∙ ap (option_map (drop header)) there)
+      ∙ ap (λ m. insert m start (drop header bytes)) (picked_alike (payload_of T.part.spaces) (payload_of S.part.spaces) (block_regions S) (λ s r h. headers.payloads r.of)))
+      ∙ moved_up-insert header _ start (drop header bytes)
 
 -- ---- a block is taken out
 
-module _ (S : Share) (first ds start : ℕ) (q after : Part) (linked : IsLinked S first) (listed : is_listed linked.blocks ds ≡ true) (at : start_in S.part ds ≡ start)
-    (blocks : List ℕ) (headers : HeadersChange blocks S.part q) (out : TakenOut ds S.part q) (others : (k : ℕ) → k ≢ ds → get after.spaces k ≡ get q.spaces k) where
-  -- the share then
-  abbrev pub after_out : Share
-  after_out = record { part = after; heap = remove S.heap start; tags = remove S.tags start }
-
-  -- a block that is left is another, and was listed
-  left_apart : (b : ℕ) → is_listed (taken_out ds linked.blocks) b ≡ true → b ≢ ds
-  left_apart b t e = true≢false (sym t ∙ ap (is_listed (taken_out ds linked.blocks)) e ∙ gone_from ds linked.blocks linked.chain.once)
-
-  left_listed : (b : ℕ) → is_listed (taken_out ds linked.blocks) b ≡ true → is_listed linked.blocks b ≡ true
-  left_listed b t = listed_before ds b linked.blocks t
-
-  -- and stands at another place
-  left_elsewhere : (b : ℕ) → is_listed linked.blocks b ≡ true → b ≢ ds → start_in S.part b ≢ start
-  left_elsewhere b t apart e =
-      let mine = linked.stands ds listed in
-      let its = linked.stands b t in
-      let region = same_Some _ _ (sym its.region ∙ ap (get S.heap) (e ∙ sym at) ∙ mine.region) in
-      apart (ap (λ (r : Region). r.of) region)
+module _ (S T : Share) (first ds start : ℕ) (q : Part) (linked : IsLinked S first) (listed : is_listed linked.blocks ds ≡ true) (at : start_in S.part ds ≡ start)
+    (regions : block_regions T ≡ remove (block_regions S) start)
+    (blocks : List ℕ) (headers : HeadersChange blocks S.part q) (out : TakenOut ds S.part q) (others : (k : ℕ) → k ≢ ds → get T.part.spaces k ≡ get q.spaces k) where
+  -- a region that is left stood at another place, and is of another block
+  left_region : (s : ℕ) (r : Region) → get (block_regions T) s ≡ Some r → (r.of ≢ ds) × (get (block_regions S) s ≡ Some r)
+  left_region s r h =
+      let now = ap (λ (m : NatMap Region). get m s) (sym regions) ∙ h in
+      let was = before_remove (block_regions S) start s r now in
+      (λ e. none-some r (sym (get-remove_same (block_regions S) start s (sym (linked.all s r was).1 ∙ ap (start_in S.part) e ∙ at)) ∙ now), was)
 
   -- those that are left stand as before
-  left_stand : (b : ℕ) → is_listed (taken_out ds linked.blocks) b ≡ true → Stands after_out b
+  left_stand : (b : ℕ) → is_listed (taken_out ds linked.blocks) b ≡ true → Stands T b
   left_stand b t =
-      let apart = left_apart b t in
-      let s = linked.stands b (left_listed b t) in
-      let now : start_in after b ≡ start_in S.part b = word_same q after 16 b (others b apart) ∙ out.others_start b in
-      let place : start_in after b ≢ start = λ e. left_elsewhere b (left_listed b t) apart (sym now ∙ e) in
-      let found = length_some (get after.spaces b) (length s.bytes) (ap (option_map length) (others b apart) ∙ headers.lengths b ∙ ap (option_map length) s.there) in
+      let was = left_listed ds b linked.blocks t in
+      let apart = was.1 in
+      let s = linked.stands b was.0 in
+      let now : start_in T.part b ≡ start_in S.part b = word_same q T.part 16 b (others b apart) ∙ out.others_start b in
+      let place : start_in T.part b ≢ start = λ e. apart (ap (λ (r : Region). r.of) (same_Some _ _ (sym s.region ∙ ap (get (block_regions S)) (sym now ∙ e ∙ sym at) ∙ (linked.stands ds listed).region))) in
+      let found = length_some (get T.part.spaces b) (length s.bytes) (ap (option_map length) (others b apart) ∙ headers.lengths b ∙ ap (option_map length) s.there) in
       record {
         bytes = found.0;
         pages = s.pages;
         there = found.1;
         some = s.some;
         whole = found.2 ∙ s.whole;
-        region = get-remove_other S.heap start (start_in after b) place ∙ ap (get S.heap) now ∙ s.region;
-        tag = get-remove_other S.tags start (start_in after b) place ∙ ap (get S.tags) now ∙ s.tag;
+        region = ap (λ (m : NatMap Region). get m (start_in T.part b)) regions ∙ get-remove_other (block_regions S) start (start_in T.part b) place ∙ ap (get (block_regions S)) now ∙ s.region;
       }
 
-  -- what a region that is left was
-  left_region : (s : ℕ) (r : Region) → get (sliced_regions (remove S.heap start) (remove S.tags start)) s ≡ Some r → (s ≢ start) × (get (sliced_regions S.heap S.tags) s ≡ Some r)
-  left_region s r h =
-      let other : s ≢ start = λ e. none-some r (sym (get-remove_same S.heap start s e) ∙ sliced_is_region _ _ s r h) in
-      (other, sym (sliced_alike _ S.heap _ S.tags s (get-remove_other S.heap start s other) (get-remove_other S.tags start s other)) ∙ h)
-
-  -- a region of a sliced block that is left is of another block
-  region_apart : (s : ℕ) (r : Region) → s ≢ start → get (sliced_regions S.heap S.tags) s ≡ Some r → r.of ≢ ds
-  region_apart s r other h e = other (sym (linked.all s r h).1 ∙ ap (start_in S.part) e ∙ at)
-
   -- all that are left are linked
-  pub out_linked : IsLinked after_out (cond (0 == previous_in S.part ds) (next_in S.part ds) first)
+  pub out_linked : IsLinked T (cond (0 == previous_in S.part ds) (next_in S.part ds) first)
   out_linked = record {
     blocks = taken_out ds linked.blocks;
     chain = record {
-      linked = linked_without (next_in S.part) (previous_in S.part) (next_in after) (previous_in after) ds linked.blocks 0 first listed linked.chain.once
+      linked = linked_without (next_in S.part) (previous_in S.part) (next_in T.part) (previous_in T.part) ds linked.blocks 0 first listed linked.chain.once
           (λ b t. omega arith)
-          (λ b t. word_same q after 0 b (others b (left_apart b t)) ∙ out.others_next b (left_apart b t))
-          (λ b t. word_same q after 8 b (others b (left_apart b t)) ∙ out.others_previous b (left_apart b t))
+          (λ b t apart. word_same q T.part 0 b (others b apart) ∙ out.others_next b apart)
+          (λ b t apart. word_same q T.part 8 b (others b apart) ∙ out.others_previous b apart)
           linked.chain.linked;
-      once = once_without (next_in S.part) (previous_in S.part) (next_in after) (previous_in after) ds linked.blocks linked.chain.once;
+      once = once_without ds linked.blocks linked.chain.once;
     };
     stands = left_stand;
     all = λ s r h.
         let was = left_region s r h in
         let old = linked.all s r was.1 in
-        let other = region_apart s r was.0 was.1 in
-        (still_listed ds r.of linked.blocks other old.0, word_same q after 16 r.of (others r.of other) ∙ out.others_start r.of ∙ old.1);
+        (let t = old.0 in let apart = was.0 in let l = listed_without ds r.of linked.blocks in grind (arith, nat_tests), word_same q T.part 16 r.of (others r.of was.0) ∙ out.others_start r.of ∙ old.1);
   }
 
-  -- the payload of a region that is left is what it was
-  left_payload : (o : Option Region) → ((r : Region) → o ≡ Some r → r.of ≢ ds) → option_and_then (payload_of after.spaces) o ≡ option_and_then (payload_of S.part.spaces) o
-  left_payload None apart = refl
-  left_payload (Some r) apart = ap (option_map (drop header)) (others r.of (apart r refl)) ∙ headers.payloads r.of
-
-  -- each payload is what it was, but for the one that is gone
-  left_payload_at : (s : ℕ) → get (picked (payload_of after.spaces) (sliced_regions (remove S.heap start) (remove S.tags start))) s ≡ get (remove (picked (payload_of S.part.spaces) (sliced_regions S.heap S.tags)) start) s
-  left_payload_at s = ⊎_elim
-      (λ (here : s ≡ start).
-      get-picked (payload_of after.spaces) _ s
-      ∙ ap (option_and_then (payload_of after.spaces)) (get-sliced_regions _ _ s ∙ ap (λ o. cond (is_sliced_tag o) (get (remove S.heap start) s) None) (get-remove_same S.tags start s here))
-      ∙ sym (get-remove_same _ start s here))
-      (λ (other : s ≢ start).
-      get-picked (payload_of after.spaces) _ s
-      ∙ ap (option_and_then (payload_of after.spaces)) (sliced_alike _ S.heap _ S.tags s (get-remove_other S.heap start s other) (get-remove_other S.tags start s other))
-      ∙ left_payload (get (sliced_regions S.heap S.tags) s) (λ r h. region_apart s r other h)
-      ∙ sym (get-picked (payload_of S.part.spaces) _ s)
-      ∙ sym (get-remove_other _ start s other))
-      (cases_eq s start)
-
   -- so the block's payload is gone, and no other
-  pub out_payloads : sliced_of after_out ≡ remove (sliced_of S) (start + header)
+  pub out_payloads : sliced_of T ≡ remove (sliced_of S) (start + header)
   unfolding sliced_of
-  out_payloads = ap (moved_up header) (same _ _ left_payload_at) ∙ moved_up-remove header _ start
+  out_payloads =
+      ap (moved_up header) (picked_alike (payload_of T.part.spaces) (payload_of S.part.spaces) (block_regions T) (λ s r h. ap (option_map (drop header)) (others r.of (left_region s r h).0) ∙ headers.payloads r.of)
+      ∙ ap (picked (payload_of S.part.spaces)) regions ∙ picked-remove (payload_of S.part.spaces) (block_regions S) start)
+      ∙ moved_up-remove header _ start

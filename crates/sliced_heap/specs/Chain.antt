@@ -1,5 +1,5 @@
 -- A chain of blocks that is linked both ways. A link is the block's key and one more, or 0 where there is no block.
-use Rattle.std.specs.Prelude.{◌≡◌, ℕ, ◌+◌, ◌==◌, Bool, false, true, ◌||◌, ◌&&◌, not, List, [], ◌∷◌, if◌then◌else◌}
+use Rattle.std.specs.Prelude.{◌≡◌, ℕ, ◌+◌, ◌==◌, Bool, false, true, ◌||◌, ◌&&◌, not, List, [], ◌∷◌}
 
 -- the link to a block
 abbrev pub link_to : ℕ → ℕ
@@ -25,8 +25,3 @@ Linked next previous before link (block ∷ rest) =
 pub record IsChain (next previous : ℕ → ℕ) (first : ℕ) (blocks : List ℕ) : Type 0 where
   pub linked : Linked next previous 0 first blocks
   pub once : has_no_repeat blocks ≡ true
-
--- the list without the first place where a block stands
-abbrev pub taken_out : ℕ → List ℕ → List ℕ
-taken_out block [] = []
-taken_out block (first ∷ rest) = if first == block then rest else first ∷ taken_out block rest

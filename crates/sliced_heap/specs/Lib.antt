@@ -1,3 +1,4 @@
 pub mod Chain
 pub mod Sliced
 pub mod Heap
+pub mod Laws

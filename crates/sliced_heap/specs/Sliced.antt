@@ -24,13 +24,17 @@ is_sliced_tag (Some tag) = tag == sliced_tag
 abbrev pub sliced_regions : NatMap Region → NatMap ℕ → NatMap Region
 sliced_regions heap tags = retain_keys heap (λ start. is_sliced_tag (get tags start))
 
+-- the regions in a share that are blocks
+abbrev pub block_regions : Share → NatMap Region
+block_regions share = sliced_regions share.heap share.tags
+
 -- what a region's dataspace holds behind the header
 abbrev pub payload_of : NatMap (List ℕ) → Region → Option (List ℕ)
 payload_of spaces region = option_map (drop header) (get spaces region.of)
 
 -- the sliced blocks of a share: the payload of each by the address where it starts
 unfoldable pub sliced_of : Share → NatMap (List ℕ)
-sliced_of share = moved_up header (picked (payload_of share.part.spaces) (sliced_regions share.heap share.tags))
+sliced_of share = moved_up header (picked (payload_of share.part.spaces) (block_regions share))
 
 -- ---- what the headers say
 
@@ -50,22 +54,21 @@ previous_in part ds = word_at part 8 ds
 abbrev pub start_in : Part → ℕ → ℕ
 start_in part ds = word_at part 16 ds
 
--- a dataspace is whole pages, all of which stand in the heap window where its header says
+-- a dataspace is whole pages, all of which stand as a block where its header says
 pub record Stands (share : Share) (ds : ℕ) : Type 0 where
   pub bytes : List ℕ
   pub pages : ℕ
   pub there : get share.part.spaces ds ≡ Some bytes
   pub some : 1 ≤ pages
   pub whole : length bytes ≡ pages * 4096
-  pub region : get share.heap (start_in share.part ds) ≡ Some (record { of = ds; pages = pages })
-  pub tag : get share.tags (start_in share.part ds) ≡ Some sliced_tag
+  pub region : get (block_regions share) (start_in share.part ds) ≡ Some (record { of = ds; pages = pages })
 
 -- the blocks that the first link leads to are those whose regions keep the number of a sliced block, and each stands
 pub record IsLinked (share : Share) (first : ℕ) : Type 0 where
   pub blocks : List ℕ
   pub chain : IsChain (next_in share.part) (previous_in share.part) first blocks
   pub stands : (ds : ℕ) → is_listed blocks ds ≡ true → Stands share ds
-  pub all : (start : ℕ) (region : Region) → get (sliced_regions share.heap share.tags) start ≡ Some region → (is_listed blocks region.of ≡ true) × (start_in share.part region.of ≡ start)
+  pub all : (start : ℕ) (region : Region) → get (block_regions share) start ≡ Some region → (is_listed blocks region.of ≡ true) × (start_in share.part region.of ≡ start)
 
 -- ---- what calls on headers leave
 

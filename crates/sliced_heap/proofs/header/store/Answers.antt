@@ -24,6 +24,6 @@ returns c =
     let paid = paid_in_part c.args.account.0 c.args.ds.0 c.requires.header.bytes c.args.memory.now c.requires.header.there in
     let now = becomes c.args.account.0 c.args.ds.0 c.args.field c.args.word c.args.memory.now c.store_word.new.self _ paid.payer c.store_word.ensures.part in
     record {
-      becomes = record { own = refl; others = now.others; root = now.root };
+      becomes = record { own = refl; others = now.others; root = now.root; parents = now.parents; room = now.room };
       stored = rw now.own (is_stored _ _ _ _ c.requires.header.bytes c.requires.header.there c.ranges.word.fits c.requires.within c.requires.header.long);
     }

@@ -1,6 +1,5 @@
 -- Three stores in the new block, and one in the block after it, change headers alone.
-use Rattle.sliced_heap.proofs.HeaderLemmas.{headers_then, has_header_still}
-use Rattle.sliced_heap.proofs.LinkLemmas.{stored_in}
+use Rattle.sliced_heap.proofs.HeaderLemmas.{headers_then, has_header_still, stored_in}
 use Rattle.sliced_heap.proofs.links.put_first.Goals as goal
 
 pub link_back-requires : goal.link_back-requires

@@ -1,6 +1,5 @@
 -- A store in the block after, and one in the block before, change headers alone.
-use Rattle.sliced_heap.proofs.HeaderLemmas.{headers_then, has_header_still}
-use Rattle.sliced_heap.proofs.LinkLemmas.{of_link}
+use Rattle.sliced_heap.proofs.HeaderLemmas.{headers_then, has_header_still, of_link}
 use Rattle.sliced_heap.proofs.links.take_out.Goals as goal
 
 pub link_ahead-requires : goal.link_ahead-requires
