@@ -1,5 +1,5 @@
 -- The best hole: what the tree finds is what the definition says of the heap's holes.
-use Rattle.std.proofs.Common.{◌≡◌, ℕ, ◌+◌, ◌^◌, ◌<◌, ◌≤◌, true, false, refl, sym, ap, ◌∙◌, inl, inr, arith, List, [], ◌∷◌, ◌++◌, Option, Some, None}
+use Rattle.std.proofs.Common.{◌≡◌, ℕ, ◌+◌, ◌^◌, ◌<◌, ◌≤◌, true, false, refl, sym, ap, ◌∙◌, inl, inr, arith, List, [], ◌∷◌, ◌++◌, length, Option, Some, None}
 use Rattle.std.specs.Prelude.{nat_lt, nat_le, if◌then◌else◌, ◌==◌, ◌&&◌, ◌||◌}
 use Rattle.std.proofs.lemmas.Bool.{cases_lt}
 use Rattle.std.proofs.lemmas.Bool.Decides.{nat_tests}
@@ -8,8 +8,9 @@ use Rattle.own_model.specs.BestFit.{Spot, holes_in, holes_from, holes_of, comes_
 use Rattle.avl_alloc.specs.Fit.{AreShort, IsPlaceOf}
 use Rattle.avl_alloc.specs.Words.{place_at}
 use Rattle.avl_alloc.specs.Tree.{Tree, tally, key, found, IsOrdered}
-use Rattle.avl_alloc.specs.Layout.{weigh, weigh_all, none, weigh_holes}
-use Rattle.avl_alloc.proofs.TreeLemmas.{same, better, enough, IsFound, nowhere, somewhere, found-is}
+use Rattle.avl_alloc.specs.Layout.{weigh, weigh_all, none, weigh_holes, hole_count}
+use Rattle.avl_alloc.proofs.TreeLemmas.{one, same, same-same}
+use Rattle.avl_alloc.proofs.BestLemmas.{better, enough, not_better, not_better_small, not_enough, IsFound, nowhere, somewhere, found-is}
 
 -- ---- weights over the list of holes
 
@@ -37,6 +38,14 @@ weigh-holes_from : (f : ℕ → ℕ → ℕ) (number : ℕ) (heap : Heap) → we
 weigh-holes_from f number [] = refl
 weigh-holes_from f number (blocks ∷ rest) =
     omega (arith, weigh_spots-append f (holes_in number 0 blocks) (holes_from (number + 1) rest), weigh-holes_in f number 0 blocks, weigh-holes_from f (number + 1) rest)
+
+-- the sum of one for each is their number
+weigh-one : (xs : List Spot) → weigh_spots one xs ≡ length xs
+weigh-one [] = refl
+weigh-one (x ∷ rest) = omega (arith, weigh-one rest)
+
+pub holes_counted : (heap : Heap) → hole_count heap ≡ weigh_holes one heap
+holes_counted heap = sym (weigh-one (holes_of heap)) ∙ weigh-holes_from one 0 heap
 
 -- a weight that is less everywhere has the lesser sum
 weigh_le : (f h : ℕ → ℕ → ℕ) → ((a s : ℕ) → f a s ≤ h a s) → (xs : List Spot) → weigh_spots f xs ≤ weigh_spots h xs
@@ -70,18 +79,6 @@ better_le size k n le a s = grind (arith, nat_tests)
 better_enough : (size k a s : ℕ) → better size k a s ≤ enough size a s
 better_enough size k a s = grind (arith, nat_tests)
 
-not_better_than : (size k a s : ℕ) → k ≤ key a s → better size k a s ≡ 0
-not_better_than size k a s le = grind (arith, nat_tests)
-
-too_small : (size k a s : ℕ) → s < size → better size k a s ≡ 0
-too_small size k a s lt = grind (arith, nat_tests)
-
-not_enough : (size a s : ℕ) → s < size → enough size a s ≡ 0
-not_enough size a s lt = grind (arith, nat_tests)
-
-same_same : (a s : ℕ) → same a s a s ≡ 1
-same_same a s = grind (arith, nat_tests)
-
 below : {a b : ℕ} → nat_lt a b ≡ true → a ≤ b
 below {a} {b} is = grind (arith, nat_tests)
 
@@ -97,15 +94,15 @@ best_hole-is size (x ∷ rest) short =
     ] refl
   where
     here : 1 ≤ weigh_spots (same (place_at x.chunk x.offset) x.size) (x ∷ rest)
-    here = omega (arith, same_same (place_at x.chunk x.offset) x.size)
+    here = omega (arith, same-same (place_at x.chunk x.offset) x.size)
 
     small : x.size < size → (o : Option Spot) → IsBest size rest o → IsBest size (x ∷ rest) o
     small lt None (no_best lacks) = no_best (omega (arith, not_enough size (place_at x.chunk x.offset) x.size lt))
     small lt (Some y) (best z so sc fits there least) =
-        best z so sc fits (omega arith) (omega (arith, too_small size (key_of z) (place_at x.chunk x.offset) x.size lt))
+        best z so sc fits (omega arith) (omega (arith, not_better_small size (key_of z) (place_at x.chunk x.offset) x.size lt))
 
     first : size ≤ x.size → weigh_spots (better size (key_of x)) rest ≡ 0 → IsBest size (x ∷ rest) (Some x)
-    first fits least = best x short.0 short.1 fits here (omega (arith, not_better_than size (key_of x) (place_at x.chunk x.offset) x.size (omega arith)))
+    first fits least = best x short.0 short.1 fits here (omega (arith, not_better size (key_of x) (place_at x.chunk x.offset) x.size (omega arith)))
 
     large : size ≤ x.size → (o : Option Spot) → IsBest size rest o → IsBest size (x ∷ rest) (Some (earlier x o))
     large fits None (no_best lacks) = first fits (omega (arith, weigh_le (better size (key_of x)) (enough size) (better_enough size (key_of x)) rest))
@@ -114,7 +111,7 @@ best_hole-is size (x ∷ rest) short =
           | true ↦ λ is.
               let lt : nat_lt (key_of z) (key_of x) ≡ true = sym (comes_before-key z x so short.0 sc short.1) ∙ is in
               let le : key_of z ≤ key_of x = below lt in
-              best z so sc fits' (omega arith) (omega (arith, not_better_than size (key_of z) (place_at x.chunk x.offset) x.size le))
+              best z so sc fits' (omega arith) (omega (arith, not_better size (key_of z) (place_at x.chunk x.offset) x.size le))
           | false ↦ λ is.
               let ge : nat_lt (key_of z) (key_of x) ≡ false = sym (comes_before-key z x so short.0 sc short.1) ∙ is in
               first fits (omega (arith, weigh_le (better size (key_of x)) (better size (key_of z)) (better_le size (key_of x) (key_of z) (above ge)) rest))

@@ -15,6 +15,12 @@ leb-true {m} {n} le = grind (arith, nat_tests)
 pub leb-false : {m n : ℕ} → n < m → nat_le m n ≡ false
 leb-false {m} {n} lt = grind (arith, nat_tests)
 
+pub ltb-true : {m n : ℕ} → m < n → nat_lt m n ≡ true
+ltb-true {m} {n} lt = grind (arith, nat_tests)
+
+pub ltb-false : {m n : ℕ} → n ≤ m → nat_lt m n ≡ false
+ltb-false {m} {n} le = grind (arith, nat_tests)
+
 -- ---- places
 
 pub within_in : (low high q : ℕ) → low ≤ q → q < high → within low high q ≡ 1
@@ -342,12 +348,6 @@ armed bytes w n (Node l a s h r) node read held even some low at opened =
     }
 
 -- ---- which tree a balanced one is, and that loads before it change nothing
-
-ltb-true : {m n : ℕ} → m < n → nat_lt m n ≡ true
-ltb-true {m} {n} lt = grind (arith, nat_tests)
-
-ltb-false : {m n : ℕ} → n ≤ m → nat_lt m n ≡ false
-ltb-false {m} {n} le = grind (arith, nat_tests)
 
 balanced-is_right : (l : Tree) (a s : ℕ) (r : Tree) → high r + 1 < high l → balanced l a s r ≡ turned_right l a s r
 unfolding balanced

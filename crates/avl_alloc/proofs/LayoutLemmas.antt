@@ -1,99 +1,36 @@
 -- A heap in the words: which words it needs, and that it stays while these do.
-use Rattle.std.proofs.Common.{◌≡◌, ℕ, zero, suc, ◌+◌, ◌-◌, ◌^◌, ◌<◌, ◌≤◌, true, false, refl, sym, ap, ◌∙◌, subst, inl, inr, arith, List, [], ◌∷◌, length, take, get_or, ◌/◌, Option, Some, None}
-use Rattle.std.specs.Prelude.{nat_lt, if◌then◌else◌, ◌==◌}
+use Rattle.std.proofs.Common.{◌≡◌, ℕ, zero, suc, ◌+◌, ◌-◌, ◌^◌, ◌<◌, ◌≤◌, true, false, refl, sym, ap, ◌∙◌, subst, inl, inr, arith, List, [], ◌∷◌, ◌++◌, length, get_or, ◌/◌, Option, Some, None}
+use Rattle.std.specs.List.{AllByRecursion}
+use Rattle.std.specs.Prelude.{nat_lt, if◌then◌else◌, ◌==◌, map, slice_index}
 use Rattle.std.proofs.lemmas.Grind.{common_steps}
-use Rattle.std.proofs.lemmas.List.{get_or_past}
+use Rattle.std.proofs.lemmas.List.{get_or_past, length-append}
+use Rattle.std.proofs.Math.ListN.{get_or-append}
+use Rattle.std.proofs.Math.Seq.{get_or-append_seam}
 use Rattle.std.proofs.lemmas.Bool.{cases_lt}
 use Rattle.std.proofs.lemmas.Bool.Decides.{nat_tests}
-use Rattle.own_model.specs.Heap.{Block, Used, Hole, bytes_in, header, Heap}
+use Rattle.own_model.specs.Heap.{Block, Used, Hole, bytes_in, header, AreBlocks, Heap}
 use Rattle.own_model.specs.BestFit.{chunk_of, payload_at}
 use Rattle.avl_alloc.specs.declared.best_fit.BestFit.{BestFit}
 use Rattle.avl_alloc.specs.declared.chunk.Block.{Block as BlockFound}
 use Rattle.avl_alloc.specs.Words.{Words, place_at}
 use Rattle.avl_alloc.specs.Tree.{Tree}
-use Rattle.avl_alloc.specs.Held.{heads, links, Fits}
-use Rattle.avl_alloc.specs.Layout.{Laid, IsHeader, block_from, blocks_from, weigh, weigh_all, none, whole, kept_at, chunks_from, heap_of, bytes_of, IsChunk, AreChunks, IsRoom, IsLaidOut, IsSound}
+use Rattle.avl_alloc.specs.Held.{heads, links, cover, Fits}
+use Rattle.avl_alloc.specs.Layout.{Laid, IsHeader, block_from, blocks_from, weigh_all, whole, kept_at, chunks_from, heap_of, sizes_of, bytes_of, IsChunk, AreChunks, IsRoom, IsLaidOut, IsSound}
 use Rattle.avl_alloc.specs.Walk.{block_over}
-use Rattle.avl_alloc.proofs.HeldLemmas.{within_in, within_below, within_above, holds_kept}
-
-test_true : {a b : ℕ} → a < b → nat_lt a b ≡ true
-test_true {a} {b} l = grind (arith, nat_tests)
-
-test_false : {a b : ℕ} → b ≤ a → nat_lt a b ≡ false
-test_false {a} {b} l = grind (arith, nat_tests)
-
--- ---- weights
-
--- a node is no more than its hole
-node_whole : (q place size : ℕ) → 48 ≤ size → heads q place size + links q place size ≤ whole q place size
-node_whole q place size least =
-    elim (cases_lt q place) [
-      | inl before ↦ omega (arith, within_below place (place + 16) q before, within_below (place + 16) (place + 48) q (omega arith))
-      | inr from ↦ elim (cases_lt q (place + 16)) [
-        | inl head ↦ omega (arith, within_in place (place + 16) q from head, within_below (place + 16) (place + 48) q head, within_in place (place + size) q from (omega arith))
-        | inr link ↦ elim (cases_lt q (place + 48)) [
-          | inl to ↦ omega (arith, within_above place (place + 16) q link, within_in (place + 16) (place + 48) q link to, within_in place (place + size) q from (omega arith))
-          | inr past ↦ omega (arith, within_above place (place + 16) q link, within_above (place + 16) (place + 48) q past)
-        ]
-      ]
-    ]
-
--- blocks whose headers are laid keep headers and nodes within what the heap keeps
-laid_nodes : (w : Words) (q place : ℕ) (blocks : List Block) → Laid w place blocks →
-    weigh none (heads q) place blocks + weigh none (links q) place blocks ≤ weigh (heads q) (whole q) place blocks
-laid_nodes w q place [] laid = omega arith
-laid_nodes w q place (Used n ∷ rest) laid = omega (arith, laid_nodes w q (place + n) rest laid.1)
-laid_nodes w q place (Hole n ∷ rest) laid = omega (arith, laid_nodes w q (place + n) rest laid.1, node_whole q place n laid.0.sized.least)
-
-chunks_nodes : (w : Words) (q number : ℕ) (sizes : List ℕ) (heap : Heap) → AreChunks w number sizes heap →
-    weigh_all none (heads q) number heap + weigh_all none (links q) number heap ≤ weigh_all (heads q) (whole q) number heap
-chunks_nodes w q number [] [] are = omega arith
-chunks_nodes w q number [] (blocks ∷ rest) are = absurd are
-chunks_nodes w q number (size ∷ sizes) [] are = absurd are
-chunks_nodes w q number (size ∷ sizes) (blocks ∷ rest) are =
-    omega (arith, laid_nodes w q (place_at number 0) blocks are.0.laid, chunks_nodes w q (number + 1) sizes rest are.1)
+use Rattle.avl_alloc.proofs.HeldLemmas.{holds_kept, ltb-true, ltb-false}
+use Rattle.avl_alloc.proofs.WeightLemmas.{within_le, weigh_all-parts, tidy_all, chunks_kept, chunks_long, chunks_apart}
 
 -- ---- what is kept
-
--- headers whose words stay are still there
-laid_kept : (w v : Words) (place : ℕ) (blocks : List Block) → ((q : ℕ) → 1 ≤ weigh (heads q) (whole q) place blocks → v q ≡ w q) → Laid w place blocks → Laid v place blocks
-laid_kept w v place [] same laid = tt
-laid_kept w v place (Used n ∷ rest) same laid = (
-  record {
-    sized = laid.0.sized;
-    size = same place (omega (arith, within_in place (place + 16) place (omega arith) (omega arith))) ∙ laid.0.size;
-    state = same (place + 8) (omega (arith, within_in place (place + 16) (place + 8) (omega arith) (omega arith))) ∙ laid.0.state;
-  },
-  laid_kept w v (place + n) rest (λ q in_rest. same q (omega arith)) laid.1,
-)
-laid_kept w v place (Hole n ∷ rest) same laid =
-    let least = laid.0.sized.least in (
-      record {
-        sized = laid.0.sized;
-        size = same place (omega (arith, within_in place (place + n) place (omega arith) (omega arith))) ∙ laid.0.size;
-        state = same (place + 8) (omega (arith, within_in place (place + n) (place + 8) (omega arith) (omega arith))) ∙ laid.0.state;
-      },
-      laid_kept w v (place + n) rest (λ q in_rest. same q (omega arith)) laid.1,
-    )
-
-chunks_kept : (w v : Words) (number : ℕ) (sizes : List ℕ) (heap : Heap) → ((q : ℕ) → 1 ≤ weigh_all (heads q) (whole q) number heap → v q ≡ w q) → AreChunks w number sizes heap → AreChunks v number sizes heap
-chunks_kept w v number [] [] same are = tt
-chunks_kept w v number [] (blocks ∷ rest) same are = absurd are
-chunks_kept w v number (size ∷ sizes) [] same are = absurd are
-chunks_kept w v number (size ∷ sizes) (blocks ∷ rest) same are = (
-  record { laid = laid_kept w v (place_at number 0) blocks (λ q here. same q (omega arith)) are.0.laid; total = are.0.total; short = are.0.short },
-  chunks_kept w v (number + 1) sizes rest (λ q behind. same q (omega arith)) are.1,
-)
 
 -- a heap stays while the words that it keeps for itself stay
 pub laid_out_kept : (fit : BestFit) (w v : Words) (heap : Heap) (t : Tree) → ((q : ℕ) → 1 ≤ kept_at q heap → v q ≡ w q) → IsLaidOut fit w heap t → IsLaidOut fit v heap t
 laid_out_kept fit w v heap t same is = record {
   few = is.few;
   sized = is.sized;
-  chunks = chunks_kept w v 0 (take fit.count fit.sizes) heap same is.chunks;
+  chunks = chunks_kept w v 0 (sizes_of fit) heap (λ q head. same q (headed q head)) is.chunks;
   stands = record {
     at = is.stands.at;
-    holds = holds_kept (bytes_of fit) w v t (λ q in_tree. same q (omega (arith, is.same (heads q), is.same (links q), chunks_nodes w q 0 (take fit.count fit.sizes) heap is.chunks))) is.stands.holds;
+    holds = holds_kept (bytes_of fit) w v t (λ q in_tree. same q (kept q in_tree)) is.stands.holds;
     balanced = is.stands.balanced;
     low = is.stands.low;
     apart = is.stands.apart;
@@ -101,6 +38,16 @@ laid_out_kept fit w v heap t same is = record {
   ordered = is.ordered;
   same = is.same;
 }
+  where
+    headed : (q : ℕ) → 1 ≤ weigh_all (heads q) (heads q) 0 heap → 1 ≤ kept_at q heap
+    headed q head =
+        let tidy = tidy_all q 0 heap (chunks_long w 0 (sizes_of fit) heap is.chunks) in
+        omega (arith, weigh_all-parts (heads q) (heads q) 0 heap, weigh_all-parts (heads q) (whole q) 0 heap, tidy.holes)
+
+    kept : (q : ℕ) → 1 ≤ cover q t → 1 ≤ kept_at q heap
+    kept q in_tree =
+        let tidy = tidy_all q 0 heap (chunks_long w 0 (sizes_of fit) heap is.chunks) in
+        omega (arith, is.same (heads q), is.same (links q), weigh_all-parts (heads q) (whole q) 0 heap, tidy.holes)
 
 -- ---- the heap that the words tell
 
@@ -149,7 +96,7 @@ chunks_read w number (size ∷ sizes) (blocks ∷ rest) are =
 -- the heap in the words is the one that they were laid out for
 pub heap_is : (fit : BestFit) (w : Words) (heap : Heap) (t : Tree) → IsLaidOut fit w heap t → heap_of fit w ≡ heap
 unfolding heap_of
-heap_is fit w heap t is = chunks_read w 0 (take fit.count fit.sizes) heap is.chunks
+heap_is fit w heap t is = chunks_read w 0 (sizes_of fit) heap is.chunks
 
 -- a heap stays as it is while the words that it keeps for itself stay: after a store into the payload of a used block, and
 -- after one that lies in no chunk
@@ -158,18 +105,28 @@ unfolding IsSound
 sound_kept fit w v sound same =
     let there = heap_is fit w sound.0 sound.1 sound.2 in
     let still = laid_out_kept fit w v sound.0 sound.1 (λ q kept. same q (subst (λ h. 1 ≤ kept_at q h) (sym there) kept)) sound.2 in
-    ((sound.0, sound.1, still), heap_is fit v sound.0 sound.1 still ∙ sym there)
+    ((sound.0, sound.1, still, sound.3), heap_is fit v sound.0 sound.1 still ∙ sym there)
 
 -- ---- one chunk
 
--- the heap that is told is laid out in the words
-pub sound_chunks : (fit : BestFit) (w : Words) → IsSound fit w → AreChunks w 0 (take fit.count fit.sizes) (heap_of fit w) × (fit.count ≤ 64) × (length fit.sizes ≡ 64)
-unfolding IsSound
-sound_chunks fit w sound =
-    let is = sound.2 in
-    (subst (AreChunks w 0 (take fit.count fit.sizes)) (sym (heap_is fit w sound.0 sound.1 is)) is.chunks, is.few, is.sized)
+-- the heap that is told is laid out in the words, and no two of its holes are neighbours
+pub record IsTold (fit : BestFit) (w : Words) : Type 0 where
+  pub tree : Tree
+  pub laid : IsLaidOut fit w (heap_of fit w) tree
+  pub blocks : AllByRecursion AreBlocks (heap_of fit w)
 
-chunk_there : (w : Words) (number : ℕ) (sizes : List ℕ) (heap : Heap) (i : ℕ) → AreChunks w number sizes heap → i < length sizes → IsChunk w (number + i) (get_or sizes i 0) (get_or heap i [])
+pub sound_told : (fit : BestFit) (w : Words) → IsSound fit w → IsTold fit w
+unfolding IsSound
+sound_told fit w sound =
+    let same = sym (heap_is fit w sound.0 sound.1 sound.2) in
+    record { tree = sound.1; laid = subst (λ h. IsLaidOut fit w h sound.1) same sound.2; blocks = subst (AllByRecursion AreBlocks) same sound.3 }
+
+-- a heap that is laid out is sound where no two of its holes are neighbours
+pub laid_sound : (fit : BestFit) (w : Words) (heap : Heap) (t : Tree) → IsLaidOut fit w heap t → AllByRecursion AreBlocks heap → IsSound fit w
+unfolding IsSound
+laid_sound fit w heap t laid blocks = (heap, t, laid, blocks)
+
+pub chunk_there : (w : Words) (number : ℕ) (sizes : List ℕ) (heap : Heap) (i : ℕ) → AreChunks w number sizes heap → i < length sizes → IsChunk w (number + i) (get_or sizes i 0) (get_or heap i [])
 chunk_there w number [] [] i are lt = absurd (omega arith)
 chunk_there w number [] (blocks ∷ rest) i are lt = absurd are
 chunk_there w number (size ∷ sizes) [] i are lt = absurd are
@@ -193,11 +150,12 @@ pub record IsThere (w : Words) (chunk size : ℕ) (blocks : List Block) : Type 0
 
 pub sound_chunk : (fit : BestFit) (w : Words) (chunk : ℕ) → IsSound fit w → chunk < fit.count → IsThere w chunk (get_or fit.sizes chunk 0) (chunk_of (heap_of fit w) chunk)
 sound_chunk fit w chunk sound lt =
-    let are = sound_chunks fit w sound in
-    let few : fit.count ≤ length fit.sizes = omega arith in
-    let long : length (take fit.count fit.sizes) ≡ fit.count = grind (arith, common_steps) in
-    let read : get_or (take fit.count fit.sizes) chunk 0 ≡ get_or fit.sizes chunk 0 = grind (arith, common_steps) in
-    let there = chunk_there w 0 (take fit.count fit.sizes) (heap_of fit w) chunk are.0 (omega arith) in
+    let is = (sound_told fit w sound).laid in
+    let few = is.few in
+    let sized = is.sized in
+    let long : length (sizes_of fit) ≡ fit.count = grind (arith, common_steps) in
+    let read : get_or (sizes_of fit) chunk 0 ≡ get_or fit.sizes chunk 0 = grind (arith, common_steps) in
+    let there = chunk_there w 0 (sizes_of fit) (heap_of fit w) chunk is.chunks (omega arith) in
     record {
       laid = subst (λ n. Laid w (place_at n 0) (get_or (heap_of fit w) chunk [])) (omega arith) there.laid;
       total = there.total ∙ read;
@@ -207,16 +165,16 @@ sound_chunk fit w chunk sound lt =
 
 pub sound_missing : (fit : BestFit) (w : Words) (chunk : ℕ) → IsSound fit w → fit.count ≤ chunk → chunk_of (heap_of fit w) chunk ≡ []
 sound_missing fit w chunk sound le =
-    let are = sound_chunks fit w sound in
-    let long : length (take fit.count fit.sizes) ≡ fit.count = grind (arith, common_steps) in
-    chunk_missing w 0 (take fit.count fit.sizes) (heap_of fit w) chunk are.0 (omega arith)
+    let is = (sound_told fit w sound).laid in
+    let long : length (sizes_of fit) ≡ fit.count = grind (arith, common_steps) in
+    chunk_missing w 0 (sizes_of fit) (heap_of fit w) chunk is.chunks (omega arith)
 
 -- its bytes are words
 pub sound_room : (fit : BestFit) (w : Words) (chunk : ℕ) (real : ℕ → ℕ) → IsSound fit w → chunk < fit.count → Fits (bytes_of fit) real → IsRoom real (place_at chunk 0) (bytes_in (chunk_of (heap_of fit w) chunk))
 sound_room fit w chunk real sound lt fits =
-    let are = sound_chunks fit w sound in
+    let is = (sound_told fit w sound).laid in
     let there = sound_chunk fit w chunk sound lt in
-    let read : get_or (take fit.count fit.sizes) chunk 0 ≡ get_or fit.sizes chunk 0 = grind (arith, common_steps) in
+    let read : get_or (sizes_of fit) chunk 0 ≡ get_or fit.sizes chunk 0 = grind (arith, common_steps) in
     let number : place_at chunk 0 / 2 ^ 32 - 1 ≡ chunk = omega arith in
     let total = there.total in
     let low = there.low in
@@ -230,6 +188,40 @@ sound_room fit w chunk real sound lt fits =
       within = subst (λ n. bytes_in (chunk_of (heap_of fit w) chunk) ≤ real n) (sym number) room;
     }
 
+-- ---- sizes
+
+-- the chunks have the sizes that the heap tells
+chunks_sized : (w : Words) (number : ℕ) (sizes : List ℕ) (heap : Heap) → AreChunks w number sizes heap → map bytes_in heap ≡ sizes
+chunks_sized w number [] [] are = refl
+chunks_sized w number [] (blocks ∷ rest) are = absurd are
+chunks_sized w number (size ∷ sizes) [] are = absurd are
+chunks_sized w number (size ∷ sizes) (blocks ∷ rest) are = ap (λ n. n ∷ map bytes_in rest) are.0.total ∙ ap (λ ns. size ∷ ns) (chunks_sized w (number + 1) sizes rest are.1)
+
+pub sound_sized : (fit : BestFit) (w : Words) → IsSound fit w → map bytes_in (heap_of fit w) ≡ sizes_of fit
+sound_sized fit w sound = chunks_sized w 0 (sizes_of fit) (heap_of fit w) (sound_told fit w sound).laid.chunks
+
+-- what has so many chunks, and one more, has them together
+pub fits_one_more : (sizes : List ℕ) (bytes : ℕ) (real : ℕ → ℕ) → ((chunk : ℕ) → slice_index sizes chunk ≤ real chunk) → bytes ≤ real (length sizes) →
+    (chunk : ℕ) → slice_index (sizes ++ bytes ∷ []) chunk ≤ real chunk
+fits_one_more sizes bytes real fits room chunk =
+    elim (cases_lt chunk (length sizes)) [
+      | inl lt ↦ omega (arith, get_or-append sizes (bytes ∷ []) 0 chunk lt, fits chunk)
+      | inr ge ↦ elim (cases_lt (length sizes) chunk) [
+        | inl gt ↦ omega (arith, get_or_past (sizes ++ bytes ∷ []) chunk 0 (omega (arith, length-append sizes (bytes ∷ []))))
+        | inr le ↦
+            let here : chunk ≡ length sizes = omega arith in
+            omega (arith, ap (λ i. get_or (sizes ++ bytes ∷ []) i 0) here, get_or-append_seam sizes bytes [] 0, ap real here)
+      ]
+    ]
+
+-- a place lies in one block at most
+pub sound_apart : (fit : BestFit) (w : Words) → IsSound fit w → (q : ℕ) → weigh_all (whole q) (whole q) 0 (heap_of fit w) ≤ 1
+sound_apart fit w sound q =
+    omega (arith, chunks_apart w q 0 (sizes_of fit) (heap_of fit w) (sound_told fit w sound).laid.chunks, within_le (place_at 0 0) (place_at (0 + length (heap_of fit w)) 0) q)
+
+pub sound_blocks : (fit : BestFit) (w : Words) → IsSound fit w → AllByRecursion AreBlocks (heap_of fit w)
+sound_blocks fit w sound = (sound_told fit w sound).blocks
+
 -- ---- payloads
 
 -- the used block of a walk's end, where its payload has the target
@@ -242,12 +234,12 @@ payload_walked from before target [] le lt = absurd (omega arith)
 payload_walked from before target (Used n ∷ rest) le lt =
     elim (cases_lt target (from + n)) [
       | inl inside ↦
-          let here : nat_lt target (from + n) ≡ true = test_true inside in
-          let there : nat_lt (target - from) n ≡ true = test_true (omega arith) in
+          let here : nat_lt target (from + n) ≡ true = ltb-true inside in
+          let there : nat_lt (target - from) n ≡ true = ltb-true (omega arith) in
           simp (here, there)
       | inr behind ↦
-          let here : nat_lt target (from + n) ≡ false = test_false behind in
-          let there : nat_lt (target - from) n ≡ false = test_false (omega arith) in
+          let here : nat_lt target (from + n) ≡ false = ltb-false behind in
+          let there : nat_lt (target - from) n ≡ false = ltb-false (omega arith) in
           let left : target - from - n ≡ target - (from + n) = omega arith in
           let on = payload_walked (from + n) 0 target rest behind (omega arith) in
           simp (here, there) (rw left on)
@@ -255,12 +247,12 @@ payload_walked from before target (Used n ∷ rest) le lt =
 payload_walked from before target (Hole n ∷ rest) le lt =
     elim (cases_lt target (from + n)) [
       | inl inside ↦
-          let here : nat_lt target (from + n) ≡ true = test_true inside in
-          let there : nat_lt (target - from) n ≡ true = test_true (omega arith) in
+          let here : nat_lt target (from + n) ≡ true = ltb-true inside in
+          let there : nat_lt (target - from) n ≡ true = ltb-true (omega arith) in
           simp (here, there)
       | inr behind ↦
-          let here : nat_lt target (from + n) ≡ false = test_false behind in
-          let there : nat_lt (target - from) n ≡ false = test_false (omega arith) in
+          let here : nat_lt target (from + n) ≡ false = ltb-false behind in
+          let there : nat_lt (target - from) n ≡ false = ltb-false (omega arith) in
           let left : target - from - n ≡ target - (from + n) = omega arith in
           let on = payload_walked (from + n) n target rest behind (omega arith) in
           simp (here, there) (rw left on)
@@ -270,10 +262,10 @@ payload_walked from before target (Hole n ∷ rest) le lt =
 pub payload_past : (from offset : ℕ) (blocks : List Block) → bytes_in blocks ≤ offset → payload_at from offset blocks ≡ None
 payload_past from offset [] le = refl
 payload_past from offset (Used n ∷ rest) le =
-    let there : nat_lt offset n ≡ false = test_false (omega arith) in
+    let there : nat_lt offset n ≡ false = ltb-false (omega arith) in
     simp there (payload_past (from + n) (offset - n) rest (omega arith))
 payload_past from offset (Hole n ∷ rest) le =
-    let there : nat_lt offset n ≡ false = test_false (omega arith) in
+    let there : nat_lt offset n ≡ false = ltb-false (omega arith) in
     simp there (payload_past (from + n) (offset - n) rest (omega arith))
 
 -- so the walk's end tells the payload
@@ -286,7 +278,7 @@ payload_is target blocks b lt is =
 -- a used block whose payload has the target
 pub payload_yes : (target : ℕ) (b : BlockFound) → b.used ≡ true → b.offset + 16 ≤ target → payload_over target b ≡ Some (b.offset, b.size)
 payload_yes target b used from =
-    let test : nat_lt (target - b.offset) 16 ≡ false = test_false (omega arith) in
+    let test : nat_lt (target - b.offset) 16 ≡ false = ltb-false (omega arith) in
     simp (used, test)
 
 -- a hole, and a header
@@ -295,5 +287,5 @@ payload_hole target b hole = simp hole
 
 pub payload_header : (target : ℕ) (b : BlockFound) → b.used ≡ true → target < b.offset + 16 → payload_over target b ≡ None
 payload_header target b used to =
-    let test : nat_lt (target - b.offset) 16 ≡ true = test_true (omega arith) in
+    let test : nat_lt (target - b.offset) 16 ≡ true = ltb-true (omega arith) in
     simp (used, test)

@@ -1,7 +1,17 @@
 pub mod TreeLemmas
+pub mod BestLemmas
 pub mod HeldLemmas
 pub mod StepLemmas
 pub mod PartLemmas
 pub mod WalkLemmas
+pub mod WeightLemmas
 pub mod LayoutLemmas
+pub mod SiteLemmas
+pub mod TurnLemmas
+pub mod StandLemmas
+pub mod TakenLemmas
+pub mod FreedLemmas
+pub mod CallLemmas
+pub mod GivenLemmas
+pub mod CellLemmas
 pub mod FitLemmas

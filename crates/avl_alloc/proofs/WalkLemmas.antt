@@ -1,13 +1,13 @@
 -- A walk along a chunk's headers, a block at a time.
 use Rattle.std.proofs.Common.{◌≡◌, ℕ, ◌+◌, ◌-◌, ◌*◌, ◌/◌, ◌%◌, ◌^◌, ◌<◌, ◌≤◌, Bool, true, false, refl, sym, ap, ◌∙◌, subst, arith, List, [], ◌∷◌, length, eqb}
 use Rattle.std.specs.Prelude.{nat_lt, if◌then◌else◌}
-use Rattle.std.proofs.lemmas.Bool.Decides.{nat_tests}
 use Rattle.own_model.specs.Heap as heap
 use Rattle.own_model.specs.Heap.{Used, Hole, size_of, bytes_in, IsBlockSize}
 use Rattle.avl_alloc.specs.declared.chunk.Block.{Block}
 use Rattle.avl_alloc.specs.Words.{Words, IsPlace}
 use Rattle.avl_alloc.specs.Layout.{Laid, IsRoom}
 use Rattle.avl_alloc.specs.Walk.{block_over}
+use Rattle.avl_alloc.proofs.HeldLemmas.{ltb-true, ltb-false}
 
 -- the blocks that a walk has ahead of it, from an offset on
 pub record IsAhead (w : Words) (start from before target : ℕ) (blocks ahead : List heap.Block) (n k : ℕ) : Type 0 where
@@ -76,23 +76,17 @@ module _ (w : Words) (start from before target : ℕ) (blocks : List heap.Block)
   ahead-here size used read state lt (Used m ∷ rest) is =
       let sized : size ≡ m = read ∙ is.laid.0.size in
       let is_used : used ≡ true = state ∙ ap (λ v. eqb v 1) is.laid.0.state in
-      let test : nat_lt target (from + m) ≡ true = test_true (omega arith) in
+      let test : nat_lt target (from + m) ≡ true = ltb-true (omega arith) in
       let there = subst (λ z. (if z then record { offset = from; size = m; used = true; before = before } else block_over (from + m) 0 target rest) ≡ block_over 0 0 target blocks) test is.same in
       subst (λ z. (let found : Block = record { offset = from; size = z; used = used; before = before } in found ≡ block_over 0 0 target blocks)) (sym sized)
       (subst (λ z. (let found : Block = record { offset = from; size = m; used = z; before = before } in found ≡ block_over 0 0 target blocks)) (sym is_used) there)
-    where
-      test_true : {a b : ℕ} → a < b → nat_lt a b ≡ true
-      test_true {a} {b} l = grind (arith, nat_tests)
   ahead-here size used read state lt (Hole m ∷ rest) is =
       let sized : size ≡ m = read ∙ is.laid.0.size in
       let is_used : used ≡ false = state ∙ ap (λ v. eqb v 1) is.laid.0.state in
-      let test : nat_lt target (from + m) ≡ true = test_true (omega arith) in
+      let test : nat_lt target (from + m) ≡ true = ltb-true (omega arith) in
       let there = subst (λ z. (if z then record { offset = from; size = m; used = false; before = before } else block_over (from + m) m target rest) ≡ block_over 0 0 target blocks) test is.same in
       subst (λ z. (let found : Block = record { offset = from; size = z; used = used; before = before } in found ≡ block_over 0 0 target blocks)) (sym sized)
       (subst (λ z. (let found : Block = record { offset = from; size = m; used = z; before = before } in found ≡ block_over 0 0 target blocks)) (sym is_used) there)
-    where
-      test_true : {a b : ℕ} → a < b → nat_lt a b ≡ true
-      test_true {a} {b} l = grind (arith, nat_tests)
 
   -- or the walk goes on behind it
   pub ahead-on : (size : ℕ) (used : Bool) → size ≡ w (start + from) → used ≡ eqb (w (start + from + 8)) 1 → from + size ≤ target → (ahead : List heap.Block) → IsAhead w start from before target blocks ahead n k →
@@ -101,7 +95,7 @@ module _ (w : Words) (start from before target : ℕ) (blocks : List heap.Block)
   ahead-on size used read state le (Used m ∷ rest) is =
       let sized : size ≡ m = read ∙ is.laid.0.size in
       let is_used : used ≡ true = state ∙ ap (λ v. eqb v 1) is.laid.0.state in
-      let test : nat_lt target (from + m) ≡ false = test_false (omega arith) in
+      let test : nat_lt target (from + m) ≡ false = ltb-false (omega arith) in
       let on = subst (λ z. (if z then record { offset = from; size = m; used = true; before = before } else block_over (from + m) 0 target rest) ≡ block_over 0 0 target blocks) test is.same in
       let even = is.laid.0.sized.even in
       let even' = is.even in (
@@ -116,13 +110,10 @@ module _ (w : Words) (start from before target : ℕ) (blocks : List heap.Block)
               few = omega (arith, is.few);
             })),
       )
-    where
-      test_false : {a b : ℕ} → b ≤ a → nat_lt a b ≡ false
-      test_false {a} {b} l = grind (arith, nat_tests)
   ahead-on size used read state le (Hole m ∷ rest) is =
       let sized : size ≡ m = read ∙ is.laid.0.size in
       let is_used : used ≡ false = state ∙ ap (λ v. eqb v 1) is.laid.0.state in
-      let test : nat_lt target (from + m) ≡ false = test_false (omega arith) in
+      let test : nat_lt target (from + m) ≡ false = ltb-false (omega arith) in
       let on = subst (λ z. (if z then record { offset = from; size = m; used = false; before = before } else block_over (from + m) m target rest) ≡ block_over 0 0 target blocks) test is.same in
       let even = is.laid.0.sized.even in
       let even' = is.even in (
@@ -137,6 +128,3 @@ module _ (w : Words) (start from before target : ℕ) (blocks : List heap.Block)
               few = omega (arith, is.few);
             })),
       )
-    where
-      test_false : {a b : ℕ} → b ≤ a → nat_lt a b ≡ false
-      test_false {a} {b} l = grind (arith, nat_tests)

@@ -1,7 +1,13 @@
--- A used block as a call tells it.
+-- Blocks as calls tell them.
 use Rattle.std.specs.Prelude.{ℕ}
+use Rattle.own_model.specs.BestFit.{Spot}
+use Rattle.avl_alloc.specs.declared.best_fit.BlockAddr.{BlockAddr}
 use Rattle.avl_alloc.specs.declared.best_fit.UsedBlock.{UsedBlock}
 
--- a block of a chunk, by its offset and its size
+-- a used block of a chunk, by its offset and its size
 abbrev pub used_block : ℕ → ℕ × ℕ → UsedBlock
 used_block chunk block = record { chunk = chunk; offset = block.0; size = block.1 }
+
+-- where a hole stands
+abbrev pub block_addr : Spot → BlockAddr
+block_addr hole = record { chunk = hole.chunk; offset = hole.offset }

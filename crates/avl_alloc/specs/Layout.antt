@@ -1,7 +1,8 @@
 -- The heap in the words: blocks by their headers, and the tree inside the holes.
 use Rattle.std.proofs.Common.{zero, suc}
 use Rattle.std.specs.Prelude.{◌≡◌, ℕ, ◌+◌, ◌-◌, ◌/◌, ◌%◌, ◌^◌, ◌≤◌, ◌<◌, ◌==◌, if◌then◌else◌, List, [], ◌∷◌, length, take, slice_index}
-use Rattle.own_model.specs.Heap.{Block, Used, Hole, bytes_in, IsBlockSize, Heap}
+use Rattle.std.specs.List.{AllByRecursion}
+use Rattle.own_model.specs.Heap.{Block, Used, Hole, bytes_in, IsBlockSize, AreBlocks, Heap}
 use Rattle.own_model.specs.BestFit.{holes_of}
 use Rattle.avl_alloc.specs.declared.best_fit.BestFit.{BestFit}
 use Rattle.avl_alloc.specs.Words.{Words, place_at, within}
@@ -80,13 +81,17 @@ abbrev pub chunks_from : Words → ℕ → List ℕ → Heap
 chunks_from words number [] = []
 chunks_from words number (size ∷ sizes) = blocks_from size words (place_at number 0) size ∷ chunks_from words (number + 1) sizes
 
+-- the bytes of the chunks, in the order of their numbers
+abbrev pub sizes_of : BestFit → List ℕ
+sizes_of fit = take fit.count fit.sizes
+
+-- the bytes of each chunk by its number, 0 where there is no such chunk
+abbrev pub bytes_of : BestFit → ℕ → ℕ
+bytes_of fit chunk = slice_index (sizes_of fit) chunk
+
 -- the heap that stands in the words
 unfoldable pub heap_of : BestFit → Words → Heap
-heap_of fit words = chunks_from words 0 (take fit.count fit.sizes)
-
--- the bytes of each chunk
-abbrev pub bytes_of : BestFit → ℕ → ℕ
-bytes_of fit chunk = slice_index (take fit.count fit.sizes) chunk
+heap_of fit words = chunks_from words 0 (sizes_of fit)
 
 -- a chunk in the words: headers from its first byte to its last
 pub record IsChunk (words : Words) (number size : ℕ) (blocks : List Block) : Type 0 where
@@ -105,11 +110,15 @@ AreChunks words number (size ∷ sizes) (blocks ∷ rest) = IsChunk words number
 pub record IsLaidOut (fit : BestFit) (words : Words) (heap : Heap) (t : Tree) : Type 0 where
   pub few : fit.count ≤ 64
   pub sized : length fit.sizes ≡ 64
-  pub chunks : AreChunks words 0 (take fit.count fit.sizes) heap
+  pub chunks : AreChunks words 0 (sizes_of fit) heap
   pub stands : Stands (bytes_of fit) words t fit.root
   pub ordered : (up : ℕ) × IsOrdered 0 t up
   pub same : (f : ℕ → ℕ → ℕ) → tally f t ≡ weigh_holes f heap
 
--- what a heap's calls ask of the words, and leave them in
+-- what a heap's calls ask of the words, and leave them in: no two holes of a chunk are neighbours, and the tree has all holes
 unfoldable pub IsSound : BestFit → Words → Type 0
-IsSound fit words = (heap : Heap) × (t : Tree) × IsLaidOut fit words heap t
+IsSound fit words = (heap : Heap) × (t : Tree) × IsLaidOut fit words heap t × AllByRecursion AreBlocks heap
+
+-- no word has changed but those of a heap's holes
+abbrev pub ChangesHoles : Words → Words → Heap → Type 0
+ChangesHoles old new heap = (place : ℕ) → weigh_holes (whole place) heap ≡ 0 → new place ≡ old place

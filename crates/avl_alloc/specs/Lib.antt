@@ -2,6 +2,8 @@ pub mod Words
 pub mod Tree
 pub mod Held
 pub mod Layout
+pub mod Site
 pub mod Walk
 pub mod Fit
 pub mod Found
+pub mod Cells

@@ -1,7 +1,7 @@
 -- What a walk along a chunk's headers finds.
-use Rattle.std.specs.Prelude.{ℕ, ◌+◌, true, false, nat_lt, if◌then◌else◌, List, [], ◌∷◌}
+use Rattle.std.specs.Prelude.{ℕ, ◌+◌, true, false, nat_lt, if◌then◌else◌, List, [], ◌∷◌, Option, Some, None}
 use Rattle.own_model.specs.Heap as heap
-use Rattle.own_model.specs.Heap.{Used, Hole}
+use Rattle.own_model.specs.Heap.{Used, Hole, bytes_in}
 use Rattle.avl_alloc.specs.declared.chunk.Block.{Block}
 
 -- the block that has an offset, among blocks from an offset on, behind a hole of the size `before`, or behind none where that is 0
@@ -11,3 +11,7 @@ block_over from before target (Used n ∷ rest) =
     if nat_lt target (from + n) then record { offset = from; size = n; used = true; before = before } else block_over (from + n) 0 target rest
 block_over from before target (Hole n ∷ rest) =
     if nat_lt target (from + n) then record { offset = from; size = n; used = false; before = before } else block_over (from + n) n target rest
+
+-- the same, and nothing where the blocks are too short
+abbrev pub block_there : ℕ → List heap.Block → Option Block
+block_there target blocks = if nat_lt target (bytes_in blocks) then Some (block_over 0 0 target blocks) else None

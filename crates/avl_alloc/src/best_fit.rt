@@ -1,13 +1,17 @@
 //! Best fit over the chunks of one heap.
-ghost use Rattle.std.specs.Prelude.{◌≡◌, ℕ, ◌+◌, ◌*◌, ◌<◌, ◌≤◌, [], length};
+ghost use Rattle.std.specs.Prelude.{◌≡◌, ℕ, ◌+◌, ◌-◌, ◌*◌, ◌^◌, ◌<◌, ◌≤◌, List, [], ◌∷◌, ◌++◌, length, IfNone, IfSome, OnSome};
 ghost use Rattle.std.specs.Option.{option_map};
-ghost use Rattle.own_model.specs.BestFit.{block_size, chunk_of, payload_at};
+ghost use Rattle.own_model.specs.Heap.{Block as ModelBlock, Used, Hole, bytes_in, IsBlockSize};
+ghost use Rattle.own_model.specs.BestFit.{block_size, best_hole, holes_of, chunk_of, cut, taken, used_at, given, payload_at, binary_digits};
 ghost use Rattle.avl_alloc.specs.Held.{Fits};
-ghost use Rattle.avl_alloc.specs.Layout.{heap_of, bytes_of, IsSound};
-ghost use Rattle.avl_alloc.specs.Found.{used_block};
+ghost use Rattle.avl_alloc.specs.Layout.{heap_of, sizes_of, bytes_of, hole_count, IsSound, ChangesHoles};
+ghost use Rattle.avl_alloc.specs.Site.{Site, heap_with, Stand, Turn, gap, filled, first_hole, StandUsed};
+ghost use Rattle.avl_alloc.specs.Walk.{block_there};
+ghost use Rattle.avl_alloc.specs.Found.{used_block, block_addr};
 
-use super::chunk::{HEADER, LEAST, walk};
-use super::memory::{WordMemory, place_of};
+use super::chunk::{Block, HEADER, HOLE, LEAST, USED, hole_at, set_header, set_state, walk};
+use super::memory::{SPAN, WordMemory, load, place_of};
+use super::tree::{find, insert, remove};
 
 /// The most chunks of a heap.
 pub const MOST_CHUNKS: usize = 64;
@@ -49,12 +53,108 @@ impl BestFit {
     pub fn new() -> BestFit
         ensures empty { (words : ℕ → ℕ) → heap_of result words ≡ [] }
         ensures sound { (words : ℕ → ℕ) → IsSound result words }
+        ensures sizes { sizes_of result ≡ [] }
     {
         BestFit {
             root: 0,
             count: 0,
             sizes: [0; MOST_CHUNKS],
         }
+    }
+
+    /// One chunk more, behind the others, as one hole. Its bytes are words already. It comes as one
+    /// used block, which is then made a hole.
+    pub fn add_chunk<M: WordMemory>(&mut self, memory: &mut M, ordinal: usize, bytes: u64)
+        requires sound { IsSound self.old (M.word memory.old) }
+        requires fits { Fits (bytes_of self.old) (M.bytes (M.rest memory.old)) }
+        requires next { ordinal ≡ length (heap_of self.old (M.word memory.old)) }
+        requires few { ordinal < 64 }
+        requires size { IsBlockSize bytes }
+        requires short { bytes ≤ 2 ^ 32 }
+        requires there { bytes ≤ M.bytes (M.rest memory.old) ordinal }
+        ensures heap { let old = heap_of self.old (M.word memory.old) in
+            heap_of self.new (M.word memory.new) ≡ old ++ (Hole bytes ∷ []) ∷ [] }
+        ensures sound { IsSound self.new (M.word memory.new) }
+        ensures sizes { sizes_of self.new ≡ sizes_of self.old ++ bytes ∷ [] }
+        ensures others { let new = heap_of self.new (M.word memory.new) in
+            ChangesHoles (M.word memory.old) (M.word memory.new) new }
+        ensures rest { M.rest memory.new ≡ M.rest memory.old }
+        ensures loads { let holes = hole_count (heap_of self.old (M.word memory.old)) in
+            M.loads memory.new ≤ M.loads memory.old + 256 * (binary_digits holes + 2) }
+    {
+        let place = place_of(ordinal);
+        set_header(memory, place, bytes, USED);
+        self.sizes[ordinal] = bytes;
+        self.count = ordinal + 1;
+        self.put_in(memory, place, bytes);
+    }
+
+    /// Takes the best hole for `bytes` bytes, or answers `None` where no hole is large enough. What is
+    /// left of the hole stays one, unless it is less than a block.
+    pub fn alloc<M: WordMemory>(&mut self, memory: &mut M, bytes: u64) -> Option<BlockAddr>
+        requires sound { IsSound self.old (M.word memory.old) }
+        requires fits { Fits (bytes_of self.old) (M.bytes (M.rest memory.old)) }
+        requires few { bytes < 65536 }
+        ensures best { let old = heap_of self.old (M.word memory.old) in
+            result ≡ option_map block_addr (best_hole (block_size bytes) (holes_of old)) }
+        ensures heap { let old = heap_of self.old (M.word memory.old) in
+            heap_of self.new (M.word memory.new) ≡ taken bytes old }
+        ensures sound { IsSound self.new (M.word memory.new) }
+        ensures sizes { sizes_of self.new ≡ sizes_of self.old }
+        ensures others { let old = heap_of self.old (M.word memory.old) in
+            ChangesHoles (M.word memory.old) (M.word memory.new) old }
+        ensures refused { IfNone result (M.word memory.new ≡ M.word memory.old) }
+        ensures unchanged { IfNone result (self.new ≡ self.old) }
+        ensures rest { M.rest memory.new ≡ M.rest memory.old }
+        ensures loads { let holes = hole_count (heap_of self.old (M.word memory.old)) in
+            M.loads memory.new ≤ M.loads memory.old + 256 * (binary_digits holes + 2) }
+    {
+        let size = block_bytes(bytes);
+        let place = find(memory, self.root, size);
+        if place == 0 {
+            return None;
+        }
+        self.take(memory, place, size);
+        Some(BlockAddr {
+            chunk: (place / SPAN - 1) as usize,
+            offset: place % SPAN,
+        })
+    }
+
+    /// Gives back the used block that starts at an address and tells its size, or answers `None`
+    /// where none does. The hole that it makes takes in the holes directly before and behind it.
+    pub fn free<M: WordMemory>(&mut self, memory: &mut M, addr: BlockAddr) -> Option<u64>
+        requires sound { IsSound self.old (M.word memory.old) }
+        requires fits { Fits (bytes_of self.old) (M.bytes (M.rest memory.old)) }
+        ensures block { let blocks = chunk_of (heap_of self.old (M.word memory.old)) addr.chunk in
+            result ≡ used_at addr.offset blocks }
+        ensures heap { let old = heap_of self.old (M.word memory.old) in
+            OnSome result (heap_of self.new (M.word memory.new) ≡ given addr.chunk addr.offset old) }
+        ensures sound { IsSound self.new (M.word memory.new) }
+        ensures sizes { sizes_of self.new ≡ sizes_of self.old }
+        ensures others { let new = heap_of self.new (M.word memory.new) in
+            ChangesHoles (M.word memory.old) (M.word memory.new) new }
+        ensures refused { IfNone result (M.word memory.new ≡ M.word memory.old) }
+        ensures unchanged { IfNone result (self.new ≡ self.old) }
+        ensures rest { M.rest memory.new ≡ M.rest memory.old }
+        ensures loads { let old = heap_of self.old (M.word memory.old) in
+            M.loads memory.new ≤ M.loads memory.old + 256 * (binary_digits (hole_count old) + 2) + 4 * length (chunk_of old addr.chunk) }
+    {
+        let block = self.reach(memory, addr)?;
+        if !block.used || block.offset != addr.offset {
+            return None;
+        }
+        let start = place_of(addr.chunk);
+        let place = start + addr.offset;
+        let behind = self.hole_behind(memory, place + block.size, start + self.sizes[addr.chunk]);
+        self.give_back(
+            memory,
+            place - block.before,
+            block.before,
+            block.size,
+            behind,
+        );
+        Some(block.size)
     }
 
     /// The used block whose payload holds an address, or `None` where no payload does. It believes
@@ -69,15 +169,8 @@ impl BestFit {
         ensures loads { let blocks = chunk_of (heap_of self.now (M.word memory.old)) addr.chunk in
             M.loads memory.new ≤ M.loads memory.old + 2 * length blocks }
     {
-        if addr.chunk >= self.count {
-            return None;
-        }
-        let size = self.sizes[addr.chunk];
-        if addr.offset >= size {
-            return None;
-        }
-        let block = walk(memory, place_of(addr.chunk), addr.offset);
-        if block.used && block.offset + HEADER <= addr.offset {
+        let block = self.reach(memory, addr)?;
+        if block.used && HEADER <= addr.offset - block.offset {
             Some(UsedBlock {
                 chunk: addr.chunk,
                 offset: block.offset,
@@ -85,6 +178,153 @@ impl BestFit {
             })
         } else {
             None
+        }
+    }
+
+    /// The block in which an address lies, found by walking its chunk from the first byte, or `None`
+    /// where it lies in no chunk.
+    fn reach<M: WordMemory>(&self, memory: &mut M, addr: BlockAddr) -> Option<Block>
+        requires sound { IsSound self.now (M.word memory.old) }
+        requires fits { Fits (bytes_of self.now) (M.bytes (M.rest memory.old)) }
+        ensures found { let blocks = chunk_of (heap_of self.now (M.word memory.old)) addr.chunk in
+            result ≡ block_there addr.offset blocks }
+        ensures reached { IfSome result (λ block. block.offset ≤ addr.offset) }
+        ensures words { M.word memory.new ≡ M.word memory.old }
+        ensures rest { M.rest memory.new ≡ M.rest memory.old }
+        ensures loads { let blocks = chunk_of (heap_of self.now (M.word memory.old)) addr.chunk in
+            M.loads memory.new ≤ M.loads memory.old + 2 * length blocks }
+    {
+        if addr.chunk >= self.count {
+            return None;
+        }
+        if addr.offset >= self.sizes[addr.chunk] {
+            return None;
+        }
+        Some(walk(memory, place_of(addr.chunk), addr.offset))
+    }
+
+    /// Takes the hole at a place for a block of `size` bytes. What is left stays a hole, unless it is
+    /// less than a block.
+    fn take<M: WordMemory>(&mut self, memory: &mut M, place: u64, size: u64)
+        requires stand { (at : Site) × (n : ℕ) × Stand self.old (M.word memory.old) at place (Hole n ∷ []) × (size ≤ n) }
+        requires size { IsBlockSize size }
+        requires fits { Fits (bytes_of self.old) (M.bytes (M.rest memory.old)) }
+        ensures turn { (at : Site) (n : ℕ) → Stand self.old (M.word memory.old) at place (Hole n ∷ []) → size ≤ n →
+            Turn self.old self.new (M.word memory.old) (M.word memory.new) at place (Hole n ∷ []) (cut size n) }
+        ensures rest { M.rest memory.new ≡ M.rest memory.old }
+        ensures loads { (at : Site) (n b : ℕ) → Stand self.old (M.word memory.old) at place (Hole n ∷ []) → size ≤ n →
+            hole_count (heap_with at (Hole n ∷ [])) < 2 ^ b → M.loads memory.new ≤ M.loads memory.old + 60 * b + 46 }
+    {
+        let whole = load(memory, place);
+        self.take_out(memory, place, whole);
+        let left = whole - size;
+        if left < LEAST {
+            return;
+        }
+        self.split(memory, place, size, left);
+        self.put_in(memory, place + size, left);
+    }
+
+    /// Makes a used block, with the holes of these bytes directly before and behind it, one hole.
+    fn give_back<M: WordMemory>(
+        &mut self,
+        memory: &mut M,
+        place: u64,
+        before: u64,
+        size: u64,
+        behind: u64,
+    )
+        requires stand { (at : Site) × Stand self.old (M.word memory.old) at place (gap before ++ Used size ∷ gap behind) }
+        requires fits { Fits (bytes_of self.old) (M.bytes (M.rest memory.old)) }
+        ensures turn { (at : Site) → Stand self.old (M.word memory.old) at place (gap before ++ Used size ∷ gap behind) →
+            Turn self.old self.new (M.word memory.old) (M.word memory.new) at place
+            (gap before ++ Used size ∷ gap behind) (Hole (before + size + behind) ∷ []) }
+        ensures rest { M.rest memory.new ≡ M.rest memory.old }
+        ensures loads { (at : Site) (b : ℕ) → Stand self.old (M.word memory.old) at place (gap before ++ Used size ∷ gap behind) →
+            hole_count (heap_with at (gap before ++ Used size ∷ gap behind)) < 2 ^ b →
+            M.loads memory.new ≤ M.loads memory.old + 90 * b + 75 }
+    {
+        self.clear(memory, place, before);
+        self.clear(memory, place + before + size, behind);
+        self.put_in(memory, place, before + size + behind);
+    }
+
+    /// Makes the hole of so many bytes at a place a used block. No bytes are no hole.
+    fn clear<M: WordMemory>(&mut self, memory: &mut M, place: u64, size: u64)
+        requires stand { (at : Site) × Stand self.old (M.word memory.old) at place (gap size) }
+        requires fits { Fits (bytes_of self.old) (M.bytes (M.rest memory.old)) }
+        ensures turn { (at : Site) → Stand self.old (M.word memory.old) at place (gap size) →
+            Turn self.old self.new (M.word memory.old) (M.word memory.new) at place (gap size) (filled size) }
+        ensures rest { M.rest memory.new ≡ M.rest memory.old }
+        ensures loads { (at : Site) (b : ℕ) → Stand self.old (M.word memory.old) at place (gap size) →
+            hole_count (heap_with at (gap size)) < 2 ^ b → M.loads memory.new ≤ M.loads memory.old + 30 * b + 30 }
+    {
+        if size > 0 {
+            self.take_out(memory, place, size);
+        }
+    }
+
+    /// Takes the hole at a place out of the tree and makes it a used block.
+    fn take_out<M: WordMemory>(&mut self, memory: &mut M, place: u64, size: u64)
+        requires stand { (at : Site) × Stand self.old (M.word memory.old) at place (Hole size ∷ []) }
+        requires fits { Fits (bytes_of self.old) (M.bytes (M.rest memory.old)) }
+        ensures turn { (at : Site) → Stand self.old (M.word memory.old) at place (Hole size ∷ []) →
+            Turn self.old self.new (M.word memory.old) (M.word memory.new) at place (Hole size ∷ []) (Used size ∷ []) }
+        ensures rest { M.rest memory.new ≡ M.rest memory.old }
+        ensures loads { (at : Site) (b : ℕ) → Stand self.old (M.word memory.old) at place (Hole size ∷ []) →
+            hole_count (heap_with at (Hole size ∷ [])) < 2 ^ b → M.loads memory.new ≤ M.loads memory.old + 30 * b + 30 }
+    {
+        self.root = remove(memory, self.root, place, size);
+        set_state(memory, place, USED);
+    }
+
+    /// Cuts the used block at a place in two.
+    fn split<M: WordMemory>(&self, memory: &mut M, place: u64, size: u64, left: u64)
+        requires stand { (at : Site) × Stand self.now (M.word memory.old) at place (Used (size + left) ∷ []) }
+        requires size { IsBlockSize size }
+        requires left { IsBlockSize left }
+        requires fits { Fits (bytes_of self.now) (M.bytes (M.rest memory.old)) }
+        ensures turn { (at : Site) → Stand self.now (M.word memory.old) at place (Used (size + left) ∷ []) →
+            Turn self.now self.now (M.word memory.old) (M.word memory.new) at place
+            (Used (size + left) ∷ []) (Used size ∷ Used left ∷ []) }
+        ensures rest { M.rest memory.new ≡ M.rest memory.old }
+        ensures loads { M.loads memory.new ≡ M.loads memory.old }
+    {
+        set_header(memory, place, size, USED);
+        set_header(memory, place + size, left, USED);
+    }
+
+    /// Makes used blocks side by side, of so many bytes together, one hole, and enters it in the tree.
+    fn put_in<M: WordMemory>(&mut self, memory: &mut M, place: u64, size: u64)
+        requires stand { (at : Site) × (blocks : List ModelBlock) ×
+            StandUsed self.old (M.word memory.old) at place blocks size }
+        requires fits { Fits (bytes_of self.old) (M.bytes (M.rest memory.old)) }
+        ensures turn { (at : Site) (blocks : List ModelBlock) → StandUsed self.old (M.word memory.old) at place blocks size →
+            Turn self.old self.new (M.word memory.old) (M.word memory.new) at place blocks (Hole size ∷ []) }
+        ensures rest { M.rest memory.new ≡ M.rest memory.old }
+        ensures loads { (at : Site) (blocks : List ModelBlock) (b : ℕ) →
+            StandUsed self.old (M.word memory.old) at place blocks size →
+            hole_count (heap_with at blocks) < 2 ^ b → M.loads memory.new ≤ M.loads memory.old + 30 * b + 15 }
+    {
+        set_header(memory, place, size, HOLE);
+        self.root = insert(memory, self.root, place, size);
+    }
+
+    /// The size of the hole at a place, or 0 where a used block stands there or the chunk is at its end.
+    fn hole_behind<M: WordMemory>(&self, memory: &mut M, place: u64, end: u64) -> u64
+        requires stand { (at : Site) × (blocks : List ModelBlock) × Stand self.now (M.word memory.old) at place blocks ×
+            (end ≡ place + bytes_in blocks) }
+        requires fits { Fits (bytes_of self.now) (M.bytes (M.rest memory.old)) }
+        ensures hole { (at : Site) (blocks : List ModelBlock) → Stand self.now (M.word memory.old) at place blocks →
+            end ≡ place + bytes_in blocks → result ≡ first_hole blocks }
+        ensures words { M.word memory.new ≡ M.word memory.old }
+        ensures rest { M.rest memory.new ≡ M.rest memory.old }
+        ensures loads { M.loads memory.new ≤ M.loads memory.old + 2 }
+    {
+        if place == end {
+            0
+        } else {
+            hole_at(memory, place)
         }
     }
 }

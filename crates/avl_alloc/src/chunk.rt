@@ -46,6 +46,16 @@ pub fn set_header<M: WordMemory>(memory: &mut M, place: u64, size: u64, state: u
     store(memory, place + STATE, state);
 }
 
+/// Writes whether the block at a place is used.
+pub fn set_state<M: WordMemory>(memory: &mut M, place: u64, state: u64)
+    requires { IsNode (M.bytes (M.rest memory.old)) place }
+    ensures words { M.word memory.new ≡ with_word (M.word memory.old) (place + 8) state }
+    ensures rest { M.rest memory.new ≡ M.rest memory.old }
+    ensures loads { M.loads memory.new ≡ M.loads memory.old }
+{
+    store(memory, place + STATE, state);
+}
+
 /// The size of the hole at a place, or 0 where a used block stands there.
 pub fn hole_at<M: WordMemory>(memory: &mut M, place: u64) -> u64
     requires { IsNode (M.bytes (M.rest memory.old)) place }

@@ -10,11 +10,14 @@ mod chunk;
 mod laws;
 mod memory;
 mod node;
+#[cfg(test)]
+mod tests;
 mod tree;
 mod turns;
 
 pub use best_fit::{BestFit, BlockAddr, MOST_CHUNKS, UsedBlock, block_bytes};
-pub use chunk::{Block, HOLE, USED, hole_at, set_header, walk};
-pub use laws::{best_hole_is_found, heap_stays, trees_are_low};
-pub use memory::{WordMemory, place_of};
-pub use tree::{find, insert, remove};
+pub use laws::{
+    best_hole_is_found, blocks_lie_apart, chunks_have_sizes, heap_stays, holes_are_joined,
+    payloads_are_free, trees_are_low,
+};
+pub use memory::WordMemory;

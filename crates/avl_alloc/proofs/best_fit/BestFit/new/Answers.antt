@@ -21,4 +21,5 @@ returns-clause-sound c words = (
     ordered = (0, omega arith);
     same = λ f. refl;
   },
+  tt,
 )

@@ -1,0 +1,70 @@
+-- A part of a heap, by what stands around it.
+use Rattle.std.specs.Prelude.{◌≡◌, ℕ, ◌+◌, ◌<◌, ◌==◌, if◌then◌else◌, List, [], ◌∷◌, ◌++◌, length}
+use Rattle.own_model.specs.Heap.{Block, Used, Hole, bytes_in, Heap}
+use Rattle.avl_alloc.specs.declared.best_fit.BestFit.{BestFit}
+use Rattle.avl_alloc.specs.Words.{Words, place_at, within}
+use Rattle.avl_alloc.specs.Tree.{Tree}
+use Rattle.avl_alloc.specs.Layout.{weigh, weigh_all, none, whole, sizes_of, IsLaidOut}
+
+-- the chunks before, the blocks before in the same chunk, the blocks behind, the chunks behind
+pub record Site : Type 0 where
+  pub older : Heap
+  pub left : List Block
+  pub right : List Block
+  pub newer : Heap
+
+-- the heap that has these blocks there
+abbrev pub heap_with : Site → List Block → Heap
+heap_with at blocks = at.older ++ (at.left ++ (blocks ++ at.right)) ∷ at.newer
+
+-- the place of the first of them
+abbrev pub start_of : Site → ℕ
+start_of at = place_at (length at.older) (bytes_in at.left)
+
+-- the sum of a weight over used blocks and another one over holes, around a part of so many bytes
+abbrev pub around : (ℕ → ℕ → ℕ) → (ℕ → ℕ → ℕ) → Site → ℕ → ℕ
+around used hole at bytes =
+    weigh_all used hole 0 at.older
+    + weigh used hole (place_at (length at.older) 0) at.left
+    + weigh used hole (start_of at + bytes) at.right
+    + weigh_all used hole (length at.older + 1) at.newer
+
+-- blocks stand at a place of the heap in the words, and the tree has all holes
+pub record Stand (fit : BestFit) (words : Words) (at : Site) (place : ℕ) (blocks : List Block) : Type 0 where
+  pub start : start_of at ≡ place
+  pub tree : Tree
+  pub laid : IsLaidOut fit words (heap_with at blocks) tree
+
+-- blocks there have become others of as many bytes, and no word has changed but theirs and those of holes around them
+pub record Turn (old new : BestFit) (w v : Words) (at : Site) (place : ℕ) (from to : List Block) : Type 0 where
+  pub bytes : bytes_in to ≡ bytes_in from
+  pub stand : Stand new v at place to
+  pub sizes : sizes_of new ≡ sizes_of old
+  pub kept : (q : ℕ) → within place (place + bytes_in from) q + around none (whole q) at (bytes_in from) ≡ 0 → v q ≡ w q
+
+-- all are used
+abbrev pub AreUsed : List Block → Type 0
+AreUsed [] = Unit {0}
+AreUsed (Used n ∷ rest) = AreUsed rest
+AreUsed (Hole n ∷ rest) = ⊥
+
+-- used blocks stand there, of so many bytes together
+pub record StandUsed (fit : BestFit) (words : Words) (at : Site) (place : ℕ) (blocks : List Block) (bytes : ℕ) : Type 0 where
+  pub stand : Stand fit words at place blocks
+  pub used : AreUsed blocks
+  pub total : bytes_in blocks ≡ bytes
+  pub some : 0 < bytes
+
+-- a hole of so many bytes, nothing where they are 0
+abbrev pub gap : ℕ → List Block
+gap bytes = if bytes == 0 then [] else Hole bytes ∷ []
+
+-- the same used
+abbrev pub filled : ℕ → List Block
+filled bytes = if bytes == 0 then [] else Used bytes ∷ []
+
+-- the size of the hole that comes first among blocks, 0 where none does
+abbrev pub first_hole : List Block → ℕ
+first_hole [] = 0
+first_hole (Used n ∷ rest) = 0
+first_hole (Hole n ∷ rest) = n
