@@ -1,0 +1,192 @@
+-- Words of used blocks lie in no hole, so they stay where only holes change; and words that stay keep bytes.
+use Rattle.std.proofs.Common.{◌≡◌, ◌≢◌, ℕ, zero, suc, ◌+◌, ◌-◌, ◌%◌, ◌<◌, ◌≤◌, ◌==◌, true, false, List, [], ◌∷◌, length, get_or, take, drop, refl, sym, ap, subst, ◌∙◌, ⊎_elim, arith, rules, Some}
+use Rattle.std.proofs.lemmas.Bool.{cases_eq, cases_lt}
+use Rattle.std.proofs.lemmas.Bool.Decides.{nat_tests}
+use Rattle.std.proofs.lemmas.List.{same_lists, places, get_or-take, get_or-drop}
+use Rattle.std.proofs.lemmas.Option.{none-some, same_Some}
+use Rattle.std.specs.Prelude.{nat_lt, slice_range}
+use Rattle.trade_base.specs.Word.{word_of, word_bytes}
+use Rattle.trade_base.proofs.WordLemmas.{word_bytes-word_of}
+use Rattle.trade_base.proofs.BytesLemmas.{length-slice_range}
+use Rattle.own_model.specs.BestFit.{used_at, chunk_of}
+use Rattle.own_model.specs.Heap as model
+use Rattle.own_model.specs.Heap.{Block, Used, Hole, AreBlocks, bytes_in}
+use Rattle.own_model.proofs.BlockLemmas.{tail_blocks}
+use Rattle.avl_alloc.specs.Held.{heads}
+use Rattle.std.specs.List.{AllByRecursion}
+use Rattle.avl_alloc.specs.declared.best_fit.BestFit.{BestFit}
+use Rattle.avl_alloc.specs.Layout.{heap_of, kept_at, sizes_of, weigh, weigh_all, weigh_holes, none, whole, IsSound}
+use Rattle.avl_alloc.specs.Words.{place_at, within}
+use Rattle.avl_alloc.proofs.LayoutLemmas.{sound_told}
+use Rattle.avl_alloc.proofs.WeightLemmas.{weigh_all-parts, within_le, within_mono, chunks_apart}
+use Rattle.heap_core.specs.Words.{are_bytes, word_from}
+use Rattle.heap_core.proofs.StandLemmas.{each_at}
+use Rattle.heap_core.proofs.WordsLemmas.{bytes_below, bytes_taken, bytes_dropped, word_there}
+
+-- ---- a used block is in no hole
+
+within_at : (a b q : ℕ) → a ≤ q → q < b → within a b q ≡ 1
+unfolding within
+within_at a b q low high = let s : nat_lt q a ≡ false = grind (arith, nat_tests) in let t : nat_lt q b ≡ true = grind (arith, nat_tests) in rw (s, t) refl
+
+-- a place in a used block has a weight among the used ones
+used_weighs : (p off n q : ℕ) (blocks : List Block) → used_at off blocks ≡ Some n → p + off ≤ q → q < p + off + n → 1 ≤ weigh (whole q) none p blocks
+used_weighs p off n q [] at low high = absurd (none-some n at)
+used_weighs p off n q (Used m ∷ rest) at low high = ⊎_elim
+    (λ (first : off ≡ 0).
+    let t : (off == 0) ≡ true = grind (arith, nat_tests) in
+    let same : m ≡ n = same_Some m n (rw t at at) in
+    let one = within_at p (p + m) q (omega (arith, low)) (omega (arith, high, first, same)) in omega (arith, one))
+    (λ (later : off ≢ 0).
+    let t : (off == 0) ≡ false = grind (arith, nat_tests) in
+    ⊎_elim
+    (λ (inside : off < m). let u : nat_lt off m ≡ true = grind (arith, nat_tests) in absurd (none-some n (rw (t, u) at at)))
+    (λ (past : m ≤ off).
+    let u : nat_lt off m ≡ false = grind (arith, nat_tests) in
+    let less = used_weighs (p + m) (off - m) n q rest (rw (t, u) at at) (omega (arith, low, past)) (omega (arith, high, past)) in omega (arith, less))
+    (cases_lt off m))
+    (cases_eq off 0)
+used_weighs p off n q (Hole m ∷ rest) at low high = ⊎_elim
+    (λ (inside : off < m). let u : nat_lt off m ≡ true = grind (arith, nat_tests) in absurd (none-some n (rw u at at)))
+    (λ (past : m ≤ off).
+    let u : nat_lt off m ≡ false = grind (arith, nat_tests) in
+    let less = used_weighs (p + m) (off - m) n q rest (rw u at at) (omega (arith, low, past)) (omega (arith, high, past)) in omega (arith, less))
+    (cases_lt off m)
+
+-- a chunk weighs no more than all do
+one_of_all : (u h : ℕ → ℕ → ℕ) (number k : ℕ) (heap : model.Heap) → k < length heap → weigh u h (place_at (number + k) 0) (get_or heap k []) ≤ weigh_all u h number heap
+one_of_all u h number k [] there = absurd (omega (arith, there))
+one_of_all u h number zero (x ∷ xs) there =
+    let e : number ≡ number + 0 = omega arith in
+    let less : weigh u h (place_at number 0) x ≤ weigh u h (place_at number 0) x + weigh_all u h (number + 1) xs = omega arith in
+    subst (λ m. weigh u h (place_at m 0) x ≤ weigh u h (place_at number 0) x + weigh_all u h (number + 1) xs) e less
+one_of_all u h number (suc k) (x ∷ xs) there =
+    let less = one_of_all u h (number + 1) k xs (omega (arith, there)) in
+    let e : number + 1 + k ≡ number + suc k = omega arith in
+    let moved = subst (λ m. weigh u h (place_at m 0) (get_or xs k []) ≤ weigh_all u h (number + 1) xs) e less in omega (arith, moved)
+
+-- a place in a used block lies in no hole
+pub used_no_hole : (fit : BestFit) (w : ℕ → ℕ) (k off n q : ℕ) → IsSound fit w → k < length (heap_of fit w) → used_at off (chunk_of (heap_of fit w) k) ≡ Some n →
+    place_at k off ≤ q → q < place_at k off + n → weigh_holes (whole q) (heap_of fit w) ≡ 0
+used_no_hole fit w k off n q sound there at low high =
+    let here = used_weighs (place_at k 0) off n q (chunk_of (heap_of fit w) k) at (omega (arith, low)) (omega (arith, high)) in
+    let number : 0 + k ≡ k = omega arith in
+    let all = subst (λ m. weigh (whole q) none (place_at m 0) (get_or (heap_of fit w) k []) ≤ weigh_all (whole q) none 0 (heap_of fit w)) number (one_of_all (whole q) none 0 k (heap_of fit w) there) in
+    let parts = weigh_all-parts (whole q) (whole q) 0 (heap_of fit w) in
+    let apart = chunks_apart w q 0 (sizes_of fit) (heap_of fit w) (sound_told fit w sound).laid.chunks in
+    let most = within_le (place_at 0 0) (place_at (0 + length (heap_of fit w)) 0) q in
+    omega (arith, here, all, parts, apart, most)
+
+-- ---- words that stay keep bytes
+
+-- a byte of eight
+at_slice : (bs : List ℕ) (o r d : ℕ) → r < 8 → get_or (slice_range bs o (o + 8)) r d ≡ get_or bs (o + r) d
+at_slice bs o r d low = let n : o + 8 - o ≡ 8 = omega arith in get_or-take (o + 8 - o) (drop o bs) r d (rw n low) ∙ get_or-drop o bs r d
+
+slice_below : (bs : List ℕ) (o : ℕ) → are_bytes bs ≡ true → (i : ℕ) → get_or (slice_range bs o (o + 8)) i 0 < 256
+slice_below bs o b i = bytes_below (take (o + 8 - o) (drop o bs)) i (bytes_taken (drop o bs) (o + 8 - o) (bytes_dropped bs o b))
+
+-- bytes with the same words in a range have the same there
+pub slices_same : (bs cs : List ℕ) (from to : ℕ) → length bs ≡ length cs → are_bytes bs ≡ true → are_bytes cs ≡ true → from % 8 ≡ 0 → to % 8 ≡ 0 → to ≤ length bs →
+    ((o : ℕ) → o % 8 ≡ 0 → from ≤ o → o + 8 ≤ to → word_from bs o ≡ word_from cs o) → slice_range bs from to ≡ slice_range cs from to
+slices_same bs cs from to long b c first last fits words = same_lists _ _ (search (rules, places, long)) (λ k d h.
+    let n : length (slice_range bs from to) ≡ to - from = search (rules, places) in
+    let within : k < to - from = subst (λ m. k < m) n h in
+    let p = from + k in
+    let o : ℕ = p - p % 8 in
+    let even : o % 8 ≡ 0 = omega arith in
+    let low : from ≤ o = omega (arith, first) in
+    let high : o + 8 ≤ to = omega (arith, last, within) in
+    let word : word_of (slice_range bs o (o + 8)) ≡ word_of (slice_range cs o (o + 8)) =
+    sym (word_there bs o even (omega (arith, high, fits))) ∙ words o even low high ∙ word_there cs o even (omega (arith, high, fits, long)) in
+    let same : slice_range bs o (o + 8) ≡ slice_range cs o (o + 8) =
+    sym (word_bytes-word_of _ (length-slice_range bs o 8 (omega (arith, high, fits))) (slice_below bs o b)) ∙ ap word_bytes word
+    ∙ word_bytes-word_of _ (length-slice_range cs o 8 (omega (arith, high, fits, long))) (slice_below cs o c) in
+    let at : o + p % 8 ≡ p = omega arith in
+    get_or-take (to - from) (drop from bs) k d within ∙ get_or-drop from bs k d
+    ∙ ap (λ q. get_or bs q d) (sym at) ∙ sym (at_slice bs o (p % 8) d (omega arith)) ∙ ap (λ xs. get_or xs (p % 8) d) same ∙ at_slice cs o (p % 8) d (omega arith) ∙ ap (λ q. get_or cs q d) at
+    ∙ sym (get_or-take (to - from) (drop from cs) k d within ∙ get_or-drop from cs k d))
+
+-- ---- a used payload is nothing that a heap keeps for itself
+
+within_past : (a b q : ℕ) → b ≤ q → within a b q ≡ 0
+unfolding within
+within_past a b q past =
+    let t : nat_lt q b ≡ false = grind (arith, nat_tests) in
+    ⊎_elim
+    (λ (low : q < a). let s : nat_lt q a ≡ true = grind (arith, nat_tests) in rw s refl)
+    (λ (high : a ≤ q). let s : nat_lt q a ≡ false = grind (arith, nat_tests) in rw (s, t) refl)
+    (cases_lt q a)
+
+-- headers weigh no more than their blocks
+heads_in : (q p : ℕ) (blocks : List Block) → AreBlocks blocks → weigh (heads q) none p blocks ≤ weigh (whole q) none p blocks
+heads_in q p [] sizes = omega arith
+heads_in q p (Used m ∷ rest) sizes =
+    let least = sizes.0.least in
+    let here = within_mono p (p + 16) p (p + m) q (omega arith) (omega (arith, least)) in
+    let less = heads_in q (p + m) rest sizes.1 in omega (arith, here, less)
+heads_in q p (Hole m ∷ rest) sizes = let less = heads_in q (p + m) rest (tail_blocks (Hole m) rest sizes).1 in omega (arith, less)
+
+-- of a used block's payload only its bytes weigh, not its header
+payload_weighs : (p off n q : ℕ) (blocks : List Block) → AreBlocks blocks → used_at off blocks ≡ Some n → p + off + 16 ≤ q → q < p + off + n → weigh (heads q) none p blocks + 1 ≤ weigh (whole q) none p blocks
+payload_weighs p off n q [] sizes at low high = absurd (none-some n at)
+payload_weighs p off n q (Used m ∷ rest) sizes at low high = ⊎_elim
+    (λ (first : off ≡ 0).
+    let t : (off == 0) ≡ true = grind (arith, nat_tests) in
+    let same : m ≡ n = same_Some m n (rw t at at) in
+    let one = within_at p (p + m) q (omega (arith, low)) (omega (arith, high, first, same)) in
+    let none_here = within_past p (p + 16) q (omega (arith, low, first)) in
+    let rest_le = heads_in q (p + m) rest sizes.1 in omega (arith, one, none_here, rest_le))
+    (λ (later : off ≢ 0).
+    let t : (off == 0) ≡ false = grind (arith, nat_tests) in
+    ⊎_elim
+    (λ (inside : off < m). let u : nat_lt off m ≡ true = grind (arith, nat_tests) in absurd (none-some n (rw (t, u) at at)))
+    (λ (past : m ≤ off).
+    let u : nat_lt off m ≡ false = grind (arith, nat_tests) in
+    let least = sizes.0.least in
+    let here = within_mono p (p + 16) p (p + m) q (omega arith) (omega (arith, least)) in
+    let less = payload_weighs (p + m) (off - m) n q rest sizes.1 (rw (t, u) at at) (omega (arith, low, past)) (omega (arith, high, past)) in omega (arith, less, here))
+    (cases_lt off m))
+    (cases_eq off 0)
+payload_weighs p off n q (Hole m ∷ rest) sizes at low high = ⊎_elim
+    (λ (inside : off < m). let u : nat_lt off m ≡ true = grind (arith, nat_tests) in absurd (none-some n (rw u at at)))
+    (λ (past : m ≤ off).
+    let u : nat_lt off m ≡ false = grind (arith, nat_tests) in
+    let parts = tail_blocks (Hole m) rest sizes in
+    let less = payload_weighs (p + m) (off - m) n q rest parts.1 (rw u at at) (omega (arith, low, past)) (omega (arith, high, past)) in omega (arith, less))
+    (cases_lt off m)
+
+-- nor does the whole heap keep them
+heads_all : (q number : ℕ) (heap : model.Heap) → AllByRecursion AreBlocks heap → weigh_all (heads q) none number heap ≤ weigh_all (whole q) none number heap
+heads_all q number [] all = omega arith
+heads_all q number (x ∷ xs) all = let here = heads_in q (place_at number 0) x all.0 in let rest = heads_all q (number + 1) xs all.1 in omega (arith, here, rest)
+
+payload_all : (q number k : ℕ) (heap : model.Heap) → AllByRecursion AreBlocks heap → k < length heap →
+    weigh (heads q) none (place_at (number + k) 0) (get_or heap k []) + 1 ≤ weigh (whole q) none (place_at (number + k) 0) (get_or heap k []) → weigh_all (heads q) none number heap + 1 ≤ weigh_all (whole q) none number heap
+payload_all q number k [] all there less = absurd (omega (arith, there))
+payload_all q number zero (x ∷ xs) all there less =
+    let e : number + 0 ≡ number = omega arith in
+    let here = subst (λ m. weigh (heads q) none (place_at m 0) x + 1 ≤ weigh (whole q) none (place_at m 0) x) e less in
+    let rest = heads_all q (number + 1) xs all.1 in omega (arith, here, rest)
+payload_all q number (suc k) (x ∷ xs) all there less =
+    let e : number + suc k ≡ number + 1 + k = omega arith in
+    let later = subst (λ m. weigh (heads q) none (place_at m 0) (get_or xs k []) + 1 ≤ weigh (whole q) none (place_at m 0) (get_or xs k [])) e less in
+    let rest = payload_all q (number + 1) k xs all.1 (omega (arith, there)) later in
+    let here = heads_in q (place_at number 0) x all.0 in omega (arith, rest, here)
+
+-- a place in a used block's payload is none that the heap keeps for itself
+pub payload_unkept : (fit : BestFit) (w : ℕ → ℕ) (k off n q : ℕ) → IsSound fit w → k < length (heap_of fit w) → used_at off (chunk_of (heap_of fit w) k) ≡ Some n →
+    place_at k off + 16 ≤ q → q < place_at k off + n → kept_at q (heap_of fit w) ≡ 0
+payload_unkept fit w k off n q sound there at low high =
+    let told = sound_told fit w sound in
+    let none_here = used_no_hole fit w k off n q sound there at (omega (arith, low)) high in
+    let number : k ≡ 0 + k = omega arith in
+    let blocks = each_at AreBlocks (heap_of fit w) k [] told.blocks there in
+    let here = subst (λ m. weigh (heads q) none (place_at m 0) (get_or (heap_of fit w) k []) + 1 ≤ weigh (whole q) none (place_at m 0) (get_or (heap_of fit w) k [])) number
+    (payload_weighs (place_at k 0) off n q (chunk_of (heap_of fit w) k) blocks at (omega (arith, low)) (omega (arith, high))) in
+    let less = payload_all q 0 k (heap_of fit w) told.blocks there here in
+    let parts = weigh_all-parts (heads q) (whole q) 0 (heap_of fit w) in
+    let bytes = weigh_all-parts (whole q) (whole q) 0 (heap_of fit w) in
+    let apart = chunks_apart w q 0 (sizes_of fit) (heap_of fit w) told.laid.chunks in
+    let most = within_le (place_at 0 0) (place_at (0 + length (heap_of fit w)) 0) q in
+    omega (arith, none_here, less, parts, bytes, apart, most)

@@ -1,0 +1,149 @@
+-- Bytes are put over those of a used block's payload: the heap stays but for these bytes.
+use Rattle.std.proofs.Common.{◌≡◌, ◌≢◌, ℕ, ◌+◌, ◌-◌, ◌/◌, ◌%◌, ◌^◌, ◌<◌, ◌≤◌, ◌==◌, ◌&&◌, Bool, true, false, cond, List, [], length, get_or, refl, sym, ap, subst, ◌∙◌, ⊎_elim, ◌⊎◌, inl, inr, unwrap_or, arith, Some}
+use Rattle.std.proofs.lemmas.Bool.{cases_eq, cases_lt}
+use Rattle.std.proofs.lemmas.Bool.Decides.{nat_tests}
+use Rattle.std.specs.Prelude.{Option, nat_lt, nat_le, slice_range}
+use Rattle.std.specs.Option.{IsSome}
+use Rattle.std.specs.FinMap.{get}
+use Rattle.trade_base.specs.Bytes.{with_bytes}
+use Rattle.trade_base.specs.Word.{word_of}
+use Rattle.trade_base.proofs.BytesLemmas.{length-with_bytes}
+use Rattle.trade_base.proofs.ElsewhereLemmas.{range_before, range_after}
+use Rattle.own_model.specs.BestFit.{used_at, chunk_of}
+use Rattle.own_model.specs.Heap as model
+use Rattle.own_model.specs.Heap.{Block, AreBlocks, bytes_in}
+use Rattle.own_model.proofs.BlockLemmas.{used_within}
+use Rattle.avl_alloc.specs.Layout as avl
+use Rattle.avl_alloc.specs.Layout.{heap_of, kept_at}
+use Rattle.avl_alloc.specs.Words.{place_at}
+use Rattle.avl_alloc.proofs.LayoutLemmas.{sound_kept, sound_told}
+use Rattle.region_map.specs.Regions.{Regions}
+use Rattle.dataspace_core.specs.Store.{Store, part}
+use Rattle.dataspace_core.specs.Share.{share_in}
+use Rattle.dataspace_core.proofs.PartLaws.{paid_in_part}
+use Rattle.heap_core.specs.declared.heap.Heap.{Heap}
+use Rattle.heap_core.specs.Heap.{IsSound, keys_in, payer_of, share_at, words_in}
+use Rattle.heap_core.specs.Words.{are_bytes, around, bytes_in_store, words_of, word_in, word_from}
+use Rattle.heap_core.proofs.AroundLemmas.{bytes_of-part}
+use Rattle.heap_core.proofs.BlockLemmas.{length-heap_of}
+use Rattle.heap_core.proofs.ChunkLemmas.{in_chunks, chunk_there, chunk_paid, are_sound, stand_in, words_are}
+use Rattle.heap_core.proofs.FrameLemmas.{used_even}
+use Rattle.heap_core.proofs.HoleLemmas.{payload_unkept}
+use Rattle.heap_core.proofs.StandLemmas.{each_at, chunk_total}
+use Rattle.heap_core.proofs.WordsLemmas.{distinct_apart, length_keys, put, put_at, put_other, put_around}
+
+same_if : (b : Bool) (x y : ℕ) → (b ≡ true → x ≡ y) → cond b x 0 ≡ cond b y 0
+same_if true x y h = h refl
+same_if false x y h = refl
+
+both_true : (a b : Bool) → (a && b) ≡ true → (a ≡ true) × (b ≡ true)
+both_true true b h = (refl, h)
+both_true false b h = cc
+
+-- a word that the bytes put don't reach stays
+pub word_past : (bytes : List ℕ) (offset : ℕ) (part : List ℕ) (o : ℕ) → offset + length part ≤ length bytes → (o % 8 ≡ 0 → (o + 8 ≤ offset) ⊎ (offset + length part ≤ o)) → word_from (with_bytes bytes offset part) o ≡ word_from bytes o
+word_past bytes offset part o fits apart =
+    ap (λ n. cond (o % 8 == 0 && nat_le (o + 8) n) (word_of (slice_range (with_bytes bytes offset part) o (o + 8))) 0) (length-with_bytes bytes offset part fits)
+    ∙ same_if (o % 8 == 0 && nat_le (o + 8) (length bytes)) _ _ (λ h.
+    let t = both_true (o % 8 == 0) _ h in
+    let even : o % 8 ≡ 0 = let e = t.0 in grind (arith, nat_tests, e) in
+    ap word_of (⊎_elim
+    (λ (before : o + 8 ≤ offset). range_before bytes offset part o (o + 8) before fits)
+    (λ (behind : offset + length part ≤ o). range_after bytes offset part o (o + 8) behind fits)
+    (apart even)))
+
+module _ (heap : Heap) (store : Store) (regions : Regions) (sound : IsSound heap store regions) (k y n offset : ℕ) (bytes : List ℕ) (there : k < length heap.chunks.items)
+    (at : used_at y (chunk_of (heap_of heap.fit (words_of (keys_in heap) store)) k) ≡ Some n) (behind : y + 16 ≤ offset) (within : offset + length bytes ≤ y + n) (are : are_bytes bytes ≡ true) where
+  abbrev pub account : ℕ
+  account = payer_of heap
+
+  abbrev pub W : ℕ → ℕ
+  W = words_of (keys_in heap) store
+
+  abbrev pub H : model.Heap
+  H = heap_of heap.fit W
+
+  pub in_keys : k < length (keys_in heap)
+  in_keys = subst (λ m. k < m) (sym (length_keys heap.chunks.items)) there
+
+  abbrev pub key : ℕ
+  key = get_or (keys_in heap) k 0
+
+  H_sound : avl.IsSound heap.fit W
+  H_sound = (stand_in heap store regions sound).sound
+
+  in_H : k < length H
+  in_H = subst (λ m. k < m) (sym (length-heap_of heap.fit W ∙ sound.laid.count)) there
+
+  chunk_blocks : AreBlocks (chunk_of H k)
+  chunk_blocks = each_at AreBlocks H k [] (sound_told heap.fit W H_sound).blocks in_H
+
+  pub exists : IsSome (get store.spaces key)
+  exists = (paid_in_part account key _ store (chunk_there heap store regions sound k in_keys)).exists
+
+  key_bytes : bytes_in_store store key ≡ (sound.laid.chunks k (in_chunks heap store regions sound k in_keys)).bytes
+  key_bytes = sym (bytes_of-part account key store (chunk_paid heap store regions sound k in_keys)) ∙ ap (λ (o : Option (List ℕ)). unwrap_or o []) (chunk_there heap store regions sound k in_keys)
+
+  total_of : bytes_in (chunk_of (heap_of heap.fit (words_in heap (part account store))) k) ≡ avl.bytes_of heap.fit k
+  unfolding share_in
+  total_of = chunk_total heap (share_at account store regions) sound.laid k there
+
+  pub room : offset + length bytes ≤ length (bytes_in_store store key)
+  room =
+      let used = used_within y n (chunk_of H k) chunk_blocks at in
+      let inside = used.1 in
+      let total = (ap (λ h. bytes_in (chunk_of h k)) (sym (ap (heap_of heap.fit) (words_are heap store regions sound))) ∙ total_of) in
+      let long = ap length key_bytes ∙ (sound.laid.chunks k (in_chunks heap store regions sound k in_keys)).long in
+      omega (arith, within, inside, total, long)
+
+  -- the memory then
+  abbrev pub poked : Store
+  poked = put (keys_in heap) store k offset bytes (are_sound heap store regions sound) in_keys exists room are
+
+  pub poked_around : around (keys_in heap) poked ≡ around (keys_in heap) store
+  poked_around = put_around (keys_in heap) store k offset bytes (are_sound heap store regions sound) in_keys exists room are
+
+  -- a word that the bytes reach is one of the payload, which the heap doesn't keep
+  apart_from : (q : ℕ) → q / 2 ^ 32 - 1 ≡ k → 2 ^ 32 ≤ q → 1 ≤ kept_at q H → q % 2 ^ 32 % 8 ≡ 0 → (q % 2 ^ 32 + 8 ≤ offset) ⊎ (offset + length bytes ≤ q % 2 ^ 32)
+  apart_from q same high kept even = ⊎_elim
+      (λ (reached : offset < q % 2 ^ 32 + 8). ⊎_elim
+      (λ (inside : q % 2 ^ 32 < offset + length bytes).
+      let first = used_even y n (chunk_of H k) chunk_blocks at in
+      let low : place_at k y + 16 ≤ q = omega (arith, same, high, reached, behind, first, even) in
+      let up : q < place_at k y + n = omega (arith, same, high, inside, within) in
+      let gone = payload_unkept heap.fit W k y n q H_sound in_H at low up in absurd (omega (arith, kept, gone)))
+      (λ (past : offset + length bytes ≤ q % 2 ^ 32). inr past)
+      (cases_lt (q % 2 ^ 32) (offset + length bytes)))
+      (λ (before : q % 2 ^ 32 + 8 ≤ offset). inl before)
+      (cases_lt offset (q % 2 ^ 32 + 8))
+
+  -- a word that the heap keeps for itself stays
+  word_kept : (q : ℕ) → 1 ≤ kept_at q H → words_of (keys_in heap) poked q ≡ W q
+  unfolding word_in
+  word_kept q kept = ⊎_elim
+      (λ (low : q < 2 ^ 32). let e : nat_lt q (2 ^ 32) ≡ true = grind (arith, nat_tests) in rw e refl)
+      (λ (high : 2 ^ 32 ≤ q).
+      let e : nat_lt q (2 ^ 32) ≡ false = grind (arith, nat_tests) in
+      ⊎_elim
+      (λ (same : q / 2 ^ 32 - 1 ≡ k).
+      let t : nat_lt (q / 2 ^ 32 - 1) (length (keys_in heap)) ≡ true = let i = in_keys in grind (arith, nat_tests, i) in
+      let here : get_or (keys_in heap) (q / 2 ^ 32 - 1) 0 ≡ key = ap (λ c. get_or (keys_in heap) c 0) same in
+      rw (e, t, here, put_at (keys_in heap) store k offset bytes (are_sound heap store regions sound) in_keys exists room are key refl)
+      (word_past (bytes_in_store store key) offset bytes (q % 2 ^ 32) room (λ even. apart_from q same high kept even)))
+      (λ (other : q / 2 ^ 32 - 1 ≢ k). ⊎_elim
+      (λ (in_list : q / 2 ^ 32 - 1 < length (keys_in heap)).
+      let t : nat_lt (q / 2 ^ 32 - 1) (length (keys_in heap)) ≡ true = grind (arith, nat_tests) in
+      rw (
+        e,
+        t,
+        put_other (keys_in heap) store k offset bytes (are_sound heap store regions sound) in_keys exists room are (get_or (keys_in heap) (q / 2 ^ 32 - 1) 0)
+            (λ s. other (distinct_apart (keys_in heap) (q / 2 ^ 32 - 1) k (are_sound heap store regions sound).once in_list in_keys s)),
+      ) refl)
+      (λ (out : length (keys_in heap) ≤ q / 2 ^ 32 - 1). let t : nat_lt (q / 2 ^ 32 - 1) (length (keys_in heap)) ≡ false = grind (arith, nat_tests) in rw (e, t) refl)
+      (cases_lt (q / 2 ^ 32 - 1) (length (keys_in heap))))
+      (cases_eq (q / 2 ^ 32 - 1) k))
+      (cases_lt q (2 ^ 32))
+
+  -- so the heap's blocks stay
+  pub poked_blocks : avl.IsSound heap.fit (words_of (keys_in heap) poked) × (heap_of heap.fit (words_of (keys_in heap) poked) ≡ H)
+  poked_blocks = sound_kept heap.fit W (words_of (keys_in heap) poked) H_sound word_kept

@@ -1,0 +1,188 @@
+-- The best hole is taken: its payload is one more, of whatever bytes it has, and all else stays.
+use Rattle.std.proofs.Common.{◌≡◌, ℕ, ◌+◌, ◌*◌, ◌<◌, ◌≤◌, cond, eqb, List, [], length, refl, sym, ap, subst, ◌∙◌, ◌⊎◌, arith, Some}
+use Rattle.std.proofs.lemmas.List.{get_or-map}
+use Rattle.std.specs.Prelude.{Option, None, slice_range}
+use Rattle.std.specs.Option.{option_and_then}
+use Rattle.std.specs.Cmp.{nat_cmp_total}
+use Rattle.std.specs.Ordering.{nat_cmp}
+use Rattle.std.specs.FinMap.{get, insert, from_entries, get-from_entries}
+use Rattle.own_model.specs.BestFit.{Spot, best_hole, block_size, holes_of, taken, taken_in, taken_at, used_at, chunk_of}
+use Rattle.own_model.specs.Entries.{value_of}
+use Rattle.own_model.specs.Heap as model
+use Rattle.own_model.specs.Heap.{Block, AreBlocks, bytes_in}
+use Rattle.own_model.specs.HeapStep.{size_taken}
+use Rattle.own_model.specs.NatMap.{picked, joined}
+use Rattle.own_model.specs.OwnHeap.{payload_start}
+use Rattle.own_model.specs.Growth.{shape_taken}
+use Rattle.own_model.specs.Region.{Region}
+use Rattle.own_model.proofs.BlockLemmas.{AreBlocks-taken, block_size-fits, hole_within}
+use Rattle.own_model.proofs.BestFitLemmas.{best_is_hole, IsHoleOf}
+use Rattle.own_model.proofs.JoinedLemmas.{joined-insert_first}
+use Rattle.own_model.proofs.NatMapLemmas.{same, get-picked, get-insert}
+use Rattle.avl_alloc.specs.declared.best_fit.BestFit.{BestFit}
+use Rattle.avl_alloc.specs.Layout as avl
+use Rattle.avl_alloc.specs.Layout.{heap_of, sizes_of, ChangesHoles, weigh_holes, whole}
+use Rattle.avl_alloc.specs.Words.{place_at}
+use Rattle.avl_alloc.proofs.LayoutLemmas.{sound_told}
+use Rattle.region_map.specs.Regions.{Regions}
+use Rattle.dataspace_core.specs.Store.{Store, part, bytes_of}
+use Rattle.dataspace_core.specs.Share.{Share, share_in}
+use Rattle.heap_core.specs.declared.heap.Heap.{Heap}
+use Rattle.heap_core.specs.declared.words.Chunk.{Chunk}
+use Rattle.heap_core.specs.Heap.{IsSound, bytes_shown, chunk_at, heap_in, keys_in, large_regions, payer_of, payloads_of, share_at, shape_in, starts_in, words_in}
+use Rattle.heap_core.specs.Words.{around, words_of}
+use Rattle.heap_core.proofs.BlockLemmas.{length-heap_of}
+use Rattle.heap_core.proofs.ChangeLemmas.{later, large_apart, keeps_spaces, same_account, share_now, words_now}
+use Rattle.heap_core.specs.Calls.{TakesHole}
+use Rattle.heap_core.proofs.WordsLemmas.{length_keys}
+use Rattle.heap_core.proofs.ChunkLemmas.{stand_in, words_are}
+use Rattle.heap_core.proofs.FrameLemmas.{entries_same}
+use Rattle.heap_core.proofs.HoleLemmas.{used_no_hole}
+use Rattle.heap_core.proofs.PayloadLemmas.{no_chunk, entries_of, value_of-payloads, told-taken, payloads-more, payloads-same}
+use Rattle.heap_core.proofs.StandLemmas.{told_outside, chunk_total, each_at}
+use Rattle.heap_core.proofs.TakenLemmas.{other_chunk}
+
+module _ (heap : Heap) (fit : BestFit) (n : ℕ) (hole : Spot) (old new : Store) (regions : Regions) (sound : IsSound heap old regions) (kept : around (keys_in heap) new ≡ around (keys_in heap) old)
+    (best : best_hole (block_size n) (holes_of (heap_of heap.fit (words_of (keys_in heap) old))) ≡ Some hole)
+    (changes : ChangesHoles (words_of (keys_in heap) old) (words_of (keys_in heap) new) (heap_of heap.fit (words_of (keys_in heap) old))) where
+  abbrev account : ℕ
+  account = payer_of heap
+
+  abbrev S : Share
+  S = share_at account old regions
+
+  -- the blocks before
+  abbrev H : model.Heap
+  H = heap_of heap.fit (words_of (keys_in heap) old)
+
+  H_is : heap_of heap.fit (words_in heap (part account old)) ≡ H
+  H_is = ap (heap_of heap.fit) (words_are heap old regions sound)
+
+  H_sound : avl.IsSound heap.fit (words_of (keys_in heap) old)
+  H_sound = (stand_in heap old regions sound).sound
+
+  H_count : length H ≡ length heap.chunks.items
+  H_count = length-heap_of heap.fit (words_of (keys_in heap) old) ∙ sound.laid.count
+
+  H_blocks : (k : ℕ) → k < length heap.chunks.items → AreBlocks (chunk_of H k)
+  H_blocks k there = each_at AreBlocks H k [] (sound_told heap.fit (words_of (keys_in heap) old) H_sound).blocks (subst (λ m. k < m) (sym H_count) there)
+
+  H_totals : (k : ℕ) → k < length heap.chunks.items → bytes_in (chunk_of H k) ≡ avl.bytes_of heap.fit k
+  unfolding share_in
+  H_totals k there = ap (λ h. bytes_in (chunk_of h k)) (sym H_is) ∙ chunk_total heap S sound.laid k there
+
+  H_no_hole : (k off m q : ℕ) → k < length heap.chunks.items → used_at off (chunk_of H k) ≡ Some m → place_at k off ≤ q → q < place_at k off + m → weigh_holes (whole q) H ≡ 0
+  H_no_hole k off m q there at low high = used_no_hole heap.fit (words_of (keys_in heap) old) k off m q H_sound (subst (λ l. k < l) (sym H_count) there) at low high
+
+  -- the hole
+  is_hole : IsHoleOf H hole × (block_size n ≤ hole.size)
+  is_hole = best_is_hole (block_size n) H hole (sound_told heap.fit (words_of (keys_in heap) old) H_sound).blocks best
+
+  in_heap : hole.chunk < length heap.chunks.items
+  in_heap = subst (λ m. hole.chunk < m) H_count is_hole.0.within
+
+  -- the blocks of its chunk then
+  abbrev cut_blocks : List Block
+  cut_blocks = taken_in (block_size n) hole.offset (chunk_of H hole.chunk)
+
+  abbrev pub address : ℕ
+  address = (chunk_at heap hole.chunk).start + hole.offset + 16
+
+  abbrev pub payload : List ℕ
+  payload = slice_range (bytes_of (part account new) (chunk_at heap hole.chunk).ds.0) (hole.offset + 16) (hole.offset + size_taken (block_size n) hole.size)
+
+  one_more : (q : ℕ) → value_of q (entries_of (part account new) (chunk_at heap hole.chunk) cut_blocks) ≡ cond (eqb q address) (Some payload) (value_of q (entries_of (part account new) (chunk_at heap hole.chunk) (chunk_of H hole.chunk)))
+  one_more q =
+      let c = chunk_at heap hole.chunk in
+      let bytes = bytes_of (part account new) c.ds.0 in
+      value_of-payloads c.start 0 bytes cut_blocks q (AreBlocks-taken (block_size n) hole.size hole.offset (chunk_of H hole.chunk) (H_blocks hole.chunk in_heap) is_hole.0.there (block_size-fits n) is_hole.1)
+      ∙ told-taken c.start bytes (block_size n) hole.size hole.offset (chunk_of H hole.chunk) q (H_blocks hole.chunk in_heap) is_hole.0.there
+      ∙ ap (cond (eqb q address) (Some payload)) (sym (value_of-payloads c.start 0 bytes (chunk_of H hole.chunk) q (H_blocks hole.chunk in_heap)))
+
+  -- the address lies in the hole's chunk
+  none_before : (k : ℕ) → k < hole.chunk → value_of address (entries_of (part account new) (chunk_at heap k) (chunk_of H k)) ≡ None
+  none_before k below =
+      let there : k < length heap.chunks.items = let i = in_heap in omega (arith, below, i) in
+      let within = hole_within hole.offset hole.size (chunk_of H hole.chunk) (H_blocks hole.chunk in_heap) is_hole.0.there in
+      let least = within.0.least in
+      let to = within.1 in
+      let total = H_totals hole.chunk in_heap in
+      let outside = other_chunk heap old regions sound k hole.chunk address there in_heap (λ e. absurd (omega (arith, below, e))) (omega arith) (omega (arith, least, to, total)) in
+      value_of-payloads (chunk_at heap k).start 0 (bytes_of (part account new) (chunk_at heap k).ds.0) (chunk_of H k) address (H_blocks k there)
+      ∙ told_outside (chunk_at heap k).start (bytes_of (part account new) (chunk_at heap k).ds.0) (chunk_of H k) address (H_blocks k there)
+      (subst (λ m. (address < (chunk_at heap k).start) ⊎ ((chunk_at heap k).start + m ≤ address)) (sym (H_totals k there)) outside)
+
+  -- so of all payloads of chunks there is one more
+  small_now : from_entries {R = nat_cmp} (payloads_of (part account new) heap.chunks.items (taken n H)) ≡ insert (from_entries {R = nat_cmp} (payloads_of (part account old) heap.chunks.items H)) address payload
+  small_now = same _ _ (λ q.
+      get-from_entries nat_cmp_total _ q
+      ∙ ap (λ o. value_of q (payloads_of (part account new) heap.chunks.items (taken_at (block_size n) o H))) best
+      ∙ payloads-more (part account new) address payload heap.chunks.items H hole.chunk cut_blocks q in_heap is_hole.0.within (one_more q) none_before
+      ∙ ap (cond (eqb q address) (Some payload)) (payloads-same (part account old) (part account new) q heap.chunks.items H
+      (λ k there. entries_same heap fit old new regions sound kept H H_no_hole changes H_blocks H_totals k there q)
+      ∙ sym (get-from_entries nat_cmp_total _ q))
+      ∙ sym (get-insert (from_entries {R = nat_cmp} (payloads_of (part account old) heap.chunks.items H)) address payload q))
+
+  each_same : (o : Option Region) → ((r : Region) → o ≡ Some r → get (part account new).spaces r.of ≡ get (part account old).spaces r.of) → option_and_then (λ (r : Region). get (part account new).spaces r.of) o ≡ option_and_then (λ (r : Region). get (part account old).spaces r.of) o
+  each_same None h = refl
+  each_same (Some r) h = h r refl
+
+  -- what large blocks show stays
+  shown_now : bytes_shown (part account new).spaces (large_regions S) ≡ bytes_shown (part account old).spaces (large_regions S)
+  shown_now = same _ _ (λ q. get-picked (λ (r : Region). get (part account new).spaces r.of) (large_regions S) q
+      ∙ each_same (get (large_regions S) q) (λ r h. (keeps_spaces heap fit old new regions sound kept).others r.of (large_apart heap fit old new regions sound kept q r h))
+      ∙ sym (get-picked (λ (r : Region). get (part account old).spaces r.of) (large_regions S) q))
+
+  chunks_then : heap_of fit (words_of (keys_in heap) new) ≡ taken n H → heap_of fit (words_in (later heap fit old new regions sound kept) (part account new)) ≡ taken n H
+  chunks_then is = ap (heap_of fit) (words_now heap fit old new regions sound kept) ∙ is
+
+  chunks : heap_of fit (words_of (keys_in heap) new) ≡ taken n H → heap_of fit (words_in (later heap fit old new regions sound kept) (part account new)) ≡ taken_at (block_size n) (Some hole) (heap_of heap.fit (words_in heap (part account old)))
+  chunks is = chunks_then is ∙ ap (λ o. taken_at (block_size n) o H) best ∙ ap (taken_at (block_size n) (Some hole)) (sym H_is)
+
+  payloads : heap_of fit (words_of (keys_in heap) new) ≡ taken n H →
+      joined (from_entries {R = nat_cmp} (payloads_of (part account new) heap.chunks.items (heap_of fit (words_in (later heap fit old new regions sound kept) (part account new))))) (bytes_shown (part account new).spaces (large_regions S))
+      ≡ insert (joined (from_entries {R = nat_cmp} (payloads_of (part account old) heap.chunks.items (heap_of heap.fit (words_in heap (part account old))))) (bytes_shown (part account old).spaces (large_regions S))) address payload
+  payloads is =
+      ap (λ h. joined (from_entries {R = nat_cmp} (payloads_of (part account new) heap.chunks.items h)) (bytes_shown (part account new).spaces (large_regions S))) (chunks_then is)
+      ∙ ap (λ m. joined m (bytes_shown (part account new).spaces (large_regions S))) small_now
+      ∙ ap (joined (insert (from_entries {R = nat_cmp} (payloads_of (part account old) heap.chunks.items H)) address payload)) shown_now
+      ∙ joined-insert_first _ _ address payload
+      ∙ ap (λ h. insert (joined (from_entries {R = nat_cmp} (payloads_of (part account old) heap.chunks.items h)) (bytes_shown (part account old).spaces (large_regions S))) address payload) (sym H_is)
+
+  -- the heap then
+  pub taken_value : heap_of fit (words_of (keys_in heap) new) ≡ taken n H →
+      heap_in (later heap fit old new regions sound kept) (share_at account new regions)
+      ≡ record (heap_in heap S) {
+        shape = record { chunks = taken_at (block_size n) (Some hole) (shape_in heap (part account old)).chunks; growth = heap.growth };
+        payloads = insert (heap_in heap S).payloads address payload;
+      }
+  unfolding heap_in share_in
+  taken_value is = ap (heap_in (later heap fit old new regions sound kept)) (share_now heap fit old new regions sound kept) ∙ (λ i. record {
+    shape = record { chunks = chunks is i; growth = heap.growth };
+    starts = starts_in heap;
+    large = picked (λ (r : Region). Some (r.pages * 4096)) (large_regions S);
+    payloads = payloads is i;
+  })
+
+  -- where the payload starts, as the model has it
+  start_is : payload_start (heap_in heap S) hole ≡ address
+  unfolding heap_in
+  start_is = ap (λ s. s + hole.offset + 16) (get_or-map (λ (c : Chunk). c.start) heap.chunks.items hole.chunk no_chunk 0 in_heap)
+
+  value_at : heap_of fit (words_of (keys_in heap) new) ≡ taken n H →
+      heap_in (later heap fit old new regions sound kept) (share_at account new regions)
+      ≡ record (heap_in heap S) {
+        shape = shape_taken n hole (heap_in heap S).shape;
+        payloads = insert (heap_in heap S).payloads (payload_start (heap_in heap S) hole) payload;
+      }
+  unfolding heap_in share_in
+  value_at is = taken_value is ∙ ap (λ a. record (heap_in heap S) { shape = shape_taken n hole (heap_in heap S).shape; payloads = insert (heap_in heap S).payloads a payload }) (sym start_is)
+
+  pub takes_hole : heap_of fit (words_of (keys_in heap) new) ≡ taken n H → TakesHole heap (later heap fit old new regions sound kept) n hole old new regions
+  takes_hole is = record {
+    chunk_there = subst (λ m. hole.chunk < m) (sym (length_keys heap.chunks.items)) in_heap;
+    value = value_at is;
+    keys = refl;
+    account = same_account heap fit old new regions sound kept;
+    spaces = keeps_spaces heap fit old new regions sound kept;
+  }

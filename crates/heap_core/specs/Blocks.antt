@@ -1,0 +1,43 @@
+-- What best fit does in the words of chunks.
+use Rattle.std.specs.Prelude.{◌≡◌, ℕ, [], ◌∷◌, ◌++◌, Option, IfNone, OnSome}
+use Rattle.std.specs.Option.{option_map}
+use Rattle.own_model.specs.BestFit.{block_size, best_hole, holes_of, taken, given, used_at, chunk_of}
+use Rattle.own_model.specs.Heap.{Hole}
+use Rattle.avl_alloc.specs.declared.best_fit.BestFit.{BestFit}
+use Rattle.avl_alloc.specs.declared.best_fit.BlockAddr.{BlockAddr}
+use Rattle.avl_alloc.specs.Found.{block_addr}
+use Rattle.avl_alloc.specs.Held.{Fits}
+use Rattle.avl_alloc.specs.Layout.{heap_of, sizes_of, bytes_of, IsSound, ChangesHoles}
+use Rattle.avl_alloc.specs.Words.{Words}
+
+-- what a call asks: the blocks stand in the words, and the chunks have these bytes
+pub record StandIn (fit : BestFit) (words : Words) (bytes : ℕ → ℕ) : Type 0 where
+  pub sound : IsSound fit words
+  pub fits : Fits (bytes_of fit) bytes
+
+-- the best hole is taken for n bytes, if there is one
+pub record Takes (n : ℕ) (result : Option BlockAddr) (old new : BestFit) (words after : Words) : Type 0 where
+  pub best : result ≡ option_map block_addr (best_hole (block_size n) (holes_of (heap_of old words)))
+  pub heap : heap_of new after ≡ taken n (heap_of old words)
+  pub sound : IsSound new after
+  pub sizes : sizes_of new ≡ sizes_of old
+  pub others : ChangesHoles words after (heap_of old words)
+  pub refused : IfNone result (after ≡ words)
+  pub unchanged : IfNone result (new ≡ old)
+
+-- a chunk of so many bytes comes, which is one hole
+pub record Adds (bytes : ℕ) (old new : BestFit) (words after : Words) : Type 0 where
+  pub heap : heap_of new after ≡ heap_of old words ++ (Hole bytes ∷ []) ∷ []
+  pub sound : IsSound new after
+  pub sizes : sizes_of new ≡ sizes_of old ++ bytes ∷ []
+  pub others : ChangesHoles words after (heap_of new after)
+
+-- the used block at an address is given back, if there is one
+pub record Gives (addr : BlockAddr) (result : Option ℕ) (old new : BestFit) (words after : Words) : Type 0 where
+  pub block : result ≡ used_at addr.offset (chunk_of (heap_of old words) addr.chunk)
+  pub heap : OnSome result (heap_of new after ≡ given addr.chunk addr.offset (heap_of old words))
+  pub sound : IsSound new after
+  pub sizes : sizes_of new ≡ sizes_of old
+  pub others : ChangesHoles words after (heap_of new after)
+  pub refused : IfNone result (after ≡ words)
+  pub unchanged : IfNone result (new ≡ old)

@@ -1,0 +1,193 @@
+//! The blocks in a heap's chunks: best fit over the words in the memory. Loads are counted, and no caller sees the count.
+ghost use Rattle.std.specs.Prelude.{◌≡◌, ◌+◌, ◌-◌, ◌^◌, ◌<◌, ◌≤◌, length};
+ghost use Rattle.std.specs.Option.{option_map};
+ghost use Rattle.own_model.specs.BestFit.{chunk_of, payload_at};
+ghost use Rattle.own_model.specs.Heap.{IsBlockSize};
+ghost use Rattle.avl_alloc.specs.Found.{used_block};
+ghost use Rattle.avl_alloc.specs.Layout.{heap_of, sizes_of};
+ghost use Rattle.heap_core.specs.Blocks.{StandIn, Takes, Adds, Gives};
+ghost use Rattle.heap_core.specs.Words.{keys_of, around, bytes_around, words_of};
+
+use crate::loads::Loads;
+use crate::words::{Chunk, Words};
+use avl_alloc::{BestFit, BlockAddr, UsedBlock};
+use dataspace_core::Memory;
+use std::sync::ledger::{Blank, Ledger};
+
+impl<L: Ledger> Words<'_, L> {
+    // One chunk more, the last one.
+    fn add(&mut self, fit: &mut BestFit, bytes: u64)
+        requires stand { StandIn fit.old (words_of (keys_of self.old.chunks.now) self.old.memory.now) (bytes_around (around (keys_of self.old.chunks.now) self.old.memory.now)) }
+        requires last { length (sizes_of fit.old) + 1 ≡ length self.old.chunks.now }
+        requires few { length self.old.chunks.now ≤ 64 }
+        requires size { IsBlockSize bytes }
+        requires short { bytes ≤ 2 ^ 32 }
+        requires there { bytes ≤ bytes_around (around (keys_of self.old.chunks.now) self.old.memory.now) (length self.old.chunks.now - 1) }
+        ensures same_reference { self.new.memory.ghost_name ≡ self.old.memory.ghost_name }
+        ensures adds { Adds bytes fit.old fit.new (words_of (keys_of self.old.chunks.now) self.old.memory.now) (words_of (keys_of self.old.chunks.now) self.new.memory.now) }
+        ensures around { around (keys_of self.old.chunks.now) self.new.memory.now ≡ around (keys_of self.old.chunks.now) self.old.memory.now }
+    {
+        let chunks = self.chunks;
+        fit.add_chunk(self, chunks.len() - 1, bytes);
+    }
+
+    // Takes the best hole for so many bytes.
+    fn take(&mut self, fit: &mut BestFit, bytes: u64) -> Option<BlockAddr>
+        requires stand { StandIn fit.old (words_of (keys_of self.old.chunks.now) self.old.memory.now) (bytes_around (around (keys_of self.old.chunks.now) self.old.memory.now)) }
+        requires few { bytes < 65536 }
+        ensures same_reference { self.new.memory.ghost_name ≡ self.old.memory.ghost_name }
+        ensures takes { Takes bytes result fit.old fit.new (words_of (keys_of self.old.chunks.now) self.old.memory.now) (words_of (keys_of self.old.chunks.now) self.new.memory.now) }
+        ensures around { around (keys_of self.old.chunks.now) self.new.memory.now ≡ around (keys_of self.old.chunks.now) self.old.memory.now }
+    {
+        fit.alloc(self, bytes)
+    }
+
+    // Gives a block back.
+    fn give(&mut self, fit: &mut BestFit, block: BlockAddr) -> Option<u64>
+        requires stand { StandIn fit.old (words_of (keys_of self.old.chunks.now) self.old.memory.now) (bytes_around (around (keys_of self.old.chunks.now) self.old.memory.now)) }
+        ensures same_reference { self.new.memory.ghost_name ≡ self.old.memory.ghost_name }
+        ensures gives { Gives block result fit.old fit.new (words_of (keys_of self.old.chunks.now) self.old.memory.now) (words_of (keys_of self.old.chunks.now) self.new.memory.now) }
+        ensures around { around (keys_of self.old.chunks.now) self.new.memory.now ≡ around (keys_of self.old.chunks.now) self.old.memory.now }
+    {
+        fit.free(self, block)
+    }
+
+    // The used block whose payload holds an address.
+    fn look(&mut self, fit: &BestFit, addr: BlockAddr) -> Option<UsedBlock>
+        requires stand { StandIn fit.now (words_of (keys_of self.old.chunks.now) self.old.memory.now) (bytes_around (around (keys_of self.old.chunks.now) self.old.memory.now)) }
+        ensures same_reference { self.new.memory.ghost_name ≡ self.old.memory.ghost_name }
+        ensures block { let blocks = chunk_of (heap_of fit.now (words_of (keys_of self.old.chunks.now) self.old.memory.now)) addr.chunk in
+            result ≡ option_map (used_block addr.chunk) (payload_at 0 addr.offset blocks) }
+        ensures words { words_of (keys_of self.old.chunks.now) self.new.memory.now ≡ words_of (keys_of self.old.chunks.now) self.old.memory.now }
+        ensures around { around (keys_of self.old.chunks.now) self.new.memory.now ≡ around (keys_of self.old.chunks.now) self.old.memory.now }
+    {
+        fit.block_at(self, addr)
+    }
+}
+
+/// One chunk more, the last of `chunks`, which is one hole.
+pub fn add<L: Ledger>(
+    fit: &mut BestFit,
+    memory: &mut Memory,
+    chunks: &[Chunk],
+    bytes: u64,
+    blank: Blank,
+)
+    requires stand { StandIn fit.old (words_of (keys_of chunks.now) memory.old) (bytes_around (around (keys_of chunks.now) memory.old)) }
+    requires last { length (sizes_of fit.old) + 1 ≡ length chunks.now }
+    requires few { length chunks.now ≤ 64 }
+    requires size { IsBlockSize bytes }
+    requires short { bytes ≤ 2 ^ 32 }
+    requires there { bytes ≤ bytes_around (around (keys_of chunks.now) memory.old) (length chunks.now - 1) }
+    requires name { blank.name ≡ L.name }
+    requires parts { blank.parts ≡ L.parts }
+    requires some { 0 < blank.parts }
+    ensures adds { Adds bytes fit.old fit.new (words_of (keys_of chunks.now) memory.old) (words_of (keys_of chunks.now) memory.new) }
+    ensures around { around (keys_of chunks.now) memory.new ≡ around (keys_of chunks.now) memory.old }
+{
+    let mut words = Words {
+        memory,
+        chunks,
+        loads: Loads::<L>::new(blank),
+    };
+    words.add(fit, bytes);
+    let Words {
+        memory: lent,
+        chunks: _chunks,
+        loads: _loads,
+    } = words;
+    let _ = lent;
+}
+
+/// Takes the best hole for so many bytes, or answers `None` where no hole is large enough.
+pub fn take<L: Ledger>(
+    fit: &mut BestFit,
+    memory: &mut Memory,
+    chunks: &[Chunk],
+    bytes: u64,
+    blank: Blank,
+) -> Option<BlockAddr>
+    requires stand { StandIn fit.old (words_of (keys_of chunks.now) memory.old) (bytes_around (around (keys_of chunks.now) memory.old)) }
+    requires few { bytes < 65536 }
+    requires name { blank.name ≡ L.name }
+    requires parts { blank.parts ≡ L.parts }
+    requires some { 0 < blank.parts }
+    ensures takes { Takes bytes result fit.old fit.new (words_of (keys_of chunks.now) memory.old) (words_of (keys_of chunks.now) memory.new) }
+    ensures around { around (keys_of chunks.now) memory.new ≡ around (keys_of chunks.now) memory.old }
+{
+    let mut words = Words {
+        memory,
+        chunks,
+        loads: Loads::<L>::new(blank),
+    };
+    let answer = words.take(fit, bytes);
+    let Words {
+        memory: lent,
+        chunks: _chunks,
+        loads: _loads,
+    } = words;
+    let _ = lent;
+    answer
+}
+
+/// Gives back the used block that starts at an address and tells its size, or answers `None` where none does.
+pub fn give<L: Ledger>(
+    fit: &mut BestFit,
+    memory: &mut Memory,
+    chunks: &[Chunk],
+    block: BlockAddr,
+    blank: Blank,
+) -> Option<u64>
+    requires stand { StandIn fit.old (words_of (keys_of chunks.now) memory.old) (bytes_around (around (keys_of chunks.now) memory.old)) }
+    requires name { blank.name ≡ L.name }
+    requires parts { blank.parts ≡ L.parts }
+    requires some { 0 < blank.parts }
+    ensures gives { Gives block result fit.old fit.new (words_of (keys_of chunks.now) memory.old) (words_of (keys_of chunks.now) memory.new) }
+    ensures around { around (keys_of chunks.now) memory.new ≡ around (keys_of chunks.now) memory.old }
+{
+    let mut words = Words {
+        memory,
+        chunks,
+        loads: Loads::<L>::new(blank),
+    };
+    let answer = words.give(fit, block);
+    let Words {
+        memory: lent,
+        chunks: _chunks,
+        loads: _loads,
+    } = words;
+    let _ = lent;
+    answer
+}
+
+/// The used block whose payload holds an address, or `None` where no payload does.
+pub fn look<L: Ledger>(
+    fit: &BestFit,
+    memory: &mut Memory,
+    chunks: &[Chunk],
+    addr: BlockAddr,
+    blank: Blank,
+) -> Option<UsedBlock>
+    requires stand { StandIn fit.now (words_of (keys_of chunks.now) memory.old) (bytes_around (around (keys_of chunks.now) memory.old)) }
+    requires name { blank.name ≡ L.name }
+    requires parts { blank.parts ≡ L.parts }
+    requires some { 0 < blank.parts }
+    ensures block { let blocks = chunk_of (heap_of fit.now (words_of (keys_of chunks.now) memory.old)) addr.chunk in
+        result ≡ option_map (used_block addr.chunk) (payload_at 0 addr.offset blocks) }
+    ensures words { words_of (keys_of chunks.now) memory.new ≡ words_of (keys_of chunks.now) memory.old }
+    ensures around { around (keys_of chunks.now) memory.new ≡ around (keys_of chunks.now) memory.old }
+{
+    let mut words = Words {
+        memory,
+        chunks,
+        loads: Loads::<L>::new(blank),
+    };
+    let answer = words.look(fit, addr);
+    let Words {
+        memory: lent,
+        chunks: _chunks,
+        loads: _loads,
+    } = words;
+    let _ = lent;
+    answer
+}

@@ -1,0 +1,61 @@
+//! The words of a heap's chunks, as a tree inside their holes uses them.
+ghost use Rattle.std.specs.Prelude.{◌≡◌, ℕ, ◌+◌, ◌<◌};
+ghost use Rattle.avl_alloc.specs.Words.{IsWord, place_at, with_word};
+
+use crate::loads::Loads;
+use avl_alloc::WordMemory;
+use dataspace_core::Memory;
+use std::sync::ledger::Ledger;
+use trade_base::DsId;
+
+/// A chunk: its dataspace, and the address at which its region starts.
+#[derive(Clone, Copy)]
+pub struct Chunk {
+    /// Its dataspace.
+    pub ds: DsId,
+    /// Where its region starts.
+    pub start: u64,
+}
+
+impl Default for Chunk {
+    fn default() -> Chunk {
+        Chunk {
+            ds: DsId(0),
+            start: 0,
+        }
+    }
+}
+
+/// The words of these chunks.
+pub struct Words<'a, L: Ledger> {
+    pub memory: &'a mut Memory,
+    pub chunks: &'a [Chunk],
+    pub loads: Loads<L>,
+}
+
+impl<L: Ledger> WordMemory for Words<'_, L> {
+    ghost use Rattle.std.specs.Borrow.{GName};
+    ghost use Rattle.heap_core.specs.Words.{Around, around, bytes_around, word_in, bytes_in_store, keys_of};
+
+    ghost Rest = { Around × GName };
+
+    ghost rest = { λ w. (around (keys_of w.chunks.now) w.memory.now, w.memory.ghost_name) };
+
+    ghost bytes = { λ r. bytes_around r.0 };
+
+    ghost word = { λ w. word_in (keys_of w.chunks.now) (bytes_in_store w.memory.now) };
+
+    ghost loads = { λ w. w.loads };
+
+    fn load(&mut self, chunk: usize, offset: u64) -> u64 {
+        let chunks = self.chunks;
+        let word = self.memory.load_word(chunks[chunk].ds, offset);
+        self.loads.tick();
+        word
+    }
+
+    fn store(&mut self, chunk: usize, offset: u64, value: u64) {
+        let chunks = self.chunks;
+        self.memory.store_word(chunks[chunk].ds, offset, value);
+    }
+}
