@@ -1,0 +1,90 @@
+//! The log service: what it answers to the requests of a session.
+ghost use Rattle.std.specs.Prelude.{◌≡◌, []};
+ghost use Rattle.own_model.specs.LogService.{log_served};
+ghost use Rattle.session_proto.specs.LogReply.{log_reply_text};
+ghost use Rattle.log_service.specs.Session.{LabelledLine, lines_text, log_step};
+ghost use Rattle.server_frame.specs.Session.{HasBlocksAlone};
+ghost use Rattle.server_frame.specs.Told.{nothing_told};
+
+use crate::session::LogSession;
+use arrayvec::ArrayVec;
+use dataspace_core::Memory;
+use region_map::RegionMap;
+use server_frame::{Reply, Service};
+use session_proto::{LogReply, LogRequest};
+use sliced_heap::SlicedHeap;
+use trade_base::AccountId;
+
+/// The most bytes of the text of a reply.
+const LONGEST_TEXT: usize = 24;
+
+/// The log service. It keeps nothing but its sessions.
+#[derive(Clone, Copy)]
+pub struct LogService;
+
+impl LogService {
+    /// Answers a request of a session: `OK` and how many bytes were written, or `ERR BAD_REQUEST`. The lines that the
+    /// bytes finish go to the reply, and what they leave of a line stays with the session.
+    pub fn answer(&self, session: &mut LogSession, request: &[u8], reply: &mut Reply)
+        requires { reply.old ≡ nothing_told }
+        ensures session { session.new ≡ record session.old { partial = (log_served session.old.partial request.now).partial } }
+        ensures lines { reply.new.lines ≡ lines_text session.old.label (log_served session.old.partial request.now).lines }
+        ensures text { reply.new.text ≡ (log_served session.old.partial request.now).reply }
+    {
+        match LogRequest::read(request) {
+            Some(request) => {
+                session.write(request.hex, reply);
+                tell(LogReply::Wrote(request.hex.len() as u64 / 2), reply);
+            }
+            None => tell(LogReply::BadRequest, reply),
+        }
+    }
+}
+
+impl Service for LogService {
+    type State = LogSession;
+
+    ghost Value = { LabelledLine };
+
+    ghost value = { λ session share. session };
+
+    ghost IsKept = { λ session share. HasBlocksAlone share };
+
+    ghost first = { λ label. record { label = label; partial = [] } };
+
+    ghost step = { log_step };
+
+    fn open(&self, _account: AccountId, label: &[u8]) -> LogSession {
+        LogSession::open(label)
+    }
+
+    fn serve(
+        &self,
+        session: &mut LogSession,
+        _heap: &mut SlicedHeap,
+        _memory: &mut Memory,
+        _map: &mut RegionMap,
+        request: &[u8],
+        reply: &mut Reply,
+    ) {
+        self.answer(session, request, reply);
+    }
+
+    fn end(
+        &self,
+        _session: LogSession,
+        _heap: &mut SlicedHeap,
+        _memory: &mut Memory,
+        _map: &mut RegionMap,
+    ) {}
+}
+
+/// Writes the text of a reply behind the lines.
+fn tell(text: LogReply, reply: &mut Reply)
+    requires { reply.old.text ≡ [] }
+    ensures { reply.new ≡ record reply.old { text = log_reply_text text } }
+{
+    let mut buffer = ArrayVec::<u8, LONGEST_TEXT>::new();
+    text.write(&mut buffer);
+    reply.add_text(&buffer);
+}

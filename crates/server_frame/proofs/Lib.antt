@@ -1,0 +1,7 @@
+pub mod HoldingLemmas
+pub mod FurnitureLemmas
+pub mod FrameLemmas
+pub mod ServerLemmas
+pub mod OpenLemmas
+pub mod CloseLemmas
+pub mod FrameLaws

@@ -1,0 +1,105 @@
+-- What a contract sees of a server: its sessions, each by itself.
+use Rattle.std.specs.Prelude.{◌≡◌, ◌≢◌, ℕ, ◌+◌, Some, None}
+use Rattle.std.specs.FinMap.{get, insert}
+use Rattle.slab.specs.Slab.{Slab}
+use Rattle.slab.specs.Slab as slab
+use Rattle.own_model.specs.Account.{Account}
+use Rattle.own_model.specs.NatMap.{NatMap}
+use Rattle.own_model.specs.Region.{Region}
+use Rattle.own_model.specs.Session.{session_account}
+use Rattle.quota_core.specs.SlabMap.{map_of}
+use Rattle.region_map.specs.Regions.{Regions}
+use Rattle.dataspace_core.specs.Store.{Store, part, parted_part, space_at, accounts_in, account_in, root_in, room_in, parents_in, IsChildIn, IsLeafIn}
+use Rattle.dataspace_core.specs.Share.{Share}
+use Rattle.sliced_heap.specs.Heap.{payer_of, share_at, MapsMemory}
+use Rattle.sliced_heap.specs.declared.heap.SlicedHeap.{SlicedHeap}
+use Rattle.server_frame.specs.Session.{Served, IsSessionHeap, HasBlocksAlone, holding, holding_of}
+use Rattle.server_frame.specs.declared.server.Session.{Session}
+
+-- an open session: its client's account, its own account under its key, and its value
+pub record Row (Value : Type 0) : Type 0 where
+  pub client : ℕ
+  pub key : ℕ
+  pub account : Account
+  pub value : Value
+
+-- a session, read out of what the server keeps and out of what the session's account has
+abbrev pub row_of : {T V : Type 0} → (T → Share → V) → Store → Regions → Session T → Row V
+row_of value store regions session = record {
+  client = session.client.0;
+  key = session.account.0;
+  account = account_in store session.account.0;
+  value = value session.state (holding (share_at session.account.0 store regions));
+}
+
+-- the open sessions of a server, by their keys
+abbrev pub sessions_of : {T V : Type 0} → (T → Share → V) → Slab (Session T) → Store → Regions → NatMap (Row V)
+sessions_of value sessions store regions = map_of (row_of value store regions) sessions
+
+-- ---- what is true between calls
+
+-- a session's heap is its account's, the account is its client's child and nobody's parent, and the service finds what it keeps
+pub record Holds {T : Type 0} (kept : T → Share → Type 0) (session : Session T) (store : Store) (regions : Regions) : Type 0 where
+  pub payer : payer_of session.heap ≡ session.account.0
+  pub heap : IsSessionHeap session.heap store regions
+  pub child : IsChildIn store session.account.0 session.client.0
+  pub leaf : IsLeafIn store session.account.0
+  pub state : kept session.state (holding_of session.heap store regions)
+
+-- an account is a session's
+pub record IsSessions {T : Type 0} (sessions : Slab (Session T)) (account : ℕ) : Type 0 where
+  pub id : ℕ
+  pub session : Session T
+  pub there : slab.get sessions id ≡ Some session
+  pub is : session.account.0 ≡ account
+
+-- a server works on this memory: each session holds, each has an account of its own, and each heap region of the map shows a
+-- dataspace of a session
+pub record IsServer {T : Type 0} (kept : T → Share → Type 0) (sessions : Slab (Session T)) (store : Store) (regions : Regions) : Type 0 where
+  pub maps : MapsMemory store regions
+  pub each : (id : ℕ) (session : Session T) → slab.get sessions id ≡ Some session → Holds kept session store regions
+  pub apart : (a b : ℕ) (s t : Session T) → slab.get sessions a ≡ Some s → slab.get sessions b ≡ Some t → s.account.0 ≡ t.account.0 → a ≡ b
+  pub owned : (start : ℕ) (region : Region) → get regions.heap start ≡ Some region → IsSessions sessions (space_at store region.of).payer
+
+-- an account is no session's
+abbrev pub IsNoSession : {T : Type 0} → Slab (Session T) → ℕ → Type 0
+IsNoSession {T} sessions account = (id : ℕ) (session : Session T) → slab.get sessions id ≡ Some session → session.account.0 ≢ account
+
+-- ---- what calls do
+
+-- an account is opened for a session, and furnished: charged for the session itself and for its object
+pub record Furnishes (client ram caps account : ℕ) (taken : SlicedHeap) (old new : Store) (regions after : Regions) : Type 0 where
+  pub fresh : get (accounts_in old) account ≡ None
+  pub payer : payer_of taken ≡ account
+  pub heap : IsSessionHeap taken new after
+  pub alone : HasBlocksAlone (holding_of taken new after)
+  pub leaf : IsLeafIn new account
+  pub charge : (part account new).account ≡ Some (session_account ram caps)
+  pub parted : part client new ≡ parted_part (part client old) ram caps
+  pub parts : (other : ℕ) → other ≢ client → other ≢ account → part other new ≡ part other old
+  pub holdings : (other : ℕ) → other ≢ account → holding (share_at other new after) ≡ holding (share_at other old regions)
+  pub root : root_in new ≡ root_in old
+  pub parents : parents_in new ≡ insert (parents_in old) account client
+  pub room : room_in new + 1 ≡ room_in old
+  pub rest : after ≡ record regions { heap = after.heap; tags = after.tags }
+
+-- a session is opened under a key that was free, on an account that nobody had: its client parts with the limits, and every
+-- other account's part stays
+pub record OpensSession {V : Type 0} (client ram caps id : ℕ) (first : V) (old new : Store) (rows after : NatMap (Row V)) : Type 0 where
+  pub key : ℕ
+  pub fresh : get (accounts_in old) key ≡ None
+  pub free : get rows id ≡ None
+  pub sessions : after ≡ insert rows id (record { client = client; key = key; account = session_account ram caps; value = first })
+  pub parted : part client new ≡ parted_part (part client old) ram caps
+  pub others : (other : ℕ) → other ≢ client → other ≢ key → part other new ≡ part other old
+  pub root : root_in new ≡ root_in old
+  pub parents : parents_in new ≡ insert (parents_in old) key client
+  pub room : room_in new + 1 ≡ room_in old
+
+-- a request is answered on a session: its account's part may change, and no other's
+pub record ServesSession {V : Type 0} (row : Row V) (id : ℕ) (served : Served V) (old new : Store) (rows after : NatMap (Row V)) : Type 0 where
+  pub sessions : after ≡ insert rows id (record row { account = served.account; value = served.value })
+  pub others : (other : ℕ) → other ≢ row.key → part other new ≡ part other old
+  pub root : root_in new ≡ root_in old
+  pub parents : parents_in new ≡ parents_in old
+  pub room : room_in new ≡ room_in old

@@ -1,0 +1,4 @@
+pub mod Written
+pub mod Told
+pub mod Session
+pub mod Frame

@@ -1,0 +1,35 @@
+-- What a service is asked for, and what it may rely on.
+use Rattle.std.specs.Prelude.{◌≡◌, ℕ, ◌+◌, List, None}
+use Rattle.std.specs.FinMap.{len}
+use Rattle.own_model.specs.Account.{Account}
+use Rattle.region_map.specs.Regions.{Regions}
+use Rattle.dataspace_core.specs.Store.{Store, part, account_in}
+use Rattle.dataspace_core.specs.Share.{Share}
+use Rattle.sliced_heap.specs.Sliced.{sliced_of}
+use Rattle.sliced_heap.specs.Heap.{IsSound, payer_of, share_at}
+use Rattle.sliced_heap.specs.declared.heap.SlicedHeap.{SlicedHeap}
+
+-- what a request is answered, the text of the lines that it finished, and the session's account and value after it
+pub record Served (Value : Type 0) : Type 0 where
+  pub text : List ℕ
+  pub lines : List ℕ
+  pub account : Account
+  pub value : Value
+
+-- what an account has of the memory and of the map, whatever its limits and its use are
+abbrev pub holding : Share → Share
+holding share = record share { part = record share.part { account = None } }
+
+-- that of a heap's account
+abbrev pub holding_of : SlicedHeap → Store → Regions → Share
+holding_of heap store regions = holding (share_at (payer_of heap) store regions)
+
+-- all that an account has is blocks of its sliced heap: it has as many dataspaces as blocks
+abbrev pub HasBlocksAlone : Share → Type 0
+HasBlocksAlone share = len share.part.spaces ≡ len (sliced_of share)
+
+-- a sliced heap is one of a session: it is sound, and its account uses a capability for each of its dataspaces and one for
+-- the session itself
+pub record IsSessionHeap (heap : SlicedHeap) (store : Store) (regions : Regions) : Type 0 where
+  pub sound : IsSound heap store regions
+  pub pays : (account_in store (payer_of heap)).caps_used ≡ len (part (payer_of heap) store).spaces + 1

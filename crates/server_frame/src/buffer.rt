@@ -1,0 +1,88 @@
+//! Bytes in memory that doesn't grow.
+ghost use Rattle.std.specs.Prelude.{◌≡◌, ◌+◌, ◌≤◌, [], ◌++◌, length, map, IfOk};
+ghost use Rattle.own_model.specs.Reply.{printed};
+
+use std::alloc::Global;
+use std::boxed::BoxedSlice;
+use std::marker::Model;
+use trade_base::NoMemory;
+
+/// Bytes with all the memory that they may take, from the boot on: a boxed slice can't grow.
+#[derive(Drop)]
+pub(crate) struct Buffer {
+    bytes: BoxedSlice<u8>,
+    /// How many of them are written.
+    len: usize,
+}
+
+impl Model for Buffer {
+    ghost use Rattle.std.specs.Prelude.{◌≤◌, take};
+    ghost use Rattle.std.specs.Box.{boxed_slice_items, boxed_slice_len};
+    ghost use Rattle.server_frame.specs.Written.{Written};
+
+    ghost Value = { Written };
+
+    ghost view = { λ buffer. record { text = take buffer.len (boxed_slice_items buffer.bytes); size = boxed_slice_len buffer.bytes } };
+
+    ghost invariant = { λ buffer. buffer.len ≤ boxed_slice_len buffer.bytes };
+}
+
+impl Buffer {
+    /// No bytes, with memory for so many.
+    pub(crate) fn boot(alloc: Global, size: usize) -> Result<Buffer, NoMemory>
+        ensures { IfOk result (λ buffer. buffer ≡ record { text = []; size = size }) }
+    {
+        let bytes = vec![in alloc; 0u8; size].map_err(|_| NoMemory)?;
+        Ok(Buffer {
+            bytes: bytes.into_boxed_slice(),
+            len: 0,
+        })
+    }
+
+    /// The bytes that are written.
+    pub(crate) fn text(&self) -> &[u8]
+        ensures { result.now ≡ self.now.text }
+    {
+        &self.bytes[..self.len]
+    }
+
+    /// Takes all bytes out.
+    pub(crate) fn clear(&mut self)
+        ensures { self.new ≡ record self.old { text = [] } }
+    {
+        self.len = 0;
+    }
+
+    /// Appends bytes that still fit.
+    pub(crate) fn add(&mut self, more: &[u8])
+        requires { length self.old.text + length more.now ≤ self.old.size }
+        ensures added { self.new ≡ record self.old { text = self.old.text ++ more.now } }
+        ensures len { length self.new.text ≡ length self.old.text + length more.now }
+    {
+        let end = self.len + more.len();
+        self.bytes[self.len..end].copy_from_slice(more);
+        self.len = end;
+    }
+
+    /// Appends bytes as the log prints them.
+    pub(crate) fn add_printed(&mut self, more: &[u8])
+        requires { length self.old.text + length more.now ≤ self.old.size }
+        ensures added { self.new ≡ record self.old { text = self.old.text ++ map printed more.now } }
+        ensures len { length self.new.text ≡ length self.old.text + length more.now }
+    {
+        for byte in more {
+            self.add(&[printed(*byte)]);
+        }
+    }
+}
+
+/// A byte as the log prints it: as it is from 20 to 7e in hexadecimal digits, else a dot.
+fn printed(byte: u8) -> u8
+    ensures { result ≡ printed byte }
+{
+    if (0x20..=0x7e).contains(&byte) {
+        byte
+    } else {
+        b'.'
+    }
+}

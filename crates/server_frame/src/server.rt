@@ -1,0 +1,193 @@
+//! Sessions, each on an account of its own.
+ghost use Rattle.std.specs.Prelude.{◌≡◌, ◌*◌, ◌<◌, ◌≤◌, [], Some, None, is_some, IfOk, IfSome, OnOk, OnErr, length};
+ghost use Rattle.std.specs.Result.{result_err};
+ghost use Rattle.std.specs.FinMap.{get, insert, remove};
+ghost use Rattle.slab.specs.Slab.{ContainsKey, slab_len};
+ghost use Rattle.slab.specs.Slab as slab;
+ghost use Rattle.own_model.specs.Account.{shortage};
+ghost use Rattle.own_model.specs.Donation.{raised};
+ghost use Rattle.own_model.specs.Session.{donation_refusal};
+ghost use Rattle.region_map.specs.Regions.{fresh_regions};
+ghost use Rattle.dataspace_core.specs.Store.{Store, account_in, ram_limits_in, IsOpenIn, room_in, RaisesPart, ClosesPart};
+ghost use Rattle.server_frame.specs.Frame.{Row, sessions_of, IsServer, IsNoSession, OpensSession, ServesSession};
+ghost use Rattle.server_frame.specs.Told.{nothing_told};
+
+use crate::furniture::{dismiss, furnish, test_donation};
+use crate::reply::Reply;
+use crate::service::{LONGEST_LABEL, Service};
+use dataspace_core::Memory;
+use region_map::RegionMap;
+use slab::Slab;
+use sliced_heap::SlicedHeap;
+use std::alloc::Global;
+use trade_base::{AccountId, Caps, NoMemory, Ram, Refusal, SessionId};
+
+/// A session: its account and its client's, the sliced heap of its account, and what the service keeps for it.
+#[derive(Drop)]
+struct Session<T: Drop> {
+    account: AccountId,
+    client: AccountId,
+    heap: SlicedHeap,
+    state: T,
+}
+
+/// A server: a service, its sessions, and the map in which all that they keep stands.
+#[derive(Drop)]
+pub struct Server<S: Service + Drop> {
+    service: S,
+    sessions: Slab<Session<S::State>>,
+    map: RegionMap,
+}
+
+impl<S: Service + Drop> Server<S> {
+    /// A server without sessions, with places for so many, or more, for a machine of so many pages. It fails where the host
+    /// has no memory for its tables. No later call takes memory of the host.
+    pub fn boot(
+        alloc: Global,
+        service: S,
+        sessions: usize,
+        pages: usize,
+    ) -> Result<Server<S>, NoMemory>
+        requires pages { pages ≤ 4096 }
+        ensures none { IfOk result (λ server. server.sessions.slots ≡ []) }
+        ensures places { IfOk result (λ server. sessions ≤ server.sessions.capacity) }
+        ensures map { IfOk result (λ server. server.map ≡ fresh_regions 0 pages pages) }
+        ensures server { IfOk result (λ server. (store : Store) → ram_limits_in store ≡ pages * 4096 →
+            IsServer S.IsKept server.sessions store server.map) }
+    {
+        let table = Slab::with_capacity(alloc, sessions).map_err(|_| NoMemory)?;
+        let map = RegionMap::boot(alloc, 0, pages, pages)?;
+        Ok(Server {
+            service,
+            sessions: table,
+            map,
+        })
+    }
+
+    /// Whether a session is open.
+    pub fn is_open(&self, id: SessionId) -> bool
+        ensures { result ≡ is_some (slab.get self.now.sessions id.0) }
+    {
+        self.sessions.contains(id.0)
+    }
+
+    /// The account of a session.
+    pub fn account(&self, id: SessionId) -> AccountId
+        requires { ContainsKey self.now.sessions id.0 }
+        ensures { IfSome (slab.get self.now.sessions id.0) (λ session. result ≡ session.account) }
+    {
+        self.sessions[id.0].account
+    }
+
+    /// Opens a session on an account of its own, with a donation of its client: RAM in bytes, and capabilities. The account is
+    /// charged for the session and for an object of 256 bytes. It tells the session's key.
+    ///
+    /// It is refused with `OutOfRam` or else `OutOfCaps` where the client's account doesn't cover the donation, and else with
+    /// `InsufficientRamQuota` or else `InsufficientCapQuota` where the donation is less than the session uses from the start.
+    /// A refused call changes nothing.
+    pub fn open(
+        &mut self,
+        memory: &mut Memory,
+        client: AccountId,
+        label: &[u8],
+        ram: Ram,
+        caps: Caps,
+    ) -> Result<SessionId, Refusal>
+        requires server { IsServer S.IsKept self.old.sessions memory.old self.old.map }
+        requires client { IsOpenIn memory.old client.0 }
+        requires no_session { IsNoSession self.old.sessions client.0 }
+        requires label { length label.now ≤ LONGEST_LABEL }
+        requires place { donation_refusal (account_in memory.old client.0) ram.0 caps.0 ≡ None →
+            slab_len self.old.sessions < self.old.sessions.capacity }
+        requires room { donation_refusal (account_in memory.old client.0) ram.0 caps.0 ≡ None → 0 < room_in memory.old }
+        ensures refusal { result_err result ≡ donation_refusal (account_in memory.old client.0) ram.0 caps.0 }
+        ensures server { IsServer S.IsKept self.new.sessions memory.new self.new.map }
+        ensures opens { IfOk result (λ id.
+            OpensSession client.0 ram.0 caps.0 id.0 (S.first label.now) memory.old memory.new
+            (sessions_of S.value self.old.sessions memory.old self.old.map)
+            (sessions_of S.value self.new.sessions memory.new self.new.map)) }
+        ensures err { OnErr result (self.new ≡ self.old) }
+        ensures memory_err { OnErr result (memory.new ≡ memory.old) }
+    {
+        test_donation(memory, client, ram, caps)?;
+        let (account, heap) = furnish(memory, &mut self.map, client, ram, caps)?;
+        let state = self.service.open(account, label);
+        let id = self.sessions.insert_reserved(Session {
+            account,
+            client,
+            heap,
+            state,
+        });
+        Ok(SessionId(id))
+    }
+
+    /// Moves so much more of its client's limits to a session's account: RAM in bytes, and capabilities.
+    ///
+    /// It is refused with `OutOfRam` or else `OutOfCaps` where the client's account doesn't cover it. A refused call changes
+    /// nothing.
+    pub fn upgrade(
+        &mut self,
+        memory: &mut Memory,
+        id: SessionId,
+        ram: Ram,
+        caps: Caps,
+    ) -> Result<(), Refusal>
+        requires server { IsServer S.IsKept self.old.sessions memory.old self.old.map }
+        requires open { ContainsKey self.old.sessions id.0 }
+        ensures refusal { (row : Row S.Value) → get (sessions_of S.value self.old.sessions memory.old self.old.map) id.0 ≡ Some row →
+            result_err result ≡ shortage (account_in memory.old row.client) ram.0 caps.0 }
+        ensures server { IsServer S.IsKept self.new.sessions memory.new self.new.map }
+        ensures raises { (row : Row S.Value) → get (sessions_of S.value self.old.sessions memory.old self.old.map) id.0 ≡ Some row →
+            OnOk result (RaisesPart row.client row.key ram.0 caps.0 memory.old memory.new) }
+        ensures sessions { (row : Row S.Value) → get (sessions_of S.value self.old.sessions memory.old self.old.map) id.0 ≡ Some row →
+            OnOk result (sessions_of S.value self.new.sessions memory.new self.new.map
+            ≡ insert (sessions_of S.value self.old.sessions memory.old self.old.map) id.0 (record row { account = raised row.account ram.0 caps.0 })) }
+        ensures same { self.new ≡ self.old }
+        ensures memory_err { OnErr result (memory.new ≡ memory.old) }
+    {
+        let session = &self.sessions[id.0];
+        memory.raise(session.client, session.account, ram, caps)
+    }
+
+    /// Answers a request of a session.
+    pub fn serve(&mut self, memory: &mut Memory, id: SessionId, request: &[u8], reply: &mut Reply)
+        requires server { IsServer S.IsKept self.old.sessions memory.old self.old.map }
+        requires open { ContainsKey self.old.sessions id.0 }
+        requires reply { reply.old ≡ nothing_told }
+        ensures server { IsServer S.IsKept self.new.sessions memory.new self.new.map }
+        ensures text { (row : Row S.Value) → get (sessions_of S.value self.old.sessions memory.old self.old.map) id.0 ≡ Some row →
+            reply.new.text ≡ (S.step request.now row.account row.value).text }
+        ensures lines { (row : Row S.Value) → get (sessions_of S.value self.old.sessions memory.old self.old.map) id.0 ≡ Some row →
+            reply.new.lines ≡ (S.step request.now row.account row.value).lines }
+        ensures serves { (row : Row S.Value) → get (sessions_of S.value self.old.sessions memory.old self.old.map) id.0 ≡ Some row →
+            ServesSession row id.0 (S.step request.now row.account row.value) memory.old memory.new
+            (sessions_of S.value self.old.sessions memory.old self.old.map)
+            (sessions_of S.value self.new.sessions memory.new self.new.map) }
+    {
+        let session = &mut self.sessions[id.0];
+        self.service.serve(
+            &mut session.state,
+            &mut session.heap,
+            memory,
+            &mut self.map,
+            request,
+            reply,
+        );
+    }
+
+    /// Closes a session: all that it has is given back, and its client's limits are raised by those of its account.
+    pub fn close(&mut self, memory: &mut Memory, id: SessionId)
+        requires server { IsServer S.IsKept self.old.sessions memory.old self.old.map }
+        requires open { ContainsKey self.old.sessions id.0 }
+        ensures server { IsServer S.IsKept self.new.sessions memory.new self.new.map }
+        ensures closes { (row : Row S.Value) → get (sessions_of S.value self.old.sessions memory.old self.old.map) id.0 ≡ Some row →
+            ClosesPart row.key row.client memory.old memory.new }
+        ensures sessions { sessions_of S.value self.new.sessions memory.new self.new.map
+            ≡ remove (sessions_of S.value self.old.sessions memory.old self.old.map) id.0 }
+    {
+        let mut session = self.sessions.remove(id.0);
+        self.service
+            .end(session.state, &mut session.heap, memory, &mut self.map);
+        dismiss(memory, &mut self.map, session.account, session.heap);
+    }
+}
