@@ -1,6 +1,5 @@
 -- A script's calls on its account and its capabilities.
 use Rattle.std.proofs.Common.{◌≡◌, ◌≢◌, ℕ, ◌<◌, true, false, List, [], length, Option, Some, None, is_some, true≢false, refl, sym, ap, ◌∙◌, arith}
-use Rattle.std.specs.Prelude.{Ok, Err}
 use Rattle.std.specs.Option.{option_map, option_and_then}
 use Rattle.std.specs.FinMap.{get, insert, remove, len}
 use Rattle.trade_base.specs.Page.{page_of}
@@ -19,22 +18,22 @@ use Rattle.own_model.proofs.NatMapLemmas.{get-insert_other, get-insert_same, get
 use Rattle.own_model.proofs.RegionLemmas.{renamed-without, left_without}
 use Rattle.own_model.proofs.StepLemmas.{covers, accepted_size}
 use Rattle.own_model.proofs.Totals.{len-insert_new, len-remove_at, total_at_le}
-use Rattle.cap_space.specs.Space.{Space, with_cap, without_cap}
+use Rattle.cap_space.specs.Space.{Space, dataspace_of, is_rpc_object, with_cap, without_cap}
 use Rattle.cap_space.specs.declared.cap.Cap.{Cap}
 use Rattle.cap_space.specs.declared.cap.Cap.TheVariants.{Dataspace, RpcObject, Session}
 use Rattle.region_map.specs.Regions.{Regions, all_detached}
 use Rattle.dataspace_core.specs.Store.{Part, account_of, part_with_space, part_without_space, charged_part, credited_part, bytes_of}
-use Rattle.pd_core.specs.Own.{object_of, selector_of, regions_of, own_of, dataspace_at, is_rpc_object}
+use Rattle.pd_core.specs.Own.{object_of, selector_of, regions_of, own_of}
 use Rattle.pd_core.specs.Sound.{rpc_weight, IsScript}
 use Rattle.pd_core.proofs.NameLemmas.{is_named, named_is}
-use Rattle.pd_core.proofs.OwnLemmas.{Settles, before, object_is, has_bytes, names_object, grows, shrinks}
+use Rattle.pd_core.proofs.OwnLemmas.{Settles, same_window, before, object_is, has_bytes, names_object, grows, shrinks}
 
--- a capability that is looked up as a dataspace is that dataspace's
-pub found_dataspace : (o : Option Cap) (ds : DsId) → Ok ds ≡ dataspace_at o → o ≡ Some (Dataspace ds)
-found_dataspace None ds h = cc
-found_dataspace (Some (Dataspace d)) ds h = cc
-found_dataspace (Some RpcObject) ds h = cc
-found_dataspace (Some (Session server session)) ds h = cc
+-- what is taken as a dataspace is that dataspace's capability
+pub taken_dataspace : (o : Option Cap) (ds : DsId) → Some ds ≡ dataspace_of o → o ≡ Some (Dataspace ds)
+taken_dataspace None ds h = cc
+taken_dataspace (Some (Dataspace d)) ds h = cc
+taken_dataspace (Some RpcObject) ds h = cc
+taken_dataspace (Some (Session server session)) ds h = cc
 
 -- and as an RPC object is one
 pub found_rpc : (o : Option Cap) → is_rpc_object o ≡ true → o ≡ Some RpcObject
@@ -51,13 +50,13 @@ same_cap a b e = cc
 same_key : (a b : DsId) → Dataspace a ≡ Dataspace b → a.0 ≡ b.0
 same_key a b e = let same : a ≡ b = cc in ap (λ (d : DsId). d.0) same
 
--- a call that refuses what names nothing or an RPC object refuses what isn't looked up as a dataspace
+-- a call that refuses what names nothing or an RPC object refuses what names no dataspace
 pub refuses : (step : Option Object → Outcome) (b : OwnState) → step None ≡ refused b InvalidCap → step (Some AnRpcObject) ≡ refused b InvalidCap →
-    (p : Part) (refusal : Refusal) (o : Option Cap) → Err refusal ≡ dataspace_at o → refused b refusal ≡ step (option_and_then (object_of p) o)
-refuses step b none rpc p refusal None h = let e : refusal ≡ InvalidCap = cc in ap (refused b) e ∙ sym none
-refuses step b none rpc p refusal (Some (Dataspace d)) h = cc
-refuses step b none rpc p refusal (Some RpcObject) h = let e : refusal ≡ InvalidCap = cc in ap (refused b) e ∙ sym rpc
-refuses step b none rpc p refusal (Some (Session server session)) h = let e : refusal ≡ InvalidCap = cc in ap (refused b) e ∙ sym none
+    (p : Part) (o : Option Cap) → dataspace_of o ≡ None → refused b InvalidCap ≡ step (option_and_then (object_of p) o)
+refuses step b none rpc p None h = sym none
+refuses step b none rpc p (Some (Dataspace d)) h = cc
+refuses step b none rpc p (Some RpcObject) h = sym rpc
+refuses step b none rpc p (Some (Session server session)) h = sym none
 
 -- what is no RPC object isn't freed as one
 no_rpc : (p : Part) (s : ℕ) (b : OwnState) (o : Option Cap) → is_rpc_object o ≡ false → refused b InvalidCap ≡ cap_freed s (option_and_then (object_of p) o) b
@@ -88,7 +87,7 @@ module _ (p : Part) (space : Space) (regions : Regions) (sliced : NatMap (List �
     more = insert p.spaces ds.0 (zeros (page_of n))
 
     -- an alloc settles
-    pub alloc_settles : (s : ℕ) → s ≡ new_selector space.caps → Settles (Alloc n) p space regions sliced (Selected s) (part_with_space p ds.0 n) (with_cap space s (Dataspace ds)) regions sliced
+    pub alloc_settles : (s : ℕ) → s ≡ new_selector space.caps → Settles (Alloc n) p space regions sliced (Selected s) (part_with_space p ds.0 n) (with_cap space s (Dataspace ds)) regions
     unfolding own_of
     alloc_settles s least =
         let b = before p space regions sliced sound in
@@ -103,10 +102,10 @@ module _ (p : Part) (space : Space) (regions : Regions) (sliced : NatMap (List �
 
   module _ (s : ℕ) where
     -- a free of what is no dataspace is refused
-    pub free_refused : (refusal : Refusal) → Err refusal ≡ dataspace_at (get space.caps s) → refused (before p space regions sliced sound) refusal ≡ script_step (Free s) (before p space regions sliced sound)
-    free_refused refusal h =
+    pub free_refused : dataspace_of (get space.caps s) ≡ None → refused (before p space regions sliced sound) InvalidCap ≡ script_step (Free s) (before p space regions sliced sound)
+    free_refused h =
         let b = before p space regions sliced sound in
-        refuses (λ o. freed s o b) b refl refl p refusal (get space.caps s) h ∙ ap (λ o. freed s o b) (sym (object_is p space regions sliced sound s))
+        refuses (λ o. freed s o b) b refl refl p (get space.caps s) h ∙ ap (λ o. freed s o b) (sym (object_is p space regions sliced sound s))
 
     module _ (ds : DsId) (named : get space.caps s ≡ Some (Dataspace ds)) where
       -- what the selector names is under one key
@@ -124,7 +123,7 @@ module _ (p : Part) (space : Space) (regions : Regions) (sliced : NatMap (List �
       left start region there = let was = left_without ds.0 regions.user start region there in (was.0, λ names. was.1 (alone region.of names))
 
       -- a free settles
-      pub free_settles : Settles (Free s) p space regions sliced Done (part_without_space p ds.0) (without_cap space s) (all_detached regions ds.0) sliced
+      pub free_settles : Settles (Free s) p space regions sliced Done (part_without_space p ds.0) (without_cap space s) (all_detached regions ds.0)
       unfolding own_of regions_of
       free_settles =
           let b = before p space regions sliced sound in
@@ -132,7 +131,8 @@ module _ (p : Part) (space : Space) (regions : Regions) (sliced : NatMap (List �
           let map = renamed-without (selector_of space.caps) ds.0 s (named_is space.caps sound.named.one s ds named) alone regions.user in
           shrinks p space regions sliced sound (Free s) (length (bytes_of p ds.0)) (remove p.spaces ds.0) (Dataspace ds) s named (all_detached regions ds.0)
           (λ q d there. get-remove_other p.spaces ds.0 d.0 (rest_apart q d there)) left
-          (omega (arith, len-remove_at p.spaces ds.0 (bytes_of p ds.0) has)) refl refl
+          (λ start region there. get-remove_other p.spaces ds.0 region.of (λ e. sound.blocks.unnamed start s region ds there named (sym e)))
+          (omega (arith, len-remove_at p.spaces ds.0 (bytes_of p ds.0) has)) refl (record { heap = refl; tags = refl; most = refl; pages = refl })
           (ap (λ o. freed s o b) (names_object p space regions sliced sound s ds named)
           ∙ (λ i. record { reply = Done; lines = []; next = record b { account = credited b.account (length (bytes_of p ds.0)) 1; selectors = remove b.selectors s; regions = sym map i } }))
 
@@ -148,7 +148,7 @@ module _ (p : Part) (space : Space) (regions : Regions) (sliced : NatMap (List �
   cap_fits accepted = covers _ _ _ (sym accepted)
 
   -- a capalloc settles
-  pub capalloc_settles : None ≡ shortage (account_of p) 0 1 → (s : ℕ) → s ≡ new_selector space.caps → Settles Capalloc p space regions sliced (Selected s) (charged_part p 1) (with_cap space s RpcObject) regions sliced
+  pub capalloc_settles : None ≡ shortage (account_of p) 0 1 → (s : ℕ) → s ≡ new_selector space.caps → Settles Capalloc p space regions sliced (Selected s) (charged_part p 1) (with_cap space s RpcObject) regions
   unfolding own_of
   capalloc_settles accepted s least =
       let b = before p space regions sliced sound in
@@ -173,10 +173,10 @@ module _ (p : Part) (space : Space) (regions : Regions) (sliced : NatMap (List �
       not_attached thing is = let of = is_named space.caps thing s is in let e = same_cap _ _ (sym of.there ∙ named) in cc
 
       -- a capfree settles
-      pub capfree_settles : Settles (Capfree s) p space regions sliced Done (credited_part p 1) (without_cap space s) regions sliced
+      pub capfree_settles : Settles (Capfree s) p space regions sliced Done (credited_part p 1) (without_cap space s) regions
       unfolding own_of
       capfree_settles =
           let b = before p space regions sliced sound in
           shrinks p space regions sliced sound (Capfree s) 0 p.spaces RpcObject s named regions (λ q d there. refl) (λ start region there. (there, not_attached region.of))
-          refl refl refl
+          (λ start region there. refl) refl refl same_window
           (ap (λ o. cap_freed s o b) (object_is p space regions sliced sound s ∙ ap (option_and_then (object_of p)) named))

@@ -1,10 +1,9 @@
 -- A script's peeks and pokes.
 use Rattle.std.proofs.Common.{◌≡◌, ℕ, ◌+◌, ◌-◌, ◌≤◌, List, [], length, Option, Some, None, is_some, IsSome, subst, refl, sym, ap, ◌∙◌, slice_range, arith}
 use Rattle.std.specs.Option.{option_map, option_and_then, option_or}
-use Rattle.std.specs.Prelude.{if◌then◌else◌}
+use Rattle.std.specs.Prelude.{◌||◌, if◌then◌else◌}
 use Rattle.std.proofs.lemmas.Bool.Decides.{nat_tests}
-use Rattle.std.specs.List.{find}
-use Rattle.std.specs.FinMap.{get, insert, empty}
+use Rattle.std.specs.FinMap.{get, insert}
 use Rattle.trade_base.specs.declared.refusal.Refusal.{Refusal}
 use Rattle.trade_base.specs.declared.refusal.Refusal.TheVariants.{PageFault}
 use Rattle.own_model.specs.Call.Call.{Peek, Poke}
@@ -12,7 +11,7 @@ use Rattle.own_model.specs.OwnState.Object.{Dataspace as ADataspace}
 use Rattle.own_model.specs.OwnStep.{Outcome, refused, unless, count_refusal, most_bytes, peeked, poked, script_step}
 use Rattle.own_model.specs.NatMap.{NatMap}
 use Rattle.own_model.specs.OwnState.{OwnState}
-use Rattle.own_model.specs.Place.{Place, in_dataspace, in_payload, found}
+use Rattle.own_model.specs.Place.{Place, in_dataspace, in_payload, in_block, found}
 use Rattle.own_model.specs.Sliced.{block_found, holds_in_payload}
 use Rattle.own_model.specs.Region.{resolved}
 use Rattle.own_model.specs.Reply.Reply.{Bytes, Done}
@@ -20,7 +19,7 @@ use Rattle.own_model.proofs.CallLemmas.{peeks, pokes}
 use Rattle.own_model.proofs.RangeLemmas.{range_fits, with_part-within}
 use Rattle.own_model.proofs.RegionLemmas.{resolved_renamed, resolved_facts}
 use Rattle.own_model.proofs.UseLemmas.{length-with_part}
-use Rattle.own_model.proofs.NatMapLemmas.{some_of, entries-empty}
+use Rattle.own_model.proofs.NatMapLemmas.{some_of}
 use Rattle.cap_space.specs.Space.{Space}
 use Rattle.region_map.specs.Regions.{Regions}
 use Rattle.dataspace_core.specs.Store.{Part, bytes_of, part_with_bytes}
@@ -28,13 +27,27 @@ use Rattle.pd_core.specs.Own.{selector_of, regions_of, own_of, range_refusal}
 use Rattle.pd_core.specs.Sound.{IsScript}
 use Rattle.pd_core.proofs.NameLemmas.{Names, is_named}
 use Rattle.pd_core.proofs.OwnLemmas.{Settles, before, has_bytes, names_object, rewrites}
+use Rattle.std.specs.List.{find}
+use Rattle.own_model.proofs.NatMapLemmas.{entries-empty}
+use Rattle.std.specs.FinMap.{empty}
 
 -- what refuses a range refuses a call that looks at the count and then at what is found
-ranges_refused : (b : OwnState) (step : Option (ℕ × ℕ) → Outcome) (rename : ℕ × ℕ → Option (ℕ × ℕ)) → step None ≡ refused b PageFault → (refusal : Refusal) (count : Option Refusal) (o : Option (ℕ × ℕ)) →
-    Some refusal ≡ option_or count (if is_some o then None else Some PageFault) → refused b refusal ≡ unless count b (step (option_and_then rename o))
-ranges_refused b step rename fault refusal (Some r) o is = let e : refusal ≡ r = cc in ap (refused b) e
-ranges_refused b step rename fault refusal None None is = let e : refusal ≡ PageFault = cc in ap (refused b) e ∙ sym fault
-ranges_refused b step rename fault refusal None (Some x) is = cc
+ranges_refused : (b : OwnState) (step : Option Place → Outcome) (rename : ℕ × ℕ → Option (ℕ × ℕ)) → step None ≡ refused b PageFault → (refusal : Refusal) (count : Option Refusal) (region block : Option (ℕ × ℕ)) →
+    Some refusal ≡ option_or count (if is_some region || is_some block then None else Some PageFault) →
+    refused b refusal ≡ unless count b (step (option_or (option_map in_dataspace (option_and_then rename region)) (option_map in_payload block)))
+ranges_refused b step rename fault refusal (Some r) region block is = let e : refusal ≡ r = cc in ap (refused b) e
+ranges_refused b step rename fault refusal None None None is = let e : refusal ≡ PageFault = cc in ap (refused b) e ∙ sym fault
+ranges_refused b step rename fault refusal None None (Some y) is = cc
+ranges_refused b step rename fault refusal None (Some x) block is = cc
+
+-- no payload of no heap holds a range
+none_in_no_block : (address count : ℕ) → block_found empty address count ≡ None
+none_in_no_block address count = ap (λ l. option_map (λ block. (block.0, address - block.0)) (find (holds_in_payload address count) l)) entries-empty
+
+-- what is found in one of two, of which the other has nothing
+or_none : (o : Option Place) → option_or o None ≡ o
+or_none None = refl
+or_none (Some place) = refl
 
 -- a count that isn't refused
 counted : (count other : Option Refusal) → None ≡ option_or count other → count ≡ None
@@ -49,27 +62,27 @@ count_within count h = grind (arith, nat_tests)
 same_bytes : (a b : List ℕ) → Some (ADataspace a) ≡ Some (ADataspace b) → a ≡ b
 same_bytes a b e = cc
 
--- no payload holds a range where there is no block
-pub none_in_no_block : (address count : ℕ) → block_found empty address count ≡ None
-none_in_no_block address count = ap (λ l. option_map (λ block. (block.0, address - block.0)) (find (holds_in_payload address count) l)) entries-empty
-
 module _ (p : Part) (space : Space) (regions : Regions) (sliced : NatMap (List ℕ)) (sound : IsScript p space regions sliced) (address count : ℕ) where
   -- the own state finds a range where the map does, by the selector in place of the key
-  renamed_is : resolved (before p space regions sliced sound).regions address count
+  pub renamed_is : resolved (before p space regions sliced sound).regions address count
       ≡ option_and_then (λ (x : ℕ × ℕ). option_map (λ other. (other, x.1)) (selector_of space.caps x.0)) (resolved regions.user address count)
   unfolding own_of regions_of
   renamed_is = resolved_renamed (selector_of space.caps) regions.user sound.attached address count
 
-  module _ (none : block_found sliced address count ≡ None) (refusal : Refusal) (is : Some refusal ≡ range_refusal regions.user address count) where
+  module _ (refusal : Refusal) (is : Some refusal ≡ range_refusal regions.user sliced address count) where
     -- a call that looks for the range is refused as the range is
     range_refused : (step : Option Place → Outcome) → step None ≡ refused (before p space regions sliced sound) PageFault →
         refused (before p space regions sliced sound) refusal ≡ unless (count_refusal count) (before p space regions sliced sound) (step (found (before p space regions sliced sound) address count))
     unfolding own_of
     range_refused step fault =
         let b = before p space regions sliced sound in
-        let by_region : Option (ℕ × ℕ) → Outcome = λ o. step (option_or (option_map in_dataspace o) (option_map in_payload (block_found sliced address count))) in
-        ranges_refused b by_region _ (ap (λ o. step (option_map in_payload o)) none ∙ fault) refusal (count_refusal count) (resolved regions.user address count) is
-        ∙ ap (λ o. unless (count_refusal count) b (by_region o)) (sym renamed_is)
+        let region = resolved b.regions address count in
+        let payload = option_map in_payload (block_found sliced address count) in
+        ranges_refused b step _ fault refusal (count_refusal count) (resolved regions.user address count) (block_found sliced address count) is
+        ∙ ap (λ o. unless (count_refusal count) b (step (option_or (option_map in_dataspace o) payload))) (sym renamed_is)
+        ∙ ap (λ o. unless (count_refusal count) b (step (option_or (option_map in_dataspace region) o))) (sym (or_none payload))
+        ∙ ap (λ o. unless (count_refusal count) b (step (option_or (option_map in_dataspace region) (option_or payload (option_map in_block o)))))
+        (sym (none_in_no_block address count))
 
     -- so a peek is
     pub peek_refused : refused (before p space regions sliced sound) refusal ≡ script_step (Peek address count) (before p space regions sliced sound)
@@ -81,7 +94,7 @@ module _ (p : Part) (space : Space) (regions : Regions) (sliced : NatMap (List �
         let b = before p space regions sliced sound in
         range_refused (λ o. poked bytes o b) refl ∙ ap (λ n. unless (count_refusal n) b (poked bytes (found b address n) b)) size
 
-  module _ (key offset : ℕ) (accepted : None ≡ range_refusal regions.user address count) (at : resolved regions.user address count ≡ Some (key, offset)) where
+  module _ (accepted : None ≡ range_refusal regions.user sliced address count) where
     -- the range is of as many bytes as can be
     pub few : count_refusal count ≡ None
     few = counted _ _ accepted
@@ -90,6 +103,7 @@ module _ (p : Part) (space : Space) (regions : Regions) (sliced : NatMap (List �
     pub few_bytes : count ≤ most_bytes
     few_bytes = count_within count few
 
+  module _ (key offset : ℕ) (some : count_refusal count ≡ None) (at : resolved regions.user address count ≡ Some (key, offset)) where
     -- a selector names the dataspace that is found
     abbrev selector : (s : ℕ) × (selector_of space.caps key ≡ Some s)
     selector =
@@ -122,13 +136,13 @@ module _ (p : Part) (space : Space) (regions : Regions) (sliced : NatMap (List �
 
     -- a peek tells the bytes of the dataspace
     pub peek_is : record { reply = Bytes (slice_range (bytes_of p key) offset (offset + count)); lines = []; next = before p space regions sliced sound } ≡ script_step (Peek address count) (before p space regions sliced sound)
-    peek_is = sym (peeks (before p space regions sliced sound) address count selector.0 offset (bytes_of p key) few own_found object)
+    peek_is = sym (peeks (before p space regions sliced sound) address count selector.0 offset (bytes_of p key) some own_found object)
 
     -- a poke puts its bytes over those of the dataspace
-    pub poke_settles : (bytes : List ℕ) → count ≡ length bytes → Settles (Poke address bytes) p space regions sliced Done (part_with_bytes p key offset bytes) space regions sliced
+    pub poke_settles : (bytes : List ℕ) → count ≡ length bytes → Settles (Poke address bytes) p space regions sliced Done (part_with_bytes p key offset bytes) space regions
     poke_settles bytes size =
         let b = before p space regions sliced sound in
         let over = with_part-within (bytes_of p key) offset bytes (subst (λ n. offset + n ≤ length (bytes_of p key)) size fits) in
         rewrites p space regions sliced sound (Poke address bytes) key selector.0 _ names (ap length (sym over) ∙ length-with_part (bytes_of p key) offset bytes)
-        (pokes b address selector.0 offset bytes (ADataspace (bytes_of p key)) (ap count_refusal (sym size) ∙ few) (ap (resolved b.regions address) (sym size) ∙ own_found) object
+        (pokes b address selector.0 offset bytes (ADataspace (bytes_of p key)) (ap count_refusal (sym size) ∙ some) (ap (resolved b.regions address) (sym size) ∙ own_found) object
         ∙ ap (λ l. record { reply = Done; lines = []; next = record b { selectors = insert b.selectors selector.0 (ADataspace l) } }) over)

@@ -11,9 +11,10 @@ use Rattle.own_model.specs.Transcript.{nobody, nothing, entry_at, state_at}
 use Rattle.own_model.specs.World.{World, with_state, outcome_at}
 use Rattle.dataspace_core.specs.Store.{Store, part, root_in, account_in, account_of}
 use Rattle.dataspace_core.proofs.PartLaws.{account_of-part}
-use Rattle.pd_core.specs.Component.{entry_of, payer_of, own_in, own, IsSound, IsSoundRole, Keeps}
+use Rattle.pd_core.specs.Component.{entry_of, payer_of, own, IsSound, Keeps}
 use Rattle.pd_core.specs.Core.{world_of, IsCore}
 use Rattle.pd_core.specs.declared.component.Component.{Component}
+use Rattle.pd_core.proofs.ComponentLemmas.{StaysAs, component_stays}
 
 -- the key of a component's account
 abbrev payer_at : List Component → ℕ → Component → ℕ
@@ -65,6 +66,10 @@ module _ (store : Store) (components : List Component) (i : ℕ) (caller : Compo
     other_part k d within differs =
         keeps.others (payer_at components k d) (λ e. payers_differ components core.apart k i d within here differs (e ∙ ap payer_of (caller_is d)))
 
+    -- so the others stay as they are
+    other_stays : (k : ℕ) (d : Component) → k < length components → k ≢ i → StaysAs store (get_or components k d) store'
+    other_stays k d within differs = component_stays store store' (get_or components k d) (core.sound k d within) (other_part k d within differs) keeps.limits
+
     -- each place has the own state from before, and the caller's place the new one
     states_at : (k : ℕ) → k < length components →
         get_or (set (map (own store') components) i (own store' after)) k nothing ≡ get_or (set (map (own store) components) i (own store' after)) k nothing
@@ -75,7 +80,7 @@ module _ (store : Store) (components : List Component) (i : ℕ) (caller : Compo
       | inr differs ↦
           get_or-set_other (map (own store') components) i k (own store' after) nothing differs
           ∙ get_or-map (own store') components k caller nothing within
-          ∙ (let other : Component = get_or components k caller in ap (λ p. own_in p other.role) (other_part k caller within differs))
+          ∙ (other_stays k caller within differs).own
           ∙ sym (get_or-map (own store) components k caller nothing within)
           ∙ sym (get_or-set_other (map (own store) components) i k (own store' after) nothing differs)
     ]
@@ -108,7 +113,7 @@ module _ (store : Store) (components : List Component) (i : ℕ) (caller : Compo
     sound_at k d within = elim (cases_eq k i) [
       | inl at ↦ subst (IsSound store') (sym (get_or-set_at components i k after d at here)) keeps.sound
       | inr differs ↦ subst (IsSound store') (sym (get_or-set_other components i k after d differs))
-          (let other : Component = get_or components k d in subst (λ p. IsSoundRole p other.role) (sym (other_part k d within differs)) (core.sound k d within))
+          (other_stays k d within differs).sound
     ]
 
     -- there are as many components as before

@@ -4,6 +4,7 @@ use Rattle.std.specs.Prelude.{Result, Ok, slice_index}
 use Rattle.std.specs.Option.{option_map, option_and_then, unwrap_or}
 use Rattle.std.proofs.lemmas.Bool.Decides.{nat_tests}
 use Rattle.own_model.specs.Reply.{hex_text}
+use Rattle.own_model.proofs.NatMapLemmas.{some_of}
 use Rattle.own_model.specs.Text.{bytes_of_hex, hex_digit_of}
 use Rattle.pd_core.specs.Call.{bytes_in}
 use Rattle.hex.specs.declared.error.FromHexError.{FromHexError}
@@ -64,14 +65,11 @@ decode_is text bytes is n size =
     let p = pairs 0 text bytes is in
     sized (length text) n (decode_pairs 0 text) _ _ (p.1 ∙ ap (λ k. k * 2) (sym size)) ∙ p.0
 
--- what is there is its value
-value_of : (o : Option (List ℕ)) → IsSome o → o ≡ Some (unwrap_or o [])
-value_of None h = absurd (true≢false (sym h))
-value_of (Some bytes) h = refl
-
 -- the same of the bytes that text stands for
 pub half_is : (text : List ℕ) → IsSome (bytes_of_hex text) → length text / 2 ≡ length (bytes_in text)
-half_is text some = half text (bytes_in text) (value_of (bytes_of_hex text) some)
+half_is text some =
+    let bytes = some_of (bytes_of_hex text) some in
+    half text bytes.0 bytes.1 ∙ ap (λ o. length (unwrap_or o [])) (sym bytes.1)
 
 -- the model's digits are those that are written
 pub hex_text_is : (bytes : List ℕ) → encode_lower bytes ≡ hex_text bytes

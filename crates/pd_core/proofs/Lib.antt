@@ -2,9 +2,12 @@ pub mod HexLemmas
 pub mod SpellingLemmas
 pub mod NameLemmas
 pub mod OwnLemmas
+pub mod ScriptLemmas
+pub mod SlicedLemmas
 pub mod AccountLemmas
 pub mod RegionCallLemmas
 pub mod BytesLemmas
+pub mod PlaceLemmas
 pub mod ComponentLemmas
 pub mod CoreLemmas
 pub mod FreshLemmas

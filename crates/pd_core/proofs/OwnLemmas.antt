@@ -1,25 +1,24 @@
 -- A script's own state when its part of the memory and its tables change.
 use Rattle.std.proofs.Common.{◌≡◌, ℕ, false, ◌+◌, ◌*◌, ◌/◌, ◌≤◌, ◌≢◌, List, [], ◌∷◌, length, Option, Some, None, is_some, IsSome, inl, inr, subst, true≢false, refl, sym, ap, ◌∙◌, arith}
 use Rattle.std.specs.Option.{option_map, option_and_then, unwrap_or}
-use Rattle.std.specs.FinMap.{get, insert, remove, len, empty}
+use Rattle.std.specs.FinMap.{get, insert, remove, len}
 use Rattle.std.specs.Prelude.{Result, IsErrAnd}
 use Rattle.std.proofs.lemmas.Bool.{cases_eq}
 use Rattle.std.proofs.lemmas.Result.{err_from_is_err_and}
 use Rattle.trade_base.specs.declared.id.DsId.{DsId}
-use Rattle.trade_base.specs.declared.id.AccountId.{AccountId}
 use Rattle.trade_base.specs.declared.refusal.Refusal.{Refusal}
-use Rattle.own_model.specs.NatMap.{NatMap, picked}
+use Rattle.own_model.specs.NatMap.{NatMap, picked, total}
 use Rattle.own_model.specs.Account.{charged, credited}
 use Rattle.own_model.specs.Call.{Call}
+use Rattle.own_model.specs.OwnHeap.{no_heap}
 use Rattle.own_model.specs.OwnState.{OwnState, Object, new_selector, pages_in}
 use Rattle.own_model.specs.OwnState.Object.{Dataspace as ADataspace}
-use Rattle.own_model.specs.OwnStep.{Outcome, refused, script_step}
+use Rattle.own_model.specs.OwnStep.{Outcome, refused, script_step, unrouted}
 use Rattle.own_model.specs.Region.{Region}
 use Rattle.own_model.specs.Reply.{Reply}
 use Rattle.own_model.specs.Reply.Reply.{Selected, Done}
-use Rattle.own_model.specs.Use.{object_size}
+use Rattle.own_model.specs.Use.{object_size, object_caps}
 use Rattle.own_model.specs.StartList.{Entry}
-use Rattle.own_model.specs.StartList.Kind.{Script as AScript}
 use Rattle.own_model.proofs.NatMapLemmas.{same, get-insert_same, get-insert_other, get-remove_other, get-picked, picked-insert_some, picked-remove, picked_alike, and_then_alike, after_insert, apart_from_free, none_at, before_remove}
 use Rattle.own_model.proofs.NewSelector.{new_selector_is, new_selector_positive, new_selector_free, new_selector_least}
 use Rattle.own_model.proofs.Totals.{len-insert_new, len-insert_at, len-remove_at, total-insert_new, total-remove, total_at_le}
@@ -32,24 +31,39 @@ use Rattle.cap_space.specs.declared.cap.Cap.TheVariants.{Dataspace, RpcObject, S
 use Rattle.region_map.specs.Regions.{Regions}
 use Rattle.dataspace_core.specs.Store.{Store, Part, part, space_at, account_of, bytes_of, PartBecomes}
 use Rattle.dataspace_core.proofs.PartLaws.{paid_in_part}
+use Rattle.sliced_heap.specs.Laws.{KeepsHeapWindow}
 use Rattle.pd_core.specs.declared.answer.Answer.{Answer}
 use Rattle.pd_core.specs.Answer.{outcome_of}
 use Rattle.pd_core.specs.Own.{object_of, selector_of, regions_of, own_of}
-use Rattle.pd_core.specs.Sound.{rpc_weight, IsOne, AreNamed, IsLawful, IsScript, Keeps}
-use Rattle.pd_core.specs.declared.script.Script.{Script}
+use Rattle.pd_core.specs.Sound.{rpc_weight, IsOne, AreNamed, AreBlocks, IsLawful, IsScript}
 use Rattle.pd_core.proofs.NameLemmas.{Names, is_named, regions_alike, attached_alike}
 
--- what a call makes of a script's part, capabilities and regions: the model's outcome, and a sound script
-pub record Settles (call : Call) (p : Part) (space : Space) (regions : Regions) (sliced : NatMap (List ℕ)) (reply : Reply) (p' : Part) (space' : Space) (regions' : Regions) (sliced' : NatMap (List ℕ)) : Type 0 where
+-- what a call leaves to the sliced blocks: the heap window, the limit of RAM, and what their dataspaces hold
+pub record Spares (p p' : Part) (regions regions' : Regions) : Type 0 where
+  pub window : KeepsHeapWindow regions regions'
+  pub limit : (account_of p').ram_limit ≡ (account_of p).ram_limit
+  pub bytes : (start : ℕ) (region : Region) → get regions.heap start ≡ Some region → get p'.spaces region.of ≡ get p.spaces region.of
+
+-- what a call makes of a script's part, capabilities, regions and sliced blocks: the model's outcome, and a sound script
+pub record Makes (call : Call) (p : Part) (space : Space) (regions : Regions) (sliced : NatMap (List ℕ)) (reply : Reply) (p' : Part) (space' : Space) (regions' : Regions) (sliced' : NatMap (List ℕ)) : Type 0 where
   pub outcome : ◌≡◌ {A = Outcome} (record { reply = reply; lines = []; next = own_of p' space'.caps regions'.user sliced' }) (script_step call (own_of p space.caps regions.user sliced))
   pub script : IsScript p' space' regions' sliced'
 
+-- the same of a call that leaves the sliced blocks
+pub record Settles (call : Call) (p : Part) (space : Space) (regions : Regions) (sliced : NatMap (List ℕ)) (reply : Reply) (p' : Part) (space' : Space) (regions' : Regions) : Type 0 where
+  pub makes : Makes call p space regions sliced reply p' space' regions' sliced
+  pub spares : Spares p p' regions regions'
+
 -- the same of what they are equal to
-pub settled : {call : Call} {p q p' : Part} {space t space' : Space} {regions r regions' : Regions} {sliced sliced' : NatMap (List ℕ)} {reply : Reply} → q ≡ p' → t ≡ space' → r ≡ regions' →
-    Settles call p space regions sliced reply p' space' regions' sliced' → Settles call p space regions sliced reply q t r sliced'
-settled {call} {p} {q} {p'} {space} {t} {space'} {regions} {r} {sliced = sliced} {sliced'} {reply} part caps map done =
-    subst (λ x. Settles call p space regions sliced reply x t r sliced') (sym part)
-    (subst (λ x. Settles call p space regions sliced reply p' x r sliced') (sym caps) (subst (λ x. Settles call p space regions sliced reply p' space' x sliced') (sym map) done))
+pub settled : {call : Call} {p q p' : Part} {space t space' : Space} {regions r regions' : Regions} {sliced : NatMap (List ℕ)} {reply : Reply} → q ≡ p' → t ≡ space' → r ≡ regions' →
+    Settles call p space regions sliced reply p' space' regions' → Settles call p space regions sliced reply q t r
+settled {call} {p} {q} {p'} {space} {t} {space'} {regions} {r} {sliced = sliced} {reply} part caps map done =
+    subst (λ x. Settles call p space regions sliced reply x t r) (sym part)
+    (subst (λ x. Settles call p space regions sliced reply p' x r) (sym caps) (subst (λ x. Settles call p space regions sliced reply p' space' x) (sym map) done))
+
+-- a map that stays
+pub same_window : {regions : Regions} → KeepsHeapWindow regions regions
+same_window = record { heap = refl; tags = refl; most = refl; pages = refl }
 
 -- what a refused call gives back and leaves
 pub refused_told : (answered : Result Answer Refusal) {refusal : Refusal} {next b : OwnState} → IsErrAnd answered (λ y. y ≡ refusal) → next ≡ b → outcome_of answered next ≡ refused b refusal
@@ -121,7 +135,7 @@ module _ (p : Part) (space : Space) (regions : Regions) (sliced : NatMap (List �
     -- what the call makes of the own state is lawful, as it was before
     pub kept : (o : Outcome) → o ≡ script_step call before → IsLawful o.next
     unfolding own_of
-    kept o is = let entry : Entry = record { name = []; kind = AScript } in subst (λ (x : Outcome). IsLawful x.next) (sym is) (record {
+    kept o is = let entry : Entry = unrouted in subst (λ (x : Outcome). IsLawful x.next) (sym is) (record {
       sound = step_sound entry call before sound.lawful.sound;
       uses = run_uses entry (call ∷ []) before sound.lawful.uses;
       within = step_within entry call before sound.lawful.within;
@@ -170,6 +184,13 @@ module _ (p : Part) (space : Space) (regions : Regions) (sliced : NatMap (List �
           | inr old ↦ ap is_some (object_stays q c old.1) ∙ sound.named.there q c old.1
         ]
 
+        -- the new selector names no block, and neither does another
+        grown_unnamed : (start q : ℕ) (region : Region) (ds : DsId) → get regions.heap start ≡ Some region → get (insert space.caps s cap) q ≡ Some (Dataspace ds) → ds.0 ≢ region.of
+        grown_unnamed start q region ds there names = elim (after_insert space.caps s cap q (Dataspace ds) names) [
+          | inl here ↦ λ e. apart_from_free p.spaces ds.0 region.of (fresh ds (sym here.1)) (sound.blocks.held start region there) (sym e)
+          | inr old ↦ sound.blocks.unnamed start q region ds there old.1
+        ]
+
         -- the selector of a region's dataspace names what it did
         named_apart : (q start : ℕ) (region : Region) → get regions.user start ≡ Some region → selector_of space.caps region.of ≡ Some q → get (insert space.caps s cap) q ≡ get space.caps q
         named_apart q start region there names =
@@ -184,39 +205,42 @@ module _ (p : Part) (space : Space) (regions : Regions) (sliced : NatMap (List �
             ∙ ap (λ m. insert m s object) (picked_alike (object_of charged_part) (object_of p) space.caps object_stays)
             ∙ ap (λ k. insert (picked (object_of p) space.caps) k object) (least ∙ sym same_new_selector) in
             let attached = regions_alike space.caps (insert space.caps s cap) regions.user grown_one sound.attached named_apart in
-            λ i. record { account = charged (account_of p) n 1; selectors = names i; regions = attached i; sliced = sliced; gone = false }
+            λ i. record { account = charged (account_of p) n 1; selectors = names i; regions = attached i; heap = no_heap; sliced = sliced; gone = false }
 
         -- so a call that does this settles
         pub grows : script_step call before ≡ record {
           reply = Selected (new_selector before.selectors);
           lines = [];
           next = record before { account = charged before.account n 1; selectors = insert before.selectors (new_selector before.selectors) object };
-        } → Settles call p space regions sliced (Selected s) charged_part (with_cap space s cap) regions sliced
+        } → Settles call p space regions sliced (Selected s) charged_part (with_cap space s cap) regions
         grows is =
             let outcome : ◌≡◌ {A = Outcome} (record { reply = Selected s; lines = []; next = own_of charged_part (insert space.caps s cap) regions.user sliced }) (script_step call before)
-            = (λ i. record { reply = Selected ((least ∙ sym same_new_selector) i); lines = []; next = grown_own i }) ∙ sym is in record {
-              outcome = outcome;
-              script = record {
-                named = record { there = grown_there; one = grown_one };
-                paid = record {
-                  is_open = refl;
-                  named = omega (arith, len-insert_new space.caps s cap free_selector, sound.paid.named);
-                  spare = omega (arith, counts, sound.paid.spare, total-insert_new rpc_weight space.caps s cap free_selector);
-                  placed = sound.paid.placed;
-                };
-                ram = sound.ram;
-                attached = attached_alike space.caps (insert space.caps s cap) regions.user grown_one sound.attached named_apart;
-                most = sound.most;
-                lawful = kept _ outcome;
+            = (λ i. record { reply = Selected ((least ∙ sym same_new_selector) i); lines = []; next = grown_own i }) ∙ sym is in
+            let bytes : (start : ℕ) (region : Region) → get regions.heap start ≡ Some region → get spaces region.of ≡ get p.spaces region.of
+            = (λ start region there. still region.of (sound.blocks.held start region there)) in
+            let script : IsScript charged_part (with_cap space s cap) regions sliced = record {
+              named = record { there = grown_there; one = grown_one };
+              paid = record {
+                is_open = refl;
+                named = omega (arith, len-insert_new space.caps s cap free_selector, sound.paid.named);
+                spare = omega (arith, counts, sound.paid.spare, total-insert_new rpc_weight space.caps s cap free_selector);
+                placed = sound.paid.placed;
               };
-            }
+              ram = sound.ram;
+              attached = attached_alike space.caps (insert space.caps s cap) regions.user grown_one sound.attached named_apart;
+              most = sound.most;
+              blocks = record { held = λ start region there. ap is_some (bytes start region there) ∙ sound.blocks.held start region there; unnamed = grown_unnamed };
+              lawful = kept _ outcome;
+            } in
+            record { makes = record { outcome = outcome; script = script }; spares = record { window = same_window; limit = refl; bytes = bytes } }
 
     -- ---- a capability that goes
 
     module _ (n : ℕ) (spaces : NatMap (List ℕ)) (cap : Cap) (s : ℕ) (there : get space.caps s ≡ Some cap) (regions' : Regions)
         (still : (q : ℕ) (ds : DsId) → get (remove space.caps s) q ≡ Some (Dataspace ds) → get spaces ds.0 ≡ get p.spaces ds.0)
         (left : (start : ℕ) (region : Region) → get regions'.user start ≡ Some region → (get regions.user start ≡ Some region) × (selector_of space.caps region.of ≢ Some s))
-        (counts : len spaces + 1 ≡ len p.spaces + rpc_weight cap) (most : regions'.most ≡ regions.most) (pages : regions'.pages ≡ regions.pages) where
+        (spared : (start : ℕ) (region : Region) → get regions.heap start ≡ Some region → get spaces region.of ≡ get p.spaces region.of)
+        (counts : len spaces + 1 ≡ len p.spaces + rpc_weight cap) (most : regions'.most ≡ regions.most) (window : KeepsHeapWindow regions regions') where
       -- the part with the credit, and these dataspaces
       abbrev pub credited_part : Part
       credited_part = record { account = Some (credited (account_of p) n 1); spaces = spaces }
@@ -244,49 +268,56 @@ module _ (p : Part) (space : Space) (regions : Regions) (sliced : NatMap (List �
       shrunk_own =
           let names = picked_alike (object_of credited_part) (object_of p) (remove space.caps s) object_left ∙ picked-remove (object_of p) space.caps s in
           let attached = regions_alike space.caps (remove space.caps s) regions'.user shrunk_one left_named left_apart in
-          λ i. record { account = credited (account_of p) n 1; selectors = names i; regions = attached i; sliced = sliced; gone = false }
+          λ i. record { account = credited (account_of p) n 1; selectors = names i; regions = attached i; heap = no_heap; sliced = sliced; gone = false }
 
       -- so a call that does this settles
       pub shrinks : script_step call before ≡ record {
         reply = Done;
         lines = [];
         next = record before { account = credited before.account n 1; selectors = remove before.selectors s; regions = regions_of space.caps regions'.user };
-      } → Settles call p space regions sliced Done credited_part (without_cap space s) regions' sliced
+      } → Settles call p space regions sliced Done credited_part (without_cap space s) regions'
       shrinks is =
           let outcome : ◌≡◌ {A = Outcome} (record { reply = Done; lines = []; next = own_of credited_part (remove space.caps s) regions'.user sliced }) (script_step call before)
           = (λ i. record { reply = Done; lines = []; next = shrunk_own i }) ∙ sym is in
-          let shorter = len-remove_at space.caps s cap there in record {
-            outcome = outcome;
-            script = record {
-              named = record { there = λ q c here. ap is_some (object_left q c here) ∙ sound.named.there q c (before_remove space.caps s q c here); one = shrunk_one };
-              paid = record {
-                is_open = refl;
-                named = omega (arith, shorter, sound.paid.named);
-                spare = omega (arith, counts, sound.paid.spare, total-remove rpc_weight space.caps s cap there);
-                placed = sound.paid.placed;
-              };
-              ram = rw pages sound.ram;
-              attached = attached_alike space.caps (remove space.caps s) regions'.user shrunk_one left_named left_apart;
-              most = most ∙ sound.most;
-              lawful = kept _ outcome;
+          let shorter = len-remove_at space.caps s cap there in
+          let script : IsScript credited_part (without_cap space s) regions' sliced = record {
+            named = record { there = λ q c here. ap is_some (object_left q c here) ∙ sound.named.there q c (before_remove space.caps s q c here); one = shrunk_one };
+            paid = record {
+              is_open = refl;
+              named = omega (arith, shorter, sound.paid.named);
+              spare = omega (arith, counts, sound.paid.spare, total-remove rpc_weight space.caps s cap there);
+              placed = sound.paid.placed;
             };
-          }
+            ram = rw window.pages sound.ram;
+            attached = attached_alike space.caps (remove space.caps s) regions'.user shrunk_one left_named left_apart;
+            most = most ∙ sound.most;
+            blocks = rw window.heap (record {
+              held = λ start region here. ap is_some (spared start region here) ∙ sound.blocks.held start region here;
+              unnamed = λ start q region ds here names. sound.blocks.unnamed start q region ds here (before_remove space.caps s q (Dataspace ds) names);
+            });
+            lawful = kept _ outcome;
+          } in
+          record { makes = record { outcome = outcome; script = script }; spares = record { window = window; limit = refl; bytes = spared } }
 
     -- ---- other regions
 
     -- a call that changes the regions settles, if selectors name their dataspaces
-    pub remaps : (regions' : Regions) (reply : Reply) → regions'.most ≡ regions.most → regions'.pages ≡ regions.pages → AreNamed space.caps regions'.user →
-        ◌≡◌ {A = Outcome} (record { reply = reply; lines = []; next = own_of p space.caps regions'.user sliced }) (script_step call before) → Settles call p space regions sliced reply p space regions' sliced
-    remaps regions' reply most pages attached is = record {
-      outcome = is;
-      script = record {
-        named = sound.named;
-        paid = sound.paid;
-        ram = rw pages sound.ram;
-        attached = attached;
-        most = most ∙ sound.most;
-        lawful = kept _ is;
+    pub remaps : (regions' : Regions) (reply : Reply) → regions'.most ≡ regions.most → KeepsHeapWindow regions regions' → AreNamed space.caps regions'.user →
+        ◌≡◌ {A = Outcome} (record { reply = reply; lines = []; next = own_of p space.caps regions'.user sliced }) (script_step call before) → Settles call p space regions sliced reply p space regions'
+    remaps regions' reply most window attached is = record {
+      makes = record {
+        outcome = is;
+        script = record {
+          named = sound.named;
+          paid = sound.paid;
+          ram = rw window.pages sound.ram;
+          attached = attached;
+          most = most ∙ sound.most;
+          blocks = rw window.heap sound.blocks;
+          lawful = kept _ is;
+        };
       };
+      spares = record { window = window; limit = refl; bytes = λ start region there. refl };
     }
 
     -- ---- other bytes
@@ -328,39 +359,69 @@ module _ (p : Part) (space : Space) (regions : Regions) (sliced : NatMap (List �
 
       -- so a call that does this settles
       pub rewrites : script_step call before ≡ record { reply = Done; lines = []; next = record before { selectors = insert before.selectors s (ADataspace over) } } →
-          Settles call p space regions sliced Done written space regions sliced
+          Settles call p space regions sliced Done written space regions
       unfolding own_of
       rewrites is =
           let selectors = same _ _ written_at in
           let outcome : ◌≡◌ {A = Outcome} (record { reply = Done; lines = []; next = own_of written space.caps regions.user sliced }) (script_step call before)
-          = (λ i. record { reply = Done; lines = []; next = record before { selectors = selectors i } }) ∙ sym is in record {
+          = (λ i. record { reply = Done; lines = []; next = record before { selectors = selectors i } }) ∙ sym is in
+          let bytes : (start : ℕ) (region : Region) → get regions.heap start ≡ Some region → get written.spaces region.of ≡ get p.spaces region.of
+          = (λ start region there. get-insert_other p.spaces key over region.of (λ e. sound.blocks.unnamed start s region names.ds there names.there (names.same ∙ sym e))) in
+          let script : IsScript written space regions sliced = record {
+            named = record { there = written_there; one = sound.named.one };
+            paid = record {
+              is_open = sound.paid.is_open;
+              named = sound.paid.named;
+              spare = omega (arith, sound.paid.spare, len-insert_at p.spaces key over (bytes_of p key) has);
+              placed = sound.paid.placed;
+            };
+            ram = sound.ram;
+            attached = sound.attached;
+            most = sound.most;
+            blocks = record { held = λ start region there. ap is_some (bytes start region there) ∙ sound.blocks.held start region there; unnamed = sound.blocks.unnamed };
+            lawful = kept _ outcome;
+          } in
+          record { makes = record { outcome = outcome; script = script }; spares = record { window = same_window; limit = refl; bytes = bytes } }
+
+    -- ---- other sliced blocks
+
+    module _ (p' : Part) (regions' : Regions) (sliced' : NatMap (List ℕ)) (reply : Reply)
+        (still : (q : ℕ) (ds : DsId) → get space.caps q ≡ Some (Dataspace ds) → get p'.spaces ds.0 ≡ get p.spaces ds.0)
+        (user : regions'.user ≡ regions.user) (most : regions'.most ≡ regions.most) (pages : regions'.pages ≡ regions.pages)
+        (is_open : IsSome p'.account) (ram_limit : (account_of p').ram_limit ≡ (account_of p).ram_limit) (caps_limit : (account_of p').caps_limit ≡ (account_of p).caps_limit)
+        (spare : len p'.spaces + total rpc_weight space.caps ≤ (account_of p').caps_used) (blocks : AreBlocks p' space.caps regions'.heap) where
+      -- what is named keeps its object
+      object_kept : (q : ℕ) (c : Cap) → get space.caps q ≡ Some c → object_of p' c ≡ object_of p c
+      object_kept q c there = object_alike p p' c (λ ds is. still q ds (there ∙ ap (λ x. Some x) is))
+
+      -- a call that changes the account and the sliced blocks alone settles
+      pub slices : script_step call before ≡ record { reply = reply; lines = []; next = record before { account = account_of p'; sliced = sliced' } } →
+          Makes call p space regions sliced reply p' space regions' sliced'
+      unfolding own_of
+      slices is =
+          let selectors = picked_alike (object_of p') (object_of p) space.caps object_kept in
+          let attached = ap (regions_of space.caps) user in
+          let outcome : ◌≡◌ {A = Outcome} (record { reply = reply; lines = []; next = own_of p' space.caps regions'.user sliced' }) (script_step call before)
+          = (λ i. record { reply = reply; lines = []; next = record { account = account_of p'; selectors = selectors i; regions = attached i; heap = no_heap; sliced = sliced'; gone = false } }) ∙ sym is in
+          let lawful = kept _ outcome in record {
             outcome = outcome;
             script = record {
-              named = record { there = written_there; one = sound.named.one };
+              named = record { there = λ q c there. ap is_some (object_kept q c there) ∙ sound.named.there q c there; one = sound.named.one };
               paid = record {
-                is_open = sound.paid.is_open;
-                named = sound.paid.named;
-                spare = omega (arith, sound.paid.spare, len-insert_at p.spaces key over (bytes_of p key) has);
-                placed = sound.paid.placed;
+                is_open = is_open;
+                named = omega (arith, lawful.uses.caps, sound.lawful.uses.caps, ap (total object_caps) selectors, sound.paid.named);
+                spare = spare;
+                placed = omega (arith, caps_limit, sound.paid.placed);
               };
-              ram = sound.ram;
-              attached = sound.attached;
-              most = sound.most;
-              lawful = kept _ outcome;
+              ram = rw (ram_limit, pages) sound.ram;
+              attached = rw user sound.attached;
+              most = most ∙ sound.most;
+              blocks = blocks;
+              lawful = lawful;
             };
           }
 
 -- ---- over the memory
-
--- what a call that settles keeps
-pub keeps : {call : Call} {store store' : Store} {p' : Part} {script script' : Script} {reply : Reply} → PartBecomes script.account.0 p' store store' → script'.account ≡ script.account →
-    Settles call (part script.account.0 store) script.caps script.regions empty reply (part script.account.0 store') script'.caps script'.regions empty → Keeps store script store' script'
-keeps {store' = store'} {script' = script'} becomes same done = record {
-  sound = subst (λ (a : AccountId). IsScript (part a.0 store') script'.caps script'.regions empty) (sym same) done.script;
-  account = same;
-  root = becomes.root;
-  others = becomes.others;
-}
 
 -- what the payer's part becomes is what its account's part becomes
 pub for_payer : {payer account : ℕ} {old new : Store} (change : Part → Part) → payer ≡ account → PartBecomes payer (change (part payer old)) old new → PartBecomes account (change (part account old)) old new

@@ -1,29 +1,48 @@
 -- A script's calls on its regions.
 use Rattle.std.proofs.Common.{◌≡◌, ℕ, ◌≤◌, List, [], Some, None, is_some, refl, sym, ap, subst, ◌∙◌, arith, inl, inr}
-use Rattle.std.specs.Prelude.{Err}
+use Rattle.std.specs.Prelude.{Ok, Err, Option}
 use Rattle.std.specs.Option.{unwrap_or}
 use Rattle.std.specs.FinMap.{get}
 use Rattle.trade_base.specs.declared.id.DsId.{DsId}
 use Rattle.trade_base.specs.declared.refusal.Refusal.{Refusal}
+use Rattle.trade_base.specs.declared.refusal.Refusal.TheVariants.{InvalidCap}
 use Rattle.own_model.specs.Call.{Call}
 use Rattle.own_model.specs.Call.Call.{Attach, AttachAt, Detach}
 use Rattle.own_model.specs.NatMap.{NatMap}
-use Rattle.own_model.specs.OwnState.{pages_in}
-use Rattle.own_model.specs.OwnStep.{refused, unless, attached_first, attached_at, with_region, region_detached, script_step}
+use Rattle.own_model.specs.OwnState.{Object, pages_in}
+use Rattle.own_model.specs.OwnState.Object.{RpcObject}
+use Rattle.own_model.specs.OwnStep.{Outcome, refused, unless, attached_first, attached_at, with_region, region_detached, script_step}
 use Rattle.own_model.specs.Region.{Region, user_low, user_high, first_gap, user_gap, attach_refusal, attach_at_refusal, detach_refusal, most_regions}
 use Rattle.own_model.specs.Reply.Reply.{Attached, Done}
 use Rattle.own_model.specs.Sound.{IsPages}
 use Rattle.own_model.proofs.NatMapLemmas.{after_insert, before_remove}
 use Rattle.own_model.proofs.RegionLemmas.{AreAlike, AreAlike-renamed, attach_refusal_alike, attach_at_refusal_alike, detach_refusal_alike, first_gap_alike, renamed-insert, renamed-remove}
-use Rattle.cap_space.specs.Space.{Space}
-use Rattle.cap_space.specs.declared.cap.Cap.TheVariants.{Dataspace}
+use Rattle.cap_space.specs.Space.{Space, dataspace_of}
+use Rattle.cap_space.specs.declared.cap.Cap.{Cap}
+use Rattle.cap_space.specs.declared.cap.Cap.TheVariants.{Dataspace, RpcObject as AnRpcCap, Session}
 use Rattle.region_map.specs.Regions.{Regions, attached, detached}
 use Rattle.dataspace_core.specs.Store.{Part, bytes_of}
-use Rattle.pd_core.specs.Own.{selector_of, regions_of, own_of, dataspace_at}
+use Rattle.pd_core.specs.Own.{selector_of, regions_of, own_of, sized_at}
 use Rattle.pd_core.specs.Sound.{AreNamed, IsScript}
 use Rattle.pd_core.proofs.NameLemmas.{named_is}
 use Rattle.pd_core.proofs.OwnLemmas.{Settles, before, object_is, few_bytes, names_object, remaps}
 use Rattle.pd_core.proofs.AccountLemmas.{refuses}
+
+-- what a look-up finds, with its pages
+found_dataspace : (p : Part) (o : Option Cap) (found : DsId × ℕ) → Ok found ≡ sized_at p o → (o ≡ Some (Dataspace found.0)) × (found.1 ≡ pages_in (bytes_of p found.0.0))
+found_dataspace p None found h = cc
+found_dataspace p (Some (Dataspace d)) found h =
+    let same : found ≡ (d, pages_in (bytes_of p d.0)) = cc in
+    (ap (λ (f : DsId × ℕ). Some (Dataspace f.0)) (sym same), ap (λ (f : DsId × ℕ). f.1) same ∙ ap (λ (f : DsId × ℕ). pages_in (bytes_of p f.0.0)) (sym same))
+found_dataspace p (Some AnRpcCap) found h = cc
+found_dataspace p (Some (Session server session)) found h = cc
+
+-- what a look-up finds nothing for names no dataspace
+unsized : (p : Part) (o : Option Cap) (refusal : Refusal) → Err refusal ≡ sized_at p o → (refusal ≡ InvalidCap) × (dataspace_of o ≡ None)
+unsized p None refusal h = (cc, refl)
+unsized p (Some (Dataspace d)) refusal h = cc
+unsized p (Some AnRpcCap) refusal h = (cc, refl)
+unsized p (Some (Session server session)) refusal h = (cc, refl)
 
 module _ (p : Part) (space : Space) (regions : Regions) (sliced : NatMap (List ℕ)) (sound : IsScript p space regions sliced) where
   -- the own state's regions have the starts and pages of the map's
@@ -33,20 +52,39 @@ module _ (p : Part) (space : Space) (regions : Regions) (sliced : NatMap (List �
 
   -- ---- attach
 
-  module _ (s : ℕ) (refusal : Refusal) (none : Err refusal ≡ dataspace_at (get space.caps s)) where
-    -- an attach of what is no dataspace is refused
+  module _ (s : ℕ) (refusal : Refusal) (none : Err refusal ≡ sized_at p (get space.caps s)) where
+    -- a call that attaches what is no dataspace is refused
+    unnamed : (step : Option Object → Outcome) → step None ≡ refused (before p space regions sliced sound) InvalidCap → step (Some RpcObject) ≡ refused (before p space regions sliced sound) InvalidCap →
+        refused (before p space regions sliced sound) refusal ≡ step (get (before p space regions sliced sound).selectors s)
+    unnamed step nothing rpc =
+        let b = before p space regions sliced sound in
+        let un = unsized p (get space.caps s) refusal none in
+        ap (refused b) un.0 ∙ refuses step b nothing rpc p (get space.caps s) un.1 ∙ ap step (sym (object_is p space regions sliced sound s))
+
+    -- so an attach is
     pub attach_unnamed : refused (before p space regions sliced sound) refusal ≡ script_step (Attach s) (before p space regions sliced sound)
-    attach_unnamed =
-        let b = before p space regions sliced sound in
-        refuses (λ o. attached_first s o b) b refl refl p refusal (get space.caps s) none ∙ ap (λ o. attached_first s o b) (sym (object_is p space regions sliced sound s))
+    attach_unnamed = let b = before p space regions sliced sound in unnamed (λ o. attached_first s o b) refl refl
 
-    -- so is one at an address
+    -- and so is one at an address
     pub attach_at_unnamed : (address : ℕ) → refused (before p space regions sliced sound) refusal ≡ script_step (AttachAt s address) (before p space regions sliced sound)
-    attach_at_unnamed address =
-        let b = before p space regions sliced sound in
-        refuses (λ o. attached_at s address o b) b refl refl p refusal (get space.caps s) none ∙ ap (λ o. attached_at s address o b) (sym (object_is p space regions sliced sound s))
+    attach_at_unnamed address = let b = before p space regions sliced sound in unnamed (λ o. attached_at s address o b) refl refl
 
-  module _ (s : ℕ) (ds : DsId) (named : get space.caps s ≡ Some (Dataspace ds)) (pages : ℕ) (size : pages ≡ pages_in (bytes_of p ds.0)) where
+  module _ (s : ℕ) (found : DsId × ℕ) (is : Ok found ≡ sized_at p (get space.caps s)) where
+    -- the dataspace and its pages
+    abbrev ds : DsId
+    ds = found.0
+
+    abbrev pages : ℕ
+    pages = found.1
+
+    -- the selector names it
+    named : get space.caps s ≡ Some (Dataspace ds)
+    named = (found_dataspace p (get space.caps s) found is).0
+
+    -- its pages are those of its bytes
+    size : pages ≡ pages_in (bytes_of p ds.0)
+    size = (found_dataspace p (get space.caps s) found is).1
+
     -- what is attached is pages
     whole : IsPages (bytes_of p ds.0)
     whole = sound.lawful.sound.whole s (bytes_of p ds.0) (names_object p space regions sliced sound s ds named)
@@ -99,17 +137,17 @@ module _ (p : Part) (space : Space) (regions : Regions) (sliced : NatMap (List �
 
     -- a call that attaches the pages settles
     attaches : (call : Call) (address : ℕ) → script_step call (before p space regions sliced sound) ≡ with_region s pages address (before p space regions sliced sound) →
-        Settles call p space regions sliced (Attached address) p space (attached regions ds.0 pages address) sliced
+        Settles call p space regions sliced (Attached address) p space (attached regions ds.0 pages address)
     unfolding own_of regions_of
     attaches call address is =
         let b = before p space regions sliced sound in
         let more = renamed-insert (selector_of space.caps) regions.user address ds.0 pages s (named_is space.caps sound.named.one s ds named) in
-        remaps p space regions sliced sound call (attached regions ds.0 pages address) (Attached address) refl refl (attached_more address)
+        remaps p space regions sliced sound call (attached regions ds.0 pages address) (Attached address) refl (record { heap = refl; tags = refl; most = refl; pages = refl }) (attached_more address)
         ((λ i. record { reply = Attached address; lines = []; next = record b { regions = more i } }) ∙ sym is)
 
     -- an attach settles
     pub attach_settles : (address : ℕ) → None ≡ attach_refusal regions.most regions.user pages → first_gap user_low user_high regions.user pages ≡ Some address →
-        Settles (Attach s) p space regions sliced (Attached address) p space (attached regions ds.0 pages address) sliced
+        Settles (Attach s) p space regions sliced (Attached address) p space (attached regions ds.0 pages address)
     attach_settles address accepted gap =
         let b = before p space regions sliced sound in
         attaches (Attach s) address (first_is ∙ ap (λ r. unless r b (with_region s pages (unwrap_or (first_gap user_low user_high regions.user pages) 0) b)) (sym accepted)
@@ -117,10 +155,10 @@ module _ (p : Part) (space : Space) (regions : Regions) (sliced : NatMap (List �
 
     -- so does one at an address
     pub attach_at_settles : (address told : ℕ) → told ≡ address → None ≡ attach_at_refusal regions.most regions.user pages address →
-        Settles (AttachAt s address) p space regions sliced (Attached told) p space (attached regions ds.0 pages address) sliced
+        Settles (AttachAt s address) p space regions sliced (Attached told) p space (attached regions ds.0 pages address)
     attach_at_settles address told same accepted =
         let b = before p space regions sliced sound in
-        subst (λ a. Settles (AttachAt s address) p space regions sliced (Attached a) p space (attached regions ds.0 pages address) sliced) (sym same)
+        subst (λ a. Settles (AttachAt s address) p space regions sliced (Attached a) p space (attached regions ds.0 pages address)) (sym same)
         (attaches (AttachAt s address) address (place_is address ∙ ap (λ r. unless r b (with_region s pages address b)) (sym accepted)))
 
   -- ---- detach
@@ -135,11 +173,11 @@ module _ (p : Part) (space : Space) (regions : Regions) (sliced : NatMap (List �
     detach_refused refusal is = let b = before p space regions sliced sound in ap (λ r. unless r b (region_detached address b)) is ∙ sym detach_is
 
     -- a detach settles
-    pub detach_settles : None ≡ detach_refusal regions.user address → Settles (Detach address) p space regions sliced Done p space (detached regions address) sliced
+    pub detach_settles : None ≡ detach_refusal regions.user address → Settles (Detach address) p space regions sliced Done p space (detached regions address)
     unfolding own_of regions_of
     detach_settles accepted =
         let b = before p space regions sliced sound in
         let less = renamed-remove (selector_of space.caps) regions.user address in
-        remaps p space regions sliced sound (Detach address) (detached regions address) Done refl refl
+        remaps p space regions sliced sound (Detach address) (detached regions address) Done refl (record { heap = refl; tags = refl; most = refl; pages = refl })
         (λ start region there. sound.attached start region (before_remove regions.user address start region there))
         ((λ i. record { reply = Done; lines = []; next = record b { regions = less i } }) ∙ sym (detach_is ∙ ap (λ r. unless r b (region_detached address b)) (sym accepted)))

@@ -21,11 +21,6 @@ room_after (suc k) rest some small =
     let e : suc k - 1 ≡ k = omega arith in
     rw e less
 
--- while digits are left, there is room for them
-pub some_after : (start rest : ℕ) → rest < 16 ^ start → (rest ≡ 0 → ⊥) → 0 < start
-some_after zero rest small more = absurd (more (omega arith))
-some_after (suc k) rest small more = omega arith
-
 -- the last digit goes before those that are written, and then the others if there are any
 step : (fuel n : ℕ) (written : List ℕ) (t : Bool) → 0 < fuel → eqb (n / 16) 0 ≡ t →
     digits_onto fuel 16 false n written ≡ cond t (digit_glyph false (n % 16) ∷ written) (digits_onto (fuel - 1) 16 false (n / 16) (digit_glyph false (n % 16) ∷ written))

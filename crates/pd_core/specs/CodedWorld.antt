@@ -1,33 +1,40 @@
 -- How a world is stored as a model's value.
-use Rattle.std.specs.Prelude.{◌≡◌, ℕ, Bool, true, false, List, Option, Some, None}
-use Rattle.std.proofs.Common.{refl}
-use Rattle.std.specs.Coded.{Coded, code_by, coded×, coded_ℕ, coded_bool, coded_list, coded_option}
+use Rattle.std.specs.Prelude.{◌≡◌, ℕ, Bool, true, false, List, Option, Some, None, ◌⊎◌}
+use Rattle.std.proofs.Common.{refl, inl, inr}
+use Rattle.std.specs.Coded.{Coded, code_by, coded×, coded_ℕ, coded_bool, coded_list, coded_option, coded⊎}
 use Rattle.std.specs.FinMap as map
 use Rattle.own_model.specs.NatMap.{NatMap}
 use Rattle.own_model.specs.Account.{Account, coded_account}
+use Rattle.own_model.specs.OwnHeap.{OwnHeap, coded_heap}
 use Rattle.own_model.specs.OwnState.{OwnState, Object}
-use Rattle.own_model.specs.OwnState.Object.{Dataspace, RpcObject}
+use Rattle.own_model.specs.OwnState.Object.{Dataspace, RpcObject, OpenSession}
+use Rattle.own_model.specs.CodedSession.{coded_rule, coded_session}
+use Rattle.own_model.specs.Routes.{Rule}
+use Rattle.own_model.specs.Session.{Session}
 use Rattle.own_model.specs.StartList.{Entry, Kind}
 use Rattle.own_model.specs.StartList.Kind.{Script, Server}
 use Rattle.own_model.specs.World.{World}
 use Rattle.own_model.specs.Region.{Region}
 use Rattle.region_map.specs.Regions.{coded_region}
 
--- an object is stored as its bytes, if it has any
-abbrev pub object_bytes : Object → Option (List ℕ)
-object_bytes (Dataspace bytes) = Some bytes
-object_bytes RpcObject = None
+-- an object is stored as its bytes, if it has any, or as a session
+abbrev pub object_parts : Object → Option (List ℕ) ⊎ Session
+object_parts (Dataspace bytes) = inl (Some bytes)
+object_parts RpcObject = inl None
+object_parts (OpenSession session) = inr session
 
-abbrev pub object_from : Option (List ℕ) → Object
-object_from (Some bytes) = Dataspace bytes
-object_from None = RpcObject
+abbrev pub object_from : Option (List ℕ) ⊎ Session → Object
+object_from (inl (Some bytes)) = Dataspace bytes
+object_from (inl None) = RpcObject
+object_from (inr session) = OpenSession session
 
-abbrev pub object_back : (o : Object) → object_from (object_bytes o) ≡ o
+abbrev pub object_back : (o : Object) → object_from (object_parts o) ≡ o
 object_back (Dataspace bytes) = refl
 object_back RpcObject = refl
+object_back (OpenSession session) = refl
 
 abbrev pub coded_object : Coded Object
-coded_object = code_by (Option (List ℕ)) (coded_option (coded_list coded_ℕ)) object_bytes object_from object_back
+coded_object = code_by (Option (List ℕ) ⊎ Session) (coded⊎ (coded_option (coded_list coded_ℕ)) coded_session) object_parts object_from object_back
 
 -- a kind is stored as whether it is a script
 abbrev pub is_script : Kind → Bool
@@ -47,16 +54,22 @@ coded_kind = code_by Bool coded_bool is_script kind_from kind_back
 
 -- the records are stored as the tuples of their fields
 abbrev pub coded_entry : Coded Entry
-coded_entry = code_by (List ℕ × Kind) (coded× (coded_list coded_ℕ) coded_kind) (λ e. (e.name, e.kind)) (λ p. record { name = p.0; kind = p.1 }) (λ _. refl)
+coded_entry =
+    code_by
+    (List ℕ × (Kind × List Rule))
+    (coded× (coded_list coded_ℕ) (coded× coded_kind (coded_list coded_rule)))
+    (λ e. (e.name, (e.kind, e.routes)))
+    (λ p. record { name = p.0; kind = p.1.0; routes = p.1.1 })
+    (λ _. refl)
 
 abbrev pub coded_own_state : Coded OwnState
 coded_own_state =
     code_by
-    (Account × (NatMap Object × (NatMap Region × (NatMap (List ℕ) × Bool))))
+    (Account × (NatMap Object × (NatMap Region × (OwnHeap × (NatMap (List ℕ) × Bool)))))
     (coded× coded_account (coded× (map.code coded_ℕ coded_object) (coded× (map.code coded_ℕ coded_region)
-    (coded× (map.code coded_ℕ (coded_list coded_ℕ)) coded_bool))))
-    (λ s. (s.account, (s.selectors, (s.regions, (s.sliced, s.gone)))))
-    (λ p. record { account = p.0; selectors = p.1.0; regions = p.1.1.0; sliced = p.1.1.1.0; gone = p.1.1.1.1 })
+    (coded× coded_heap (coded× (map.code coded_ℕ (coded_list coded_ℕ)) coded_bool)))))
+    (λ s. (s.account, (s.selectors, (s.regions, (s.heap, (s.sliced, s.gone))))))
+    (λ p. record { account = p.0; selectors = p.1.0; regions = p.1.1.0; heap = p.1.1.1.0; sliced = p.1.1.1.1.0; gone = p.1.1.1.1.1 })
     (λ _. refl)
 
 abbrev pub coded_world : Coded World

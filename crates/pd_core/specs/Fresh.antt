@@ -6,9 +6,9 @@ use Rattle.own_model.specs.StartList.{StartEntry, start_state}
 use Rattle.own_model.specs.World.{World}
 use Rattle.cap_space.specs.Space.{Space}
 use Rattle.region_map.specs.Regions.{Regions}
-use Rattle.dataspace_core.specs.Store.{Store, part, account_in, root_in}
+use Rattle.dataspace_core.specs.Store.{Store, part, account_in, root_in, ram_limits_in}
 pub use Rattle.dataspace_core.specs.Store.{opened_part}
-use Rattle.pd_core.specs.Component.{entry_of, payer_of, tables_of}
+use Rattle.pd_core.specs.Component.{entry_of, payer_of, tables_of, HasNewHeap}
 use Rattle.pd_core.specs.declared.component.Component.{Component}
 
 -- what a component starts with: its entry, and the limits of its account for its budget
@@ -23,19 +23,23 @@ start_of store component = record {
 abbrev pub starts_of : Store → List Component → List StartEntry
 starts_of store components = map (start_of store) components
 
--- tables of nothing, with a place for each capability of a budget, room for 128 user regions, and pages enough for its RAM
-pub record AreEmpty (ram caps : ℕ) (space : Space) (regions : Regions) : Type 0 where
+-- tables of nothing, with a place for each capability of a budget, room for 128 user regions and for as many heap
+-- regions as the machine has pages, and the pages of the machine
+pub record AreEmpty (store : Store) (caps : ℕ) (space : Space) (regions : Regions) : Type 0 where
   pub no_caps : space.caps ≡ empty
   pub places : caps ≤ space.places
   pub no_regions : regions.user ≡ empty
   pub most : regions.most ≡ 128
-  pub pages : ram ≤ regions.pages * 4096
+  pub no_heap : regions.heap ≡ empty
+  pub heap_most : regions.heap_most ≡ regions.pages
+  pub pages : regions.pages * 4096 ≡ ram_limits_in store
 
 -- a component has an account that isn't init's, all of its budget, and nothing else
 pub record IsFresh (store : Store) (component : Component) : Type 0 where
   pub not_init : payer_of component ≢ root_in store
   pub unused : part (payer_of component) store ≡ opened_part (start_of store component).ram (start_of store component).caps
-  pub tables : IfSome (tables_of component) (λ tables. AreEmpty (start_of store component).ram (start_of store component).caps tables.0 tables.1)
+  pub tables : IfSome (tables_of component) (λ tables. AreEmpty store (start_of store component).caps tables.0 tables.1)
+  pub heap : HasNewHeap component.role
 
 -- each component is fresh, and no two have one account
 pub record AreFresh (store : Store) (components : List Component) : Type 0 where

@@ -1,19 +1,22 @@
 -- A script's own state, read out of its account's part of the memory, its capabilities, its regions and its sliced blocks.
-use Rattle.std.specs.Prelude.{ℕ, ◌==◌, Bool, true, false, List, Option, Some, None, Result, Ok, Err, is_some, if◌then◌else◌}
+use Rattle.std.specs.Prelude.{◌≡◌, ◌⊎◌, ℕ, ◌==◌, ◌||◌, Bool, false, List, Option, Some, None, Result, Ok, Err, is_some, if◌then◌else◌}
 use Rattle.std.specs.List.{find}
 use Rattle.std.specs.Option.{option_map, option_or}
-use Rattle.std.specs.FinMap.{get, entries, empty}
+use Rattle.std.specs.FinMap.{get, entries}
 use Rattle.trade_base.specs.declared.id.DsId.{DsId}
 use Rattle.trade_base.specs.declared.refusal.Refusal.{Refusal}
 use Rattle.trade_base.specs.declared.refusal.Refusal.TheVariants.{InvalidCap, PageFault}
 use Rattle.own_model.specs.NatMap.{NatMap, picked}
-use Rattle.own_model.specs.OwnState.{OwnState, Object}
+use Rattle.own_model.specs.OwnHeap.{no_heap}
+use Rattle.own_model.specs.OwnState.{OwnState, Object, pages_in}
 use Rattle.own_model.specs.OwnState.Object.{Dataspace as ADataspace, RpcObject as AnRpcObject}
 use Rattle.own_model.specs.OwnStep.{count_refusal}
 use Rattle.own_model.specs.Region.{Region, resolved}
+use Rattle.own_model.specs.Sliced.{block_found}
 use Rattle.cap_space.specs.declared.cap.Cap.{Cap}
 use Rattle.cap_space.specs.declared.cap.Cap.TheVariants.{Dataspace, RpcObject, Session}
-use Rattle.dataspace_core.specs.Store.{Store, Part, part, account_of}
+use Rattle.dataspace_core.specs.Store.{Store, Part, part, account_of, bytes_of}
+use Rattle.sliced_heap.specs.Heap.{share_at, blocks_at, HoldsRange}
 use Rattle.pd_core.specs.declared.script.Script.{Script}
 
 -- what a capability is to a component
@@ -42,31 +45,42 @@ own_of part caps user sliced = record {
   account = account_of part;
   selectors = picked (object_of part) caps;
   regions = regions_of caps user;
+  heap = no_heap;
   sliced = sliced;
   gone = false;
 }
 
--- that of a script
+-- a script's part of the memory
+abbrev pub part_at : Store → Script → Part
+part_at store script = part script.account.0 store
+
+-- its sliced blocks
+abbrev pub sliced_at : Store → Script → NatMap (List ℕ)
+sliced_at store script = blocks_at script.account.0 store script.regions
+
+-- its own state
 abbrev pub own_at : Store → Script → OwnState
-own_at store script = own_of (part script.account.0 store) script.caps.caps script.regions.user empty
+own_at store script = own_of (part_at store script) script.caps.caps script.regions.user (sliced_at store script)
 
 -- ---- what a script looks up
 
--- the dataspace that a capability is of
-abbrev pub dataspace_at : Option Cap → Result DsId Refusal
-dataspace_at (Some (Dataspace ds)) = Ok ds
-dataspace_at (Some RpcObject) = Err InvalidCap
-dataspace_at (Some (Session server session)) = Err InvalidCap
-dataspace_at None = Err InvalidCap
-
--- a capability is an RPC object
-abbrev pub is_rpc_object : Option Cap → Bool
-is_rpc_object (Some RpcObject) = true
-is_rpc_object (Some (Dataspace ds)) = false
-is_rpc_object (Some (Session server session)) = false
-is_rpc_object None = false
+-- the dataspace that what a selector has is a capability of, and its pages
+abbrev pub sized_at : Part → Option Cap → Result (DsId × ℕ) Refusal
+sized_at part (Some (Dataspace ds)) = Ok (ds, pages_in (bytes_of part ds.0))
+sized_at part (Some RpcObject) = Err InvalidCap
+sized_at part (Some (Session server session)) = Err InvalidCap
+sized_at part None = Err InvalidCap
 
 -- why so many bytes from an address on aren't found
-abbrev pub range_refusal : NatMap Region → ℕ → ℕ → Option Refusal
-range_refusal regions address count =
-    option_or (count_refusal count) (if is_some (resolved regions address count) then None else Some PageFault)
+abbrev pub range_refusal : NatMap Region → NatMap (List ℕ) → ℕ → ℕ → Option Refusal
+range_refusal user sliced address count =
+    option_or (count_refusal count)
+    (if is_some (resolved user address count) || is_some (block_found sliced address count) then None else Some PageFault)
+
+-- so many bytes from an address on are found so far into a dataspace: a user region of it holds them, or else the
+-- payload of the sliced block that it is
+abbrev pub IsFound : Store → Script → ℕ → ℕ → ℕ → ℕ → Type 0
+IsFound store script address count ds offset =
+    (resolved script.regions.user address count ≡ Some (ds, offset))
+    ⊎ ((resolved script.regions.user address count ≡ None)
+    × HoldsRange (share_at script.account.0 store script.regions) ds offset address count)

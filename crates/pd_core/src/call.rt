@@ -21,6 +21,10 @@ pub enum Call<'a> {
     Capalloc,
     /// The RPC object that a selector names goes.
     Capfree(u64),
+    /// A sliced block for so many bytes.
+    Snew(u64),
+    /// The sliced block whose payload starts at an address goes.
+    Sdel(u64),
     /// The use and the limits of the caller's account are told.
     Quota,
 }

@@ -7,6 +7,7 @@ use crate::script::Script;
 use cap_space::CapSpace;
 use dataspace_core::Memory;
 use region_map::RegionMap;
+use sliced_heap::SlicedHeap;
 use trade_base::{AccountId, Refusal};
 
 /// What a component is for.
@@ -28,21 +29,23 @@ pub struct Component {
 impl Component {
     ghost use Rattle.std.specs.Prelude.{◌≡◌, Some, None};
     ghost use Rattle.own_model.specs.OwnStep.{own_step};
+    ghost use Rattle.own_model.specs.Routes.{fixed_routes};
     ghost use Rattle.own_model.specs.StartList.Kind.{Script as AScript, Server as AServer};
     ghost use Rattle.pd_core.specs.Answer.{told, told_of};
     ghost use Rattle.pd_core.specs.Call.{model_call, IsWellFormed};
-    ghost use Rattle.pd_core.specs.Component.{entry_of, payer_of, tables_of, own, IsSound, Keeps};
+    ghost use Rattle.pd_core.specs.Component.{entry_of, payer_of, tables_of, HasNewHeap, own, IsSound, Keeps};
 
-    /// A script that is charged on the account, with these capabilities and regions.
+    /// A script that is charged on the account, with these capabilities and regions, and no sliced block.
     pub fn script(
         name: &'static [u8],
         account: AccountId,
         caps: CapSpace,
         regions: RegionMap,
     ) -> Component
-        ensures entry { entry_of result ≡ record { name = name.now; kind = AScript } }
+        ensures entry { entry_of result ≡ record { name = name.now; kind = AScript; routes = fixed_routes } }
         ensures account { payer_of result ≡ account.0 }
         ensures tables { tables_of result ≡ Some (caps, regions) }
+        ensures heap { HasNewHeap result.role }
     {
         Component {
             name,
@@ -50,15 +53,17 @@ impl Component {
                 account,
                 caps,
                 regions,
+                heap: SlicedHeap::new(account),
             }),
         }
     }
 
     /// A server that is charged on the account.
     pub fn server(name: &'static [u8], account: AccountId) -> Component
-        ensures entry { entry_of result ≡ record { name = name.now; kind = AServer } }
+        ensures entry { entry_of result ≡ record { name = name.now; kind = AServer; routes = fixed_routes } }
         ensures account { payer_of result ≡ account.0 }
         ensures tables { tables_of result ≡ None }
+        ensures heap { HasNewHeap result.role }
     {
         Component {
             name,

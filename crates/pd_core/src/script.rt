@@ -7,14 +7,16 @@ use crate::reply::Reply;
 use cap_space::{Cap, CapSpace};
 use dataspace_core::Memory;
 use region_map::RegionMap;
+use sliced_heap::SlicedHeap;
 use trade_base::{AccountId, DsId, PAGE, Refusal};
 
-/// A script: the account that it is charged on, its capabilities and its regions.
+/// A script: the account that it is charged on, its capabilities, its regions and the heap of its sliced blocks.
 #[derive(Drop)]
 pub(crate) struct Script {
     pub(crate) account: AccountId,
     pub(crate) caps: CapSpace,
     pub(crate) regions: RegionMap,
+    pub(crate) heap: SlicedHeap,
 }
 
 impl Script {
@@ -24,13 +26,13 @@ impl Script {
     ghost use Rattle.own_model.specs.Call.Call.{Alloc as ModelledAlloc, Free as ModelledFree, Attach as ModelledAttach};
     ghost use Rattle.own_model.specs.Call.Call.{AttachAt as ModelledAttachAt, Detach as ModelledDetach, Peek as ModelledPeek};
     ghost use Rattle.own_model.specs.Call.Call.{Poke as ModelledPoke, Capalloc as ModelledCapalloc, Capfree as ModelledCapfree};
+    ghost use Rattle.own_model.specs.Call.Call.{Snew as ModelledSnew, Sdel as ModelledSdel};
     ghost use Rattle.own_model.specs.OwnStep.{script_step};
-    ghost use Rattle.own_model.specs.Region.{resolved};
     ghost use Rattle.own_model.specs.Text.{bytes_of_hex};
     ghost use Rattle.dataspace_core.specs.Store.{account_in};
     ghost use Rattle.pd_core.specs.Answer.{outcome_of, told, told_of, quotas_account};
     ghost use Rattle.pd_core.specs.Call.{model_call, bytes_in, IsWellFormed};
-    ghost use Rattle.pd_core.specs.Own.{own_at, dataspace_at, is_rpc_object, range_refusal};
+    ghost use Rattle.pd_core.specs.Own.{own_at, part_at, sliced_at, sized_at, range_refusal, IsFound};
     ghost use Rattle.pd_core.specs.Sound.{IsSoundScript, Keeps};
 
     /// Carries a call out, and writes what it is answered in place of what the reply was.
@@ -53,6 +55,8 @@ impl Script {
             Call::Poke { address, hex } => tell(self.poke(memory, address, hex), reply),
             Call::Capalloc => tell(self.capalloc(memory), reply),
             Call::Capfree(selector) => tell(self.capfree(memory, selector), reply),
+            Call::Snew(bytes) => tell(self.snew(memory, bytes), reply),
+            Call::Sdel(address) => tell(self.sdel(memory, address), reply),
             Call::Quota => tell(Ok(Answer::Quotas(self.quota(memory))), reply),
         }
     }
@@ -75,8 +79,9 @@ impl Script {
             ≡ script_step (ModelledFree selector) (own_at memory.old self.old) }
         ensures keeps { Keeps memory.old self.old memory.new self.new }
     {
-        let space = self.dataspace(selector)?;
-        self.caps.remove(selector);
+        let Some(space) = self.caps.take_dataspace(selector) else {
+            return Err(Refusal::InvalidCap);
+        };
         self.regions.detach_all(space);
         memory.free(space);
         Ok(Answer::Done)
@@ -100,10 +105,9 @@ impl Script {
             ≡ script_step (ModelledCapfree selector) (own_at memory.old self.old) }
         ensures keeps { Keeps memory.old self.old memory.new self.new }
     {
-        if !self.has_rpc_object(selector) {
+        if !self.caps.take_rpc_object(selector) {
             return Err(Refusal::InvalidCap);
         }
-        self.caps.remove(selector);
         memory.credit_cap(self.account);
         Ok(Answer::Done)
     }
@@ -116,8 +120,7 @@ impl Script {
             ≡ script_step (ModelledAttach selector) (own_at memory.now self.old) }
         ensures keeps { Keeps memory.now self.old memory.now self.new }
     {
-        let space = self.dataspace(selector)?;
-        let pages = memory.size(space) / PAGE;
+        let (space, pages) = self.dataspace(memory, selector)?;
         let address = self.regions.attach(space, pages)?;
         Ok(Answer::Attached(address))
     }
@@ -129,8 +132,7 @@ impl Script {
             ≡ script_step (ModelledAttachAt selector address) (own_at memory.now self.old) }
         ensures keeps { Keeps memory.now self.old memory.now self.new }
     {
-        let space = self.dataspace(selector)?;
-        let pages = memory.size(space) / PAGE;
+        let (space, pages) = self.dataspace(memory, selector)?;
         let address = self.regions.attach_at(space, pages, address)?;
         Ok(Answer::Attached(address))
     }
@@ -147,13 +149,13 @@ impl Script {
     }
 
     /// So many bytes from an address on are told, or why not: `InvalidSize` where they are none or more than 1,024, then
-    /// `PageFault` where no region holds them all.
+    /// `PageFault` where no region and no sliced block's payload holds them all.
     fn peek(&self, memory: &Memory, address: u64, count: u64, reply: &mut Reply)
         requires { IsSoundScript memory.now self.now }
         ensures { told reply.new (own_at memory.now self.now)
             ≡ told_of (script_step (ModelledPeek address count) (own_at memory.now self.now)) }
     {
-        match self.range(address, count) {
+        match self.range(memory, address, count) {
             Ok((space, offset)) => tell_range(reply, memory, space, offset, count as usize),
             Err(refusal) => tell(Err(refusal), reply),
         }
@@ -168,11 +170,33 @@ impl Script {
         ensures keeps { Keeps memory.old self.now memory.new self.now }
     {
         let count = hex.len() / 2;
-        let (space, offset) = self.range(address, count as u64)?;
+        let (space, offset) = self.range(memory, address, count as u64)?;
         let mut buffer = [0; MOST_BYTES];
         let bytes = &mut buffer[..count];
         decode(hex, bytes);
         memory.write(space, offset, bytes);
+        Ok(Answer::Done)
+    }
+
+    /// A sliced block for so many bytes, or why not: `InvalidSize`, then `OutOfRam`, then `OutOfCaps`.
+    fn snew(&mut self, memory: &mut Memory, bytes: u64) -> Result<Answer, Refusal>
+        requires { IsSoundScript memory.old self.old }
+        ensures outcome { outcome_of result (own_at memory.new self.new)
+            ≡ script_step (ModelledSnew bytes) (own_at memory.old self.old) }
+        ensures keeps { Keeps memory.old self.old memory.new self.new }
+    {
+        let address = self.heap.alloc(memory, &mut self.regions, bytes)?;
+        Ok(Answer::Attached(address))
+    }
+
+    /// The sliced block whose payload starts at an address goes, or `PageFault` where none does.
+    fn sdel(&mut self, memory: &mut Memory, address: u64) -> Result<Answer, Refusal>
+        requires { IsSoundScript memory.old self.old }
+        ensures outcome { outcome_of result (own_at memory.new self.new)
+            ≡ script_step (ModelledSdel address) (own_at memory.old self.old) }
+        ensures keeps { Keeps memory.old self.old memory.new self.new }
+    {
+        self.heap.free(memory, &mut self.regions, address)?;
         Ok(Answer::Done)
     }
 
@@ -191,34 +215,33 @@ impl Script {
         }
     }
 
-    /// The dataspace that a selector names, or `InvalidCap` where it names none.
-    fn dataspace(&self, selector: u64) -> Result<DsId, Refusal>
-        ensures { result ≡ dataspace_at (get self.now.caps.caps selector) }
+    /// The dataspace that a selector names and its pages, or `InvalidCap` where it names none.
+    fn dataspace(&self, memory: &Memory, selector: u64) -> Result<(DsId, u64), Refusal>
+        requires { IsSoundScript memory.now self.now }
+        ensures { result ≡ sized_at (part_at memory.now self.now) (get self.now.caps.caps selector) }
     {
         match self.caps.get(selector) {
-            Some(Cap::Dataspace(space)) => Ok(space),
+            Some(Cap::Dataspace(space)) => Ok((space, memory.size(space) / PAGE)),
             _ => Err(Refusal::InvalidCap),
         }
     }
 
-    /// Whether a selector names an RPC object.
-    fn has_rpc_object(&self, selector: u64) -> bool
-        ensures { result ≡ is_rpc_object (get self.now.caps.caps selector) }
-    {
-        matches!(self.caps.get(selector), Some(Cap::RpcObject))
-    }
-
-    /// The dataspace whose region holds so many bytes from an address on, and the offset in it, or why not:
-    /// `InvalidSize`, then `PageFault`.
-    fn range(&self, address: u64, count: u64) -> Result<(DsId, u64), Refusal>
-        ensures refusal { result_err result ≡ range_refusal self.now.regions.user address count }
-        ensures found { IfOk result (λ at. resolved self.now.regions.user address count ≡ Some (at.0.0, at.1)) }
+    /// The dataspace that holds so many bytes from an address on, whole in one of its regions or in one sliced block's
+    /// payload, and the offset in it, or why not: `InvalidSize`, then `PageFault`.
+    fn range(&self, memory: &Memory, address: u64, count: u64) -> Result<(DsId, u64), Refusal>
+        requires { IsSoundScript memory.now self.now }
+        ensures refusal { result_err result
+            ≡ range_refusal self.now.regions.user (sliced_at memory.now self.now) address count }
+        ensures found { IfOk result (λ at. IsFound memory.now self.now address count at.0.0 at.1) }
     {
         if count == 0 || count > MOST_BYTES as u64 {
             return Err(Refusal::InvalidSize);
         }
-        self.regions
-            .resolve_user(address, count)
+        if let Some(found) = self.regions.resolve_user(address, count) {
+            return Ok(found);
+        }
+        self.heap
+            .block_of(memory, &self.regions, address, count)
             .ok_or(Refusal::PageFault)
     }
 }

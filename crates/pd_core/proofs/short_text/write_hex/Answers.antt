@@ -1,6 +1,7 @@
 -- A digit is written in each turn, before those of the turns before.
 use Rattle.std.proofs.Common.{◌-◌, refl, ◌∙◌, arith, length-set}
-use Rattle.pd_core.proofs.SpellingLemmas.{spelled_first, room_after, some_after, spelled_next, spelled_last, less_room}
+use Rattle.own_model.proofs.ReadBackLemmas.{positive_power}
+use Rattle.pd_core.proofs.SpellingLemmas.{spelled_first, room_after, spelled_next, spelled_last, less_room}
 use Rattle.pd_core.proofs.short_text.write_hex.Goals as goal
 
 pub loop-rest-init : goal.loop-rest-init
@@ -20,7 +21,7 @@ loop-rest-preserved c =
     let s = i.4 in
     let room = l.start - 80 in
     let small = room_after room l.rest (omega (arith, i.0)) i.3 in
-    let left = some_after (room - 1) _ small c.if-rest-eq0.false in (
+    let left = positive_power (room - 1) _ small c.if-rest-eq0.false in (
       omega (arith, left),
       omega (arith, i.1),
       length-set l.text (l.start - 1) c.hex_digit.result ∙ i.2,

@@ -3,26 +3,28 @@ use Rattle.std.proofs.Common.{◌∙◌, ap, refl}
 use Rattle.dataspace_core.specs.Store.{part}
 use Rattle.dataspace_core.proofs.PartLaws.{open_in_part}
 use Rattle.pd_core.specs.Own.{own_at}
-use Rattle.pd_core.proofs.OwnLemmas.{settled, keeps, refused_told}
+use Rattle.pd_core.proofs.OwnLemmas.{settled, refused_told}
 use Rattle.pd_core.proofs.AccountLemmas.{capalloc_refused, capalloc_settles, cap_fits, has_place}
+use Rattle.pd_core.proofs.ScriptLemmas.{finishes}
 use Rattle.pd_core.proofs.script.Script.capalloc.Goals as goal
 
 pub charge_cap-requires : goal.charge_cap-requires
-charge_cap-requires c = open_in_part _ _ c.requires.paid.is_open
+charge_cap-requires c = open_in_part _ _ c.requires.own.paid.is_open
 
 pub returns-in_err-charge_cap-clause-outcome : goal.returns-in_err-charge_cap-clause-outcome
 unfolding part
 returns-in_err-charge_cap-clause-outcome c =
     refused_told c.from_residual.result c.from_residual.ensures.1 (ap (λ m. own_at m c.args.self.now) c.in_err-charge_cap.ensures.err)
-    ∙ capalloc_refused _ _ _ _ c.requires _ c.in_err-charge_cap.ensures.refusal
+    ∙ capalloc_refused _ _ _ _ c.requires.own _ c.in_err-charge_cap.ensures.refusal
 
 pub insert-requires : goal.insert-requires
 unfolding part
-insert-requires c = record { room = has_place _ _ _ _ c.requires _ (cap_fits _ _ _ _ c.requires c.in_ok-charge_cap.ensures.refusal) }
+insert-requires c = record { room = has_place _ _ _ _ c.requires.own _ (cap_fits _ _ _ _ c.requires.own c.in_ok-charge_cap.ensures.refusal) }
 
 pub returns : goal.returns
 unfolding part
 returns c =
-    let done = settled c.in_ok-charge_cap.ensures.part.own c.insert.ensures.taken refl
-    (capalloc_settles _ _ _ _ c.requires c.in_ok-charge_cap.ensures.refusal _ c.insert.ensures.least) in
-    record { outcome = done.outcome; keeps = keeps c.in_ok-charge_cap.ensures.part refl done }
+    let done = finishes _ _ c.requires c.in_ok-charge_cap.ensures.part
+    (settled c.in_ok-charge_cap.ensures.part.own c.insert.ensures.taken refl
+    (capalloc_settles _ _ _ _ c.requires.own c.in_ok-charge_cap.ensures.refusal _ c.insert.ensures.least)) in
+    record { outcome = done.outcome; keeps = done.keeps }

@@ -1,22 +1,29 @@
 -- A free over the memory and the tables.
-use Rattle.std.proofs.Common.{◌∙◌, refl}
+use Rattle.std.proofs.Common.{◌∙◌, ap, sym}
+use Rattle.std.specs.Prelude.{Err}
+use Rattle.trade_base.specs.declared.refusal.Refusal.TheVariants.{InvalidCap}
 use Rattle.dataspace_core.specs.Store.{part_without_space}
 use Rattle.dataspace_core.proofs.PartLaws.{paid_in_part}
-use Rattle.pd_core.proofs.OwnLemmas.{settled, keeps, refused_told, has_bytes, for_payer}
-use Rattle.pd_core.proofs.AccountLemmas.{found_dataspace, free_refused, free_settles}
+use Rattle.pd_core.specs.Answer.{outcome_of}
+use Rattle.pd_core.specs.Own.{own_at}
+use Rattle.pd_core.proofs.OwnLemmas.{settled, has_bytes, for_payer}
+use Rattle.pd_core.proofs.AccountLemmas.{taken_dataspace, free_refused, free_settles}
+use Rattle.pd_core.proofs.ScriptLemmas.{finishes}
 use Rattle.pd_core.proofs.script.Script.free.Goals as goal
 
-pub returns-in_err-space-clause-outcome : goal.returns-in_err-space-clause-outcome
-returns-in_err-space-clause-outcome c =
-    refused_told c.from_residual.result c.from_residual.ensures.1 refl ∙ free_refused _ _ _ _ c.requires _ _ c.in_err-space.ensures
+pub returns-in_default-clause-outcome : goal.returns-in_default-clause-outcome
+returns-in_default-clause-outcome c =
+    ap (λ caps. outcome_of (Err InvalidCap) (own_at c.args.memory.now (record c.args.self.now { caps = caps }))) (c.in_default.ensures.none)
+    ∙ free_refused _ _ _ _ c.requires.own _ (sym c.in_default.ensures.found)
 
 pub free-requires : goal.free-requires
-free-requires c = (paid_in_part _ _ _ _ (has_bytes _ _ _ _ c.requires _ _ (found_dataspace _ _ c.in_ok-space.ensures))).exists
+free-requires c = (paid_in_part _ _ _ _ (has_bytes _ _ _ _ c.requires.own _ _ (taken_dataspace _ _ c.in-Some.ensures.found))).exists
 
 pub returns : goal.returns
 returns c =
-    let named = found_dataspace _ _ c.in_ok-space.ensures in
-    let paid = paid_in_part _ _ _ _ (has_bytes _ _ _ _ c.requires _ _ named) in
-    let becomes = for_payer (λ p. part_without_space p c.in_ok-space.space.0) paid.payer c.free.ensures.part in
-    let done = settled becomes.own c.remove.ensures.gone c.detach_all.ensures (free_settles _ _ _ _ c.requires _ _ named) in
-    record { outcome = done.outcome; keeps = keeps becomes refl done }
+    let named = taken_dataspace _ _ c.in-Some.ensures.found in
+    let paid = paid_in_part _ _ _ _ (has_bytes _ _ _ _ c.requires.own _ _ named) in
+    let becomes = for_payer (λ p. part_without_space p c.in-Some.space.0) paid.payer c.free.ensures.part in
+    let done = finishes _ _ c.requires becomes
+    (settled becomes.own c.in-Some.ensures.gone c.detach_all.ensures (free_settles _ _ _ _ c.requires.own _ _ named)) in
+    record { outcome = done.outcome; keeps = done.keeps }
