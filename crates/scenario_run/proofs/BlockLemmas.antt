@@ -5,8 +5,8 @@ use Rattle.scenario_run.specs.Lines.{to_come}
 use Rattle.std.proofs.lemmas.List.{places, same_lists}
 
 -- what stands from start to end is passed in part
-pub slice_range-start : (bytes : List ℕ) (start end count : ℕ) → slice_range bytes (start + count) end ≡ drop count (slice_range bytes start end)
-slice_range-start bytes start end count = same_lists _ _ (search (rules, places)) (λ k d h. grind (arith, places))
+pub front_passed : (bytes : List ℕ) (start end count : ℕ) → slice_range bytes (start + count) end ≡ drop count (slice_range bytes start end)
+front_passed bytes start end count = same_lists _ _ (search (rules, places)) (λ k d h. grind (arith, places))
 
 -- what stands from start to end is followed by the first n bytes of what was written behind it
 pub slice_range-grown : (bytes buffer after : List ℕ) (start end n : ℕ) → start ≤ end → end ≤ length bytes → n ≤ length buffer

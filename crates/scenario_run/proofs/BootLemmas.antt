@@ -1,5 +1,5 @@
 -- The parts when a component starts.
-use Rattle.std.proofs.Common.{◌≡◌, ◌≢◌, ℕ, List, [], ◌∷◌, ◌++◌, get_or, map, cond, None, IsSome, Result, Ok, Err, subst, refl, sym, ap, ◌∙◌, arith}
+use Rattle.std.proofs.Common.{◌≡◌, ◌≢◌, ℕ, List, [], ◌∷◌, ◌++◌, get_or, map, cond, Option, Some, None, IsSome, Result, Ok, Err, subst, refl, sym, ap, ◌∙◌, arith}
 use Rattle.std.specs.Prelude.{IfSome, OnOk, is_ok}
 use Rattle.std.specs.List.{All}
 use Rattle.std.specs.FinMap.{get}
@@ -11,20 +11,18 @@ use Rattle.own_model.specs.StartList.{StartEntry}
 use Rattle.own_model.proofs.NatMapLemmas.{apart_from_free}
 use Rattle.cap_space.specs.Space.{Space, fresh_space}
 use Rattle.region_map.specs.Regions.{Regions, fresh_regions}
-use Rattle.dataspace_core.specs.Store.{Store, Part, part, IsOpenIn, OpensPart, accounts_in, account_in, account_of, root_in, opened_part}
+use Rattle.dataspace_core.specs.Store.{Store, Part, part, IsOpenIn, OpensPart, accounts_in, account_in, account_of, root_in, ram_limits_in, opened_part}
 use Rattle.dataspace_core.proofs.PartLaws.{account_of-part, open_in_part}
-use Rattle.pd_core.specs.Component.{entry_of, payer_of, tables_of}
+use Rattle.pd_core.specs.Component.{entry_of, payer_of, tables_of, HasNewHeap}
 use Rattle.pd_core.specs.Fresh.{start_of, starts_of, AreEmpty, IsFresh, AreFresh}
 use Rattle.pd_core.specs.declared.component.Component.{Component}
-use Rattle.scenario_run.specs.Boot.{HasStarted, init_in}
+use Rattle.scenario_run.specs.Boot.{HasStarted, init_in, machine_ram}
+use Rattle.std.proofs.lemmas.Bool.Decides.{nat_tests}
 
 -- functions that agree on elements of a kind make the same list of them
 map_agree : {X Y : Type 0} (f g : X → Y) (P : X → Type 0) → ((x : X) → P x → f x ≡ g x) → (xs : List X) → All P xs → map f xs ≡ map g xs
 map_agree f g P agree [] all = refl
-map_agree f g P agree (x ∷ xs) all =
-    let first = agree x (All-head P x xs all) in
-    let others = map_agree f g P agree xs (All-tail P x xs all) in
-    λ j. first j ∷ others j
+map_agree f g P agree (x ∷ xs) all = grind (arith, nat_tests, All-head, All-tail, map_agree f g P agree xs (All-tail P x xs all))
 
 -- a component starts with its account's limits
 abbrev started_with : Component → Account → StartEntry
@@ -39,12 +37,10 @@ fresh_open : (store : Store) (component : Component) → IsFresh store component
 fresh_open store component fresh = open_in_part (payer_of component) store (subst (λ (p : Part). IsSome p.account) (sym fresh.unused) refl)
 
 -- init opens an account for the component that comes last
-module _ {store store' : Store} {child ram caps : ℕ} (free : get (accounts_in store) child ≡ None) (opens : OpensPart (root_in store) child ram caps store store') where
+module _ {store store' : Store} {child ram caps : ℕ} (free : get (accounts_in store) child ≡ None) (opens : OpensPart (root_in store) child ram caps store store') (machine : ram_limits_in store' ≡ ram_limits_in store) where
   -- init keeps the rest
   init_after : init_in store' ≡ parted_with (init_in store) ram caps
-  init_after =
-      ap (account_in store') opens.root ∙ account_by_part store' (root_in store) _ opens.parted_one
-      ∙ ap (λ account. parted_with account ram caps) (account_of-part (root_in store) store)
+  init_after = grind (arith, nat_tests, account_by_part, account_of-part)
 
   -- an account that is open isn't the new one
   apart : (key : ℕ) → IsOpenIn store key → key ≢ child
@@ -58,16 +54,30 @@ module _ {store store' : Store} {child ram caps : ℕ} (free : get (accounts_in 
   start_stays : (c : Component) → IsFresh store c → start_of store' c ≡ start_of store c
   start_stays c fresh = ap (started_with c) (account_by_part store' (payer_of c) _ (part_stays c fresh) ∙ account_of-part (payer_of c) store)
 
+  -- empty tables stay so
+  empty_stays : {budget budget' : ℕ} → budget' ≡ budget → (tables : Option (Space × Regions)) → IfSome tables (λ t. AreEmpty store budget t.0 t.1) → IfSome tables (λ t. AreEmpty store' budget' t.0 t.1)
+  empty_stays same None fresh = tt
+  empty_stays same (Some tables) fresh = record {
+    no_caps = fresh.no_caps;
+    places = omega (arith, same, fresh.places);
+    no_regions = fresh.no_regions;
+    most = fresh.most;
+    no_heap = fresh.no_heap;
+    heap_most = fresh.heap_most;
+    pages = fresh.pages ∙ sym machine;
+  }
+
   -- and it is still fresh
   fresh_stays : (c : Component) → IsFresh store c → IsFresh store' c
   fresh_stays c fresh = record {
     not_init = λ e. fresh.not_init (e ∙ opens.root);
     unused = part_stays c fresh ∙ fresh.unused ∙ ap (λ (s : StartEntry). opened_part s.ram s.caps) (sym (start_stays c fresh));
-    tables = subst (λ (s : StartEntry). IfSome (tables_of c) (λ tables. AreEmpty s.ram s.caps tables.0 tables.1)) (sym (start_stays c fresh)) fresh.tables;
+    tables = empty_stays (ap (λ (s : StartEntry). s.caps) (start_stays c fresh)) (tables_of c) fresh.tables;
+    heap = fresh.heap;
   }
 
   module _ (after : Component) (root_open : IsOpenIn store (root_in store)) (payer : payer_of after ≡ child)
-      (tables : IfSome (tables_of after) (λ tables. AreEmpty ram caps tables.0 tables.1)) where
+      (tables : IfSome (tables_of after) (λ tables. AreEmpty store' caps tables.0 tables.1)) (heap : HasNewHeap after.role) where
     -- the new one has the new part
     part_after : part (payer_of after) store' ≡ opened_part ram caps
     part_after = ap (λ key. part key store') payer ∙ opens.opened_one
@@ -81,7 +91,8 @@ module _ {store store' : Store} {child ram caps : ℕ} (free : get (accounts_in 
     fresh_after = record {
       not_init = λ e. apart (root_in store) root_open (sym opens.root ∙ sym e ∙ payer);
       unused = part_after ∙ ap (λ (s : StartEntry). opened_part s.ram s.caps) (sym start_after);
-      tables = subst (λ (s : StartEntry). IfSome (tables_of after) (λ tables. AreEmpty s.ram s.caps tables.0 tables.1)) (sym start_after) tables;
+      tables = subst (λ (s : StartEntry). IfSome (tables_of after) (λ tables. AreEmpty store' s.caps tables.0 tables.1)) (sym start_after) tables;
+      heap = heap;
     }
 
     -- so one more component has started, and comes last
@@ -100,6 +111,7 @@ module _ {store store' : Store} {child ram caps : ℕ} (free : get (accounts_in 
               ∙ ap (λ start. starts_of store components ++ start ∷ []) start_after;
           init = init_after;
           room = opens.room;
+          machine = machine;
         })
 
 -- what is true once the component is pushed is true where the host has room for it
@@ -109,12 +121,14 @@ on_push P pushing (Err fault) items all few alike pushed holds = tt
 on_push P (Err want) (Ok done) items all few alike pushed holds = absurd (cc)
 on_push P (Ok pushed_it) (Ok done) items all few alike pushed holds = subst P (sym pushed) holds
 
--- the tables of a script that has just booted are empty, and have room for its budget
-pub script_empty : (space : Space) (regions : Regions) → space ≡ fresh_space 64 → regions ≡ fresh_regions 128 64 64 → AreEmpty 65536 16 space regions
-script_empty space regions caps_booted regions_booted = record {
+-- the tables of a script that has just booted are empty, and have room for its budget and for the machine's pages
+pub script_empty : (store : Store) (space : Space) (regions : Regions) → ram_limits_in store ≡ machine_ram → space ≡ fresh_space 64 → regions ≡ fresh_regions 128 64 64 → AreEmpty store 16 space regions
+script_empty store space regions machine caps_booted regions_booted = record {
   no_caps = ap (λ s. s.caps) caps_booted;
   places = omega (arith, ap (λ s. s.places) caps_booted);
   no_regions = ap (λ r. r.user) regions_booted;
   most = ap (λ r. r.most) regions_booted;
-  pages = omega (arith, ap (λ r. r.pages) regions_booted);
+  no_heap = ap (λ r. r.heap) regions_booted;
+  heap_most = omega (arith, ap (λ r. r.heap_most) regions_booted, ap (λ r. r.pages) regions_booted);
+  pages = omega (arith, ap (λ r. r.pages) regions_booted, machine);
 }

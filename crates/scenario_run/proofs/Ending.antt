@@ -103,3 +103,6 @@ pub not_stopped : {fault : RunFault} {max_lines : ℕ} {old new : World} {input 
 not_stopped {input = None} write_failed serves fails = tt
 not_stopped {fault = fault} {max_lines = max_lines} {input = Some text} {rest = rest} {failed = failed} write_failed serves fails =
     no_cause fault serves.answered serves.lines.0 max_lines text rest failed write_failed serves.lines.1 serves.lines.2 fails
+
+-- what each clause of a run says
+pub ruleset endings = (transcript_written, states_after_all, as_many_states, stops_at)

@@ -1,8 +1,9 @@
 -- How what is told grows.
-use Rattle.std.proofs.Common.{◌≡◌, ℕ, ◌+◌, ◌-◌, List, [], ◌++◌, length, take, drop, Option, Some, None, Result, Ok, Err, IsErrAnd, arith, rules, refl, sym, ◌∙◌, ap, append_assoc, append-nil}
+use Rattle.std.proofs.Common.{◌≡◌, ℕ, ◌+◌, ◌-◌, List, [], ◌++◌, length, take, drop, Option, Some, None, Result, Ok, Err, IsErrAnd, arith, refl, sym, ◌∙◌, ap, append_assoc, append-nil}
 use Rattle.std.proofs.lemmas.List.{places, same_lists, take_rest}
 use Rattle.std.specs.Io.KnownBytes.{Appends}
 use Rattle.scenario_run.specs.Gathered.{Tells, TellsPart, TellsUnless}
+use Rattle.std.proofs.lemmas.Bool.Decides.{nat_tests}
 
 -- with nothing more, nothing grows
 pub Appends-none : (known : Option (List ℕ)) → Appends known known []
@@ -44,9 +45,10 @@ Tells-front {g = g} {lost = lost} {xs = xs} ys tells = record {
 
 -- the first n, and the first m of the others
 pub take-rest : (n m : ℕ) (xs : List ℕ) → take (n + m) xs ≡ take n xs ++ take m (take (length xs - n) (drop n xs))
-take-rest n m xs =
-    let next : take (n + m) xs ≡ take n xs ++ take m (drop n xs) = same_lists _ _ (search (rules, places)) (λ k d h. grind (arith, places)) in
-    next ∙ ap (λ rest. take n xs ++ take m rest) (sym (take_rest xs n))
+take-rest n m xs = grind (arith, nat_tests, same_lists, places, take_rest)
+
+-- how what is written grows by what a write took
+pub ruleset written_on = (Appends-more, take-rest)
 
 -- a fault that is handed on tells of a part
 pub told_err : {T E : Type 0} (Q : E → Type 0) {w w' : Option (List ℕ)} {g xs : List ℕ} (g' : List ℕ) (r : Result T E) → IsErrAnd r Q → TellsPart w g w' xs → TellsUnless r w g w' g' xs

@@ -1,10 +1,6 @@
-pub mod WordLemmas
-pub mod AddressLemmas
-pub mod HexLemmas
 pub mod BootLemmas
 pub mod MachineLemmas
 pub mod BlockLemmas
-pub mod SearchLemmas
 pub mod LineLemmas
 pub mod GatheredLemmas
 pub mod FaultLemmas

@@ -1,12 +1,12 @@
 -- How far the first line of a text reaches, and what is left behind it.
-use Rattle.std.proofs.Common.{◌≡◌, ℕ, ◌+◌, ◌-◌, ◌<◌, ◌≤◌, ltb, cond, not, Bool, true, false, List, [], ◌∷◌, ◌++◌, length, take, drop, Some, None, arith, refl, sym, ◌∙◌, ap, position, suc, zero, ⊎_elim, get_or}
+use Rattle.std.proofs.Common.{◌≡◌, ℕ, ◌+◌, ◌-◌, ◌<◌, ◌≤◌, ltb, cond, not, Bool, true, false, List, [], ◌∷◌, ◌++◌, length, take, drop, Some, None, arith, refl, sym, ◌∙◌, ap, position, suc, zero, ⊎_elim}
 use Rattle.std.proofs.lemmas.Bool.{cases_lt}
 use Rattle.std.proofs.lemmas.Bool.Decides.{nat_tests}
 use Rattle.std.proofs.lemmas.List.{drop_all, take_all, take_rest, take-append-drop}
 use Rattle.std.proofs.lemmas.List.Folds.{prefix_len-append, length-prefix_len}
 use Rattle.std.proofs.lemmas.List.Sums.{prefix_len-le-length, prefix_len_passes}
 use Rattle.std.proofs.lemmas.List.Splits.{slice_split_first, slice_split_none, length-slice_split}
-use Rattle.std.specs.List.{slice_split, All}
+use Rattle.std.specs.List.{All}
 use Rattle.own_model.specs.Text.{lines_of, without_empty_end}
 use Rattle.scenario_run.specs.Lines.{is_newline, line_length, line_of, after_line}
 
@@ -50,25 +50,16 @@ without_empty_end-cons (b ∷ bs) (piece ∷ pieces) some = refl
 
 -- where a newline stands
 lines_of-within : (bytes : List ℕ) → line_length bytes < length bytes → lines_of bytes ≡ line_of bytes ∷ lines_of (after_line bytes)
-lines_of-within bytes within =
-    ap without_empty_end (slice_split_first is_newline bytes 0 within)
-    ∙ without_empty_end-cons (line_of bytes) (slice_split is_newline (after_line bytes))
-    (omega (arith, length-slice_split is_newline (after_line bytes)))
+lines_of-within bytes within = grind (arith, nat_tests, slice_split_first, without_empty_end-cons, length-slice_split)
 
 -- where none stands, each byte fails the test
 each_plain : (bytes : List ℕ) → line_length bytes ≡ length bytes → All (λ b. is_newline b ≡ false) bytes
-each_plain bytes whole k d within =
-    let here : k < line_length bytes = omega arith in
-    not-true (is_newline (get_or bytes k d)) (prefix_len_passes (λ b. not (is_newline b)) bytes k d here)
+each_plain bytes whole k d within = grind (arith, nat_tests, not-true, prefix_len_passes)
 
 -- where none stands
 lines_of-whole : (bytes : List ℕ) → 0 < length bytes → line_length bytes ≡ length bytes → lines_of bytes ≡ line_of bytes ∷ lines_of (after_line bytes)
 lines_of-whole [] some whole = absurd (omega arith)
-lines_of-whole (b ∷ bs) some whole =
-    let line : line_of (b ∷ bs) ≡ b ∷ bs = take_all (line_length (b ∷ bs)) (b ∷ bs) (omega arith) in
-    let rest : after_line (b ∷ bs) ≡ [] = drop_all (line_length (b ∷ bs) + 1) (b ∷ bs) (omega arith) in
-    let none : lines_of (b ∷ bs) ≡ (b ∷ bs) ∷ [] = ap without_empty_end (slice_split_none is_newline (b ∷ bs) (each_plain (b ∷ bs) whole)) in
-    none ∙ sym (ap (λ l. l ∷ lines_of (after_line (b ∷ bs))) line ∙ ap (λ r. (b ∷ bs) ∷ lines_of r) rest)
+lines_of-whole (b ∷ bs) some whole = grind (arith, nat_tests, take_all, drop_all, slice_split_none, each_plain)
 
 -- a text that isn't empty has a first line, and then the lines of what stands after it
 pub lines_of-cons : (bytes : List ℕ) → 0 < length bytes → lines_of bytes ≡ line_of bytes ∷ lines_of (after_line bytes)
@@ -93,8 +84,8 @@ line_length-kept xs ys kept =
 pub line_length-rest : (n : ℕ) (xs : List ℕ) → n ≤ line_length xs → n + line_length (take (length xs - n) (drop n xs)) ≡ line_length xs
 line_length-rest n xs le = ap (λ rest. n + line_length rest) (take_rest xs n) ∙ line_length-drop n xs le
 
--- how long a line is that was looked at in part
-pub ruleset line_lengths = (line_length-le, line_length-drop)
+-- how long a line is, of which all was looked at or a part
+pub ruleset line_lengths = (line_length-le, line_length-none, line_length-drop, line_length-rest)
 
 -- a first line is as long as it reaches
 pub length-line_of : (bytes : List ℕ) → length (line_of bytes) ≡ line_length bytes

@@ -1,16 +1,16 @@
 -- The built-in machine as it starts, one component after another.
-use Rattle.std.proofs.Common.{◌≡◌, ℕ, ◌-◌, ◌<◌, ◌≤◌, List, [], ◌∷◌, ◌++◌, map, lit≤, subst, refl, sym, ap, ◌∙◌, arith}
+use Rattle.std.proofs.Common.{◌≡◌, ℕ, ◌-◌, ◌<◌, ◌≤◌, List, [], ◌∷◌, ◌++◌, map, subst, refl, sym, ap, ◌∙◌, arith}
 use Rattle.std.specs.Option.{unwrap_or}
 use Rattle.std.specs.FinMap.{empty}
-use Rattle.own_model.specs.Account.{Fits, opened, parted_with}
+use Rattle.own_model.specs.Account.{Account, Fits, opened, parted_with}
 use Rattle.own_model.specs.StartList.{StartEntry, machine_a, start_state}
-use Rattle.own_model.specs.World.{IsBalanced, start_world}
-use Rattle.own_model.proofs.NatMapLemmas.{get-insert_same}
-use Rattle.own_model.proofs.StartLemmas.{start_balanced}
-use Rattle.dataspace_core.specs.Store.{Store, fresh_store, root_in, room_in}
+use Rattle.own_model.specs.World.{start_world}
+use Rattle.own_model.proofs.NatMapLemmas.{get-empty, get-insert_same}
+use Rattle.own_model.proofs.Totals.{total-insert_new, total-empty}
+use Rattle.dataspace_core.specs.Store.{Store, fresh_store, root_in, room_in, ram_limits_in}
 use Rattle.pd_core.specs.Fresh.{starts_of, started_world, AreFresh}
 use Rattle.pd_core.specs.declared.component.Component.{Component}
-use Rattle.scenario_run.specs.Boot.{CanStart, HasStarted, init_in}
+use Rattle.scenario_run.specs.Boot.{CanStart, HasStarted, init_in, machine_ram}
 
 -- these have started so far: the parts are fresh, init has so much left, and there is room for so many accounts more
 pub record SoFar (store : Store) (components : List Component) (list : List StartEntry) (ram caps places : ℕ) : Type 0 where
@@ -22,6 +22,8 @@ pub record SoFar (store : Store) (components : List Component) (list : List Star
   pub init : init_in store ≡ opened ram caps
   -- there is room for so many accounts more
   pub room : places ≤ room_in store
+  -- all limits together are the machine's RAM
+  pub machine : ram_limits_in store ≡ machine_ram
 
 -- nothing has started in a memory that has just booted
 pub nothing_yet : {store : Store} {accounts places : ℕ} {components : List Component} → store ≡ fresh_store (root_in store) 64 64 accounts places → 5 ≤ accounts →
@@ -33,6 +35,9 @@ nothing_yet {store = store} {accounts = accounts} booted enough none = record {
       ap (λ s. init_in s) booted
       ∙ ap (λ o. unwrap_or o (opened 0 0)) (get-insert_same empty (root_in store) (opened 262144 64) (root_in store) refl);
   room = omega (arith, ap room_in booted, enough);
+  machine =
+      let alone = total-insert_new (λ (a : Account). a.ram_limit) empty (root_in store) (opened 262144 64) (get-empty (root_in store)) in
+      ap ram_limits_in booted ∙ omega (arith, alone, total-empty (λ (a : Account). a.ram_limit));
 }
 
 module _ {store : Store} {components : List Component} {list : List StartEntry} {ram_left caps_left places : ℕ} where
@@ -42,6 +47,7 @@ module _ {store : Store} {components : List Component} {list : List StartEntry} 
     fresh = so_far.fresh;
     covered = subst (λ a. Fits a ram caps) (sym so_far.init) (record { ram_fits = omega (arith, ram_fits); caps_fit = omega (arith, caps_fit) });
     room = omega (arith, more, so_far.room);
+    machine = so_far.machine;
   }
 
   -- and once it has, it comes last
@@ -53,19 +59,9 @@ module _ {store : Store} {components : List Component} {list : List StartEntry} 
     starts = started.starts ∙ ap (λ starts. starts ++ start ∷ []) so_far.starts;
     init = started.init ∙ ap (λ a. parted_with a start.ram start.caps) so_far.init;
     room = omega (arith, started.room, so_far.room);
+    machine = started.machine ∙ so_far.machine;
   }
 
 -- once all have started, it is the built-in machine
 pub machine_started : {store : Store} {components : List Component} → SoFar store components machine_a.starts 98304 16 0 → started_world store components ≡ start_world machine_a
 machine_started so_far = λ j. record { entries = map (λ start. start.entry) (so_far.starts j); init = so_far.init j; states = map start_state (so_far.starts j) }
-
--- and it is balanced
-pub machine_a_balanced : IsBalanced 64 64 (start_world machine_a)
-machine_a_balanced =
-    start_balanced machine_a (
-      record { ram_fits = lit≤ tt; caps_fit = lit≤ tt },
-      (
-        record { ram_fits = lit≤ tt; caps_fit = lit≤ tt },
-        (record { ram_fits = lit≤ tt; caps_fit = lit≤ tt }, (record { ram_fits = lit≤ tt; caps_fit = lit≤ tt }, tt)),
-      ),
-    )

@@ -1,14 +1,13 @@
 -- A run from line to line: what was answered, and what it leaves at its end.
-use Rattle.std.proofs.Common.{◌≡◌, ℕ, ◌+◌, ◌<◌, ◌≤◌, nat_le, nat_lt, slice_index_or, take, drop, Bool, true, false, cond, List, [], ◌∷◌, ◌++◌, length, Option, Some, None, IfSome, Result, Ok, Err, inl, inr, arith, refl, sym, ◌∙◌, ap, subst, append_assoc, append-nil}
+use Rattle.std.proofs.Common.{◌≡◌, ℕ, ◌+◌, ◌<◌, nat_lt, slice_index_or, take, drop, Bool, true, List, [], ◌∷◌, ◌++◌, length, Option, Some, None, IfSome, Result, Ok, Err, inl, inr, arith, refl, sym, ◌∙◌, ap, subst, append_assoc, append-nil}
 use Rattle.std.proofs.lemmas.Bool.Decides.{nat_tests}
 use Rattle.std.specs.Io.KnownBytes.{Appends}
 use Rattle.own_model.specs.StartList.{Entry}
 use Rattle.own_model.specs.Text.{lines_of}
-use Rattle.own_model.specs.Call.{spoken}
-use Rattle.own_model.specs.Transcript.{heard, heard_spoken, longest_line}
+use Rattle.own_model.specs.Transcript.{heard, longest_line}
 use Rattle.own_model.specs.Transcript.Heard.{NoCall}
 use Rattle.own_model.specs.World.{World}
-use Rattle.scenario_run.specs.Answered.{Point, Answers, Ended, Halts, HaltsFor, AnswersNext, told_of, told_of_all, after_one, after_all, bad_line, more_unless_failed}
+use Rattle.scenario_run.specs.Answered.{Point, Answers, Halts, HaltsFor, AnswersNext, told_of, told_of_all, after_one, after_all, bad_line, more_unless_failed}
 use Rattle.scenario_run.specs.Gathered.{Tells, TellsUnless}
 use Rattle.scenario_run.specs.Lines.{line_of, longest_read, to_come, PassesLines}
 use Rattle.scenario_run.specs.Next.{BeginsWithLine, PassesLongLine, StopsBefore, TellsAt, is_read_fault}
@@ -85,14 +84,11 @@ answered_line p q written gathered line (Err fault) before tells world passes = 
 pub passes_ahead : (old rest : Option (List ℕ)) (ahead left : List ℕ) (n : ℕ) → IfSome old (λ before. BeginsWithLine before ahead rest n) → left ≡ drop (n + 1) ahead →
     IfSome old (λ text. PassesLines text (to_come left rest) (take n ahead ∷ []))
 passes_ahead None rest ahead left n begins is = tt
-passes_ahead (Some text) rest ahead left n begins is =
-    rw begins.line (passes_line text (to_come left rest) begins.some (ap (λ ahead. to_come ahead rest) is ∙ begins.after))
+passes_ahead (Some text) rest ahead left n begins is = grind (arith, nat_tests, passes_line)
 
 -- a line that is too long is no call
 heard_long : (entries : List Entry) (line : List ℕ) → longest_line < length line → heard entries line ≡ NoCall
-heard_long entries line long =
-    let e : nat_le (length line) longest_line ≡ false = grind (arith, nat_tests) in
-    ap (λ b. cond b (heard_spoken entries (spoken line)) NoCall) e
+heard_long entries line long = grind (arith, nat_tests)
 
 -- a line that is no call is told so, and changes nothing
 pub record IsUnheard (world : World) (line : List ℕ) : Type 0 where
@@ -155,17 +151,6 @@ stops_for Endless text come rest xs answered max_lines failed fails p halts =
 
 -- a run ends behind the lines answered
 module _ {world : World} {input written : Option (List ℕ)} {xs : List (List ℕ)} {q : Point} (answers : Answers xs (start world input written) q) where
-  -- no more lines come
-  pub serves_all : (r : Point) (max_lines : ℕ) (failed : Bool) → length xs ≤ max_lines → Ended q r →
-      Serves (Ok (length xs)) max_lines world r.world input r.rest failed written r.written
-  serves_all r max_lines failed few ended = record {
-    answered = xs;
-    world = ended.world ∙ answers.world;
-    told = all_written (subst (Tells written [] r.written []) (append-nil (told_of_all world xs)) (Tells-more answers.tells ended.tells));
-    count = (few, refl);
-    lines = behind input (to_come q.ahead q.rest) xs _ _ answers.passes ended.none (λ text p none. (lines_of p.rest, p.first, ap lines_of none));
-  }
-
   -- a fault comes
   pub serves_to_fault : (r : Point) (max_lines : ℕ) (failed : Bool) (fault : LineFault) → failed ≡ is_read_fault {T = Bool} (Err fault) → Halts fault q r →
       Serves (Err (run_fault fault)) max_lines world r.world input r.rest failed written r.written

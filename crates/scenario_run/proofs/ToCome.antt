@@ -1,5 +1,5 @@
 -- What was passed, and what is left to come.
-use Rattle.std.proofs.Common.{◌≡◌, ℕ, ◌+◌, ◌<◌, ◌≤◌, List, [], ◌∷◌, ◌++◌, length, take, drop, Option, Some, None, IfSome, Err, arith, refl, sym, ◌∙◌, ap, length-append}
+use Rattle.std.proofs.Common.{◌≡◌, ℕ, ◌+◌, ◌<◌, ◌≤◌, List, [], ◌∷◌, ◌++◌, length, take, drop, Option, Some, None, IfSome, Err, arith, sym, ◌∙◌, ap, length-append}
 use Rattle.std.proofs.lemmas.List.{drop-drop, drop_all, drop_at, drop-append-le, take-append-le}
 use Rattle.std.specs.Io.KnownBytes.{Keeps, IsAtEnd}
 use Rattle.scenario_run.specs.Lines.{line_length, after_line, longest_read, to_come, PassesSome}
@@ -7,15 +7,11 @@ use Rattle.scenario_run.specs.Next.{BeginsWithLine, PassesLongLine, StopsBefore,
 use Rattle.scenario_run.specs.declared.lines.LineFault.{LineFault}
 use Rattle.scenario_run.specs.declared.lines.LineFault.TheVariants.{Read, Write, Endless}
 use Rattle.scenario_run.proofs.LineLemmas.{line_length-le, line_length-append_in, line_length-append-le, line_length-drop}
+use Rattle.std.proofs.lemmas.Bool.Decides.{nat_tests}
 
 -- the same where the bytes to come are known
 abbrev pub Passes : Option (List ℕ) → Option (List ℕ) → ℕ → Type 0
 Passes old new n = IfSome old (λ before. PassesSome before new n)
-
--- nothing was passed yet
-pub Passes-none : (old : Option (List ℕ)) → Passes old old 0
-Passes-none None = tt
-Passes-none (Some before) = record { of_line = omega arith; left = refl }
 
 -- what is to come stays
 pub Passes-kept : (old mid new : Option (List ℕ)) (n : ℕ) → Passes old mid n → Keeps mid new → Passes old new n
@@ -81,9 +77,7 @@ IsLong-ahead old_ahead (Some ys) long = omega (arith, line_length-append-le old_
 -- the bytes ahead, all of the line, are passed
 pub passed_on : (old rest : Option (List ℕ)) (ahead left : List ℕ) (n : ℕ) {m : ℕ} → Passes old (to_come ahead rest) n → m ≡ line_length ahead → length ahead ≤ m
     → left ≡ drop (m + 1) ahead → Passes old (to_come left rest) (n + m)
-passed_on old rest ahead left n {m} passes is whole left_of =
-    let same : left ≡ drop (line_length ahead + 1) ahead = left_of ∙ ap (λ k. drop (k + 1) ahead) is in
-    rw (same, is) (Passes-whole old rest ahead n passes (omega arith))
+passed_on old rest ahead left n {m} passes is whole left_of = grind (arith, nat_tests, Passes-whole)
 
 -- a long line that ends ahead is passed with its newline
 pub long_line-within : (old rest : Option (List ℕ)) (ahead left : List ℕ) (n m : ℕ) → IfSome old (λ before. 8192 < line_length before)

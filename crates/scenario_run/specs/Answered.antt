@@ -23,7 +23,9 @@ told_of world line = told_now world.entries world.states (heard world.entries li
 
 -- the world after a line
 abbrev pub after_one : World → List ℕ → World
-after_one world line = record world { states = states_after_heard world.entries world.states (heard world.entries line) }
+after_one world line = record world {
+  states = states_after_heard world.entries world.states (heard world.entries line);
+}
 
 -- what is told of each line in turn
 abbrev pub told_of_all : World → List (List ℕ) → List ℕ
@@ -43,14 +45,20 @@ pub record Point : Type 0 where
 
 -- the same, as its parts tell it
 abbrev pub point : World → Buffers → Option (List ℕ) → Option (List ℕ) → Point
-point world buffers rest written =
-    record { world = world; ahead = buffers.ahead; rest = rest; written = written; gathered = buffers.gathered }
+point world buffers rest written = record {
+  world = world;
+  ahead = buffers.ahead;
+  rest = rest;
+  written = written;
+  gathered = buffers.gathered;
+}
 
 -- these lines are answered; where the bytes to come are known, they are the first of them
 pub record Answers (lines : List (List ℕ)) (old new : Point) : Type 0 where
   pub world : new.world ≡ after_all old.world lines
   pub tells : Tells old.written old.gathered new.written new.gathered (told_of_all old.world lines)
-  pub passes : IfSome (to_come old.ahead old.rest) (λ text. PassesLines text (to_come new.ahead new.rest) lines)
+  pub passes : IfSome (to_come old.ahead old.rest) (λ text.
+      PassesLines text (to_come new.ahead new.rest) lines)
 
 -- no line is left, and all that was told is written
 pub record Ended (old new : Point) : Type 0 where

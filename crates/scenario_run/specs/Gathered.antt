@@ -2,7 +2,8 @@
 use Rattle.std.specs.Prelude.{◌≡◌, ℕ, List, [], ◌∷◌, ◌++◌, Option, Result, Ok, Err, codes}
 use Rattle.std.specs.Io.KnownBytes.{Appends}
 
--- bytes are told: from the front of what was gathered and of these some were written, and the others are gathered now
+-- bytes are told: from the front of what was gathered and of these some were written, and the others are
+-- gathered now
 pub record Tells (written : Option (List ℕ)) (gathered : List ℕ) (now_written : Option (List ℕ))
     (now_gathered bytes : List ℕ) : Type 0 where
   pub out : List ℕ
@@ -14,9 +15,12 @@ abbrev pub TellsPart : Option (List ℕ) → List ℕ → Option (List ℕ) → 
 TellsPart written gathered now_written bytes = (lost : List ℕ) × Tells written gathered now_written lost bytes
 
 -- bytes are told, unless a write fails
-abbrev pub TellsUnless : {T E : Type 0} → Result T E → Option (List ℕ) → List ℕ → Option (List ℕ) → List ℕ → List ℕ → Type 0
-TellsUnless (Ok done) written gathered now_written now_gathered bytes = Tells written gathered now_written now_gathered bytes
-TellsUnless (Err fault) written gathered now_written now_gathered bytes = TellsPart written gathered now_written bytes
+abbrev pub TellsUnless : {T E : Type 0} → Result T E →
+    Option (List ℕ) → List ℕ → Option (List ℕ) → List ℕ → List ℕ → Type 0
+TellsUnless (Ok done) written gathered now_written now_gathered bytes =
+    Tells written gathered now_written now_gathered bytes
+TellsUnless (Err fault) written gathered now_written now_gathered bytes =
+    TellsPart written gathered now_written bytes
 
 -- a name and its reply, as a line
 abbrev pub line_with : List ℕ → List ℕ → List ℕ

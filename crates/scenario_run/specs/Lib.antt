@@ -1,4 +1,3 @@
-pub mod Words
 pub mod Boot
 pub mod Device
 pub mod Gathered

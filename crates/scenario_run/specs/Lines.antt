@@ -28,14 +28,16 @@ abbrev pub to_come : List ℕ → Option (List ℕ) → Option (List ℕ)
 to_come ahead rest = prepend_known ahead rest
 
 -- n bytes are read behind those ahead, none only at the end
-pub record Grows (ahead : List ℕ) (rest : Option (List ℕ)) (now_ahead : List ℕ) (now_rest : Option (List ℕ)) (n : ℕ) : Type 0 where
+pub record Grows (ahead : List ℕ) (rest : Option (List ℕ)) (now_ahead : List ℕ) (now_rest : Option (List ℕ))
+    (n : ℕ) : Type 0 where
   pub kept : take (length ahead) now_ahead ≡ ahead
   pub count : length now_ahead ≡ length ahead + n
   pub come : Keeps (to_come ahead rest) (to_come now_ahead now_rest)
   pub end : n ≡ 0 → IsAtEnd now_rest
 
 -- the same, unless the read fails
-abbrev pub GrowsUnless : {E : Type 0} → Result ℕ E → List ℕ → Option (List ℕ) → List ℕ → Option (List ℕ) → Type 0
+abbrev pub GrowsUnless : {E : Type 0} → Result ℕ E →
+    List ℕ → Option (List ℕ) → List ℕ → Option (List ℕ) → Type 0
 GrowsUnless (Ok n) ahead rest now_ahead now_rest = Grows ahead rest now_ahead now_rest n
 GrowsUnless (Err fault) ahead rest now_ahead now_rest = (now_ahead ≡ ahead) × Keeps rest now_rest
 

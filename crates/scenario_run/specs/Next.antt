@@ -27,7 +27,8 @@ IsNext before ahead rest (Line n) = BeginsWithLine before ahead rest n
 IsNext before ahead rest TooLong = PassesLongLine before (to_come ahead rest)
 IsNext before ahead rest End = before ≡ []
 
--- no line comes: a read failed within the first line, a write failed, or the first line is too long to be read to its end
+-- no line comes: a read failed within the first line, a write failed, or the first line is too long to be read
+-- to its end
 abbrev pub StopsBefore : LineFault → List ℕ → Option (List ℕ) → Type 0
 StopsBefore Read before rest = (n : ℕ) × PassesSome before rest n
 StopsBefore Write before rest = ⊤
@@ -40,7 +41,8 @@ FindsNext (Err fault) before ahead rest = StopsBefore fault before rest
 
 -- the same, where the bytes to come are known
 abbrev pub FindsNextIn : Result Next LineFault → List ℕ → Option (List ℕ) → List ℕ → Option (List ℕ) → Type 0
-FindsNextIn result ahead rest now_ahead now_rest = IfSome (to_come ahead rest) (λ before. FindsNext result before now_ahead now_rest)
+FindsNextIn result ahead rest now_ahead now_rest =
+    IfSome (to_come ahead rest) (λ before. FindsNext result before now_ahead now_rest)
 
 -- whether a line begins is known, or no line comes
 abbrev pub Begins : Result Bool LineFault → List ℕ → Option (List ℕ) → Type 0
@@ -85,6 +87,9 @@ TellsAt Write written gathered now_written bytes = TellsPart written gathered no
 TellsAt Endless written gathered now_written bytes = Tells written gathered now_written [] bytes
 
 -- the same, unless a line comes
-abbrev pub TellsOrStops : {T : Type 0} → Result T LineFault → Option (List ℕ) → List ℕ → Option (List ℕ) → List ℕ → List ℕ → Type 0
-TellsOrStops (Ok x) written gathered now_written now_gathered bytes = Tells written gathered now_written now_gathered bytes
-TellsOrStops (Err fault) written gathered now_written now_gathered bytes = TellsAt fault written gathered now_written bytes
+abbrev pub TellsOrStops : {T : Type 0} → Result T LineFault →
+    Option (List ℕ) → List ℕ → Option (List ℕ) → List ℕ → List ℕ → Type 0
+TellsOrStops (Ok x) written gathered now_written now_gathered bytes =
+    Tells written gathered now_written now_gathered bytes
+TellsOrStops (Err fault) written gathered now_written now_gathered bytes =
+    TellsAt fault written gathered now_written bytes

@@ -13,7 +13,8 @@ abbrev pub transcript_a : List ℕ → List ℕ
 transcript_a input = transcript (entries_of machine_a) (start_states machine_a) input
 
 -- a run from the machine's start stopped, unless there was no room for the machine
-abbrev pub FailsFor : Failure → ℕ → List ℕ → Option (List ℕ) → Bool → Option (List ℕ) → Option (List ℕ) → Type 0
+abbrev pub FailsFor : Failure → ℕ →
+    List ℕ → Option (List ℕ) → Bool → Option (List ℕ) → Option (List ℕ) → Type 0
 FailsFor NoMemory max_lines input rest failed written now_written = ⊤
 FailsFor (Run fault) max_lines input rest failed written now_written =
     (new : World) × Stops fault max_lines (start_world machine_a) new input rest failed written now_written
@@ -22,7 +23,8 @@ FailsFor (Run fault) max_lines input rest failed written now_written =
 abbrev pub FailsIn : Failure → ℕ → List ℕ → List ℕ → Type 0
 FailsIn NoMemory max_lines input written = written ≡ []
 FailsIn (Run fault) max_lines input written =
-    (rest : Option (List ℕ)) × ((new : World) × Stops fault max_lines (start_world machine_a) new input rest false (Some []) (Some written))
+    (rest : Option (List ℕ)) × ((new : World) ×
+    Stops fault max_lines (start_world machine_a) new input rest false (Some []) (Some written))
 
 -- the exit status
 abbrev pub status_of : Result Summary Failure → ℕ

@@ -22,13 +22,15 @@ WritesUnless (Ok count) old new told = Appends old new told
 WritesUnless (Err fault) old new told = IsWritten fault old new told
 
 -- no lines are left, unless the run stopped
-abbrev pub LeavesNone : Result ℕ RunFault → List (List ℕ) → List (List ℕ) → ℕ → List ℕ → Option (List ℕ) → Bool → Type 0
+abbrev pub LeavesNone : Result ℕ RunFault → List (List ℕ) → List (List ℕ) →
+    ℕ → List ℕ → Option (List ℕ) → Bool → Type 0
 LeavesNone (Ok count) answered left max_lines input rest failed = left ≡ []
-LeavesNone (Err fault) answered left max_lines input rest failed = StopsFor fault answered left max_lines input rest failed
+LeavesNone (Err fault) answered left max_lines input rest failed =
+    StopsFor fault answered left max_lines input rest failed
 
 -- lines are answered to the end of the input or a fault; where the input is known, they are the first of it
-pub record Serves (result : Result ℕ RunFault) (max_lines : ℕ) (old new : World) (input rest : Option (List ℕ)) (failed : Bool)
-    (written now_written : Option (List ℕ)) : Type 0 where
+pub record Serves (result : Result ℕ RunFault) (max_lines : ℕ) (old new : World)
+    (input rest : Option (List ℕ)) (failed : Bool) (written now_written : Option (List ℕ)) : Type 0 where
   pub answered : List (List ℕ)
   pub world : new ≡ after_all old answered
   pub told : WritesUnless result written now_written (told_of_all old answered)

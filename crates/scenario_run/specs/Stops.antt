@@ -26,20 +26,23 @@ IsWritten TooManyLines old new told = Appends old new told
 -- the writer failed; or these are as many as are allowed, and one more began
 abbrev pub StopsFor : RunFault → List (List ℕ) → List (List ℕ) → ℕ → List ℕ → Option (List ℕ) → Bool → Type 0
 StopsFor ReadFault answered left max_lines input rest failed =
-    ((failed ≡ true) × IsReadTo (length answered) input rest) ⊎ (longest_read < length (slice_index_or left 0 []))
+    ((failed ≡ true) × IsReadTo (length answered) input rest)
+    ⊎ (longest_read < length (slice_index_or left 0 []))
 StopsFor WriteFault answered left max_lines input rest failed = ⊤
-StopsFor TooManyLines answered left max_lines input rest failed = (length answered ≡ max_lines) × (0 < length left)
+StopsFor TooManyLines answered left max_lines input rest failed =
+    (length answered ≡ max_lines) × (0 < length left)
 
 -- a run stopped at a fault: the first lines of its input were answered, each by its caller's own run
-pub record Stops (fault : RunFault) (max_lines : ℕ) (old new : World) (input : List ℕ) (rest : Option (List ℕ)) (failed : Bool)
-    (written now_written : Option (List ℕ)) : Type 0 where
+pub record Stops (fault : RunFault) (max_lines : ℕ) (old new : World) (input : List ℕ)
+    (rest : Option (List ℕ)) (failed : Bool) (written now_written : Option (List ℕ)) : Type 0 where
   pub answered : List (List ℕ)
   pub left : List (List ℕ)
   pub lines : lines_of input ≡ answered ++ left
   pub cause : StopsFor fault answered left max_lines input rest failed
   pub told : IsWritten fault written now_written (told_after old.entries old.states [] answered)
   pub states : (component : ℕ) →
-      state_at new.states component ≡ state_after old.entries old.states (calls_of old.entries answered) component
+      state_at new.states component
+      ≡ state_after old.entries old.states (calls_of old.entries answered) component
 
 -- a write failed
 abbrev pub is_write_fault : {T : Type 0} → Result T RunFault → Bool

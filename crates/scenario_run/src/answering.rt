@@ -48,7 +48,8 @@ pub fn answer_line<K: Sink>(
 /// Answers a longer line, of which no byte was kept.
 pub fn answer_long_line<K: Sink>(gathered: &mut Gather, sink: &mut K) -> Result<(), DeviceFault>
     requires { K.has_failed sink.old ≡ false }
-    ensures told { TellsUnless result (K.contents sink.old) gathered.old (K.contents sink.new) gathered.new bad_line }
+    ensures told { TellsUnless result (K.contents sink.old) gathered.old (K.contents sink.new) gathered.new
+        bad_line }
     ensures failing { K.has_failed sink.new ≡ is_err result }
 {
     tell_refusal(NOBODY, Refusal::BadLine, gathered, sink)

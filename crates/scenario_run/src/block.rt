@@ -1,16 +1,17 @@
 //! The bytes that were read ahead.
-ghost use Rattle.std.specs.Prelude.{◌≡◌, ℕ, ◌+◌, ◌-◌, ◌<◌, ◌≤◌, List, [], false, length, drop, slice_range, is_err, position};
+ghost use Rattle.std.specs.Prelude.{◌≡◌, ℕ, ◌+◌, ◌-◌, ◌<◌, ◌≤◌, List, [], false, length, drop, slice_range, is_err};
 ghost use Rattle.scenario_run.specs.Lines.{is_newline, line_length, GrowsUnless};
 
 use crate::device::{DeviceFault, Source};
 use crate::gather::Gather;
-use memchr::memchr;
 use std::marker::Model;
+use text_read::find_byte;
 
 /// The longest line that is read as a call, in bytes and without its newline.
 pub const LONGEST_LINE: usize = 8192;
 
-/// How many bytes are read ahead at most. The longest line fills half of them, so that there is always room to read the rest of it.
+/// How many bytes are read ahead at most. The longest line fills half of them, so that there is always room to read the
+/// rest of it.
 const CAPACITY: usize = 16384;
 
 /// Bytes that a source gave and that are not yet passed.
@@ -70,6 +71,7 @@ impl Block {
     }
 
     /// Passes the first `count` bytes, or all where there are fewer.
+    #[tactic(auto, using(crate::proofs::BlockLemmas::front_passed))]
     pub fn pass(&mut self, count: usize)
         ensures { self.new ≡ drop count self.old }
     {
@@ -91,7 +93,8 @@ impl Block {
         requires room { length self.old ≤ LONGEST_LINE }
         requires written { gathered.now ≡ [] }
         requires reads { S.has_failed source.old ≡ false }
-        ensures grows { GrowsUnless result self.old (S.remaining source.old) self.new (S.remaining source.new) }
+        ensures grows { GrowsUnless result
+            self.old (S.remaining source.old) self.new (S.remaining source.new) }
         ensures failing { S.has_failed source.new ≡ is_err result }
     {
         (self.start, self.end) = move_to_front(&mut self.bytes, self.start, self.end);
@@ -101,8 +104,8 @@ impl Block {
     }
 }
 
-// Moves what stands from `start` up to `end` to the front, where it doesn't overlap: then half of the bytes are free, and else some.
-// Answers where it stands now.
+// Moves what stands from `start` up to `end` to the front, where it doesn't overlap: then half of the bytes are free,
+// and else some. Answers where it stands now.
 fn move_to_front(bytes: &mut [u8; CAPACITY], start: usize, end: usize) -> (usize, usize)
     requires order { start ≤ end }
     requires within { end ≤ 16384 }
@@ -121,18 +124,13 @@ fn move_to_front(bytes: &mut [u8; CAPACITY], start: usize, end: usize) -> (usize
 }
 
 // How many bytes stand before the first newline, or all of them where there is none.
+#[tactic(auto, using(crate::proofs::LineLemmas::line_lengths))]
 fn line_length_of(bytes: &[u8]) -> usize
     ensures value { result ≡ line_length bytes.now }
     ensures fits { result ≤ length bytes.now }
 {
-    match newline_in(bytes) {
+    match find_byte(b'\n', bytes) {
         Some(place) => place,
         None => bytes.len(),
     }
-}
-
-fn newline_in(bytes: &[u8]) -> Option<usize>
-    ensures { result ≡ position is_newline bytes.now }
-{
-    memchr(b'\n', bytes)
 }

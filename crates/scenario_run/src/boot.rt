@@ -5,7 +5,7 @@ ghost use Rattle.own_model.specs.Account.{Fits};
 ghost use Rattle.own_model.specs.StartList.{machine_a};
 ghost use Rattle.own_model.specs.World.{start_world, IsBalanced};
 ghost use Rattle.scenario_run.specs.Boot.{CanStart, HasStarted, init_in, server_start, script_start};
-ghost use Rattle.dataspace_core.specs.Store.{accounts_in, root_in, room_in, IsOpenIn, OpensPart};
+ghost use Rattle.dataspace_core.specs.Store.{accounts_in, root_in, room_in, IsOpenIn, OpensPart, ram_limits_in};
 
 use crate::names::{ALICE, BOB, FILES, LOG};
 use cap_space::CapSpace;
@@ -70,6 +70,7 @@ fn open_account(memory: &mut Memory, budget: Budget) -> AccountId
     ensures fresh { get (accounts_in memory.old) result.0 ≡ None }
     ensures part { OpensPart (root_in memory.old) result.0 budget.ram.0 budget.caps.0 memory.old memory.new }
     ensures root { IsOpenIn memory.old (root_in memory.old) }
+    ensures machine { ram_limits_in memory.new ≡ ram_limits_in memory.old }
 {
     let init = memory.root();
     memory.open(init, budget.ram, budget.caps).unwrap()

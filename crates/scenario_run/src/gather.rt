@@ -44,7 +44,8 @@ impl Gather {
     #[inline]
     pub fn put<K: Sink>(&mut self, sink: &mut K, bytes: &[u8]) -> Result<(), DeviceFault>
         requires { K.has_failed sink.old ≡ false }
-        ensures told { TellsUnless result (K.contents sink.old) self.old (K.contents sink.new) self.new bytes.now }
+        ensures told { TellsUnless result (K.contents sink.old) self.old (K.contents sink.new) self.new
+            bytes.now }
         ensures failing { K.has_failed sink.new ≡ is_err result }
     {
         if bytes.len() > CAPACITY - self.end {
@@ -78,7 +79,8 @@ impl Gather {
     #[inline(never)]
     fn put_in_pieces<K: Sink>(&mut self, sink: &mut K, bytes: &[u8]) -> Result<(), DeviceFault>
         requires { K.has_failed sink.old ≡ false }
-        ensures told { TellsUnless result (K.contents sink.old) self.old (K.contents sink.new) self.new bytes.now }
+        ensures told { TellsUnless result (K.contents sink.old) self.old (K.contents sink.new) self.new
+            bytes.now }
         ensures failing { K.has_failed sink.new ≡ is_err result }
     {
         let mut done = self.take_in(bytes);
@@ -120,6 +122,7 @@ impl Gather {
 }
 
 // Writes bytes until all are written or a write fails, and answers how many were written.
+#[tactic(auto, using(crate::proofs::GatheredLemmas::written_on))]
 fn write_out<K: Sink>(sink: &mut K, bytes: &[u8]) -> usize
     requires { K.has_failed sink.old ≡ false }
     ensures count { result ≤ length bytes.now }

@@ -1,27 +1,21 @@
 //! The lines that make calls.
-ghost use Rattle.std.specs.Prelude.{◌≡◌, ◌<◌, length, IfSome, None, Some, IfOk, IfErr, OnErr};
+ghost use Rattle.std.specs.Prelude.{◌≡◌, IfSome, None, Some, IfOk, IfErr, OnErr};
 ghost use Rattle.std.specs.Option.{option_copied, option_map};
-ghost use Rattle.std.specs.List.{list_all, position};
 ghost use Rattle.trade_base.specs.declared.refusal.Refusal.TheVariants.{BadLine};
-ghost use Rattle.own_model.specs.Text.{address_of, first_word, is_name_byte, is_name, number_of};
+ghost use Rattle.own_model.specs.Text.{address_of, number_of};
 ghost use Rattle.own_model.specs.Call.{call_of, call_of_two, form_of, some_bytes_of_hex, spoken, Spoken};
 ghost use Rattle.own_model.specs.Call.Call.{AttachAt, Peek, Poke};
 ghost use Rattle.pd_core.specs.Call.{model_call, IsWellFormed};
-ghost use Rattle.scenario_run.specs.Words.{is_space};
 
-use crate::address::read_address;
-use crate::hex_text::is_hex;
-use memchr::memchr;
 use pd_core::Call;
+use text_read::{is_name, read_address, read_hex, split_first_word};
 use trade_base::{Refusal, read_number};
-
-/// The most bytes of a name.
-const LONGEST_NAME: usize = 32;
 
 /// The component's name and the call of a line, or `Refusal::BadLine` where the line isn't a call. The line's length
 /// isn't looked at.
 pub fn read_line(line: &[u8]) -> Result<(&[u8], Call<'_>), Refusal>
-    ensures value { IfOk result (λ said. spoken line.now ≡ Some (record { name = said.0.now; call = model_call said.1 })) }
+    ensures value { IfOk result (λ said.
+        spoken line.now ≡ Some (record { name = said.0.now; call = model_call said.1 })) }
     ensures well_formed { IfOk result (λ said. IsWellFormed said.1) }
     ensures refused { IfErr result (λ refusal. refusal ≡ BadLine) }
     ensures none { OnErr result (spoken line.now ≡ None) }
@@ -71,6 +65,10 @@ fn call_from<'a>(form: &[u8], arguments: Option<&'a [u8]>) -> Option<Call<'a>>
         Some(Call::Capalloc)
     } else if form == b"capfree".as_slice() {
         Some(Call::Capfree(read_number(arguments?)?))
+    } else if form == b"snew".as_slice() {
+        Some(Call::Snew(read_number(arguments?)?))
+    } else if form == b"sdel".as_slice() {
+        Some(Call::Sdel(read_address(arguments?)?))
     } else if form == b"quota".as_slice() && arguments.is_none() {
         Some(Call::Quota)
     } else {
@@ -101,59 +99,15 @@ fn read_peek(arguments: &[u8]) -> Option<Call<'_>>
 }
 
 /// An address and the hexadecimal digits of one or more bytes, parted by a space.
-#[tactic(auto, using(crate::proofs::HexLemmas::poked_bytes, crate::proofs::HexLemmas::no_bytes))]
 fn read_poke(arguments: &[u8]) -> Option<Call<'_>>
-    ensures call { option_map model_call result ≡ call_of_two Poke address_of some_bytes_of_hex arguments.now }
+    ensures call { option_map model_call result
+        ≡ call_of_two Poke address_of some_bytes_of_hex arguments.now }
     ensures well_formed { IfSome result IsWellFormed }
 {
     let (address, hex) = split_first_word(arguments);
     let address = read_address(address)?;
-    let hex = hex?;
-    if is_hex(hex) {
-        Some(Call::Poke { address, hex })
-    } else {
-        None
-    }
-}
-
-/// A text up to its first space, and what stands after that space, if there is one.
-fn split_first_word(text: &[u8]) -> (&[u8], Option<&[u8]>)
-    ensures word { result.0.now ≡ (first_word text.now).word }
-    ensures rest { option_copied result.1 ≡ (first_word text.now).rest }
-{
-    match first_space(text) {
-        Some(end) => (&text[..end], Some(&text[end + 1..])),
-        None => (text, None),
-    }
-}
-
-/// Where the first space of a text stands.
-fn first_space(text: &[u8]) -> Option<usize>
-    ensures place { result ≡ position is_space text.now }
-    ensures inside { IfSome result (λ end. end < length text.now) }
-{
-    memchr(b' ', text)
-}
-
-/// Whether a word is a name: 1 to 32 letters, digits, `_`, `-` and `.`.
-fn is_name(word: &[u8]) -> bool
-    ensures { result ≡ is_name word.now }
-{
-    1 <= word.len() && word.len() <= LONGEST_NAME && has_name_bytes(word)
-}
-
-/// Whether each byte may stand in a name.
-fn has_name_bytes(word: &[u8]) -> bool
-    ensures { result ≡ list_all is_name_byte word.now }
-{
-    word.iter().all(|byte| is_name_byte(*byte))
-}
-
-/// Whether a byte may stand in a name.
-fn is_name_byte(byte: u8) -> bool
-    ensures { result ≡ is_name_byte byte }
-{
-    byte.is_ascii_alphanumeric() || matches!(byte, b'_' | b'-' | b'.')
+    let hex = read_hex(hex?)?;
+    Some(Call::Poke { address, hex })
 }
 
 #[cfg(test)]
@@ -198,6 +152,7 @@ mod tests {
                 Some(Call::Alloc(u64::MAX))
             )
         );
+        assert!(rt; matches!(call_of_alice(b"alice snew 0256"), Some(Call::Snew(256))));
     }
 
     #[test]
@@ -233,6 +188,12 @@ mod tests {
             matches!(
                 call_of_alice(b"alice detach 0xffffFFFFffffFFFF"),
                 Some(Call::Detach(u64::MAX))
+            )
+        );
+        assert!(rt;
+            matches!(
+                call_of_alice(b"alice sdel 0x100000020"),
+                Some(Call::Sdel(0x1_0000_0020))
             )
         );
         assert!(rt;
@@ -275,6 +236,8 @@ mod tests {
         assert!(rt; is_bad(b"abcdefghijklmnopqrstuvwxyz0123456 quota"));
         assert!(rt; is_bad(b"al/ice quota"));
         assert!(rt; is_bad(b"alice capalloc 1"));
+        assert!(rt; is_bad(b"alice snew"));
+        assert!(rt; is_bad(b"alice snew 0x10"));
     }
 
     #[test]
@@ -288,6 +251,7 @@ mod tests {
         assert!(rt; is_bad(b"alice attach_at 1"));
         assert!(rt; is_bad(b"alice attach_at 0x10000000 1"));
         assert!(rt; is_bad(b"alice attach_at 1 0x10000000 "));
+        assert!(rt; is_bad(b"alice sdel 4294967328"));
         assert!(rt; is_bad(b"alice peek 0x0"));
         assert!(rt; is_bad(b"alice peek 0x0  1"));
         assert!(rt; is_bad(b"alice peek 0x0 1 2"));

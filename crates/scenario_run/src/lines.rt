@@ -60,8 +60,10 @@ impl Buffers {
         requires room { length self.old.ahead ≤ LONGEST_LINE }
         requires reads { S.has_failed source.old ≡ false }
         requires writes { K.has_failed sink.old ≡ false }
-        ensures grows { GrowsOrStops result self.old.ahead (S.remaining source.old) self.new.ahead (S.remaining source.new) }
-        ensures told { TellsOrStops result (K.contents sink.old) self.old.gathered (K.contents sink.new) self.new.gathered [] }
+        ensures grows { GrowsOrStops result
+            self.old.ahead (S.remaining source.old) self.new.ahead (S.remaining source.new) }
+        ensures told { TellsOrStops result
+            (K.contents sink.old) self.old.gathered (K.contents sink.new) self.new.gathered [] }
         ensures empty { OnOk result (self.new.gathered ≡ []) }
         ensures reading { S.has_failed source.new ≡ is_read_fault result }
         ensures writing { K.has_failed sink.new ≡ is_write_fault result }
@@ -83,9 +85,11 @@ impl Buffers {
     ) -> Result<Next, LineFault>
         requires reads { S.has_failed source.old ≡ false }
         requires writes { K.has_failed sink.old ≡ false }
-        ensures next { FindsNextIn result self.old.ahead (S.remaining source.old) self.new.ahead (S.remaining source.new) }
+        ensures next { FindsNextIn result
+            self.old.ahead (S.remaining source.old) self.new.ahead (S.remaining source.new) }
         ensures ready { IfOk result (λ next. IsReady next self.new.ahead self.new.gathered) }
-        ensures told { TellsOrStops result (K.contents sink.old) self.old.gathered (K.contents sink.new) self.new.gathered [] }
+        ensures told { TellsOrStops result
+            (K.contents sink.old) self.old.gathered (K.contents sink.new) self.new.gathered [] }
         ensures reading { S.has_failed source.new ≡ is_read_fault result }
         ensures writing { K.has_failed sink.new ≡ is_write_fault result }
     {
@@ -117,7 +121,8 @@ impl Buffers {
         requires reads { S.has_failed source.old ≡ false }
         requires writes { K.has_failed sink.old ≡ false }
         ensures begins { BeginsIn result self.old.ahead (S.remaining source.old) (S.remaining source.new) }
-        ensures told { TellsOrStops result (K.contents sink.old) self.old.gathered (K.contents sink.new) [] [] }
+        ensures told { TellsOrStops result
+            (K.contents sink.old) self.old.gathered (K.contents sink.new) [] [] }
         ensures reading { S.has_failed source.new ≡ is_read_fault result }
         ensures writing { K.has_failed sink.new ≡ is_write_fault result }
     {
@@ -139,9 +144,11 @@ impl Buffers {
         requires long { LONGEST_LINE < line_length self.old.ahead }
         requires reads { S.has_failed source.old ≡ false }
         requires writes { K.has_failed sink.old ≡ false }
-        ensures next { FindsNextIn result self.old.ahead (S.remaining source.old) self.new.ahead (S.remaining source.new) }
+        ensures next { FindsNextIn result
+            self.old.ahead (S.remaining source.old) self.new.ahead (S.remaining source.new) }
         ensures ready { IfOk result (λ next. IsReady next self.new.ahead self.new.gathered) }
-        ensures told { TellsOrStops result (K.contents sink.old) self.old.gathered (K.contents sink.new) self.new.gathered [] }
+        ensures told { TellsOrStops result
+            (K.contents sink.old) self.old.gathered (K.contents sink.new) self.new.gathered [] }
         ensures reading { S.has_failed source.new ≡ is_read_fault result }
         ensures writing { K.has_failed sink.new ≡ is_write_fault result }
     {

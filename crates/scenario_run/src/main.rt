@@ -1,14 +1,12 @@
 //! A scenario: lines of calls come in on standard input, and each is answered in turn on standard output.
 #![tactic(auto)]
 
-mod address;
 mod answering;
 mod block;
 mod boot;
 mod bytes;
 mod device;
 mod gather;
-mod hex_text;
 mod input;
 mod line;
 mod lines;

@@ -45,7 +45,8 @@ pub fn boot_and_run<S: Source, K: Sink>(
     reader: &mut S,
     writer: &mut K,
 ) -> Result<Summary, Failure>
-    ensures lines { IfOk result (λ summary. IfSome (S.remaining reader.old) (λ input. summary.lines ≡ length (lines_of input))) }
+    ensures lines { IfOk result (λ summary. IfSome (S.remaining reader.old) (λ input.
+        summary.lines ≡ length (lines_of input))) }
     ensures few { IfOk result (λ summary. summary.lines ≤ MAX_LINES) }
     ensures transcript { OnOk result (IfSome (S.remaining reader.old) (λ input.
         Appends (K.contents writer.old) (K.contents writer.new) (transcript_a input))) }

@@ -61,6 +61,7 @@ impl From<LineFault> for RunFault {
 /// What is written is the transcript: each call is answered as its caller's own run on its own part of the calls before
 /// it answers it, whatever other components called. At a fault the same holds of the lines answered by then; after a
 /// write that failed, a part of their transcript is written.
+#[tactic(auto, using(crate::proofs::Ending::endings))]
 pub fn run<S: Source, K: Sink>(
     core: &mut Core,
     list: &FixedNames,
@@ -70,13 +71,15 @@ pub fn run<S: Source, K: Sink>(
     max_lines: u64,
 ) -> Result<Summary, RunFault>
     requires listed { core.old.entries ≡ entries_of machine_a }
-    ensures lines { IfOk result (λ summary. IfSome (S.remaining reader.old) (λ input. summary.lines ≡ length (lines_of input))) }
+    ensures lines { IfOk result (λ summary. IfSome (S.remaining reader.old) (λ input.
+        summary.lines ≡ length (lines_of input))) }
     ensures few { IfOk result (λ summary. summary.lines ≤ max_lines) }
     ensures transcript { OnOk result (IfSome (S.remaining reader.old) (λ input.
-        Appends (K.contents writer.old) (K.contents writer.new) (transcript core.old.entries core.old.states input))) }
+        Appends (K.contents writer.old) (K.contents writer.new)
+        (transcript core.old.entries core.old.states input))) }
     ensures states { OnOk result (IfSome (S.remaining reader.old) (λ input. (component : ℕ) →
-        state_at core.new.states component
-        ≡ state_after core.old.entries core.old.states (calls_of core.old.entries (lines_of input)) component)) }
+        state_at core.new.states component ≡ state_after core.old.entries core.old.states
+        (calls_of core.old.entries (lines_of input)) component)) }
     ensures entries { core.new.entries ≡ core.old.entries }
     ensures init { core.new.init ≡ core.old.init }
     ensures count { length core.new.states ≡ length core.old.states }
@@ -88,7 +91,8 @@ pub fn run<S: Source, K: Sink>(
         (K.contents writer.old) (K.contents writer.new))) }
     ensures ok { IfErr result (λ fault. IfSome (S.remaining reader.old) (λ input.
         S.has_failed reader.new ≡ false → K.has_failed writer.new ≡ false
-        → All (λ line. length line ≤ longest_read) (lines_of input) → length (lines_of input) ≤ max_lines → ⊥)) }
+        → All (λ line. length line ≤ longest_read) (lines_of input)
+        → length (lines_of input) ≤ max_lines → ⊥)) }
     ensures before { (K.has_failed writer.old || S.has_failed reader.old) ≡ true →
         (result ≡ Err (if K.has_failed writer.old then WriteFault else ReadFault))
         × (core.new ≡ core.old) × (reader.new ≡ reader.old) × (writer.new ≡ writer.old) }

@@ -3,6 +3,7 @@ mod devices;
 mod faults;
 mod rounds;
 mod rows;
+mod sliced;
 
 use crate::{
     Failure, FixedNames, Input, Output, RunFault, Sink, Source, Summary, boot_and_run, boot_fixed,

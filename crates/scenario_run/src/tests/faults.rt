@@ -281,6 +281,22 @@ fn one_line_too_many(rt: HostRuntime) -> Result<(), Fail> {
     Ok(())
 }
 
+// A scenario that stops gives back what was told by then.
+#[test]
+fn bytes_stop_at_an_endless_line(rt: HostRuntime) -> Result<(), Fail> {
+    let mut input = Vec::new(rt.alloc());
+    input.extend_from_slice(b"alice quota\n")?;
+    input.resize(1_048_590, b'x')?;
+    match run_bytes(rt.alloc(), &input) {
+        Ok(_) => assert!(rt; false, "the line has 1,048,578 bytes"),
+        Err(stopped) => {
+            assert_eq!(rt; stopped.failure, Failure::Run(RunFault::ReadFault));
+            assert_eq!(rt; stopped.written.as_slice(), QUOTA);
+        }
+    }
+    Ok(())
+}
+
 #[test]
 fn failures_have_texts(rt: HostRuntime) -> Result<(), Fail> {
     let alloc = rt.alloc();

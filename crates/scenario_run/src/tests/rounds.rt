@@ -34,7 +34,7 @@ fn rounds_example(rt: HostRuntime) -> Result<(), Fail> {
     let transcript = rounds(rt.alloc(), ROUND_ANSWERED)?;
     match run_bytes(rt.alloc(), &scenario) {
         Ok(written) => assert_eq!(rt; written.as_slice(), transcript.as_slice()),
-        Err(stopped) => assert_eq!(rt; stopped.written.as_slice(), transcript.as_slice()),
+        Err(_) => assert!(rt; false, "the run stopped"),
     }
     Ok(())
 }

@@ -5,7 +5,7 @@ use std::alloc::AllocError;
 use std::process::Abort;
 
 // Each input is answered by its transcript, however it comes.
-fn check<R: Abort + AllocGlobal>(
+pub(super) fn check<R: Abort + AllocGlobal>(
     rt: &R,
     input: &[u8],
     lines: u64,

@@ -2,7 +2,8 @@
 use Rattle.std.proofs.Common.{lit<, lit≤, subst, sym, ◌∙◌, ◌+◌}
 use Rattle.dataspace_core.specs.Store.{room_in}
 use Rattle.own_model.specs.World.{IsBalanced}
-use Rattle.scenario_run.proofs.MachineLemmas.{nothing_yet, can_start, one_more, machine_started, machine_a_balanced}
+use Rattle.own_model.proofs.StartLemmas.{machine_a_balanced}
+use Rattle.scenario_run.proofs.MachineLemmas.{nothing_yet, can_start, one_more, machine_started}
 use Rattle.scenario_run.proofs.boot.boot_fixed.Goals as goal
 
 pub start_server-requires : goal.start_server-requires

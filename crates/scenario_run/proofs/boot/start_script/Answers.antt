@@ -1,5 +1,5 @@
 -- A script's account opens, and the script comes last.
-use Rattle.std.proofs.Common.{subst, sym}
+use Rattle.std.proofs.Common.{subst, sym, ◌∙◌}
 use Rattle.std.specs.Prelude.{IfSome}
 use Rattle.own_model.specs.StartList.{StartEntry}
 use Rattle.pd_core.specs.Fresh.{AreEmpty}
@@ -10,9 +10,9 @@ use Rattle.scenario_run.proofs.boot.start_script.Goals as goal
 pub returns : goal.returns
 returns c =
     let opened = c.open_account-account.ensures in
-    let tables = subst (λ tables. IfSome tables (λ t. AreEmpty 65536 16 t.0 t.1)) (sym c.script.ensures.tables) (script_empty _ _ c.in_ok-caps.ensures c.in_ok-regions.ensures) in
+    let tables = subst (λ tables. IfSome tables (λ t. AreEmpty c.open_account-account.new.memory 16 t.0 t.1)) (sym c.script.ensures.tables) (script_empty _ _ _ (opened.machine ∙ c.requires.ready.machine) c.in_ok-caps.ensures c.in_ok-regions.ensures) in
     let start : StartEntry = script_start c.args.name.now 65536 16 in
-    let started = has_started opened.fresh opened.part c.script.result opened.root c.script.ensures.account tables c.args.components.now.items start c.requires.ready.fresh
+    let started = has_started opened.fresh opened.part opened.machine c.script.result opened.root c.script.ensures.account tables c.script.ensures.heap c.args.components.now.items start c.requires.ready.fresh
     (λ j. record { entry = c.script.ensures.entry j; ram = 65536; caps = 16 }) in
     record {
       started = on_push (λ items. HasStarted c.args.memory.now c.args.components.now.items c.open_account-account.new.memory items start)

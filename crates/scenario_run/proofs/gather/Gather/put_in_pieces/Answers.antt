@@ -6,13 +6,6 @@ use Rattle.scenario_run.specs.Gathered.{Tells}
 use Rattle.scenario_run.proofs.GatheredLemmas.{Tells-gathered, Tells-more, Tells-front, told_err, take-rest}
 use Rattle.scenario_run.proofs.gather.Gather.put_in_pieces.Goals as goal
 
-pub loop-done-init : goal.loop-done-init
-loop-done-init g c = record {
-  within = c.take_in-done.ensures.count;
-  told = Tells-gathered _ _ _ _ c.take_in-done.ensures.grown;
-  works = c.requires;
-}
-
 pub loop-done-preserved : goal.loop-done-preserved
 loop-done-preserved g c = record {
   within = grind (arith, common_steps);
