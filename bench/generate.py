@@ -4,7 +4,8 @@
 Shapes: quota (quota alone, both scripts in turn), churn (an allocation and its release, one dataspace at a time),
 limit (allocations and releases at the account's limit), bytes (pokes and peeks of 1 to 1,024 bytes in turn), short (the
 same of 1 to 16 bytes), regions (attaches and detaches, up to 128 regions), full (detaches, attaches and peeks with 127 or
-128 regions attached), caps (selectors taken and given back, up to 16), hostile (lines that are refused, of all kinds).
+128 regions attached), caps (selectors taken and given back, up to 16), sliced (sliced blocks taken and given back, up to
+16), hostile (lines that are refused, of all kinds).
 """
 import random
 import sys
@@ -98,6 +99,22 @@ def caps(lines, rng):
             yield f"alice capfree {held.pop(rng.randrange(len(held)))}"
 
 
+HEAP_WINDOW = 0x100000000
+SLICED_HEADER = 32
+
+
+def sliced(lines, rng):
+    """Blocks of one page, three taken to two given back until the account is used up."""
+    held = []
+    for _ in range(lines):
+        if len(held) == 16 or (held and rng.random() < 0.4):
+            page = held.pop(rng.randrange(len(held)))
+            yield f"alice sdel {HEAP_WINDOW + page * PAGE + SLICED_HEADER:#x}"
+        else:
+            held.append(next(p for p in range(16) if p not in held))
+            yield "alice snew 256"
+
+
 def hostile(lines, rng):
     bad = [
         "",
@@ -129,6 +146,9 @@ def hostile(lines, rng):
         "alice poke 0x10000000 abc",
         "alice poke 0x10000000 " + "ab" * 1025,
         "alice capfree 1",
+        "alice snew 0",
+        "alice snew 65505",
+        "alice sdel 0x100000020",
     ]
     for _ in range(lines):
         yield rng.choice(bad)
@@ -143,6 +163,7 @@ SHAPES = {
     "regions": regions,
     "full": full,
     "caps": caps,
+    "sliced": sliced,
     "hostile": hostile,
 }
 
