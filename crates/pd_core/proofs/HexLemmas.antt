@@ -1,14 +1,13 @@
 -- Bytes and their hexadecimal digits.
 use Rattle.std.proofs.Common.{◌≡◌, ℕ, ◌+◌, ◌*◌, ◌/◌, ◌%◌, List, [], ◌∷◌, length, refl, sym, ap, ◌∙◌, arith, is_some, IsSome, true, false, eqb, cond, true≢false, Option, Some, None}
-use Rattle.std.specs.Prelude.{Result, Ok, slice_index}
+use Rattle.std.specs.Prelude.{Result, Ok}
 use Rattle.std.specs.Option.{option_map, option_and_then, unwrap_or}
 use Rattle.std.proofs.lemmas.Bool.Decides.{nat_tests}
-use Rattle.own_model.specs.Reply.{hex_text}
 use Rattle.own_model.proofs.NatMapLemmas.{some_of}
 use Rattle.own_model.specs.Text.{bytes_of_hex, hex_digit_of}
 use Rattle.pd_core.specs.Call.{bytes_in}
 use Rattle.hex.specs.declared.error.FromHexError.{FromHexError}
-use Rattle.hex.specs.Hex.{decode_pairs, decode_sized, hex_digit_value, digit_or_error, encode_with, encode_lower, lower_digits, ◌>>=◌}
+use Rattle.hex.specs.Hex.{decode_pairs, decode_sized, hex_digit_value, digit_or_error, ◌>>=◌}
 
 -- two digits and the rest
 record Parts (h l : Option ℕ) (r : Option (List ℕ)) (bytes : List ℕ) : Type 0 where
@@ -70,9 +69,3 @@ pub half_is : (text : List ℕ) → IsSome (bytes_of_hex text) → length text /
 half_is text some =
     let bytes = some_of (bytes_of_hex text) some in
     half text bytes.0 bytes.1 ∙ ap (λ o. length (unwrap_or o [])) (sym bytes.1)
-
--- the model's digits are those that are written
-pub hex_text_is : (bytes : List ℕ) → encode_lower bytes ≡ hex_text bytes
-unfolding encode_with hex_text
-hex_text_is [] = refl
-hex_text_is (b ∷ bs) = ap (λ (l : List ℕ). slice_index lower_digits (b / 16) ∷ slice_index lower_digits (b % 16) ∷ l) (hex_text_is bs)

@@ -35,7 +35,7 @@ pub(crate) fn tell_range(reply: &mut Reply, memory: &Memory, space: DsId, offset
 }
 
 /// Writes bytes in hexadecimal digits in place of what the reply was.
-#[tactic(auto, using(crate::proofs::HexLemmas::hex_text_is))]
+#[tactic(auto, using(own_model::proofs::HexLemmas::hex_text_is))]
 fn tell_bytes(reply: &mut Reply, bytes: &[u8])
     requires { length bytes.now ≤ MOST_BYTES }
     ensures { reply.new ≡ codes "data " ++ hex_text bytes.now }
