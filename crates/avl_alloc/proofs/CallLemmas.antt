@@ -17,13 +17,14 @@ use Rattle.avl_alloc.specs.Found.{block_addr}
 use Rattle.avl_alloc.specs.Layout.{Laid, heap_of, sizes_of, bytes_of, hole_count, weigh_all, none, whole, IsChunk, AreChunks, IsLaidOut, IsSound, ChangesHoles}
 use Rattle.avl_alloc.specs.Site.{Site, heap_with, start_of, Stand, StandUsed, Turn}
 use Rattle.avl_alloc.proofs.TreeLemmas.{one, high_bound}
-use Rattle.avl_alloc.proofs.WeightLemmas.{all-append, all-left, all-right, IsLong, AreLong, TidyAll, tidy_all, chunks_kept, chunks_long, chunks_apart, weigh_all-append, weigh_all-parts, weigh-site}
+use Rattle.avl_alloc.proofs.WeightLemmas.{all-left, all-right, IsLong, AreLong, TidyAll, tidy_all, chunks_kept, chunks_long, chunks_apart, weigh_all-append, weigh_all-parts, weigh-site}
 use Rattle.avl_alloc.proofs.HeldLemmas.{within_above, with_word_same, with_word_other, fits_node, holds_kept}
 use Rattle.avl_alloc.proofs.TurnLemmas.{outside}
 use Rattle.avl_alloc.proofs.FitLemmas.{found-best, holes_counted}
 use Rattle.avl_alloc.proofs.LayoutLemmas.{fits_one_more, heap_is, IsTold, laid_sound}
 use Rattle.avl_alloc.proofs.SiteLemmas.{chunks_length, sizes_few, site_open}
 use Rattle.avl_alloc.proofs.TakenLemmas.{below_digits, IsSpotOf, IfFound, best_spot, short_from, taken_is, taken_blocks}
+use Rattle.own_model.proofs.ListLemmas.{all_append}
 
 -- ---- a change in one place
 
@@ -305,7 +306,7 @@ module _ (fit : BestFit) (w x : Words) (place number bytes : ℕ) (is : IsChunkN
       record {
         heap = heap;
         sound = turn_sound (with_chunk fit number bytes) new x v (last_site (heap_of fit w)) place (Used bytes ∷ []) (Hole bytes ∷ []) turn
-            (all-append AreBlocks (heap_of fit w) ((Hole bytes ∷ []) ∷ []) is.told.blocks (is.sized, tt));
+            (all_append AreBlocks (heap_of fit w) ((Hole bytes ∷ []) ∷ []) is.told.blocks (is.sized, tt));
         sizes = turn.sizes ∙ sizes_more;
         others = λ q clear.
             let clear' = rw heap at clear in

@@ -10,10 +10,12 @@ use Rattle.avl_alloc.specs.declared.chunk.Block.{Block as BlockFound}
 use Rattle.avl_alloc.specs.Site.{gap, first_hole}
 use Rattle.avl_alloc.specs.Walk.{block_over, block_there}
 use Rattle.avl_alloc.proofs.HeldLemmas.{ltb-true, ltb-false}
-use Rattle.avl_alloc.proofs.WeightLemmas.{bytes_in-append, AreLong}
+use Rattle.avl_alloc.proofs.WeightLemmas.{AreLong}
 use Rattle.avl_alloc.proofs.StandLemmas.{gap_some, gap_bytes}
 use Rattle.avl_alloc.proofs.LayoutLemmas.{payload_over, payload_past, payload_is}
 use Rattle.avl_alloc.proofs.TakenLemmas.{StartsUsed, hole_behind, hole_before}
+use Rattle.own_model.proofs.BlockLemmas.{bytes-append}
+use Rattle.own_model.proofs.BlockLemmas.{AreBlocks-before}
 
 -- ---- where an address lies
 
@@ -192,7 +194,7 @@ freed_from from back target (Used n ∷ rest) long le lt =
           left = gap back ++ Used n ∷ on.left;
           right = on.right;
           is = ap (λ xs. gap back ++ Used n ∷ xs) on.is ∙ sym (append_assoc (gap back) (Used n ∷ on.left) (gap b.before ++ Used b.size ∷ on.right));
-          start = omega (arith, bytes_in-append (gap back) (Used n ∷ on.left), gap_bytes back);
+          start = omega (arith, bytes-append (gap back) (Used n ∷ on.left), gap_bytes back);
           given = given_skip back (target - from) (Used n ∷ rest) (omega arith) ∙ ap (λ xs. gap back ++ xs) (under ∙ ap (λ xs. Used n ∷ xs) on.given)
               ∙ sym (append_assoc (gap back) (Used n ∷ on.left) (Hole (b.before + b.size + first_hole on.right) ∷ past_hole on.right));
         }
@@ -220,7 +222,7 @@ freed_from from back target (Hole n ∷ rest) long le lt =
           left = gap back ++ on.left;
           right = on.right;
           is = ap (λ xs. gap back ++ xs) (sym here ∙ on.is) ∙ sym (append_assoc (gap back) on.left (gap b.before ++ Used b.size ∷ on.right));
-          start = omega (arith, bytes_in-append (gap back) on.left, gap_bytes back);
+          start = omega (arith, bytes-append (gap back) on.left, gap_bytes back);
           given = given_skip back (target - from) (Hole n ∷ rest) (omega arith) ∙ ap (λ xs. gap back ++ xs) under
               ∙ sym (append_assoc (gap back) on.left (Hole (b.before + b.size + first_hole on.right) ∷ past_hole on.right));
         }
@@ -234,21 +236,11 @@ freed target blocks b long some used at =
 
 -- ---- no two holes are neighbours
 
-before_blocks : (n : ℕ) (xs : List Block) → IsBlockSize n → AreBlocks xs → AreBlocks (before n xs)
-before_blocks n [] size are = size
-before_blocks n (Used m ∷ xs) size are = (size, are)
-before_blocks n (Hole m ∷ xs) size are =
-    let rest = hole_behind m xs are in
-    let least = size.least in
-    let even = size.even in
-    let even' = rest.0.even in
-    hole_before (n + m) xs (record { least = omega arith; even = omega arith }) rest.1 rest.2
-
 pub given_blocks : (offset n : ℕ) (blocks : List Block) → AreBlocks blocks → used_at offset blocks ≡ Some n → AreBlocks (given_in offset blocks)
 given_blocks offset n [] are used = tt
 given_blocks offset n (Used m ∷ rest) are used =
     elim (offset == 0) as (λ v. (if v then Some m else (if nat_lt offset m then None else used_at (offset - m) rest)) ≡ Some n → AreBlocks (if v then before m rest else Used m ∷ given_in (offset - m) rest)) [
-      | true ↦ λ here. before_blocks m rest are.0 are.1
+      | true ↦ λ here. AreBlocks-before m rest are.0 are.1
       | false ↦ elim (nat_lt offset m) as (λ v. (if v then None else used_at (offset - m) rest) ≡ Some n → AreBlocks (Used m ∷ given_in (offset - m) rest)) [
         | true ↦ λ none. absurd (cc)
         | false ↦ λ on. (are.0, given_blocks (offset - m) n rest are.1 on)
@@ -261,7 +253,7 @@ given_blocks offset n (Hole m ∷ rest) are used =
         | true ↦ λ same.
             let zero_there : offset - m ≡ 0 = grind (arith, nat_tests) in
             let parts = hole_behind m rest are in
-            before_blocks m (given_in 0 rest) parts.0 (given_blocks 0 n rest parts.2 (subst (λ o. used_at o rest ≡ Some n) zero_there on))
+            AreBlocks-before m (given_in 0 rest) parts.0 (given_blocks 0 n rest parts.2 (subst (λ o. used_at o rest ≡ Some n) zero_there on))
         | false ↦ λ other.
             let some : 0 < offset - m = grind (arith, nat_tests) in
             let parts = hole_behind m rest are in

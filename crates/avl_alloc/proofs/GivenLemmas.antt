@@ -16,7 +16,7 @@ use Rattle.avl_alloc.specs.Layout.{heap_of, hole_count, sizes_of, whole, kept_at
 use Rattle.avl_alloc.specs.Site.{Site, heap_with, Stand, Turn, gap, first_hole, start_of}
 use Rattle.avl_alloc.specs.Walk.{block_there}
 use Rattle.avl_alloc.proofs.HeldLemmas.{within_in, within_above}
-use Rattle.avl_alloc.proofs.WeightLemmas.{around-parts, weigh-site, bytes_in-append, AreLong, IsLong, all-right, laid_long}
+use Rattle.avl_alloc.proofs.WeightLemmas.{around-parts, weigh-site, AreLong, IsLong, all-right, laid_long}
 use Rattle.avl_alloc.proofs.LayoutLemmas.{sound_chunk, sound_missing, sound_told}
 use Rattle.avl_alloc.proofs.SiteLemmas.{chunks_length, site_clear}
 use Rattle.avl_alloc.proofs.TurnLemmas.{stand_narrowed}
@@ -24,6 +24,7 @@ use Rattle.avl_alloc.proofs.StandLemmas.{gap_bytes}
 use Rattle.avl_alloc.proofs.TakenLemmas.{heap_turned}
 use Rattle.avl_alloc.proofs.FreedLemmas.{some_there, used_over, used_some, past_hole, past_is, freed, given_blocks}
 use Rattle.avl_alloc.proofs.CallLemmas.{turn_heap, turn_sound, hole_changes, same_few}
+use Rattle.own_model.proofs.BlockLemmas.{bytes-append}
 
 -- ---- what a walk's end is not
 
@@ -116,7 +117,7 @@ module _ (fit : BestFit) (w : Words) (chunk offset : ℕ) (b : BlockFound) (soun
       let is : heap_with site (gap p ++ Used n ∷ gap m) ≡ h = ap (λ z. older ++ z ∷ newer) parts ∙ split in
       let start : bytes_in f.left + p ≡ offset = omega (arith, f.start) in
       let bytes : bytes_in blocks ≡ bytes_in f.left + (p + (n + bytes_in f.right)) =
-      ap bytes_in f.is ∙ omega (arith, bytes_in-append f.left (gap p ++ Used n ∷ f.right), bytes_in-append (gap p) (Used n ∷ f.right), gap_bytes p) in
+      ap bytes_in f.is ∙ omega (arith, bytes-append f.left (gap p ++ Used n ∷ f.right), bytes-append (gap p) (Used n ∷ f.right), gap_bytes p) in
       let here : offset - 0 + 0 ≡ offset = omega arith in
       let freed_blocks : given_in offset blocks ≡ f.left ++ Hole (p + n + m) ∷ past = ap (λ o. given_in o blocks) (sym here) ∙ f.given in
       let used_there : used_at offset blocks ≡ Some n = sym (used_start offset b used at ∙ used_some offset blocks b (sound_long fit w sound chunk) some) in
@@ -139,7 +140,7 @@ module _ (fit : BestFit) (w : Words) (chunk offset : ℕ) (b : BlockFound) (soun
         next = record { older = older; left = f.left ++ (gap p ++ Used n ∷ []); right = []; newer = newer };
         rest = f.right;
         next_stand = stand_narrowed whole (gap p ++ Used n ∷ []) [] fit w (place_at chunk 0 + bytes_in f.left) (place_at chunk 0 + offset + n) (gap p ++ Used n ∷ f.right) f.right tail
-            (omega (arith, bytes_in-append (gap p) (Used n ∷ []), gap_bytes p))
+            (omega (arith, bytes-append (gap p) (Used n ∷ []), gap_bytes p))
             (record { start = omega arith; tree = told.tree; laid = subst (λ k. IsLaidOut fit w k told.tree) (sym all) told.laid });
         first = refl;
         end = omega (arith, there.total);

@@ -11,7 +11,8 @@ use Rattle.avl_alloc.specs.Held.{heads, links}
 use Rattle.avl_alloc.specs.Layout.{Laid, weigh_all, none, whole, sizes_of, bytes_of, IsChunk, AreChunks, IsLaidOut}
 use Rattle.avl_alloc.specs.Site.{Site, heap_with, start_of, around}
 use Rattle.avl_alloc.proofs.LayoutLemmas.{chunk_there}
-use Rattle.avl_alloc.proofs.WeightLemmas.{bytes_in-append, weigh-site, weigh-whole, around-parts, within_le, tidy_around, laid_kept, chunks_kept, chunks_long, chunks_apart}
+use Rattle.avl_alloc.proofs.WeightLemmas.{weigh-site, weigh-whole, around-parts, within_le, tidy_around, laid_kept, chunks_kept, chunks_long, chunks_apart}
+use Rattle.own_model.proofs.BlockLemmas.{bytes-append}
 
 -- ---- blocks put end to end
 
@@ -71,7 +72,7 @@ site_open fit w at xs t is =
     record {
       laid = laid_left w (start_of at) xs at.right (subst (λ z. Laid w z (xs ++ at.right)) (omega arith) behind);
       low = omega arith;
-      total = omega (arith, chunk.total, bytes_in-append at.left (xs ++ at.right), bytes_in-append xs at.right);
+      total = omega (arith, chunk.total, bytes-append at.left (xs ++ at.right), bytes-append xs at.right);
       short = chunk.short;
       even = laid_even w (place_at n 0) at.left (laid_left w (place_at n 0) at.left (xs ++ at.right) chunk.laid);
     }
@@ -151,7 +152,7 @@ site_turned w v sizes at xs ys bytes laid same are =
       laid = laid_append v (place_at n 0) at.left (ys ++ at.right)
           (laid_kept w v (place_at n 0) at.left (λ q there. same q (omega arith)) left)
           (subst (λ z. Laid v z (ys ++ at.right)) (sym start) rest');
-      total = omega (arith, chunk.total, bytes_in-append at.left (xs ++ at.right), bytes_in-append xs at.right, bytes_in-append at.left (ys ++ at.right), bytes_in-append ys at.right);
+      total = omega (arith, chunk.total, bytes-append at.left (xs ++ at.right), bytes-append xs at.right, bytes-append at.left (ys ++ at.right), bytes-append ys at.right);
       short = chunk.short;
     })
     (λ q there. same q (omega arith)) (λ q there. same q (omega arith)) are

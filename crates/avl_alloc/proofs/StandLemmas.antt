@@ -14,9 +14,10 @@ use Rattle.avl_alloc.specs.Site.{Site, heap_with, start_of, Stand, Turn, AreUsed
 use Rattle.avl_alloc.proofs.TreeLemmas.{one, high_bound}
 use Rattle.avl_alloc.proofs.HeldLemmas.{with_word_same, with_word_other, node_place, fits_node}
 use Rattle.avl_alloc.proofs.FitLemmas.{holes_counted}
-use Rattle.avl_alloc.proofs.WeightLemmas.{bytes_in-append, weigh-append, weigh-site}
+use Rattle.avl_alloc.proofs.WeightLemmas.{weigh-append, weigh-site}
 use Rattle.avl_alloc.proofs.SiteLemmas.{laid_right, site_open, site_node}
 use Rattle.avl_alloc.proofs.TurnLemmas.{used_none, used_least, outside, narrowed, heap_narrowed, stand_narrowed, turn_then, turn_widened, taken_out, put-node, put-stands, put-new, put_in, rewritten}
+use Rattle.own_model.proofs.BlockLemmas.{bytes-append}
 
 -- there is room for a node at the place, and further on
 pub stand_node : (fit : BestFit) (w : Words) (at : Site) (place : ℕ) (xs : List Block) (real : ℕ → ℕ) (k p : ℕ) → Stand fit w at place xs → Fits (bytes_of fit) real →
@@ -257,7 +258,7 @@ used_append (Hole n ∷ xs) ys used used' = absurd used
 
 module _ (a : BestFit) (w : Words) (at : Site) (place p n m : ℕ) (stand : Stand a w at place (gap p ++ Used n ∷ gap m)) where
   pub given_end : place + p + n + m < 2 ^ 40
-  given_end = omega (arith, stand_end a w at place (gap p ++ Used n ∷ gap m) stand, bytes_in-append (gap p) (Used n ∷ gap m), gap_bytes p, gap_bytes m)
+  given_end = omega (arith, stand_end a w at place (gap p ++ Used n ∷ gap m) stand, bytes-append (gap p) (Used n ∷ gap m), gap_bytes p, gap_bytes m)
 
   pub before_asks : Stand a w (narrowed at [] (Used n ∷ gap m)) place (gap p)
   before_asks = stand_narrowed at [] (Used n ∷ gap m) a w place place (gap p ++ Used n ∷ gap m) (gap p) refl (omega arith) stand
@@ -275,7 +276,7 @@ module _ (a : BestFit) (w : Words) (at : Site) (place p n m : ℕ) (stand : Stan
     pub behind_asks : Stand b u (narrowed at (filled p ++ Used n ∷ []) []) (place + p + n) (gap m)
     behind_asks =
         stand_narrowed at (filled p ++ Used n ∷ []) [] b u place (place + p + n) (filled p ++ Used n ∷ gap m) (gap m) (apart (gap m))
-        (omega (arith, bytes_in-append (filled p) (Used n ∷ []), filled_bytes p)) before_turn.stand
+        (omega (arith, bytes-append (filled p) (Used n ∷ []), filled_bytes p)) before_turn.stand
 
     pub behind_holes : (k : ℕ) → hole_count (heap_with at (gap p ++ Used n ∷ gap m)) < k → hole_count (heap_with (narrowed at (filled p ++ Used n ∷ []) []) (gap m)) < k
     behind_holes k few =
@@ -307,7 +308,7 @@ module _ (a : BestFit) (w : Words) (at : Site) (place p n m : ℕ) (stand : Stan
           record {
             stand = both_turn.stand;
             used = used_append (filled p) (Used n ∷ filled m) (filled_used p) (filled_used m);
-            total = omega (arith, bytes_in-append (filled p) (Used n ∷ filled m), filled_bytes p, filled_bytes m);
+            total = omega (arith, bytes-append (filled p) (Used n ∷ filled m), filled_bytes p, filled_bytes m);
             some = omega (arith, laid.0.sized.least);
           }
 

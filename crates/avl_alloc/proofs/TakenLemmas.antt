@@ -11,7 +11,9 @@ use Rattle.avl_alloc.specs.Fit.{AreShort}
 use Rattle.avl_alloc.specs.Words.{Words}
 use Rattle.avl_alloc.specs.Layout.{AreChunks}
 use Rattle.avl_alloc.specs.Site.{Site, heap_with}
-use Rattle.avl_alloc.proofs.WeightLemmas.{bytes_in-append, AreLong, all-append, all-left, all-right, laid_long}
+use Rattle.avl_alloc.proofs.WeightLemmas.{AreLong, all-left, all-right, laid_long}
+use Rattle.own_model.proofs.BlockLemmas.{bytes-append}
+use Rattle.own_model.proofs.ListLemmas.{all_append}
 
 -- ---- digits
 
@@ -68,19 +70,19 @@ spots_in chunk offset front [] at = tt
 spots_in chunk offset front (Used n ∷ rest) at =
     let on : front ++ Used n ∷ [] ++ rest ≡ front ++ Used n ∷ rest = simp append_assoc in
     subst (λ z. AllByRecursion (IsSpotIn z chunk) (holes_in chunk (offset + n) rest)) on
-    (spots_in chunk (offset + n) (front ++ Used n ∷ []) rest (omega (arith, bytes_in-append front (Used n ∷ []))))
+    (spots_in chunk (offset + n) (front ++ Used n ∷ []) rest (omega (arith, bytes-append front (Used n ∷ []))))
 spots_in chunk offset front (Hole n ∷ rest) at =
     let on : front ++ Hole n ∷ [] ++ rest ≡ front ++ Hole n ∷ rest = simp append_assoc in (
       (front, rest, refl, at, refl),
       subst (λ z. AllByRecursion (IsSpotIn z chunk) (holes_in chunk (offset + n) rest)) on
-          (spots_in chunk (offset + n) (front ++ Hole n ∷ []) rest (omega (arith, bytes_in-append front (Hole n ∷ [])))),
+          (spots_in chunk (offset + n) (front ++ Hole n ∷ []) rest (omega (arith, bytes-append front (Hole n ∷ [])))),
     )
 
 spots_from : (number : ℕ) (front heap : Heap) → length front ≡ number → AllByRecursion (IsSpotOf (front ++ heap)) (holes_from number heap)
 spots_from number front [] at = tt
 spots_from number front (blocks ∷ rest) at =
     let on : front ++ blocks ∷ [] ++ rest ≡ front ++ blocks ∷ rest = simp append_assoc in
-    all-append (IsSpotOf (front ++ blocks ∷ rest)) (holes_in number 0 blocks) (holes_from (number + 1) rest)
+    all_append (IsSpotOf (front ++ blocks ∷ rest)) (holes_in number 0 blocks) (holes_from (number + 1) rest)
     (all-map (IsSpotIn blocks number) (IsSpotOf (front ++ blocks ∷ rest)) here (holes_in number 0 blocks) (spots_in number 0 [] blocks refl))
     (subst (λ z. AllByRecursion (IsSpotOf z) (holes_from (number + 1) rest)) on
     (spots_from (number + 1) (front ++ blocks ∷ []) rest (omega (arith, length-append front (blocks ∷ [])))))
@@ -171,7 +173,7 @@ pub heap_turned : (at : Site) (xs ys : List Block) → (AreBlocks (at.left ++ (x
     AllByRecursion AreBlocks (heap_with at xs) → AllByRecursion AreBlocks (heap_with at ys)
 heap_turned at xs ys turn all =
     let here = all-right AreBlocks at.older ((at.left ++ (xs ++ at.right)) ∷ at.newer) all in
-    all-append AreBlocks at.older ((at.left ++ (ys ++ at.right)) ∷ at.newer)
+    all_append AreBlocks at.older ((at.left ++ (ys ++ at.right)) ∷ at.newer)
     (all-left AreBlocks at.older ((at.left ++ (xs ++ at.right)) ∷ at.newer) all) (turn here.0, here.1)
 
 cut_blocks : (size n : ℕ) (right : List Block) → IsBlockSize size → size ≤ n → AreBlocks (Hole n ∷ right) → AreBlocks (cut size n ++ right)

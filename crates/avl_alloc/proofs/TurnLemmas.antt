@@ -11,8 +11,9 @@ use Rattle.avl_alloc.specs.Layout.{Laid, weigh, none, whole, sizes_of, bytes_of,
 use Rattle.avl_alloc.specs.Site.{Site, heap_with, start_of, around, Stand, Turn, AreUsed}
 use Rattle.avl_alloc.proofs.TreeLemmas.{same, same-same, one, tally_le, tally-inserted, tally-removed, inserted-grows, removed-shrinks, inserted-ordered, removed-ordered, widened, high_bound}
 use Rattle.avl_alloc.proofs.HeldLemmas.{within_in, within_below, with_word_same, with_word_other, holds_kept}
-use Rattle.avl_alloc.proofs.WeightLemmas.{bytes_in-append, weigh-append, weigh-parts, weigh-site, weigh-whole, around-parts, node_whole, tidy_in, laid_long, few_holes, within_mono}
+use Rattle.avl_alloc.proofs.WeightLemmas.{weigh-append, weigh-parts, weigh-site, weigh-whole, around-parts, node_whole, tidy_in, laid_long, few_holes, within_mono}
 use Rattle.avl_alloc.proofs.SiteLemmas.{IsOpen, site_open, site_node, node_name, IsClear, site_clear, site_turned, sizes_few, laid_even}
+use Rattle.own_model.proofs.BlockLemmas.{bytes-append}
 
 -- used blocks have no holes
 pub used_none : (f : ℕ → ℕ → ℕ) (p : ℕ) (xs : List Block) → AreUsed xs → weigh none f p xs ≡ 0
@@ -245,7 +246,7 @@ narrowed at xs ys = record { older = at.older; left = at.left ++ xs; right = ys 
 
 module _ (at : Site) (xs ys : List Block) where
   start_narrowed : start_of (narrowed at xs ys) ≡ start_of at + bytes_in xs
-  start_narrowed = omega (arith, bytes_in-append at.left xs)
+  start_narrowed = omega (arith, bytes-append at.left xs)
 
   pub heap_narrowed : (zs : List Block) → heap_with (narrowed at xs ys) zs ≡ heap_with at (xs ++ (zs ++ ys))
   heap_narrowed zs =
@@ -281,8 +282,8 @@ module _ (at : Site) (xs ys : List Block) where
   turn_widened old new w v p place all all' zs zs' is is' start turn =
       let bx : ℕ = bytes_in xs in
       let bz : ℕ = bytes_in zs in
-      let bytes : bytes_in all ≡ bytes_in xs + bytes_in zs + bytes_in ys = ap bytes_in is ∙ omega (arith, bytes_in-append xs (zs ++ ys), bytes_in-append zs ys) in
-      let bytes' : bytes_in all' ≡ bytes_in xs + bytes_in zs' + bytes_in ys = ap bytes_in is' ∙ omega (arith, bytes_in-append xs (zs' ++ ys), bytes_in-append zs' ys) in
+      let bytes : bytes_in all ≡ bytes_in xs + bytes_in zs + bytes_in ys = ap bytes_in is ∙ omega (arith, bytes-append xs (zs ++ ys), bytes-append zs ys) in
+      let bytes' : bytes_in all' ≡ bytes_in xs + bytes_in zs' + bytes_in ys = ap bytes_in is' ∙ omega (arith, bytes-append xs (zs' ++ ys), bytes-append zs' ys) in
       let there : start_of at + bytes_in xs ≡ place = sym start_narrowed ∙ turn.stand.start in
       record {
         bytes = omega (arith, turn.bytes);

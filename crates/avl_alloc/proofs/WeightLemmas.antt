@@ -12,10 +12,6 @@ use Rattle.avl_alloc.proofs.HeldLemmas.{within_in}
 
 -- ---- blocks put end to end
 
-pub bytes_in-append : (xs ys : List Block) → bytes_in (xs ++ ys) ≡ bytes_in xs + bytes_in ys
-bytes_in-append [] ys = omega arith
-bytes_in-append (x ∷ xs) ys = omega (arith, bytes_in-append xs ys)
-
 module _ (u h : ℕ → ℕ → ℕ) where
   pub weigh-append : (p : ℕ) (xs ys : List Block) → weigh u h p (xs ++ ys) ≡ weigh u h p xs + weigh u h (p + bytes_in xs) ys
   weigh-append p [] ys = let here : p + 0 ≡ p = omega arith in rw here (omega arith)
@@ -119,10 +115,6 @@ tidy_all q n (x ∷ xs) long =
     record { used = omega arith; holes = omega arith }
 
 -- ---- all of a list
-
-pub all-append : {X : Type 0} (P : X → Type 0) (xs ys : List X) → AllByRecursion P xs → AllByRecursion P ys → AllByRecursion P (xs ++ ys)
-all-append P [] ys all all' = all'
-all-append P (x ∷ xs) ys all all' = (all.0, all-append P xs ys all.1 all')
 
 pub all-left : {X : Type 0} (P : X → Type 0) (xs ys : List X) → AllByRecursion P (xs ++ ys) → AllByRecursion P xs
 all-left P [] ys all = tt

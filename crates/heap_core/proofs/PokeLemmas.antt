@@ -30,15 +30,11 @@ use Rattle.heap_core.proofs.ChunkLemmas.{in_chunks, chunk_there, chunk_paid, are
 use Rattle.heap_core.proofs.FrameLemmas.{used_even}
 use Rattle.heap_core.proofs.HoleLemmas.{payload_unkept}
 use Rattle.heap_core.proofs.StandLemmas.{each_at, chunk_total}
-use Rattle.heap_core.proofs.WordsLemmas.{distinct_apart, length_keys, put, put_at, put_other, put_around}
+use Rattle.heap_core.proofs.WordsLemmas.{both_true, distinct_apart, length_keys, put, put_at, put_other, put_around}
 
 same_if : (b : Bool) (x y : ℕ) → (b ≡ true → x ≡ y) → cond b x 0 ≡ cond b y 0
 same_if true x y h = h refl
 same_if false x y h = refl
-
-both_true : (a b : Bool) → (a && b) ≡ true → (a ≡ true) × (b ≡ true)
-both_true true b h = (refl, h)
-both_true false b h = cc
 
 -- a word that the bytes put don't reach stays
 pub word_past : (bytes : List ℕ) (offset : ℕ) (part : List ℕ) (o : ℕ) → offset + length part ≤ length bytes → (o % 8 ≡ 0 → (o + 8 ≤ offset) ⊎ (offset + length part ≤ o)) → word_from (with_bytes bytes offset part) o ≡ word_from bytes o

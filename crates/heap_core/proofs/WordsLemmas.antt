@@ -86,7 +86,7 @@ size_some : (o : Option Space) (n : ℕ) → n + 8 ≤ size_in o → IsSome o
 size_some None n h = absurd (omega (arith, h))
 size_some (Some space) n h = refl
 
-both_true : (a b : Bool) → (a && b) ≡ true → (a ≡ true) × (b ≡ true)
+pub both_true : (a b : Bool) → (a && b) ≡ true → (a ≡ true) × (b ≡ true)
 both_true true b h = (refl, h)
 both_true false b h = cc
 

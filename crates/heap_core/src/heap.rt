@@ -35,12 +35,6 @@ const LARGE: u64 = 64;
 /// The pages of a heap's first chunk, unless a block needs more.
 const FIRST_GROWTH: u64 = 4;
 
-/// The most pages that the growth number doubles to.
-const MOST_GROWTH: u64 = 64;
-
-/// The bytes of a used block's header.
-const HEADER: u64 = 16;
-
 /// A heap of one account. It takes blocks of chunks, which are dataspaces, and grows by a chunk where no hole is large
 /// enough; a large block is a dataspace of its own.
 #[derive(Drop)]
@@ -82,7 +76,7 @@ impl Heap {
         bytes: u64,
     ) -> Result<u64, Refusal>
         requires sound { IsSound self.old memory.old map.old }
-        requires large { 65536 ≤ bytes }
+        requires large { LEAST_LARGE ≤ bytes }
         ensures refusal { result_err result ≡ alloc_refusal bytes (account_in memory.old (payer_of self.old)) }
         ensures taken { IfOk result (λ address.
             TakesLarge self.old self.new bytes address memory.old memory.new map.old map.new) }
@@ -102,7 +96,7 @@ impl Heap {
     // Takes the best hole for so many bytes, or answers `None` where no hole is large enough. Its payload is whatever stands there.
     fn take_hole(&mut self, memory: &mut Memory, map: &RegionMap, bytes: u64) -> Option<BlockAddr>
         requires sound { IsSound self.old memory.old map.now }
-        requires small { bytes < 65536 }
+        requires small { bytes < LEAST_LARGE }
         ensures found { result ≡ option_map block_addr (hole_for bytes (shape_in self.old (part_at self.old memory.old))) }
         ensures taken { (hole : Spot) → hole_for bytes (shape_in self.old (part_at self.old memory.old)) ≡ Some hole →
             TakesHole self.old self.new bytes hole memory.old memory.new map.now }

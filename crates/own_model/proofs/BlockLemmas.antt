@@ -11,7 +11,7 @@ use Rattle.own_model.specs.HeapStep.{size_taken}
 -- ---- bytes
 
 -- the bytes of blocks one after another
-bytes-append : (xs ys : List Block) → bytes_in (xs ++ ys) ≡ bytes_in xs + bytes_in ys
+pub bytes-append : (xs ys : List Block) → bytes_in (xs ++ ys) ≡ bytes_in xs + bytes_in ys
 bytes-append [] ys = omega arith
 bytes-append (x ∷ xs) ys = omega (arith, bytes-append xs ys)
 
@@ -73,7 +73,7 @@ both_sizes : (n m : ℕ) → IsBlockSize n → IsBlockSize m → IsBlockSize (n 
 both_sizes n m x y = record { least = omega (arith, x.least); even = omega (arith, x.even, y.even) }
 
 -- a hole joined with blocks leaves blocks
-AreBlocks-before : (n : ℕ) (rest : List Block) → IsBlockSize n → AreBlocks rest → AreBlocks (before n rest)
+pub AreBlocks-before : (n : ℕ) (rest : List Block) → IsBlockSize n → AreBlocks rest → AreBlocks (before n rest)
 AreBlocks-before n [] size h = size
 AreBlocks-before n (Used m ∷ rest) size h = (size, h)
 AreBlocks-before n (Hole m ∷ rest) size h =

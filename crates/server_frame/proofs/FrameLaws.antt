@@ -15,7 +15,7 @@ use Rattle.dataspace_core.proofs.PartLaws.{part_of_payer, paid_in_part}
 use Rattle.dataspace_core.proofs.PartLemmas.{space_at-some}
 use Rattle.sliced_heap.specs.Heap.{MapsMemory}
 use Rattle.sliced_heap.proofs.HeapLaws.{empty_map}
-use Rattle.sliced_heap.proofs.WindowLemmas.{shown_of_part}
+use Rattle.dataspace_core.proofs.WindowLaws.{shown_of_part}
 use Rattle.server_frame.specs.Session.{holding}
 use Rattle.server_frame.specs.Frame.{Holds, IsServer}
 use Rattle.server_frame.specs.declared.server.Session.{Session}

@@ -24,7 +24,7 @@ use Rattle.sliced_heap.specs.Sliced.{block_regions, payload_of, sliced_of, start
 use Rattle.sliced_heap.specs.Heap.{payer_of, share_at, blocks_at, IsSound, HasNoBlocks, IsBlockAt, KeepsOthers, GivesBlock, GivesAll}
 use Rattle.sliced_heap.proofs.LinkedLemmas.{first_is_listed, stands_header}
 use Rattle.sliced_heap.proofs.BlockLemmas.{is_of}
-use Rattle.sliced_heap.proofs.WindowLemmas.{own_account}
+use Rattle.dataspace_core.proofs.WindowLaws.{own_account}
 
 -- how far the end of a heap has come: what is still to be given back makes, with what is, all
 pub record Ends (heap now : SlicedHeap) (old mid : Store) (regions between : Regions) : Type 0 where

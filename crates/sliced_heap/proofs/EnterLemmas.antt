@@ -23,9 +23,8 @@ use Rattle.sliced_heap.specs.Sliced.{sliced_tag, block_regions, HasHeader, IsLin
 use Rattle.sliced_heap.specs.Heap.{payer_of, share_at, blocks_at, MapsMemory, IsSound, KeepsOthers, CanEnter, Enters}
 use Rattle.sliced_heap.proofs.ShareLemmas.{shown_block, no_sliced, sliced-insert}
 use Rattle.sliced_heap.proofs.LinkedLemmas.{no_block_unlisted, first_is_listed, stands_header, put_linked, put_payloads}
-use Rattle.sliced_heap.proofs.WindowLemmas.{in_no_other, shown_of_part, own_account}
+use Rattle.dataspace_core.proofs.WindowLaws.{in_no_other, shown_of_part, own_account, length_some}
 use Rattle.sliced_heap.proofs.HeapLaws.{map_stays_for_payer}
-use Rattle.sliced_heap.proofs.HeaderLemmas.{length_some}
 
 -- the start of a gap and a header beyond it fit 64 bits
 pub gap_small : (regions : NatMap Region) (pages start : ℕ) → heap_gap largest_machine regions pages ≡ Some start → start + 32 < 2 ^ 64

@@ -20,12 +20,11 @@ use Rattle.sliced_heap.specs.Chain.{link_to, is_listed}
 use Rattle.sliced_heap.specs.Sliced.{block_regions, next_in, previous_in, start_in, HasHeader, HeadersChange, TakenOut}
 use Rattle.sliced_heap.specs.Heap.{payer_of, share_at, MapsMemory, IsSound, KeepsOthers, IsBlockAt, GivesBlock}
 use Rattle.sliced_heap.proofs.ChainLemmas.{ahead_apart, back_apart}
-use Rattle.sliced_heap.proofs.HeaderLemmas.{length_some}
 use Rattle.sliced_heap.proofs.LinkedLemmas.{no_block_unlisted, stands_header, out_linked, out_payloads}
 use Rattle.sliced_heap.proofs.BlockLemmas.{IsWhole, is_whole, payload_there, whole_pages}
 use Rattle.sliced_heap.proofs.ShareLemmas.{shown_block, sliced-remove}
 use Rattle.sliced_heap.proofs.EnterLemmas.{some_alike}
-use Rattle.sliced_heap.proofs.WindowLemmas.{in_no_other, shown_after, account_after, own_account}
+use Rattle.dataspace_core.proofs.WindowLaws.{in_no_other, shown_after, account_after, own_account, length_some}
 
 module _ (heap : SlicedHeap) (old : Store) (regions : Regions) (start ds : ℕ) (sound : IsSound heap old regions) (block : IsBlockAt (share_at (payer_of heap) old regions) start ds) where
   -- the account, and its share

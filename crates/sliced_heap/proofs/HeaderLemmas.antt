@@ -15,6 +15,7 @@ use Rattle.own_model.proofs.Totals.{len-insert_at}
 use Rattle.dataspace_core.specs.Store.{Part, bytes_of, part_with_bytes}
 use Rattle.sliced_heap.specs.Sliced.{word_at, HasHeader, HeadersChange, IsStored}
 use Rattle.sliced_heap.specs.Chain.{link_to, is_listed}
+use Rattle.dataspace_core.proofs.WindowLaws.{length_some}
 
 -- the words of a dataspace whose bytes stay
 pub word_same : (p q : Part) (offset b : ℕ) → get q.spaces b ≡ get p.spaces b → word_at q offset b ≡ word_at p offset b
@@ -131,10 +132,6 @@ pub one_listed : (b : ℕ) (blocks : List ℕ) → is_listed blocks b ≡ true �
 one_listed b blocks there k h = let e : k ≡ b = grind (arith, nat_tests) in rw e there
 
 -- a dataspace with room for a header keeps it
-pub length_some : (o : Option (List ℕ)) (n : ℕ) → option_map length o ≡ Some n → (bytes : List ℕ) × (o ≡ Some bytes) × (length bytes ≡ n)
-length_some None n h = cc
-length_some (Some bytes) n h = (bytes, refl, cc)
-
 pub has_header_still : (blocks : List ℕ) (p q : Part) (ds : ℕ) → HeadersChange blocks p q → HasHeader p ds → HasHeader q ds
 has_header_still blocks p q ds h header =
     let found = length_some (get q.spaces ds) (length header.bytes) (h.lengths ds ∙ ap (option_map length) header.there) in

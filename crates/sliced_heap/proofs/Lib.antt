@@ -2,7 +2,6 @@ pub mod ChainLemmas
 pub mod HeaderLemmas
 pub mod ShareLemmas
 pub mod LinkedLemmas
-pub mod WindowLemmas
 pub mod EnterLemmas
 pub mod AllocLemmas
 pub mod BlockLemmas

@@ -17,7 +17,8 @@ use Rattle.dataspace_core.specs.Share.{Share}
 use Rattle.sliced_heap.specs.Chain.{link_to, is_listed, IsChain}
 use Rattle.sliced_heap.specs.Sliced.{block_regions, payload_of, sliced_of, word_at, next_in, previous_in, start_in, HasHeader, Stands, IsLinked, HeadersChange, PutFirst, TakenOut}
 use Rattle.sliced_heap.proofs.ChainLemmas.{taken_out, linked_kept, chain_pushed, linked_without, once_without, listed_without, left_listed}
-use Rattle.sliced_heap.proofs.HeaderLemmas.{length_some, word_same}
+use Rattle.sliced_heap.proofs.HeaderLemmas.{word_same}
+use Rattle.dataspace_core.proofs.WindowLaws.{length_some}
 
 -- ---- which blocks there are
 
