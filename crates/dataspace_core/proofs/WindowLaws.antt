@@ -154,6 +154,8 @@ module _ (account ds size tag start : ℕ) (old new : Store) (pages most : ℕ) 
         ap (λ p. share_in p (insert heap start region) (insert tags start tag)) (becomes.others other apart)
         ∙ share_attached_other heap tags start region tag free (part other old) (in_none other ds old fresh);
     root = becomes.root;
+    parents = becomes.parents;
+    room = becomes.room;
   }
 
   limits_then : (IsOpenIn new account) × (ram_limits_in new ≡ ram_limits_in old)

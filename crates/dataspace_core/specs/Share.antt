@@ -5,7 +5,7 @@ use Rattle.own_model.specs.HeapWindow.{heap_low, heap_high, largest_machine}
 use Rattle.own_model.specs.NatMap.{NatMap, picked}
 use Rattle.own_model.specs.Region.{Region}
 use Rattle.own_model.specs.Sound.{LieApart}
-use Rattle.dataspace_core.specs.Store.{Store, Space, Part, part, root_in, ram_limits_in}
+use Rattle.dataspace_core.specs.Store.{Store, Space, Part, part, root_in, parents_in, room_in, ram_limits_in}
 
 -- a region that shows one of these dataspaces
 abbrev pub shown : NatMap (List ℕ) → Region → Option Region
@@ -50,7 +50,10 @@ pub record IsWindowOf (store : Store) (pages most : ℕ) (heap : NatMap Region) 
   pub shown_whole : (s : ℕ) (r : Region) → get heap s ≡ Some r → IsShown store.spaces r
   pub once : (s t : ℕ) (r q : Region) → get heap s ≡ Some r → get heap t ≡ Some q → r.of ≡ q.of → s ≡ t
 
--- what calls for an account leave as it was: every other account's share, and the root's key
+-- what calls for an account leave as it was: every other account's share, the root's key, who is whose parent, and the places
+-- for accounts
 pub record KeepsShares (account : ℕ) (old new : Store) (heap : NatMap Region) (tags : NatMap ℕ) (after : NatMap Region) (numbers : NatMap ℕ) : Type 0 where
   pub shares : (other : ℕ) → other ≢ account → share other new after numbers ≡ share other old heap tags
   pub root : root_in new ≡ root_in old
+  pub parents : parents_in new ≡ parents_in old
+  pub room : room_in new ≡ room_in old

@@ -95,6 +95,8 @@ module _ (heap : Heap) (fit : BestFit) (old new : Store) (regions : Regions) (so
   keeps_shares = record {
     shares = λ other apart. ap (λ p. share_in p regions.heap regions.tags) (becomes.others other apart);
     root = becomes.root;
+    parents = becomes.parents;
+    room = becomes.room;
   }
 
   pub still_open : IsOpenIn new account

@@ -11,13 +11,16 @@ use Rattle.own_model.specs.Growth.{Growth, growth_of, new_hole, shape_taken}
 use Rattle.own_model.specs.HeapStep.{size_taken, with_block, with_chunk, with_large, without_block, without_large}
 use Rattle.own_model.specs.Heap.{header}
 use Rattle.own_model.specs.HeapWindow.{heap_gap, largest_machine}
-use Rattle.own_model.specs.OwnHeap.{OwnHeap, payload_start}
+use Rattle.own_model.specs.Sliced.{block_found}
+use Rattle.own_model.specs.OwnHeap.{OwnHeap, no_heap, payload_start}
+use Rattle.own_model.specs.Region.{Region}
+use Rattle.own_model.specs.Use.{heap_size, heap_count}
 use Rattle.region_map.specs.Regions.{Regions, heap_attached, heap_detached}
 use Rattle.dataspace_core.specs.Store.{Store, Part, part, account_in, bytes_of}
 use Rattle.dataspace_core.specs.Share.{Share}
 use Rattle.heap_core.specs.declared.heap.Heap.{Heap}
 use Rattle.heap_core.specs.Words.{is_among}
-use Rattle.heap_core.specs.Heap.{chunk_at, payer_of, share_at, keys_in, shape_in, heap_at, large_regions, large_tag}
+use Rattle.heap_core.specs.Heap.{HasNoBlocks, chunk_at, payer_of, share_at, keys_in, shape_in, heap_at, large_regions, large_tag}
 
 -- the part of a heap's account
 abbrev pub part_at : Heap → Store → Part
@@ -122,14 +125,34 @@ pub record GivesLarge (heap later : Heap) (address : ℕ) (old new : Store) (reg
   pub others : (k : ℕ) → k ≢ ds → get (part_at heap new).spaces k ≡ get (part_at heap old).spaces k
   pub count : len (part_at heap new).spaces + 1 ≡ len (part_at heap old).spaces
 
+-- a dataspace is none of a heap's: neither a chunk's nor a large block's
+abbrev pub IsNoBlock : Heap → Share → ℕ → Type 0
+IsNoBlock heap share k =
+    (is_among (keys_in heap) k ≡ false) × ((s : ℕ) (r : Region) → get (large_regions share) s ≡ Some r → r.of ≢ k)
+
+-- all chunks and large blocks of a heap are given back: the account's other dataspaces stay, and the regions that aren't the heap's
+pub record GivesAll (heap later : Heap) (old new : Store) (regions after : Regions) : Type 0 where
+  pub value : heap_at later new after ≡ no_heap
+  pub none : HasNoBlocks (share_at (payer_of heap) new after)
+  pub charge : let blocks = heap_at heap old regions in
+      (part_at heap new).account ≡ Some (credited (account_in old (payer_of heap)) (heap_size blocks) (heap_count blocks))
+  pub spaces : (k : ℕ) → IsNoBlock heap (share_at (payer_of heap) old regions) k → get (part_at heap new).spaces k ≡ get (part_at heap old).spaces k
+  pub count : len (part_at heap new).spaces + heap_count (heap_at heap old regions) ≡ len (part_at heap old).spaces
+  pub rest : after ≡ record regions { heap = after.heap; tags = after.tags }
+
 -- ---- which payload holds a range
 
--- a range of addresses lies in a payload, so far into a dataspace of the account
-pub record HoldsRange (heap : OwnHeap) (share : Share) (ds offset address count : ℕ) : Type 0 where
+-- a range of addresses lies in the payload that starts at an address, which is a part of a dataspace of the account
+pub record HoldsRange (heap : Heap) (store : Store) (regions : Regions) (ds offset address count : ℕ) : Type 0 where
   pub at : ℕ
   pub payload : List ℕ
   pub before : ℕ
-  pub there : get heap.payloads at ≡ Some payload
+  pub bytes : List ℕ
+  pub there : get (part_at heap store).spaces ds ≡ Some bytes
+  pub starts : get (heap_at heap store regions).payloads at ≡ Some payload
+  pub is : payload ≡ slice_range bytes before (before + length payload)
+  pub within : before + length payload ≤ length bytes
   pub low : at ≤ address
   pub high : address + count ≤ at + length payload
   pub into : offset ≡ before + (address - at)
+  pub found : block_found (heap_at heap store regions).payloads address count ≡ Some (at, address - at)

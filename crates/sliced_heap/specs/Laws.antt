@@ -61,6 +61,15 @@ HeapsStay =
     ((s : ℕ) (r : Region) → get (block_regions (share_at (payer_of heap) old regions)) s ≡ Some r → get p.spaces r.of ≡ get (part (payer_of heap) old).spaces r.of) →
     HeapStays heap old new regions after
 
+-- so it does on a map that holds other blocks of the account, while its own stand where they stood and hold what they held
+abbrev pub HeapsStayAmong : Type 0
+HeapsStayAmong =
+    (heap : SlicedHeap) (old new : Store) (regions after : Regions) → IsSound heap old regions → MapsMemory new after → IsOpenIn new (payer_of heap) →
+    block_regions (share_at (payer_of heap) new after) ≡ block_regions (share_at (payer_of heap) old regions) →
+    ((s : ℕ) (r : Region) → get (block_regions (share_at (payer_of heap) old regions)) s ≡ Some r →
+    get (part (payer_of heap) new).spaces r.of ≡ get (part (payer_of heap) old).spaces r.of) →
+    HeapStays heap old new regions after
+
 -- a heap on a map of its own stays as it is while its account's part stays
 abbrev pub HeapsStayElsewhere : Type 0
 HeapsStayElsewhere =
