@@ -1,6 +1,7 @@
 pub mod NatMapLemmas
 pub mod SlotLemmas
 pub mod Totals
+pub mod KeySums
 pub mod NewSelector
 pub mod EntryLemmas
 pub mod ListLemmas

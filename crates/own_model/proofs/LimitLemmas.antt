@@ -76,7 +76,7 @@ effects_within s within = record {
 }
 
 -- nor can a call of a session
-sessions_within : (s : OwnState) → WithinLimits s.account → KeptBySessions (λ t. WithinLimits t.account) s
+pub sessions_within : (s : OwnState) → WithinLimits s.account → KeptBySessions (λ t. WithinLimits t.account) s
 sessions_within s within = record {
   opens = λ wish accepted. let fits = (donation_covered s.account wish.ram wish.caps accepted).0 in record { ram = omega (arith, fits.ram_fits); caps = omega (arith, fits.caps_fit) };
   upgrades = λ selector session more there accepted. let fits = covers s.account more.ram more.caps accepted in record { ram = omega (arith, fits.ram_fits); caps = omega (arith, fits.caps_fit) };

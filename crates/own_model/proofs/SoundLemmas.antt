@@ -359,7 +359,7 @@ sound_session s selector old new account there h =
     (get-insert_other s.selectors selector (OpenSession new) region.of (not_named s.selectors selector (OpenSession old) region there (session_is_none old) before))) h
 
 -- nor do calls of sessions
-sessions_sound : (s : OwnState) → IsSound s → KeptBySessions IsSound s
+pub sessions_sound : (s : OwnState) → IsSound s → KeptBySessions IsSound s
 sessions_sound s h = record {
   opens = λ wish accepted.
       let key = new_selector s.selectors in

@@ -198,7 +198,7 @@ replaced_uses s selector old new account ram caps there h = record {
 }
 
 -- a session more, another in place of one, and one less use nothing of the client's account
-sessions_use : (s : OwnState) → UsesWhatItHolds s → KeptBySessions UsesWhatItHolds s
+pub sessions_use : (s : OwnState) → UsesWhatItHolds s → KeptBySessions UsesWhatItHolds s
 sessions_use s h = record {
   opens = λ wish accepted.
       let key = new_selector s.selectors in

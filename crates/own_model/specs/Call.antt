@@ -1,5 +1,5 @@
 -- The calls of a component, and the lines that make them.
-use Rattle.std.specs.Prelude.{ℕ, ◌&&◌, Bool, true, false, List, length, nat_lt, if◌then◌else◌, Option, Some, None, is_none, codes}
+use Rattle.std.specs.Prelude.{ℕ, Bool, true, false, List, [], ◌∷◌, length, nat_lt, if◌then◌else◌, Option, Some, None, is_none, codes}
 use Rattle.std.specs.Option.{option_map, option_and_then}
 use Rattle.std.specs.Str.{bytes_eq}
 use Rattle.own_model.specs.Text.{first_word, is_name, number_of, address_of, bytes_of_hex}
@@ -38,31 +38,55 @@ pub record Spoken : Type 0 where
   pub name : List ℕ
   pub call : Call
 
--- a call of two arguments, parted by a space
-abbrev pub call_of_two : {X Y : Type 0} → (X → Y → Call) → (List ℕ → Option X) → (List ℕ → Option Y) → List ℕ → Option Call
-call_of_two call first second arguments =
-    option_and_then (λ x. option_map (call x) (option_and_then second (first_word arguments).rest)) (first (first_word arguments).word)
-
 -- the bytes of hex that isn't empty
 abbrev pub some_bytes_of_hex : List ℕ → Option (List ℕ)
 some_bytes_of_hex text = if nat_lt 0 (length text) then bytes_of_hex text else None
 
--- the call of a form and its arguments, which are what stands after the form and a space
+-- a form: its word, and the call that it makes of its arguments, which are what stands after the word and a space
+pub record Form : Type 0 where
+  pub word : List ℕ
+  pub call : Option (List ℕ) → Option Call
+
+-- a form without arguments
+abbrev pub of_none : Call → Option (List ℕ) → Option Call
+of_none call arguments = if is_none arguments then Some call else None
+
+-- of one
+abbrev pub of_one : {X : Type 0} → (X → Call) → (List ℕ → Option X) → Option (List ℕ) → Option Call
+of_one call only arguments = option_map call (option_and_then only arguments)
+
+-- of two, parted by a space
+abbrev pub of_two : {X Y : Type 0} → (X → Y → Call) → (List ℕ → Option X) → (List ℕ → Option Y) → Option (List ℕ) → Option Call
+of_two call first second None = None
+of_two call first second (Some arguments) =
+    option_and_then (λ x. option_map (call x) (option_and_then second (first_word arguments).rest)) (first (first_word arguments).word)
+
+-- the forms
+abbrev pub forms : List Form
+forms =
+    record { word = codes "alloc"; call = of_one Alloc number_of }
+    ∷ record { word = codes "free"; call = of_one Free number_of }
+    ∷ record { word = codes "attach"; call = of_one Attach number_of }
+    ∷ record { word = codes "attach_at"; call = of_two AttachAt number_of address_of }
+    ∷ record { word = codes "detach"; call = of_one Detach address_of }
+    ∷ record { word = codes "peek"; call = of_two Peek address_of number_of }
+    ∷ record { word = codes "poke"; call = of_two Poke address_of some_bytes_of_hex }
+    ∷ record { word = codes "capalloc"; call = of_none Capalloc }
+    ∷ record { word = codes "capfree"; call = of_one Capfree number_of }
+    ∷ record { word = codes "new"; call = of_one New number_of }
+    ∷ record { word = codes "del"; call = of_one Del address_of }
+    ∷ record { word = codes "snew"; call = of_one Snew number_of }
+    ∷ record { word = codes "sdel"; call = of_one Sdel address_of }
+    ∷ record { word = codes "quota"; call = of_none Quota }
+    ∷ []
+
+-- the call of the form with this word
+abbrev pub call_in : List Form → List ℕ → Option (List ℕ) → Option Call
+call_in [] word arguments = None
+call_in (form ∷ rest) word arguments = if bytes_eq word form.word then form.call arguments else call_in rest word arguments
+
 abbrev pub call_of : List ℕ → Option (List ℕ) → Option Call
-call_of form arguments =
-    if bytes_eq form (codes "alloc") then option_map Alloc (option_and_then number_of arguments)
-    else (if bytes_eq form (codes "free") then option_map Free (option_and_then number_of arguments)
-    else (if bytes_eq form (codes "attach") then option_map Attach (option_and_then number_of arguments)
-    else (if bytes_eq form (codes "attach_at") then option_and_then (call_of_two AttachAt number_of address_of) arguments
-    else (if bytes_eq form (codes "detach") then option_map Detach (option_and_then address_of arguments)
-    else (if bytes_eq form (codes "peek") then option_and_then (call_of_two Peek address_of number_of) arguments
-    else (if bytes_eq form (codes "poke") then option_and_then (call_of_two Poke address_of some_bytes_of_hex) arguments
-    else (if bytes_eq form (codes "capalloc") && is_none arguments then Some Capalloc
-    else (if bytes_eq form (codes "capfree") then option_map Capfree (option_and_then number_of arguments)
-    else (if bytes_eq form (codes "snew") then option_map Snew (option_and_then number_of arguments)
-    else (if bytes_eq form (codes "sdel") then option_map Sdel (option_and_then address_of arguments)
-    else (if bytes_eq form (codes "quota") && is_none arguments then Some Quota
-    else None)))))))))))
+call_of word arguments = call_in forms word arguments
 
 -- what follows the name: a form, and its arguments
 abbrev pub form_of : List ℕ → Option Call

@@ -1,7 +1,7 @@
 //! Worked inputs of machine A that compute: what is told of each, to the byte.
 ghost use Rattle.std.specs.Prelude.{◌≡◌, ◌++◌, [], ◌∷◌, codes, replicate, Some};
 ghost use Rattle.own_model.specs.Call.{form_of};
-ghost use Rattle.own_model.specs.Call.Call.{AttachAt, Detach, Peek, Poke, Snew, Sdel};
+ghost use Rattle.own_model.specs.Call.Call.{AttachAt, Detach, Peek, Poke, New, Del, Snew, Sdel};
 ghost use Rattle.own_model.specs.Rows.{told_by_a};
 ghost use Rattle.own_model.specs.Laws.{LongLinesAreNoCalls};
 
@@ -29,6 +29,8 @@ pub fn arguments_are_read()
     ensures zeros { form_of (codes "peek 0x0000000000000010 0001") ≡ Some (Peek 16 1) }
     ensures at { form_of (codes "attach_at 7 0x10") ≡ Some (AttachAt 7 16) }
     ensures bytes { form_of (codes "poke 0x0 00fFa9") ≡ Some (Poke 0 (0 ∷ 255 ∷ 169 ∷ [])) }
+    ensures heap_block { form_of (codes "new 0100") ≡ Some (New 100) }
+    ensures heap_payload { form_of (codes "del 0x100000010") ≡ Some (Del 0x100000010) }
     ensures block { form_of (codes "snew 0256") ≡ Some (Snew 256) }
     ensures payload { form_of (codes "sdel 0x100000020") ≡ Some (Sdel 0x100000020) }
     ensures addresses { told_by_a (codes "alice detach 0X10\nalice detach 0x\nalice detach 10\nalice detach 0x1g\nalice detach 0x00000000000000001\n")
@@ -46,6 +48,8 @@ pub fn lines_and_names_are_refused()
         ≡ codes "?: Bad_line\n?: Bad_line\n?: Bad_line\n" }
     ensures sizes { told_by_a (codes "alice alloc 18446744073709551615\nalice alloc 18446744073709547520\n")
         ≡ codes "alice: Invalid_size\nalice: Out_of_ram\n" }
+    ensures heap { told_by_a (codes "alice new 0\nalice new 18446744073709547521\nalice new 18446744073709547520\nalice new 65537\nalice new 65535\n")
+        ≡ codes "alice: Invalid_size\nalice: Invalid_size\nalice: Out_of_ram\nalice: Out_of_ram\nalice: Out_of_ram\n" }
     ensures sliced { told_by_a (codes "alice snew 0\nalice snew 18446744073709547489\nalice snew 18446744073709547488\nalice snew 65505\n")
         ≡ codes "alice: Invalid_size\nalice: Invalid_size\nalice: Out_of_ram\nalice: Out_of_ram\n" }
 {}

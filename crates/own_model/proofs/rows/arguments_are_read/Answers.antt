@@ -14,6 +14,12 @@ returns-clause-at c = refl
 pub returns-clause-bytes : goal.returns-clause-bytes
 returns-clause-bytes c = refl
 
+pub returns-clause-heap_block : goal.returns-clause-heap_block
+returns-clause-heap_block c = refl
+
+pub returns-clause-heap_payload : goal.returns-clause-heap_payload
+returns-clause-heap_payload c = refl
+
 pub returns-clause-block : goal.returns-clause-block
 returns-clause-block c = refl
 

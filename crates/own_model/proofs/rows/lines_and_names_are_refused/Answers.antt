@@ -11,5 +11,8 @@ returns-clause-forms c = refl
 pub returns-clause-sizes : goal.returns-clause-sizes
 returns-clause-sizes c = refl
 
+pub returns-clause-heap : goal.returns-clause-heap
+returns-clause-heap c = refl
+
 pub returns-clause-sliced : goal.returns-clause-sliced
 returns-clause-sliced c = refl
