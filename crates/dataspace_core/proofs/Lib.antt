@@ -12,6 +12,8 @@ pub mod LaidOutLemmas
 pub mod MemoryLemmas
 pub mod CapsLemmas
 pub mod PartLaws
+pub mod PokedLaws
 pub mod ShareLaws
 pub mod WindowLaws
 pub mod LimitLaws
+pub mod RoomLaws

@@ -1,5 +1,5 @@
 -- Laws for callers: the limits of a memory after a call for one account, and the pages that a heap window shows of it.
-use Rattle.std.proofs.Common.{◌≡◌, ◌≢◌, ◌≤◌, ◌*◌, ℕ, Some, length, refl, sym, ap, ◌∙◌, ⊎_elim, arith}
+use Rattle.std.proofs.Common.{◌≡◌, ◌≢◌, ◌≤◌, ◌+◌, ◌*◌, ℕ, Some, length, refl, sym, ap, ◌∙◌, ⊎_elim, arith, zero-add}
 use Rattle.std.proofs.lemmas.Bool.{cases_eq}
 use Rattle.std.proofs.lemmas.Option.{none-some}
 use Rattle.std.specs.Prelude.{Option, None, unwrap_or}
@@ -8,13 +8,18 @@ use Rattle.own_model.specs.NatMap.{NatMap, total}
 use Rattle.own_model.specs.Account.{Account, opened}
 use Rattle.own_model.specs.Region.{Region}
 use Rattle.own_model.specs.HeapWindow.{pages_of_all}
-use Rattle.own_model.proofs.NatMapLemmas.{same, by_insertions, get-insert_same, get-insert_other, get-remove_other, value_at}
+use Rattle.own_model.proofs.NatMapLemmas.{same, by_insertions, get-empty, get-insert_same, get-insert_other, get-remove_other, value_at}
 use Rattle.own_model.proofs.Totals.{total-empty, total-insert_new, total-insert_same, total-remove, total_le, len-total}
 use Rattle.dataspace_core.specs.Share.{IsShown}
-use Rattle.dataspace_core.specs.Store.{Store, Space, Part, part, account_in, accounts_in, IsOpenIn, PartBecomes, ram_limits_in}
+use Rattle.dataspace_core.specs.Store.{Store, Space, Part, part, account_in, accounts_in, IsOpenIn, PartBecomes, fresh_store, ram_limits_in}
+
+-- all limits of a memory that has just booted
+pub fresh_limits : (root pages caps accounts places : ℕ) → ram_limits_in (fresh_store root pages caps accounts places) ≡ pages * 4096
+fresh_limits root pages caps accounts places =
+    total-insert_new (λ (a : Account). a.ram_limit) empty root (opened (pages * 4096) caps) (get-empty root) ∙ ap (λ n. n + pages * 4096) (total-empty (λ (a : Account). a.ram_limit)) ∙ zero-add (pages * 4096)
 
 -- the accounts after a call are those before, with the one that it is for as its part has it
-accounts_after : (account : ℕ) (after : Part) (old new : Store) (a : Account) → PartBecomes account after old new → after.account ≡ Some a → accounts_in new ≡ insert (accounts_in old) account a
+pub accounts_after : (account : ℕ) (after : Part) (old new : Store) (a : Account) → PartBecomes account after old new → after.account ≡ Some a → accounts_in new ≡ insert (accounts_in old) account a
 unfolding part
 accounts_after account after old new a becomes is = same _ _ (λ k. ⊎_elim
     (λ (own : k ≡ account).

@@ -1,5 +1,5 @@
 -- Dataspaces stay paid for, and what an account has left the machine has.
-use Rattle.std.proofs.Common.{◌≡◌, ◌≢◌, ℕ, ◌+◌, ◌*◌, ◌≤◌, min, Some, is_some, unwrap_or, refl, sym, ap, subst, ◌∙◌, inl, inr, arith, zero-add}
+use Rattle.std.proofs.Common.{◌≡◌, ◌≢◌, ℕ, ◌+◌, ◌*◌, ◌≤◌, min, Some, is_some, unwrap_or, refl, sym, ap, subst, ◌∙◌, inl, inr, arith}
 use Rattle.std.proofs.lemmas.Bool.Decides.{nat_tests}
 use Rattle.std.proofs.lemmas.Option.{none-some}
 use Rattle.std.specs.Prelude.{Option, None}
@@ -13,6 +13,7 @@ use Rattle.own_model.proofs.NatMapLemmas.{get-empty, get-remove_other, IsSome-in
 use Rattle.own_model.proofs.UseLemmas.{length-zeros}
 use Rattle.own_model.proofs.Totals.{total-empty, total-insert_new, total-insert_same, total-remove, total_spare, total_le, len-insert_new, len-total, owed-empty, owed-insert_new, owed-insert_same, owed-remove, owed_nothing, owed_at_le, total_owed_le, total-owed, total_at_le}
 use Rattle.quota_core.specs.Books.{Books, IsOpen, account_at, with_child, with_moved, without_account, ram_limits, caps_limits}
+use Rattle.dataspace_core.proofs.LimitLaws.{fresh_limits}
 use Rattle.dataspace_core.specs.Store.{Store, Space, fresh_store, IsOpenIn, account_in, parent_in, places_in, ram_limits_in, caps_limits_in}
 use Rattle.dataspace_core.specs.Paid.{IsPaid, IsPaying, size_of, payer_of}
 
@@ -279,7 +280,7 @@ IsPaid-fresh root pages caps accounts places few covered = record {
     })
     | inr old ↦ absurd (none-some v (sym (get-empty k) ∙ old.1))
   ];
-  ram_limits = total-insert_new (λ (v : Account). v.ram_limit) empty root (opened (pages * 4096) caps) (get-empty root) ∙ ap (λ n. n + pages * 4096) (total-empty (λ (v : Account). v.ram_limit)) ∙ zero-add (pages * 4096);
+  ram_limits = fresh_limits root pages caps accounts places;
   covered = omega (arith, total-insert_new (λ (v : Account). v.caps_limit) empty root (opened (pages * 4096) caps) (get-empty root), total-empty (λ (v : Account). v.caps_limit), covered);
   backed = omega (arith, total-empty size_of);
   few = few;

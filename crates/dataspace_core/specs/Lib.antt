@@ -2,3 +2,4 @@ pub mod Store
 pub mod Layout
 pub mod Paid
 pub mod Share
+pub mod Room

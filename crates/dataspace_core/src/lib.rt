@@ -2,10 +2,12 @@
 #![tactic(auto)]
 
 mod dataspace;
+mod laws;
 mod memory;
 mod runs;
 #[cfg(test)]
 #[tactic(auto, using(crate::proofs::TestLemmas::store_laws))]
 mod tests;
 
+pub use laws::accounts_find_places;
 pub use memory::Memory;

@@ -4,3 +4,4 @@ pub mod GapLemmas
 pub mod ApartLemmas
 pub mod TableLemmas
 pub mod HeapLemmas
+pub mod FoundLaws

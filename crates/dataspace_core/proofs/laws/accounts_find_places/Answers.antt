@@ -1,0 +1,21 @@
+-- By the laws of rooms.
+use Rattle.dataspace_core.proofs.RoomLaws.{room_at_first, room_for_one_more, room_stays, room_is_taken, room_is_raised, room_is_given_back}
+use Rattle.dataspace_core.proofs.laws.accounts_find_places.Goals as goal
+
+pub returns-clause-first : goal.returns-clause-first
+returns-clause-first c = room_at_first
+
+pub returns-clause-more : goal.returns-clause-more
+returns-clause-more c = room_for_one_more
+
+pub returns-clause-stays : goal.returns-clause-stays
+returns-clause-stays c = room_stays
+
+pub returns-clause-taken : goal.returns-clause-taken
+returns-clause-taken c = room_is_taken
+
+pub returns-clause-raised : goal.returns-clause-raised
+returns-clause-raised c = room_is_raised
+
+pub returns-clause-given_back : goal.returns-clause-given_back
+returns-clause-given_back c = room_is_given_back

@@ -1,0 +1,14 @@
+//! Laws for callers: that an account which covers a session's capabilities finds a place for another account. They do
+//! nothing at run time.
+ghost use Rattle.dataspace_core.specs.Room.{RoomAtFirst, RoomForOneMore, RoomStays, RoomIsTaken, RoomIsRaised, RoomIsGivenBack};
+
+/// Where places for accounts are half as many as the machine has capabilities, and each account that was opened below
+/// another than the root has two of these, one more finds a place wherever its parent covers two. Calls keep this.
+pub fn accounts_find_places()
+    ensures first { RoomAtFirst }
+    ensures more { RoomForOneMore }
+    ensures stays { RoomStays }
+    ensures taken { RoomIsTaken }
+    ensures raised { RoomIsRaised }
+    ensures given_back { RoomIsGivenBack }
+{}
