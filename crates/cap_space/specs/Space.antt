@@ -9,6 +9,7 @@ use Rattle.cap_space.specs.contracts.cap.Cap as cap
 use Rattle.cap_space.specs.declared.cap.Cap.{Cap}
 use Rattle.cap_space.specs.declared.cap.Cap.TheVariants.{Dataspace, RpcObject, Session}
 use Rattle.trade_base.specs.declared.id.DsId.{DsId}
+use Rattle.trade_base.specs.declared.id.SessionId.{SessionId}
 
 -- the capabilities by their selectors, and how many find a place in all
 pub record Space : Type 0 where
@@ -38,6 +39,13 @@ is_rpc_object (Some RpcObject) = true
 is_rpc_object (Some (Dataspace ds)) = false
 is_rpc_object (Some (Session server session)) = false
 is_rpc_object None = false
+
+-- the session that what a selector has is a capability of, by its server's entry and its key there
+abbrev pub session_of : Option Cap → Option (ℕ × SessionId)
+session_of (Some (Session server session)) = Some (server, session)
+session_of (Some (Dataspace ds)) = None
+session_of (Some RpcObject) = None
+session_of None = None
 
 -- an empty space of so many places
 abbrev pub fresh_space : ℕ → Space

@@ -2,13 +2,13 @@
 ghost use Rattle.std.specs.Prelude.{◌≡◌, ◌<◌, ◌≤◌, ◌↔◌, None, IsTrue, IsFalse, IsSome, IfOk, IfSome, IfNone, count_by, is_some, length, slice_index_or};
 ghost use Rattle.std.specs.FinMap.{get, len};
 ghost use Rattle.own_model.specs.OwnState.{new_selector, IsLeastUnused};
-ghost use Rattle.cap_space.specs.Space.{dataspace_of, is_rpc_object, fresh_space, with_cap, without_cap};
+ghost use Rattle.cap_space.specs.Space.{dataspace_of, is_rpc_object, session_of, fresh_space, with_cap, without_cap};
 ghost use Rattle.cap_space.specs.Slots.{IsTakenBefore};
 
 use crate::cap::Cap;
 use std::alloc::Global;
 use std::marker::Model;
-use trade_base::{DsId, NoMemory, Selector};
+use trade_base::{DsId, NoMemory, Selector, SessionId};
 
 /// The capabilities of one component, each under its selector: a positive number.
 ///
@@ -114,6 +114,22 @@ impl CapSpace {
                 true
             }
             _ => false,
+        }
+    }
+
+    /// Takes the session that a selector names out again, which frees the selector, and tells its server's entry and its
+    /// key there. It takes any number, and changes nothing where that names no session.
+    pub fn take_session(&mut self, selector: u64) -> Option<(usize, SessionId)>
+        ensures found { result ≡ session_of (get self.old.caps selector) }
+        ensures gone { IfSome result (λ _. self.new ≡ without_cap self.old selector) }
+        ensures none { IfNone result (self.new ≡ self.old) }
+    {
+        match self.get(selector) {
+            Some(Cap::Session { server, session }) => {
+                self.vacate(selector);
+                Some((server, session))
+            }
+            _ => None,
         }
     }
 
