@@ -7,14 +7,14 @@ use Rattle.std.specs.Option.{option_map}
 use Rattle.std.specs.FinMap.{get}
 use Rattle.trade_base.specs.Bytes.{with_bytes}
 use Rattle.trade_base.specs.Word.{word_of, word_bytes}
-use Rattle.trade_base.proofs.BytesLemmas.{slice_range-with_bytes, length-with_bytes}
+use Rattle.trade_base.proofs.BytesLemmas.{slice_range-with_bytes}
 use Rattle.trade_base.proofs.ElsewhereLemmas.{range_before, range_after, drop_after}
 use Rattle.trade_base.proofs.WordLemmas.{word_of-word_bytes, length-word_bytes}
-use Rattle.own_model.proofs.NatMapLemmas.{get-insert_same, get-insert_other}
 use Rattle.own_model.proofs.Totals.{len-insert_at}
 use Rattle.dataspace_core.specs.Store.{Part, bytes_of, part_with_bytes}
 use Rattle.sliced_heap.specs.Sliced.{word_at, HasHeader, HeadersChange, IsStored}
 use Rattle.sliced_heap.specs.Chain.{link_to, is_listed}
+use Rattle.dataspace_core.proofs.PokedLaws.{poked, poked_there, poked_other, poked_alike, poked_length}
 use Rattle.dataspace_core.proofs.WindowLaws.{length_some}
 
 -- the words of a dataspace whose bytes stay
@@ -28,22 +28,14 @@ bytes_of-there p ds bytes there = ap (λ (o : Option (List ℕ)). unwrap_or o []
 
 -- a part after bytes are put over those of a dataspace that is there
 module _ (p : Part) (ds offset : ℕ) (put bytes : List ℕ) (there : get p.spaces ds ≡ Some bytes) (fits : offset + length put ≤ length bytes) where
-  abbrev pub poked : Part
-  poked = part_with_bytes p ds offset put
+  abbrev after : Part
+  after = poked p ds offset put bytes there fits
 
-  -- the bytes that it has then
-  pub poked_there : get poked.spaces ds ≡ Some (with_bytes bytes offset put)
-  poked_there = get-insert_same p.spaces ds _ ds refl ∙ ap (λ b. Some (with_bytes b offset put)) (bytes_of-there p ds bytes there)
-
-  bytes_then : bytes_of poked ds ≡ with_bytes bytes offset put
-  bytes_then = bytes_of-there poked ds _ poked_there
-
-  -- other dataspaces stay
-  pub poked_other : (q : ℕ) → q ≢ ds → get poked.spaces q ≡ get p.spaces q
-  poked_other q apart = get-insert_other p.spaces ds _ q apart
+  bytes_then : bytes_of after ds ≡ with_bytes bytes offset put
+  bytes_then = bytes_of-there after ds _ (poked_there p ds offset put bytes there fits)
 
   -- a word before them stays, or after them, or of another dataspace
-  pub poked_word : (other b : ℕ) → (other + 8 ≤ offset) ⊎ (offset + length put ≤ other) → word_at poked other b ≡ word_at p other b
+  pub poked_word : (other b : ℕ) → (other + 8 ≤ offset) ⊎ (offset + length put ≤ other) → word_at after other b ≡ word_at p other b
   unfolding word_at
   poked_word other b clear = ⊎_elim
       (λ (same : b ≡ ds). rw same (
@@ -53,22 +45,12 @@ module _ (p : Part) (ds offset : ℕ) (put bytes : List ℕ) (there : get p.spac
       (λ (after : offset + length put ≤ other). range_after bytes offset put other (other + 8) after fits)
       clear)
       ∙ ap (λ b. word_of (slice_range b other (other + 8))) (sym (bytes_of-there p ds bytes there))))
-      (λ (apart : b ≢ ds). ap (λ (o : Option (List ℕ)). word_of (slice_range (unwrap_or o []) other (other + 8))) (poked_other b apart))
+      (λ (apart : b ≢ ds). ap (λ (o : Option (List ℕ)). word_of (slice_range (unwrap_or o []) other (other + 8))) (poked_other p ds offset put bytes there fits b apart))
       (cases_eq b ds)
 
-  -- what is told of the bytes alike, before and after, stays of each dataspace
-  poked_alike : {X : Type 0} (f : List ℕ → X) → f (with_bytes bytes offset put) ≡ f bytes → (q : ℕ) → option_map f (get poked.spaces q) ≡ option_map f (get p.spaces q)
-  poked_alike f alike q = ⊎_elim
-      (λ (same : q ≡ ds). rw same (ap (option_map f) poked_there ∙ ap Some alike ∙ ap (option_map f) (sym there)))
-      (λ (other : q ≢ ds). ap (option_map f) (poked_other q other))
-      (cases_eq q ds)
-
-  -- so the lengths stay, and what lies behind headers
-  pub poked_length : (q : ℕ) → option_map length (get poked.spaces q) ≡ option_map length (get p.spaces q)
-  poked_length = poked_alike length (length-with_bytes bytes offset put fits)
-
-  pub poked_payload : offset + length put ≤ 32 → (q : ℕ) → option_map (drop 32) (get poked.spaces q) ≡ option_map (drop 32) (get p.spaces q)
-  poked_payload within = poked_alike (drop 32) (drop_after bytes offset put 32 within fits)
+  -- so does what lies behind headers, where they are put before it
+  pub poked_payload : offset + length put ≤ 32 → (q : ℕ) → option_map (drop 32) (get after.spaces q) ≡ option_map (drop 32) (get p.spaces q)
+  poked_payload within = poked_alike p ds offset put bytes there fits (drop 32) (drop_after bytes offset put 32 within fits)
 
 -- a part after a word is stored in the header of a dataspace that is there
 module _ (p : Part) (ds offset word : ℕ) (bytes : List ℕ) (there : get p.spaces ds ≡ Some bytes) (small : word < 2 ^ 64) (within : offset + 8 ≤ 32) (long : 32 ≤ length bytes) where

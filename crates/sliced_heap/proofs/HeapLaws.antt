@@ -26,11 +26,12 @@ use Rattle.dataspace_core.specs.Share.{Share, IsShown, share_in}
 use Rattle.dataspace_core.proofs.PartLaws.{paid_in_part, open_after, part_open, open_in_part}
 use Rattle.dataspace_core.proofs.PartLemmas.{space_at-some}
 use Rattle.sliced_heap.specs.declared.heap.SlicedHeap.{SlicedHeap}
-use Rattle.sliced_heap.specs.Sliced.{word_at, block_regions, payload_of, sliced_of, IsLinked}
+use Rattle.sliced_heap.specs.Sliced.{word_at, block_regions, payload_of}
 use Rattle.sliced_heap.specs.Heap.{payer_of, share_at, blocks_at, MapsMemory, IsSound, HoldsRange}
-use Rattle.sliced_heap.specs.Laws.{KeepsHeapWindow, Pokes, PayloadsArePoked, PayloadsAreRead, EmptyMapsHaveNoBlocks, MapsStay, MapsStayForPayers, HeapsStay, HeapsStayElsewhere, HeapsStayBeside, HeapStays, BlocksAreRegions, GapsAreBetweenBlocks}
+use Rattle.sliced_heap.specs.Laws.{KeepsHeapWindow, Pokes, PayloadsArePoked, PayloadsAreRead, EmptyMapsHaveNoBlocks, MapsStay, MapsStayForPayers, HeapsStay, HeapsStayAmong, HeapsStayElsewhere, HeapsStayBeside, HeapStays, BlocksAreRegions, GapsAreBetweenBlocks}
 use Rattle.sliced_heap.proofs.LinkedLemmas.{still_linked, alike_linked, alike_payloads, payload_put}
-use Rattle.sliced_heap.proofs.HeaderLemmas.{poked_there, poked_other, poked_word, poked_length}
+use Rattle.dataspace_core.proofs.PokedLaws.{poked_there, poked_other, poked_length}
+use Rattle.sliced_heap.proofs.HeaderLemmas.{poked_word}
 use Rattle.sliced_heap.proofs.ShareLemmas.{is_block, shown_block}
 use Rattle.dataspace_core.proofs.WindowLaws.{in_part, in_no_other, shown_of_part, shown_after, account_after, own_account}
 
@@ -122,35 +123,27 @@ module _ (heap : SlicedHeap) (p : Part) (old new : Store) (regions after : Regio
     ] refl
   ] refl)
 
--- a dataspace that has the same bytes is there
-same_there : (heap : SlicedHeap) (p : Part) (old : Store) (regions : Regions) → ((s : ℕ) (r : Region) → get (block_regions (share_at (payer_of heap) old regions)) s ≡ Some r → get p.spaces r.of ≡ get (part (payer_of heap) old).spaces r.of) →
-    (s : ℕ) (r : Region) → get (block_regions (share_at (payer_of heap) old regions)) s ≡ Some r → IsSome (get p.spaces r.of)
-same_there heap p old regions bytes s r h = ap is_some (bytes s r h) ∙ (shown_block (payer_of heap) old regions s r h).paid
+pub heap_stays_among : HeapsStayAmong
+unfolding share_in
+heap_stays_among heap old new regions after sound maps opens same_one bytes = record {
+  sound = record { opens = opens; maps = maps; linked = alike_linked (share_at (payer_of heap) old regions) (share_at (payer_of heap) new after) heap.first sound.linked same_one bytes };
+  blocks = alike_payloads (share_at (payer_of heap) old regions) (share_at (payer_of heap) new after) heap.first sound.linked same_one bytes;
+  stands = same_one;
+}
 
 pub heap_stays : HeapsStay
-unfolding share_in
 heap_stays heap p old new regions after sound kept maps becomes there bytes =
-    let same_one = same_blocks heap p old new regions after sound kept maps becomes (same_there heap p old regions bytes) in
-    let now : (s : ℕ) (r : Region) → get (block_regions (share_at (payer_of heap) old regions)) s ≡ Some r → get (part (payer_of heap) new).spaces r.of ≡ get (part (payer_of heap) old).spaces r.of =
-    λ s r h. ap (λ (q : Part). get q.spaces r.of) becomes.own ∙ bytes s r h in
-    record {
-      sound = record { opens = open_after becomes there; maps = maps; linked = alike_linked (share_at (payer_of heap) old regions) (share_at (payer_of heap) new after) heap.first sound.linked same_one now };
-      blocks = alike_payloads (share_at (payer_of heap) old regions) (share_at (payer_of heap) new after) heap.first sound.linked same_one now;
-      stands = same_one;
-    }
+    heap_stays_among heap old new regions after sound maps (open_after becomes there)
+    (same_blocks heap p old new regions after sound kept maps becomes (λ s r h. ap is_some (bytes s r h) ∙ (shown_block (payer_of heap) old regions s r h).paid))
+    (λ s r h. ap (λ (q : Part). get q.spaces r.of) becomes.own ∙ bytes s r h)
 
 -- a heap whose share is the same is as it was
 same_share : (heap : SlicedHeap) (old new : Store) (regions after : Regions) → IsSound heap old regions → MapsMemory new after → share_at (payer_of heap) new after ≡ share_at (payer_of heap) old regions → HeapStays heap old new regions after
 unfolding share_in
-same_share heap old new regions after sound maps same_one = record {
-  sound = record {
-    opens = open_in_part (payer_of heap) new (subst (λ (S : Share). IsSome S.part.account) (sym same_one) (part_open (payer_of heap) old sound.opens));
-    maps = maps;
-    linked = subst (λ (S : Share). IsLinked S heap.first) (sym same_one) sound.linked;
-  };
-  blocks = ap sliced_of same_one;
-  stands = ap block_regions same_one;
-}
+same_share heap old new regions after sound maps same_one =
+    heap_stays_among heap old new regions after sound maps
+    (open_in_part (payer_of heap) new (subst (λ (S : Share). IsSome S.part.account) (sym same_one) (part_open (payer_of heap) old sound.opens)))
+    (ap block_regions same_one) (λ s r h. ap (λ (S : Share). get S.part.spaces r.of) same_one)
 
 pub heap_stays_elsewhere : HeapsStayElsewhere
 heap_stays_elsewhere heap old new regions sound same_part limits paid =

@@ -1,13 +1,12 @@
 -- Two heaps on one map: both stay sound over each other's calls, and a write into a payload of the one.
-use Rattle.std.proofs.Common.{◌≡◌, ◌+◌, ◌*◌, ◌≤◌, ℕ, List, length, is_some, refl, sym, ap, subst, ◌∙◌, zero-add}
-use Rattle.std.specs.FinMap.{get, empty}
+use Rattle.std.proofs.Common.{◌≡◌, ◌+◌, ◌*◌, ◌≤◌, ℕ, List, length, is_some, refl, sym, ap, subst, ◌∙◌}
+use Rattle.std.specs.FinMap.{get}
 use Rattle.std.specs.Prelude.{None}
-use Rattle.own_model.specs.Account.{Account, opened}
-use Rattle.own_model.proofs.NatMapLemmas.{get-empty, apart_from_free}
-use Rattle.own_model.proofs.Totals.{total-empty, total-insert_new}
+use Rattle.own_model.proofs.NatMapLemmas.{apart_from_free}
 use Rattle.region_map.specs.Regions.{Regions, fresh_regions}
 use Rattle.dataspace_core.specs.Store.{Store, Part, part, accounts_in, Exists, space_at, IsOpenIn, PartBecomes, OpensPart, part_with_bytes, fresh_store, ram_limits_in}
 use Rattle.dataspace_core.specs.Share.{share_in}
+use Rattle.dataspace_core.proofs.LimitLaws.{fresh_limits}
 use Rattle.dataspace_core.proofs.PartLaws.{IsPaidBy, paid_in_part, becomes_paid, open_in_part}
 use Rattle.sliced_heap.specs.declared.heap.SlicedHeap.{SlicedHeap}
 use Rattle.sliced_heap.specs.Heap.{payer_of, share_at, IsSound, MapsMemory, HasNoBlocks, AreBeside, KeepsOthers, HoldsRange}
@@ -45,11 +44,6 @@ module _ (heap other : SlicedHeap) (store : Store) (regions : Regions) (both : A
         refl
 
 -- ---- a boot
-
--- all limits of a memory that has just booted
-fresh_limits : (root pages caps accounts places : ℕ) → ram_limits_in (fresh_store root pages caps accounts places) ≡ pages * 4096
-fresh_limits root pages caps accounts places =
-    total-insert_new (λ (a : Account). a.ram_limit) empty root (opened (pages * 4096) caps) (get-empty root) ∙ ap (λ n. n + pages * 4096) (total-empty (λ (a : Account). a.ram_limit)) ∙ zero-add (pages * 4096)
 
 -- heaps of the root and of an account that was opened below it, on a new map
 pub beside_booted : (heap other : SlicedHeap) (old new : Store) (regions : Regions) (key root child pages caps accounts places ram few user : ℕ) → old ≡ fresh_store key pages caps accounts places → IsOpenIn old root → get (accounts_in old) child ≡ None →
