@@ -26,14 +26,14 @@ use Rattle.heap_core.proofs.ShareLemmas.{in_share, get-large, large_there}
 use Rattle.heap_core.proofs.WordsLemmas.{AreChunks, chunks_sound, sound_chunks, each_bytes, length_keys}
 
 -- options of the same length are both there or not
-some_alike : (o p : Option (List ℕ)) → option_map length o ≡ option_map length p → is_some o ≡ is_some p
+pub some_alike : (o p : Option (List ℕ)) → option_map length o ≡ option_map length p → is_some o ≡ is_some p
 some_alike None None e = refl
 some_alike None (Some x) e = absurd (none-some (length x) e)
 some_alike (Some x) None e = absurd (none-some (length x) (sym e))
 some_alike (Some x) (Some y) e = refl
 
 -- the number of a large block's region
-large_number : (o : Option ℕ) (p : Option Region) (r : Region) → cond (is_large_tag o) p None ≡ Some r → o ≡ Some large_tag
+pub large_number : (o : Option ℕ) (p : Option Region) (r : Region) → cond (is_large_tag o) p None ≡ Some r → o ≡ Some large_tag
 large_number None p r h = absurd (none-some r h)
 large_number (Some k) p r h = ⊎_elim
     (λ (same : k ≡ large_tag). ap Some same)

@@ -190,3 +190,25 @@ payload_unkept fit w k off n q sound there at low high =
     let apart = chunks_apart w q 0 (sizes_of fit) (heap_of fit w) told.laid.chunks in
     let most = within_le (place_at 0 0) (place_at (0 + length (heap_of fit w)) 0) q in
     omega (arith, none_here, less, parts, bytes, apart, most)
+
+within_some : (a b q : ℕ) → 1 ≤ within a b q → (a ≤ q) × (q < b)
+unfolding within
+within_some a b q some = ⊎_elim
+    (λ (low : q < a). let s : nat_lt q a ≡ true = grind (arith, nat_tests) in absurd (let z : within a b q ≡ 0 = rw s refl in omega (arith, z, some)))
+    (λ (high : a ≤ q). ⊎_elim
+    (λ (up : q < b). (high, up))
+    (λ (past : b ≤ q). let z = within_past a b q past in absurd (omega (arith, z, some)))
+    (cases_lt q b))
+    (cases_lt q a)
+
+-- what a heap keeps for itself lies in its chunks
+pub kept_in_chunks : (fit : BestFit) (w : ℕ → ℕ) (q : ℕ) → IsSound fit w → 1 ≤ kept_at q (heap_of fit w) → (place_at 0 0 ≤ q) × (q < place_at (length (heap_of fit w)) 0)
+kept_in_chunks fit w q sound kept =
+    let told = sound_told fit w sound in
+    let parts = weigh_all-parts (heads q) (whole q) 0 (heap_of fit w) in
+    let bytes = weigh_all-parts (whole q) (whole q) 0 (heap_of fit w) in
+    let less = heads_all q 0 (heap_of fit w) told.blocks in
+    let apart = chunks_apart w q 0 (sizes_of fit) (heap_of fit w) told.laid.chunks in
+    let at = within_some (place_at 0 0) (place_at (0 + length (heap_of fit w)) 0) q (omega (arith, kept, parts, bytes, less, apart)) in
+    let high = at.1 in
+    (at.0, omega (arith, high))

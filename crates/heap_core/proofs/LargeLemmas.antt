@@ -28,7 +28,7 @@ use Rattle.heap_core.proofs.ShareLemmas.{get-large, large_there}
 use Rattle.heap_core.proofs.StandLemmas.{blocks, no_blocks, not_in_chunk, SameChunks, words_kept, stands_kept, payloads_kept}
 
 -- nothing is nothing, whatever is tested
-cond_none : (b : Bool) → ◌≡◌ {A = Option Region} (cond b None None) None
+pub cond_none : (b : Bool) → ◌≡◌ {A = Option Region} (cond b None None) None
 cond_none true = refl
 cond_none false = refl
 

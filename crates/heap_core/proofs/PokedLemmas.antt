@@ -70,7 +70,7 @@ unfolding with_bytes
 put_within bytes offset part from to low high fits = same_lists _ _ (search (rules, places)) (λ k d h. grind (arith, places))
 
 -- a payload with the bytes put over it
-put_part : (payload : List ℕ) (offset : ℕ) (part : List ℕ) → offset + length part ≤ length payload → with_bytes payload offset part ≡ with_part payload offset part
+pub put_part : (payload : List ℕ) (offset : ℕ) (part : List ℕ) → offset + length part ≤ length payload → with_bytes payload offset part ≡ with_part payload offset part
 unfolding with_part
 put_part payload offset part fits = let t : nat_le (offset + length part) (length payload) ≡ true = grind (arith, nat_tests) in rw t refl
 

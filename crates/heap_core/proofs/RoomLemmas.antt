@@ -1,14 +1,15 @@
 -- There are no more large blocks than a machine has room for.
-use Rattle.std.proofs.Common.{◌≡◌, ◌≢◌, ℕ, ◌*◌, ◌≤◌, Some, refl, sym, ap, ◌∙◌, ⊎_elim, arith}
+use Rattle.std.proofs.Common.{◌≡◌, ◌≢◌, ℕ, ◌*◌, ◌≤◌, List, length, Some, refl, sym, ap, ◌∙◌, ⊎_elim, arith}
 use Rattle.std.proofs.lemmas.Bool.{cases_eq}
 use Rattle.std.proofs.lemmas.Option.{none-some}
-use Rattle.std.specs.Prelude.{None}
+use Rattle.std.specs.Prelude.{Option, None}
+use Rattle.std.specs.Option.{option_map, option_and_then}
 use Rattle.std.specs.FinMap.{get, insert, remove, empty, len}
 use Rattle.own_model.specs.HeapWindow.{pages_of_all}
 use Rattle.own_model.specs.NatMap.{NatMap, total}
 use Rattle.own_model.specs.Region.{Region}
-use Rattle.own_model.proofs.NatMapLemmas.{by_insertions, get-insert_same, get-insert_other, get-remove_other}
-use Rattle.own_model.proofs.Totals.{total-empty, total-insert_new, total-remove, total_times_le, len-total}
+use Rattle.own_model.proofs.NatMapLemmas.{by_insertions, picked_same, get-insert_same, get-insert_other, get-remove_other}
+use Rattle.own_model.proofs.Totals.{total-empty, total-insert_new, total-remove, total_times_le, len-total, total-picked}
 
 -- a map that another one has all of is no more in sum
 pub record IsPartOf {X : Type 0} (m n : NatMap X) : Type 0 where
@@ -44,3 +45,16 @@ few_large large heap part least =
     let all = total_part_le (λ (r : Region). r.pages) large heap part in
     let as_len = len-total large in
     omega (arith, count, all, as_len)
+
+-- what has a length is picked by it
+picked_length : (o : Option (List ℕ)) → option_and_then (λ (bytes : List ℕ). Some (length bytes)) o ≡ option_map length o
+picked_length None = refl
+picked_length (Some bytes) = refl
+
+-- maps of bytes of the same lengths are as many
+pub len_alike : (m n : NatMap (List ℕ)) → ((k : ℕ) → option_map length (get m k) ≡ option_map length (get n k)) → len m ≡ len n
+len_alike m n alike =
+    let lengths = λ (bytes : List ℕ). Some (length bytes) in
+    len-total m ∙ sym (total-picked (λ (l : ℕ). 1) lengths m)
+    ∙ ap (total (λ (l : ℕ). 1)) (picked_same lengths lengths m n (λ q. picked_length (get m q) ∙ alike q ∙ sym (picked_length (get n q))))
+    ∙ total-picked (λ (l : ℕ). 1) lengths n ∙ sym (len-total n)

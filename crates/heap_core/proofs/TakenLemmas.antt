@@ -27,7 +27,7 @@ whole_ranges a p b q h = ⊎_elim
     (cases_lt a (b + q * 4096))
 
 -- an address in a range of pages lies outside of one that doesn't overlap it
-in_other : (a p b q address : ℕ) → overlap a p b q ≡ false → b ≤ address → address < b + q * 4096 → (address < a) ⊎ (a + p * 4096 ≤ address)
+pub in_other : (a p b q address : ℕ) → overlap a p b q ≡ false → b ≤ address → address < b + q * 4096 → (address < a) ⊎ (a + p * 4096 ≤ address)
 in_other a p b q address h low high = ⊎_elim
     (λ (before : b + q * 4096 ≤ a). inl (omega (arith, before, high)))
     (λ (past : a + p * 4096 ≤ b). inr (omega (arith, past, low)))

@@ -70,12 +70,12 @@ pub record Attaches (heap : Heap) (ds bytes tag start : ℕ) (old new : Store) (
   pub attached : after ≡ heap_attached regions ds (bytes / 4096) tag start
   pub charge : (part_at heap new).account ≡ Some (charged (account_in old (payer_of heap)) bytes 1)
 
--- the heap has grown by a chunk for n bytes
-pub record Grows (heap later : Heap) (n : ℕ) (old new : Store) (regions after : Regions) : Type 0 where
+-- the heap has grown by a chunk, after which the growth number is another one
+pub record Grows (heap later : Heap) (growth : Growth) (old new : Store) (regions after : Regions) : Type 0 where
   pub ds : ℕ
   pub start : ℕ
-  pub attaches : Attaches heap ds (growth_at n heap old).bytes (length (keys_in heap)) start old new regions after
-  pub value : heap_at later new after ≡ with_chunk (growth_at n heap old) start (heap_at heap old regions)
+  pub attaches : Attaches heap ds growth.bytes (length (keys_in heap)) start old new regions after
+  pub value : heap_at later new after ≡ with_chunk growth start (heap_at heap old regions)
   pub keys : keys_in later ≡ keys_in heap ++ ds ∷ []
   pub spaces : AddsSpace heap ds old new
 
@@ -142,12 +142,17 @@ pub record GivesAll (heap later : Heap) (old new : Store) (regions after : Regio
 
 -- ---- which payload holds a range
 
--- a range of addresses lies in the payload that starts at an address, which is a part of a dataspace of the account
+-- a range of addresses lies in the payload that starts at an address, which is a part of a dataspace of the account, where
+-- the dataspace's region has it
 pub record HoldsRange (heap : Heap) (store : Store) (regions : Regions) (ds offset address count : ℕ) : Type 0 where
+  pub start : ℕ
+  pub pages : ℕ
   pub at : ℕ
   pub payload : List ℕ
   pub before : ℕ
   pub bytes : List ℕ
+  pub region : get (share_at (payer_of heap) store regions).heap start ≡ Some (record { of = ds; pages = pages })
+  pub stands : at ≡ start + before
   pub there : get (part_at heap store).spaces ds ≡ Some bytes
   pub starts : get (heap_at heap store regions).payloads at ≡ Some payload
   pub is : payload ≡ slice_range bytes before (before + length payload)

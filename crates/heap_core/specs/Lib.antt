@@ -1,5 +1,9 @@
 pub mod Words
 pub mod Blocks
 pub mod Heap
+pub mod Lookup
 pub mod Calls
 pub mod Laws
+pub mod Beside
+pub mod Taken
+pub mod End

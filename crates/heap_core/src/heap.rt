@@ -1,19 +1,22 @@
 //! The heap of an account.
-ghost use Rattle.std.specs.Prelude.{◌≡◌, ℕ, ◌<◌, ◌≤◌, true, false, None, Some, IfOk, IfSome, IfNone, OnOk, OnErr};
+ghost use Rattle.std.specs.Prelude.{◌≡◌, ℕ, ◌+◌, ◌-◌, ◌<◌, ◌≤◌, None, Some, is_some, IfOk, IfSome, IfNone, OnErr};
 ghost use Rattle.own_model.specs.Account.{alloc_refusal};
 ghost use Rattle.std.specs.Option.{option_map};
 ghost use Rattle.own_model.specs.BestFit.{Spot};
-ghost use Rattle.own_model.specs.Growth.{hole_for};
+ghost use Rattle.own_model.specs.Growth.{hole_for, growth_refusal, heap_refusal};
 ghost use Rattle.avl_alloc.specs.Found.{block_addr};
-ghost use Rattle.heap_core.specs.Calls.{part_at, TakesLarge, TakesHole};
+ghost use Rattle.heap_core.specs.Calls.{part_at, TakesLarge, TakesHole, TakesSmall, TakesGrown};
 ghost use Rattle.std.specs.Result.{result_err};
 ghost use Rattle.own_model.specs.OwnHeap.{no_heap};
 ghost use Rattle.region_map.specs.Regions.{Regions};
 ghost use Rattle.dataspace_core.specs.Share.{Share, IsWindowOf, KeepsShares};
 ghost use Rattle.dataspace_core.specs.Store.{Store, IsOpenIn, account_in};
-ghost use Rattle.heap_core.specs.Heap.{payer_of, share_at, shape_in, heap_in, HasNoBlocks, IsSound};
+ghost use Rattle.heap_core.specs.Heap.{chunk_at, keys_in, payer_of, share_at, shape_in, heap_in, HasNoBlocks, IsSound};
+ghost use Rattle.heap_core.specs.Taken.{IsUsed, Clears};
+ghost use Rattle.heap_core.specs.Words.{around};
 
 use crate::blocks::take;
+use crate::clear::clear;
 use crate::words::Chunk;
 use arrayvec::ArrayVec;
 use avl_alloc::{BestFit, BlockAddr, MOST_CHUNKS};
@@ -30,24 +33,27 @@ const MOST_LARGE: usize = 256;
 const LEAST_LARGE: u64 = 65536;
 
 /// The number that a large block's region keeps. A chunk's region keeps the chunk's number.
-const LARGE: u64 = 64;
+pub(crate) const LARGE: u64 = 64;
 
 /// The pages of a heap's first chunk, unless a block needs more.
-const FIRST_GROWTH: u64 = 4;
+pub(crate) const FIRST_GROWTH: u64 = 4;
+
+/// The bytes of a block's header. Its payload follows.
+const HEADER: u64 = 16;
 
 /// A heap of one account. It takes blocks of chunks, which are dataspaces, and grows by a chunk where no hole is large
 /// enough; a large block is a dataspace of its own.
 #[derive(Drop)]
 pub struct Heap {
-    account: AccountId,
+    pub(crate) account: AccountId,
     /// The blocks of the chunks.
-    fit: BestFit,
+    pub(crate) fit: BestFit,
     /// The chunks, in the order of their numbers.
-    chunks: ArrayVec<Chunk, MOST_CHUNKS>,
+    pub(crate) chunks: ArrayVec<Chunk, MOST_CHUNKS>,
     /// Where the large blocks start, in any order.
-    large: ArrayVec<u64, MOST_LARGE>,
+    pub(crate) large: ArrayVec<u64, MOST_LARGE>,
     /// The least pages of the next chunk, where the account covers them.
-    growth: u64,
+    pub(crate) growth: u64,
 }
 
 impl Heap {
@@ -68,6 +74,52 @@ impl Heap {
         }
     }
 
+    /// Takes a block for so many bytes, all zero, and tells the address of its payload. Below 65536 bytes it is taken in the
+    /// best hole, and where no hole is large enough the heap grows by a chunk: the account pays for the chunk's bytes and
+    /// one capability. From 65536 bytes on the block is large, and the account pays for its bytes in whole pages and one
+    /// capability. All bytes of the payload are zero, also those beyond `bytes`.
+    ///
+    /// It is refused with `InvalidSize` where `bytes` is 0 or past 64 bits in whole pages, else with `TooManyChunks` where no
+    /// hole serves a smaller block and the heap has 64 chunks, else with `OutOfRam` and `OutOfCaps` where the account doesn't
+    /// cover the large block, or a chunk of the pages that the block needs. Nothing else refuses it.
+    pub fn alloc(
+        &mut self,
+        memory: &mut Memory,
+        map: &mut RegionMap,
+        bytes: u64,
+    ) -> Result<u64, Refusal>
+        requires { IsSound self.old memory.old map.old }
+        ensures refusal { result_err result ≡
+            heap_refusal bytes (shape_in self.old (part_at self.old memory.old))
+            (account_in memory.old (payer_of self.old)) }
+        ensures large { IfOk result (λ address. LEAST_LARGE ≤ bytes →
+            TakesLarge self.old self.new bytes address memory.old memory.new map.old map.new) }
+        ensures small { (hole : Spot) → IfOk result (λ address. bytes < LEAST_LARGE →
+            hole_for bytes (shape_in self.old (part_at self.old memory.old)) ≡ Some hole →
+            TakesSmall self.old self.new bytes hole address memory.old memory.new map.old map.new) }
+        ensures grown { IfOk result (λ address. bytes < LEAST_LARGE →
+            hole_for bytes (shape_in self.old (part_at self.old memory.old)) ≡ None →
+            TakesGrown self.old self.new bytes address memory.old memory.new map.old map.new) }
+        ensures sound { IsSound self.new memory.new map.new }
+        ensures others { KeepsShares (payer_of self.old) memory.old memory.new
+            map.old.heap map.old.tags map.new.heap map.new.tags }
+        ensures payer { payer_of self.new ≡ payer_of self.old }
+        ensures memory_err { OnErr result (memory.new ≡ memory.old) }
+        ensures map_err { OnErr result (map.new ≡ map.old) }
+        ensures err { OnErr result (self.new ≡ self.old) }
+    {
+        if bytes == 0 {
+            return Err(Refusal::InvalidSize);
+        }
+        if bytes >= LEAST_LARGE {
+            return self.take_large(memory, map, bytes);
+        }
+        if let Some(address) = self.take_small(memory, map, bytes) {
+            return Ok(address);
+        }
+        self.take_grown(memory, map, bytes)
+    }
+
     // Takes a dataspace of its own for so many bytes.
     fn take_large(
         &mut self,
@@ -81,7 +133,8 @@ impl Heap {
         ensures taken { IfOk result (λ address.
             TakesLarge self.old self.new bytes address memory.old memory.new map.old map.new) }
         ensures sound { IsSound self.new memory.new map.new }
-        ensures others { KeepsShares (payer_of self.old) memory.old memory.new map.old.heap map.old.tags map.new.heap map.new.tags }
+        ensures others { KeepsShares (payer_of self.old) memory.old memory.new
+            map.old.heap map.old.tags map.new.heap map.new.tags }
         ensures payer { payer_of self.new ≡ payer_of self.old }
         ensures memory_err { OnErr result (memory.new ≡ memory.old) }
         ensures map_err { OnErr result (map.new ≡ map.old) }
@@ -93,6 +146,70 @@ impl Heap {
         Ok(start)
     }
 
+    // Grows by a chunk and takes a block there. No hole is large enough for it yet.
+    fn take_grown(
+        &mut self,
+        memory: &mut Memory,
+        map: &mut RegionMap,
+        bytes: u64,
+    ) -> Result<u64, Refusal>
+        requires sound { IsSound self.old memory.old map.old }
+        requires small { bytes < LEAST_LARGE }
+        requires none { hole_for bytes (shape_in self.old (part_at self.old memory.old)) ≡ None }
+        ensures refusal { result_err result ≡
+            growth_refusal bytes (shape_in self.old (part_at self.old memory.old))
+            (account_in memory.old (payer_of self.old)) }
+        ensures taken { IfOk result (λ address.
+            TakesGrown self.old self.new bytes address memory.old memory.new map.old map.new) }
+        ensures sound { IsSound self.new memory.new map.new }
+        ensures others { KeepsShares (payer_of self.old) memory.old memory.new
+            map.old.heap map.old.tags map.new.heap map.new.tags }
+        ensures payer { payer_of self.new ≡ payer_of self.old }
+        ensures memory_err { OnErr result (memory.new ≡ memory.old) }
+        ensures map_err { OnErr result (map.new ≡ map.old) }
+        ensures err { OnErr result (self.new ≡ self.old) }
+    {
+        self.grow(memory, map, bytes)?;
+        Ok(self.take_small(memory, map, bytes).unwrap())
+    }
+
+    // Takes the best hole for so many bytes, its payload all zero, and tells where the payload starts, or answers `None` where
+    // no hole is large enough.
+    fn take_small(&mut self, memory: &mut Memory, map: &RegionMap, bytes: u64) -> Option<u64>
+        requires sound { IsSound self.old memory.old map.now }
+        requires small { bytes < LEAST_LARGE }
+        ensures found { is_some result ≡ is_some (hole_for bytes (shape_in self.old (part_at self.old memory.old))) }
+        ensures taken { (hole : Spot) → IfSome result (λ address.
+            hole_for bytes (shape_in self.old (part_at self.old memory.old)) ≡ Some hole →
+            TakesSmall self.old self.new bytes hole address memory.old memory.new map.now map.now) }
+        ensures sound { IsSound self.new memory.new map.now }
+        ensures others { KeepsShares (payer_of self.old) memory.old memory.new
+            map.now.heap map.now.tags map.now.heap map.now.tags }
+        ensures payer { payer_of self.new ≡ payer_of self.old }
+        ensures memory_none { IfNone result (memory.new ≡ memory.old) }
+        ensures none { IfNone result (self.new ≡ self.old) }
+    {
+        let block = self.take_hole(memory, map, bytes)?;
+        Some(self.clear_payload(memory, map, block))
+    }
+
+    // Clears the payload of the used block at an address, and tells where the payload starts.
+    fn clear_payload(&self, memory: &mut Memory, map: &RegionMap, block: BlockAddr) -> u64
+        requires sound { IsSound self.now memory.old map.now }
+        requires used { (n : ℕ) × IsUsed self.now memory.old block n }
+        ensures start { result ≡ (chunk_at self.now block.chunk).start + block.offset + HEADER }
+        ensures cleared { (n : ℕ) → IsUsed self.now memory.old block n →
+            Clears self.now result (n - HEADER) memory.old memory.new map.now }
+        ensures sound { IsSound self.now memory.new map.now }
+        ensures around { around (keys_in self.now) memory.new ≡ around (keys_in self.now) memory.old }
+    {
+        let _ = map;
+        let chunk = self.chunks[block.chunk];
+        let size = memory.load_word(chunk.ds, block.offset);
+        clear(memory, chunk.ds, block.offset + HEADER, size - HEADER);
+        chunk.start + block.offset + HEADER
+    }
+
     // Takes the best hole for so many bytes, or answers `None` where no hole is large enough. Its payload is whatever stands there.
     fn take_hole(&mut self, memory: &mut Memory, map: &RegionMap, bytes: u64) -> Option<BlockAddr>
         requires sound { IsSound self.old memory.old map.now }
@@ -101,8 +218,12 @@ impl Heap {
         ensures taken { (hole : Spot) → hole_for bytes (shape_in self.old (part_at self.old memory.old)) ≡ Some hole →
             TakesHole self.old self.new bytes hole memory.old memory.new map.now }
         ensures sound { IsSound self.new memory.new map.now }
-        ensures others { KeepsShares (payer_of self.old) memory.old memory.new map.now.heap map.now.tags map.now.heap map.now.tags }
+        ensures others { KeepsShares (payer_of self.old) memory.old memory.new
+            map.now.heap map.now.tags map.now.heap map.now.tags }
         ensures payer { payer_of self.new ≡ payer_of self.old }
+        ensures around { around (keys_in self.old) memory.new ≡ around (keys_in self.old) memory.old }
+        ensures none { IfNone result (memory.new ≡ memory.old) }
+        ensures unchanged { IfNone result (self.new ≡ self.old) }
     {
         let _ = map;
         take::<Brand>(&mut self.fit, memory, &self.chunks, bytes, Blank::new(1))

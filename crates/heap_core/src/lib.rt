@@ -2,8 +2,16 @@
 #![tactic(auto)]
 
 mod blocks;
+mod clear;
+mod growth;
 mod heap;
+mod laws;
 mod loads;
+mod lookup;
+mod release;
+#[cfg(test)]
+mod tests;
 mod words;
 
 pub use heap::Heap;
+pub use laws::{blocks_are_regions, heaps_stay, maps_stay, payloads_are_memory};

@@ -1,5 +1,6 @@
 -- Best fit takes the best hole, and changes nothing but words of holes.
-use Rattle.std.proofs.Common.{◌≡◌, ℕ, List, sym, ap, subst, ◌∙◌}
+use Rattle.std.proofs.Common.{◌≡◌, ℕ, List, Some, sym, ap, subst, ◌∙◌}
+use Rattle.std.specs.Prelude.{None, IfNone}
 use Rattle.std.specs.Option.{option_map}
 use Rattle.own_model.specs.BestFit.{best_hole, block_size, holes_of}
 use Rattle.avl_alloc.specs.Found.{block_addr}
@@ -11,6 +12,7 @@ use Rattle.heap_core.specs.Words.{around, bytes_around, keys_of, words_of}
 use Rattle.heap_core.proofs.ChangeLemmas.{keeps_shares, still_sound}
 use Rattle.heap_core.proofs.ChunkLemmas.{stand_in, words_are}
 use Rattle.heap_core.proofs.TakeLemmas.{takes_hole}
+use Rattle.heap_core.proofs.UnchangedLemmas.{store_same}
 use Rattle.heap_core.proofs.heap.Heap.take_hole.Goals as goal
 
 pub take-requires-clause-stand : goal.take-requires-clause-stand
@@ -39,3 +41,10 @@ returns-clause-sound c = still_sound c.args.self.now c.take.new.fit c.args.memor
 
 pub returns-clause-others : goal.returns-clause-others
 returns-clause-others c = keeps_shares c.args.self.now c.take.new.fit c.args.memory.now c.take.new.memory c.args.map.now c.requires.sound (kept c)
+
+-- where no hole is large enough no word has changed, so nothing has
+pub returns-clause-none : goal.returns-clause-none
+returns-clause-none c = elim c.take.result as (λ o. IfNone o (words_of (keys_in c.args.self.now) c.take.new.memory ≡ words_of (keys_in c.args.self.now) c.args.memory.now) → IfNone o (c.take.new.memory ≡ c.args.memory.now)) [
+  | None ↦ λ same. store_same c.args.self.now c.args.memory.now c.take.new.memory c.args.map.now c.requires.sound (kept c) same
+  | Some block ↦ λ same. tt
+] (took c).refused

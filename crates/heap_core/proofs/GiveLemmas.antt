@@ -1,0 +1,280 @@
+-- A used block of a chunk is given back: its payload is gone, and all else stays.
+use Rattle.std.proofs.Common.{◌≡◌, ℕ, ◌+◌, ◌-◌, ◌*◌, ◌<◌, ◌≤◌, true, false, cond, eqb, eqb-true, List, [], length, get_or, refl, sym, ap, subst, ◌∙◌, true≢false, arith, Some}
+use Rattle.std.proofs.lemmas.Option.{none-some}
+use Rattle.std.proofs.lemmas.List.{get_or-map, length-map}
+use Rattle.std.specs.Prelude.{Option, None, IfNone, OnSome, is_some}
+use Rattle.std.specs.Option.{option_or, option_and_then}
+use Rattle.std.specs.Cmp.{nat_cmp_total}
+use Rattle.std.specs.Ordering.{nat_cmp}
+use Rattle.std.specs.FinMap.{get, remove, from_entries, get-from_entries}
+use Rattle.own_model.specs.BestFit.{chunk_of, given, given_in, used_at}
+use Rattle.own_model.specs.Entries.{value_of}
+use Rattle.own_model.specs.Growth.{shape_given}
+use Rattle.own_model.specs.Heap as model
+use Rattle.own_model.specs.Heap.{Block, AreBlocks, bytes_in}
+use Rattle.own_model.specs.HeapStep.{without_block}
+use Rattle.own_model.specs.NatMap.{NatMap, picked, joined}
+use Rattle.own_model.specs.OwnHeap.{OwnHeap, chunk_with, offset_of, start_of}
+use Rattle.own_model.specs.Region.{Region}
+use Rattle.own_model.proofs.BlockLemmas.{AreBlocks-given}
+use Rattle.own_model.proofs.ChunkLemmas.{Lies, chunk_from_is}
+use Rattle.own_model.proofs.JoinedLemmas.{get-joined}
+use Rattle.own_model.proofs.NatMapLemmas.{same, get-picked, get-picked_none, get-remove}
+use Rattle.avl_alloc.specs.declared.best_fit.BestFit.{BestFit}
+use Rattle.avl_alloc.specs.Layout as avl
+use Rattle.avl_alloc.specs.Layout.{heap_of, sizes_of, ChangesHoles, weigh_holes, whole}
+use Rattle.avl_alloc.specs.Words.{place_at}
+use Rattle.avl_alloc.proofs.LayoutLemmas.{sound_told, chunk_there}
+use Rattle.region_map.specs.Regions.{Regions}
+use Rattle.dataspace_core.specs.Store.{Store, part, bytes_of}
+use Rattle.dataspace_core.specs.Share.{Share, share_in}
+use Rattle.heap_core.specs.declared.words.Chunk.{Chunk}
+use Rattle.heap_core.specs.declared.heap.Heap.{Heap}
+use Rattle.trade_base.specs.declared.refusal.Refusal.TheVariants.{PageFault}
+use Rattle.avl_alloc.specs.declared.best_fit.BlockAddr.{BlockAddr}
+use Rattle.heap_core.specs.Blocks.{Gives}
+use Rattle.heap_core.specs.Lookup.{LiesInChunk}
+use Rattle.heap_core.specs.Calls.{GivesSmall, free_refusal}
+use Rattle.heap_core.specs.Heap.{IsSound, bytes_shown, chunk_at, heap_in, keys_in, large_regions, payer_of, payloads_of, share_at, starts_in, words_in}
+use Rattle.heap_core.specs.Words.{around, keys_of, words_of}
+use Rattle.heap_core.proofs.BlockLemmas.{length-heap_of}
+use Rattle.heap_core.proofs.ChangeLemmas.{later, large_apart, keeps_spaces, same_account, share_now, words_now}
+use Rattle.heap_core.proofs.FoundLemmas.{blocks_at, none_else, no_large_at, one_chunk, used_inside}
+use Rattle.heap_core.proofs.ChunkLemmas.{words_are}
+use Rattle.heap_core.proofs.LookupLemmas.{no_free, is_free}
+use Rattle.heap_core.proofs.MemoryLemmas.{memory_same}
+use Rattle.heap_core.proofs.FrameLemmas.{entries_same}
+use Rattle.heap_core.proofs.HoleLemmas.{used_no_hole}
+use Rattle.heap_core.proofs.PayloadLemmas.{no_chunk, entries_of, value_of-payloads, told-given, payloads-less, payloads-same}
+use Rattle.heap_core.proofs.StandLemmas.{blocks, chunk_blocks, chunk_total, count_blocks, each_at}
+
+-- one less in the first of two maps, where the second has none there
+joined-remove_first : {X : Type 0} (m n : NatMap X) (k : ℕ) → get n k ≡ None → joined (remove m k) n ≡ remove (joined m n) k
+joined-remove_first m n k free = same _ _ (λ q.
+    get-joined (remove m k) n q ∙ ap (λ o. option_or o (get n q)) (get-remove m k q)
+    ∙ elim (eqb q k) as (λ b. eqb q k ≡ b → option_or (cond b None (get m q)) (get n q) ≡ cond b None (option_or (get m q) (get n q))) [
+      | true ↦ λ here. ap (get n) (eqb-true q k here) ∙ free
+      | false ↦ λ _. refl
+    ] refl
+    ∙ ap (cond (eqb q k) None) (sym (get-joined m n q)) ∙ sym (get-remove (joined m n) k q))
+
+-- ---- where a block of a chunk stands, as the model has it
+
+module _ (heap : Heap) (store : Store) (regions : Regions) (sound : IsSound heap store regions) (c offset : ℕ) (there : c < length heap.chunks.items) (inside : offset < avl.bytes_of heap.fit c) where
+  abbrev place : Share
+  place = share_at (payer_of heap) store regions
+
+  abbrev at_start : ℕ
+  at_start = (chunk_at heap c).start + offset
+
+  start_is : (k : ℕ) → k < length heap.chunks.items → get_or (starts_in heap) k 0 ≡ (chunk_at heap k).start
+  start_is k in_heap = get_or-map (λ (x : Chunk). x.start) heap.chunks.items k no_chunk 0 in_heap
+
+  lies_chunk : (k : ℕ) → k < length heap.chunks.items → Lies (starts_in heap) (blocks heap place sound.laid) k at_start → k ≡ c
+  lies_chunk k in_heap lies =
+      let low = lies.low in
+      let high = lies.high in
+      let start = start_is k in_heap in
+      let total = chunk_total heap place sound.laid k in_heap in
+      one_chunk heap store regions sound k c at_start in_heap there (omega (arith, low, start)) (omega (arith, high, start, total)) (omega arith) (omega (arith, inside))
+
+  is_in_chunk : chunk_with (heap_in heap place) at_start ≡ c
+  unfolding heap_in
+  is_in_chunk =
+      let count = count_blocks heap place sound.laid in
+      let starts = length-map heap.chunks.items (λ (x : Chunk). x.start) in
+      let start = start_is c there in
+      let total = chunk_total heap place sound.laid c there in
+      let e = chunk_from_is 0 (starts_in heap) (blocks heap place sound.laid) c at_start (starts ∙ sym count) (subst (λ m. c < m) (sym count) there)
+      (record { low = omega (arith, start); high = omega (arith, start, total, inside) })
+      (λ j less lies. let s = lies_chunk j (omega (arith, less, there)) lies in omega (arith, s, less)) in
+      omega (arith, e)
+
+  is_at_offset : offset_of (heap_in heap place) at_start ≡ offset
+  unfolding heap_in
+  is_at_offset = ap (λ k. at_start - start_of (heap_in heap place) k) is_in_chunk ∙ (let s = start_is c there in omega (arith, s))
+
+  -- a block is given back by its payload's address
+  pub without_it : (hv : OwnHeap) → hv ≡ heap_in heap place → without_block (at_start + 16) hv ≡ record hv { shape = shape_given c offset hv.shape; payloads = remove hv.payloads (at_start + 16) }
+  without_it hv is =
+      let back : at_start + 16 - 16 ≡ at_start = omega arith in
+      let chunk = ap (λ a. chunk_with hv a) back ∙ ap (λ h. chunk_with h at_start) is ∙ is_in_chunk in
+      let into = ap (λ a. offset_of hv a) back ∙ ap (λ h. offset_of h at_start) is ∙ is_at_offset in
+      λ i. record hv { shape = shape_given (chunk i) (into i) hv.shape; payloads = remove hv.payloads (at_start + 16) }
+
+-- ---- the block goes
+
+module _ (heap : Heap) (fit : BestFit) (c offset n : ℕ) (old new : Store) (regions : Regions) (sound : IsSound heap old regions) (kept : around (keys_in heap) new ≡ around (keys_in heap) old)
+    (there : c < length heap.chunks.items) (used : used_at offset (blocks_at heap old regions sound c) ≡ Some n)
+    (is : heap_of fit (words_of (keys_in heap) new) ≡ given c offset (blocks heap (share_at (payer_of heap) old regions) sound.laid))
+    (fit_sound : avl.IsSound fit (words_of (keys_in heap) new)) (sizes : sizes_of fit ≡ sizes_of heap.fit)
+    (changes : ChangesHoles (words_of (keys_in heap) old) (words_of (keys_in heap) new) (heap_of fit (words_of (keys_in heap) new))) where
+  abbrev account : ℕ
+  account = payer_of heap
+
+  abbrev S : Share
+  S = share_at account old regions
+
+  -- the blocks before, and after
+  abbrev B : model.Heap
+  B = blocks heap S sound.laid
+
+  abbrev G : model.Heap
+  G = heap_of fit (words_of (keys_in heap) new)
+
+  G_sizes : length (sizes_of fit) ≡ length heap.chunks.items
+  G_sizes = ap length sizes ∙ sound.laid.count
+
+  G_count : length G ≡ length heap.chunks.items
+  G_count = length-heap_of fit (words_of (keys_in heap) new) ∙ G_sizes
+
+  G_blocks : (k : ℕ) → k < length heap.chunks.items → AreBlocks (chunk_of G k)
+  G_blocks k in_heap = each_at AreBlocks G k [] (sound_told fit (words_of (keys_in heap) new) fit_sound).blocks (subst (λ m. k < m) (sym G_count) in_heap)
+
+  G_totals : (k : ℕ) → k < length heap.chunks.items → bytes_in (chunk_of G k) ≡ avl.bytes_of heap.fit k
+  G_totals k in_heap =
+      (chunk_there (words_of (keys_in heap) new) 0 (sizes_of fit) G k (sound_told fit (words_of (keys_in heap) new) fit_sound).laid.chunks (subst (λ m. k < m) (sym G_sizes) in_heap)).total
+      ∙ ap (λ xs. get_or xs k 0) sizes
+
+  G_no_hole : (k off m q : ℕ) → k < length heap.chunks.items → used_at off (chunk_of G k) ≡ Some m → place_at k off ≤ q → q < place_at k off + m → weigh_holes (whole q) G ≡ 0
+  G_no_hole k off m q in_heap at low high = used_no_hole fit (words_of (keys_in heap) new) k off m q fit_sound (subst (λ l. k < l) (sym G_count) in_heap) at low high
+
+  abbrev pub address : ℕ
+  address = (chunk_at heap c).start + offset + 16
+
+  abbrev given_blocks : List Block
+  given_blocks = given_in offset (chunk_of B c)
+
+  one_less : (q : ℕ) → value_of q (entries_of S.part (chunk_at heap c) given_blocks) ≡ cond (eqb q address) None (value_of q (entries_of S.part (chunk_at heap c) (chunk_of B c)))
+  one_less q =
+      let start = (chunk_at heap c).start in
+      let bytes = bytes_of S.part (chunk_at heap c).ds.0 in
+      let are = chunk_blocks heap S sound.laid c there in
+      value_of-payloads start 0 bytes given_blocks q (AreBlocks-given n offset (chunk_of B c) are used)
+      ∙ told-given start bytes n offset (chunk_of B c) q are used
+      ∙ ap (cond (eqb q address) None) (sym (value_of-payloads start 0 bytes (chunk_of B c) q are))
+
+  inside : address < (chunk_at heap c).start + avl.bytes_of heap.fit c
+  inside = let u = used_inside heap old regions sound c offset n there used in let least = u.0 in let to = u.1 in omega (arith, least, to)
+
+  each_entry : (q : ℕ) → value_of q (payloads_of (part account new) heap.chunks.items G) ≡ cond (eqb q address) None (value_of q (payloads_of S.part heap.chunks.items B))
+  unfolding share_in
+  each_entry q =
+      payloads-same (part account old) (part account new) q heap.chunks.items G (λ k in_heap. entries_same heap fit old new regions sound kept G G_no_hole changes G_blocks G_totals k in_heap q)
+      ∙ ap (λ g. value_of q (payloads_of (part account old) heap.chunks.items g)) is
+      ∙ payloads-less S.part address heap.chunks.items B c given_blocks q there (subst (λ m. c < m) (sym (count_blocks heap S sound.laid)) there) (one_less q)
+      (λ k apart. none_else heap old regions sound k c address there (omega arith) inside apart)
+
+  small_now : from_entries {R = nat_cmp} (payloads_of (part account new) heap.chunks.items G) ≡ remove (from_entries {R = nat_cmp} (payloads_of S.part heap.chunks.items B)) address
+  small_now = same _ _ (λ q.
+      get-from_entries nat_cmp_total _ q
+      ∙ each_entry q
+      ∙ ap (cond (eqb q address) None) (sym (get-from_entries nat_cmp_total _ q))
+      ∙ sym (get-remove (from_entries {R = nat_cmp} (payloads_of S.part heap.chunks.items B)) address q))
+
+  each_same : (o : Option Region) → ((r : Region) → o ≡ Some r → get (part account new).spaces r.of ≡ get (part account old).spaces r.of) → option_and_then (λ (r : Region). get (part account new).spaces r.of) o ≡ option_and_then (λ (r : Region). get (part account old).spaces r.of) o
+  each_same None h = refl
+  each_same (Some r) h = h r refl
+
+  shown_now : bytes_shown (part account new).spaces (large_regions S) ≡ bytes_shown (part account old).spaces (large_regions S)
+  shown_now = same _ _ (λ q. get-picked (λ (r : Region). get (part account new).spaces r.of) (large_regions S) q
+      ∙ each_same (get (large_regions S) q) (λ r h. (keeps_spaces heap fit old new regions sound kept).others r.of (large_apart heap fit old new regions sound kept q r h))
+      ∙ sym (get-picked (λ (r : Region). get (part account old).spaces r.of) (large_regions S) q))
+
+  chunks_now : heap_of fit (words_in (later heap fit old new regions sound kept) (part account new)) ≡ G
+  chunks_now = ap (heap_of fit) (words_now heap fit old new regions sound kept)
+
+  no_large : get (bytes_shown (part account old).spaces (large_regions S)) address ≡ None
+  no_large = get-picked_none (λ (r : Region). get (part account old).spaces r.of) (large_regions S) address (no_large_at heap old regions sound c address there (omega arith) inside)
+
+  payloads : joined (from_entries {R = nat_cmp} (payloads_of (part account new) heap.chunks.items (heap_of fit (words_in (later heap fit old new regions sound kept) (part account new))))) (bytes_shown (part account new).spaces (large_regions S))
+      ≡ remove (joined (from_entries {R = nat_cmp} (payloads_of S.part heap.chunks.items B)) (bytes_shown (part account old).spaces (large_regions S))) address
+  payloads =
+      ap (λ h. joined (from_entries {R = nat_cmp} (payloads_of (part account new) heap.chunks.items h)) (bytes_shown (part account new).spaces (large_regions S))) chunks_now
+      ∙ ap (λ m. joined m (bytes_shown (part account new).spaces (large_regions S))) small_now
+      ∙ ap (joined (remove (from_entries {R = nat_cmp} (payloads_of S.part heap.chunks.items B)) address)) shown_now
+      ∙ joined-remove_first _ _ address no_large
+
+  given_value : heap_in (later heap fit old new regions sound kept) (share_at account new regions)
+      ≡ record (heap_in heap S) { shape = shape_given c offset (heap_in heap S).shape; payloads = remove (heap_in heap S).payloads address }
+  unfolding heap_in share_in
+  given_value = ap (heap_in (later heap fit old new regions sound kept)) (share_now heap fit old new regions sound kept) ∙ (λ i. record {
+    shape = record { chunks = (chunks_now ∙ is) i; growth = heap.growth };
+    starts = starts_in heap;
+    large = picked (λ (r : Region). Some (r.pages * 4096)) (large_regions S);
+    payloads = payloads i;
+  })
+
+  pub gives_small : GivesSmall heap (later heap fit old new regions sound kept) address old new regions regions
+  gives_small = record {
+    value = given_value ∙ sym (without_it heap old regions sound c offset there (let i = inside in omega (arith, i)) (heap_in heap S) refl);
+    map = refl;
+    keys = refl;
+    account = same_account heap fit old new regions sound kept;
+    spaces = keeps_spaces heap fit old new regions sound kept;
+  }
+
+-- ---- what best fit has done
+
+-- the blocks of a chunk, in the words of the memory
+blocks_are : (heap : Heap) (store : Store) (regions : Regions) (sound : IsSound heap store regions) (c : ℕ) → chunk_of (heap_of heap.fit (words_of (keys_in heap) store)) c ≡ blocks_at heap store regions sound c
+unfolding share_in
+blocks_are heap store regions sound c = ap (λ (w : ℕ → ℕ). chunk_of (heap_of heap.fit w) c) (sym (words_are heap store regions sound))
+
+all_blocks_are : (heap : Heap) (store : Store) (regions : Regions) (sound : IsSound heap store regions) → heap_of heap.fit (words_of (keys_in heap) store) ≡ blocks heap (share_at (payer_of heap) store regions) sound.laid
+unfolding share_in
+all_blocks_are heap store regions sound = ap (heap_of heap.fit) (sym (words_are heap store regions sound))
+
+-- what best fit did and left, in the words of the heap's chunks
+pub gave_there : (heap : Heap) (fit : BestFit) (addr : BlockAddr) (result : Option ℕ) (old new : Store) (chunks : List Chunk) → chunks ≡ heap.chunks.items → Gives addr result heap.fit fit (words_of (keys_of chunks) old) (words_of (keys_of chunks) new) → Gives addr result heap.fit fit (words_of (keys_in heap) old) (words_of (keys_in heap) new)
+gave_there heap fit addr result old new chunks e h = subst (λ (xs : List Chunk). Gives addr result heap.fit fit (words_of (keys_of xs) old) (words_of (keys_of xs) new)) e h
+
+pub kept_there : (heap : Heap) (old new : Store) (chunks : List Chunk) → chunks ≡ heap.chunks.items → around (keys_of chunks) new ≡ around (keys_of chunks) old → around (keys_in heap) new ≡ around (keys_in heap) old
+kept_there heap old new chunks e h = subst (λ (xs : List Chunk). around (keys_of xs) new ≡ around (keys_of xs) old) e h
+
+pub words_there : (heap : Heap) (old new : Store) (chunks : List Chunk) → chunks ≡ heap.chunks.items → words_of (keys_of chunks) new ≡ words_of (keys_of chunks) old → words_of (keys_in heap) new ≡ words_of (keys_in heap) old
+words_there heap old new chunks e h = subst (λ (xs : List Chunk). words_of (keys_of xs) new ≡ words_of (keys_of xs) old) e h
+
+pub blocks_there : (heap : Heap) (store : Store) (regions : Regions) (sound : IsSound heap store regions) (c : ℕ) (chunks : List Chunk) → chunks ≡ heap.chunks.items → chunk_of (heap_of heap.fit (words_of (keys_of chunks) store)) c ≡ blocks_at heap store regions sound c
+blocks_there heap store regions sound c chunks e = ap (λ (xs : List Chunk). chunk_of (heap_of heap.fit (words_of (keys_of xs) store)) c) e ∙ blocks_are heap store regions sound c
+
+-- what a test of an option tells
+tested_some : {X : Type 0} (o : Option X) → is_some o ≡ true → (x : X) × (o ≡ Some x)
+tested_some None h = absurd (true≢false (sym h))
+tested_some (Some x) h = (x, refl)
+
+module _ (heap : Heap) (fit : BestFit) (addr : BlockAddr) (result : Option ℕ) (old new : Store) (regions : Regions) (sound : IsSound heap old regions) (kept : around (keys_in heap) new ≡ around (keys_in heap) old)
+    (gave : Gives addr result heap.fit fit (words_of (keys_in heap) old) (words_of (keys_in heap) new)) (address o : ℕ) (lies : LiesInChunk heap address addr.chunk o) (behind : 16 ≤ o) (at : addr.offset ≡ o - 16) where
+  result_is : result ≡ used_at addr.offset (blocks_at heap old regions sound addr.chunk)
+  result_is = gave.block ∙ ap (used_at addr.offset) (blocks_are heap old regions sound addr.chunk)
+
+  -- no block was there
+  pub gave_none : result ≡ None → free_refusal (heap_in heap (share_at (payer_of heap) old regions)) address ≡ Some PageFault
+  gave_none none = no_free heap old regions sound address addr.chunk o lies (λ y n used is.
+      let same : y ≡ addr.offset = omega (arith, is, at, behind) in
+      none-some n (sym none ∙ result_is ∙ ap (λ z. used_at z (blocks_at heap old regions sound addr.chunk)) (sym same) ∙ used))
+
+  -- so the memory is as it was
+  pub gave_same : result ≡ None → new ≡ old
+  gave_same none = memory_same heap old new regions sound kept (subst (λ (r : Option ℕ). IfNone r (words_of (keys_in heap) new ≡ words_of (keys_in heap) old)) none gave.refused)
+
+  module _ (some : is_some result ≡ true) where
+    size : (n : ℕ) × (result ≡ Some n)
+    size = tested_some result some
+
+    used_there : used_at addr.offset (blocks_at heap old regions sound addr.chunk) ≡ Some size.0
+    used_there = sym result_is ∙ size.1
+
+    -- the block that was there is gone
+    pub gave_free : free_refusal (heap_in heap (share_at (payer_of heap) old regions)) address ≡ None
+    gave_free = is_free heap old regions sound address addr.chunk o lies addr.offset size.0 used_there (omega (arith, at, behind))
+
+    pub gave_small : GivesSmall heap (record heap { fit = fit }) address old new regions regions
+    gave_small =
+        let place = lies.at in
+        let is : (chunk_at heap addr.chunk).start + addr.offset + 16 ≡ address = omega (arith, place, at, behind) in
+        subst (λ a. GivesSmall heap (record heap { fit = fit }) a old new regions regions) is
+        (gives_small heap fit addr.chunk addr.offset size.0 old new regions sound kept lies.there used_there
+        (subst (λ (r : Option ℕ). OnSome r (heap_of fit (words_of (keys_in heap) new) ≡ given addr.chunk addr.offset (heap_of heap.fit (words_of (keys_in heap) old)))) size.1 gave.heap
+        ∙ ap (given addr.chunk addr.offset) (all_blocks_are heap old regions sound))
+        gave.sound gave.sizes gave.others)

@@ -1,0 +1,216 @@
+-- What a heap has where its chunks and large blocks stand where they stood, and hold what they held.
+use Rattle.std.proofs.Common.{◌≡◌, ◌≢◌, ℕ, ◌<◌, ◌≤◌, ◌==◌, true, false, cond, List, length, refl, sym, ap, subst, ◌∙◌, ⊎_elim, arith, Some, IsSome, is_some}
+use Rattle.std.proofs.lemmas.Bool.{cases_eq, cases_lt}
+use Rattle.std.proofs.lemmas.Bool.Decides.{nat_tests}
+use Rattle.std.proofs.lemmas.Option.{none-some, same_Some}
+use Rattle.std.specs.Prelude.{◌*◌, Option, None, nat_le}
+use Rattle.std.specs.Option.{option_map, option_and_then}
+use Rattle.std.specs.Ordering.{nat_cmp}
+use Rattle.std.specs.FinMap.{get, from_entries, len}
+use Rattle.own_model.specs.HeapWindow.{heap_low, heap_high}
+use Rattle.own_model.specs.NatMap.{NatMap, picked, joined}
+use Rattle.own_model.specs.Region.{Region}
+use Rattle.own_model.proofs.ApartLemmas.{LieApart-empty}
+use Rattle.own_model.proofs.NatMapLemmas.{same, none_in_empty, picked_alike}
+use Rattle.avl_alloc.specs.Layout as avl
+use Rattle.avl_alloc.specs.Layout.{heap_of}
+use Rattle.dataspace_core.specs.Store.{part}
+use Rattle.dataspace_core.specs.Share.{Share, share_in}
+use Rattle.dataspace_core.proofs.PartLaws.{open_in_part, part_open}
+use Rattle.dataspace_core.proofs.WindowLaws.{length_some}
+use Rattle.heap_core.specs.declared.heap.Heap.{Heap}
+use Rattle.heap_core.specs.Heap.{IsLaid, StandsLarge, chunk_at, large_tag, is_large_tag, large_regions, bytes_shown, heap_in, payer_of, payloads_of, share_at, starts_in, words_in}
+use Rattle.heap_core.specs.Laws.{block_region, EmptyMapsHaveNoBlocks, HeapsStay, HeapsStayBeside}
+use Rattle.heap_core.proofs.ShareLemmas.{get-large, in_share}
+use Rattle.heap_core.proofs.StandLemmas.{SameChunks, words_kept, stands_kept, payloads_kept}
+
+-- ---- the regions of a heap
+
+-- a region with a number of a heap
+pub block_here : (share : Share) (s k : ℕ) (r : Region) → get share.heap s ≡ Some r → get share.tags s ≡ Some k → k ≤ large_tag → block_region share s ≡ Some (r, k)
+block_here share s k r there tag few = let t : nat_le k large_tag ≡ true = grind (arith, nat_tests) in rw (tag, t, there) refl
+
+-- a region with its number
+abbrev with_number : ℕ → Region → Region × ℕ
+with_number n r = (r, n)
+
+-- is one of the share
+pub record IsBlockRegion (share : Share) (s k : ℕ) (r : Region) : Type 0 where
+  pub there : get share.heap s ≡ Some r
+  pub tag : get share.tags s ≡ Some k
+  pub few : k ≤ large_tag
+
+under_number : (n k : ℕ) (p : Option Region) (r : Region) → cond (nat_le n large_tag) (option_map (with_number n) p) None ≡ Some (r, k) → (p ≡ Some r) × (n ≡ k) × (k ≤ large_tag)
+under_number n k None r h = ⊎_elim
+    (λ (high : large_tag < n). let t : nat_le n large_tag ≡ false = grind (arith, nat_tests) in absurd (none-some (r, k) (rw t at h)))
+    (λ (low : n ≤ large_tag). let t : nat_le n large_tag ≡ true = grind (arith, nat_tests) in absurd (none-some (r, k) (rw t at h)))
+    (cases_lt large_tag n)
+under_number n k (Some q) r h = ⊎_elim
+    (λ (high : large_tag < n). let t : nat_le n large_tag ≡ false = grind (arith, nat_tests) in absurd (none-some (r, k) (rw t at h)))
+    (λ (low : n ≤ large_tag).
+    let t : nat_le n large_tag ≡ true = grind (arith, nat_tests) in
+    let e = same_Some (q, n) (r, k) (rw t at h) in
+    let number = ap (λ (e : Region × ℕ). e.1) e in
+    (ap (λ (e : Region × ℕ). Some e.0) e, number, omega (arith, low, number)))
+    (cases_lt large_tag n)
+
+pub told_region : (share : Share) (s k : ℕ) (r : Region) → block_region share s ≡ Some (r, k) → IsBlockRegion share s k r
+told_region share s k r h = elim (get share.tags s) as (λ o. get share.tags s ≡ o → option_and_then (λ tag. cond (nat_le tag large_tag) (option_map (with_number tag) (get share.heap s)) None) o ≡ Some (r, k) → IsBlockRegion share s k r) [
+  | None ↦ λ e w. cc
+  | Some n ↦ λ e w. let at = under_number n k (get share.heap s) r w in record { there = at.0; tag = e ∙ ap Some at.1; few = at.2 }
+] refl h
+
+-- the large blocks among them
+abbrev pub large_among : Option (Region × ℕ) → Option Region
+large_among None = None
+large_among (Some e) = cond (e.1 == large_tag) (Some e.0) None
+
+large_test : (o : Option ℕ) (p : Option Region) → cond (is_large_tag o) p None ≡ large_among (option_and_then (λ tag. cond (nat_le tag large_tag) (option_map (with_number tag) p) None) o)
+large_test None p = refl
+large_test (Some n) None = grind (arith, nat_tests)
+large_test (Some n) (Some r) = grind (arith, nat_tests)
+
+pub large_block : (share : Share) (s : ℕ) → get (large_regions share) s ≡ large_among (block_region share s)
+large_block share s = get-large share s ∙ large_test (get share.tags s) (get share.heap s)
+
+large_one : (o : Option (Region × ℕ)) (r : Region) → large_among o ≡ Some r → o ≡ Some (r, large_tag)
+large_one None r h = cc
+large_one (Some e) r h = ⊎_elim
+    (λ (same : e.1 ≡ large_tag).
+    let t : (e.1 == large_tag) ≡ true = grind (arith, nat_tests) in
+    let region = same_Some e.0 r (rw t at h) in
+    λ i. Some (region i, same i))
+    (λ (other : e.1 ≢ large_tag). let t : (e.1 == large_tag) ≡ false = grind (arith, nat_tests) in absurd (none-some r (rw t at h)))
+    (cases_eq e.1 large_tag)
+
+-- a large block is such a region
+pub large_region : (share : Share) (s : ℕ) (r : Region) → get (large_regions share) s ≡ Some r → block_region share s ≡ Some (r, large_tag)
+large_region share s r h = large_one (block_region share s) r (sym (large_block share s) ∙ h)
+
+-- ---- another share with the same regions, whose chunks hold the same
+
+module _ (heap : Heap) (S T : Share) (laid : IsLaid heap S) (stand : (s : ℕ) → block_region T s ≡ block_region S s)
+    (chunks : (s k : ℕ) (r : Region) → block_region S s ≡ Some (r, k) → k < large_tag → get T.part.spaces r.of ≡ get S.part.spaces r.of)
+    (lengths : (s : ℕ) (r : Region) → get (large_regions S) s ≡ Some r → option_map length (get T.part.spaces r.of) ≡ option_map length (get S.part.spaces r.of)) where
+  -- a region of the one is one of the other
+  stays_there : (s k : ℕ) (r : Region) → block_region S s ≡ Some (r, k) → IsBlockRegion T s k r
+  stays_there s k r h = told_region T s k r (stand s ∙ h)
+
+  low_number : (k : ℕ) → k < length heap.chunks.items → k < large_tag
+  low_number k there = let few = laid.few in omega (arith, there, few)
+
+  chunk_region : (k : ℕ) (there : k < length heap.chunks.items) → block_region S (chunk_at heap k).start ≡ Some (record { of = (chunk_at heap k).ds.0; pages = (laid.chunks k there).pages }, k)
+  chunk_region k there =
+      let stands = laid.chunks k there in
+      let few = low_number k there in
+      block_here S (chunk_at heap k).start k _ stands.region stands.tag (omega (arith, few))
+
+  pub same_chunks : SameChunks heap S T
+  same_chunks = record {
+    heap_same = λ k there. (stays_there _ k _ (chunk_region k there)).there ∙ sym (laid.chunks k there).region;
+    tags_same = λ k there. (stays_there _ k _ (chunk_region k there)).tag ∙ sym (laid.chunks k there).tag;
+    bytes_same = λ k there. chunks _ k _ (chunk_region k there) (low_number k there);
+  }
+
+  same_large : large_regions T ≡ large_regions S
+  same_large = same _ _ (λ s. large_block T s ∙ ap large_among (stand s) ∙ sym (large_block S s))
+
+  was_large : (s : ℕ) (r : Region) → get (large_regions T) s ≡ Some r → get (large_regions S) s ≡ Some r
+  was_large s r h = ap (λ (m : NatMap Region). get m s) (sym same_large) ∙ h
+
+  large_stays : (s : ℕ) (r : Region) → get (large_regions T) s ≡ Some r → StandsLarge T r
+  large_stays s r h =
+      let was = laid.large_stands s r (was_large s r h) in
+      let now = length_some (get T.part.spaces r.of) (length was.bytes) (lengths s r (was_large s r h) ∙ ap (option_map length) was.there) in
+      record { bytes = now.0; there = now.1; whole = now.2 ∙ was.whole; least = was.least }
+
+  -- has the heap laid in it
+  pub laid_stays : IsLaid heap T
+  laid_stays = record {
+    fit = subst (avl.IsSound heap.fit) (sym (words_kept heap S T laid same_chunks)) laid.fit;
+    count = laid.count;
+    few = laid.few;
+    chunks = stands_kept heap S T laid same_chunks;
+    all = λ start k region there tag low.
+        let was = told_region S start k region (sym (stand start) ∙ block_here T start k region there tag (omega (arith, low))) in
+        laid.all start k region was.there was.tag low;
+    large = λ start. laid.large start ∙ ap (λ (m : NatMap Region). cond (is_some (get m start)) 1 0) (sym same_large);
+    large_count = laid.large_count ∙ ap len (sym same_large);
+    large_stands = large_stays;
+    growth_some = laid.growth_some;
+    growth_most = laid.growth_most;
+  }
+
+  -- the payloads of its chunks
+  abbrev pub small : NatMap (List ℕ)
+  small = from_entries {R = nat_cmp} (payloads_of S.part heap.chunks.items (heap_of heap.fit (words_in heap S.part)))
+
+  module _ (shown : NatMap (List ℕ)) (now : bytes_shown T.part.spaces (large_regions S) ≡ shown) where
+    payloads_then : joined (from_entries {R = nat_cmp} (payloads_of T.part heap.chunks.items (heap_of heap.fit (words_in heap T.part)))) (bytes_shown T.part.spaces (large_regions T)) ≡ joined small shown
+    payloads_then =
+        ap (λ h. joined (from_entries {R = nat_cmp} (payloads_of T.part heap.chunks.items h)) (bytes_shown T.part.spaces (large_regions T))) (ap (heap_of heap.fit) (words_kept heap S T laid same_chunks))
+        ∙ ap (λ es. joined (from_entries {R = nat_cmp} es) (bytes_shown T.part.spaces (large_regions T))) (payloads_kept heap S T laid same_chunks (heap_of heap.fit (words_in heap S.part)))
+        ∙ ap (λ m. joined small (bytes_shown T.part.spaces m)) same_large
+        ∙ ap (joined small) now
+
+    -- and the same value but for what its large blocks hold
+    pub value_then : heap_in heap T ≡ record (heap_in heap S) { payloads = joined small shown }
+    unfolding heap_in
+    value_then = λ i. record {
+      shape = record { chunks = heap_of heap.fit (words_kept heap S T laid same_chunks i); growth = heap.growth };
+      starts = starts_in heap;
+      large = picked (λ (r : Region). Some (r.pages * 4096)) (same_large i);
+      payloads = payloads_then i;
+    }
+
+-- where large blocks hold the same too, the value is the same
+module _ (heap : Heap) (S T : Share) (laid : IsLaid heap S) (stand : (s : ℕ) → block_region T s ≡ block_region S s)
+    (bytes : (s k : ℕ) (r : Region) → block_region S s ≡ Some (r, k) → get T.part.spaces r.of ≡ get S.part.spaces r.of) where
+  large_bytes : (s : ℕ) (r : Region) → get (large_regions S) s ≡ Some r → get T.part.spaces r.of ≡ get S.part.spaces r.of
+  large_bytes s r h = bytes s large_tag r (large_region S s r h)
+
+  laid_same : IsLaid heap T
+  laid_same = laid_stays heap S T laid stand (λ s k r h low. bytes s k r h) (λ s r h. ap (option_map length) (large_bytes s r h))
+
+  value_same : heap_in heap T ≡ heap_in heap S
+  unfolding heap_in
+  value_same =
+      value_then heap S T laid stand (λ s k r h low. bytes s k r h) (λ s r h. ap (option_map length) (large_bytes s r h)) (bytes_shown S.part.spaces (large_regions S))
+      (picked_alike (λ (r : Region). get T.part.spaces r.of) (λ (r : Region). get S.part.spaces r.of) (large_regions S) large_bytes)
+
+-- ---- a heap in a memory and a map
+
+pub heap_stays : HeapsStay
+unfolding share_in
+heap_stays heap old new regions after sound maps opens stand bytes =
+    let S = share_at (payer_of heap) old regions in
+    let T = share_at (payer_of heap) new after in
+    record {
+      sound = record { opens = opens; window = maps; laid = laid_same heap S T sound.laid stand (λ s k r. bytes s k r) };
+      value = value_same heap S T sound.laid stand (λ s k r. bytes s k r);
+      stands = stand;
+    }
+
+pub heap_stays_beside : HeapsStayBeside
+unfolding share_in
+heap_stays_beside heap other old new regions after sound apart keeps maps =
+    let same_one : share_at (payer_of heap) new after ≡ share_at (payer_of heap) old regions = keeps.shares (payer_of heap) (λ e. apart (sym e)) in
+    heap_stays heap old new regions after sound maps
+    (open_in_part (payer_of heap) new (subst (λ (S : Share). IsSome S.part.account) (sym same_one) (part_open (payer_of heap) old sound.opens)))
+    (λ s. ap (λ (S : Share). block_region S s) same_one)
+    (λ s k r h. ap (λ (S : Share). get S.part.spaces r.of) same_one)
+
+-- ---- a map without a region
+
+pub empty_map : EmptyMapsHaveNoBlocks
+empty_map store regions none pages most few = (
+  record {
+    size = pages;
+    few = few;
+    lie = LieApart-empty heap_low (heap_high regions.pages) regions.heap (λ s. ap (λ (m : NatMap Region). get m s) none);
+    most_is = most;
+    shown_whole = λ s r h. absurd (none_in_empty regions.heap none s r h);
+    once = λ s t r q h g e. absurd (none_in_empty regions.heap none s r h);
+  },
+  λ account s k r h tag. absurd (none_in_empty regions.heap none s r (in_share (part account store) regions.heap regions.tags s r h).0),
+)

@@ -1,0 +1,104 @@
+//! How a heap grows: by a chunk, as far as the account covers it.
+ghost use Rattle.std.specs.Prelude.{◌≡◌, ◌+◌, ◌<◌, ◌≤◌, ◌^◌, length, OnOk, OnErr};
+ghost use Rattle.std.specs.Result.{result_err};
+ghost use Rattle.trade_base.specs.Page.{page_of};
+ghost use Rattle.own_model.specs.Account.{shortage};
+ghost use Rattle.own_model.specs.Growth.{growth_refusal};
+ghost use Rattle.dataspace_core.specs.Share.{KeepsShares};
+ghost use Rattle.dataspace_core.specs.Store.{account_in};
+ghost use Rattle.heap_core.specs.Calls.{part_at, growth_at, Grows};
+ghost use Rattle.heap_core.specs.Heap.{payer_of, shape_in, IsSound};
+
+use crate::blocks::add;
+use crate::heap::Heap;
+use crate::words::Chunk;
+use avl_alloc::block_bytes;
+use dataspace_core::Memory;
+use region_map::RegionMap;
+use std::marker::Brand;
+use std::sync::ledger::Blank;
+use trade_base::{PAGE, Refusal};
+
+/// The most that the growth number can be.
+const MOST_GROWTH: u64 = 64;
+
+impl Heap {
+    // Grows by a chunk in which there is room for so many bytes: by as many pages as the growth number, which then doubles,
+    // or by no more than the block needs where the account doesn't cover these.
+    //
+    // It is refused with `TooManyChunks` where the heap has 64 chunks, else with `OutOfRam` or `OutOfCaps` where the account
+    // doesn't cover the pages that the block needs.
+    pub(crate) fn grow(
+        &mut self,
+        memory: &mut Memory,
+        map: &mut RegionMap,
+        bytes: u64,
+    ) -> Result<(), Refusal>
+        requires sound { IsSound self.old memory.old map.old }
+        requires small { bytes < 65536 }
+        ensures refusal { result_err result ≡
+            growth_refusal bytes (shape_in self.old (part_at self.old memory.old))
+            (account_in memory.old (payer_of self.old)) }
+        ensures grows { OnOk result (
+            Grows self.old self.new (growth_at bytes self.old memory.old) memory.old memory.new map.old map.new) }
+        ensures sound { IsSound self.new memory.new map.new }
+        ensures others { KeepsShares (payer_of self.old) memory.old memory.new
+            map.old.heap map.old.tags map.new.heap map.new.tags }
+        ensures payer { payer_of self.new ≡ payer_of self.old }
+        ensures memory_err { OnErr result (memory.new ≡ memory.old) }
+        ensures map_err { OnErr result (map.new ≡ map.old) }
+        ensures err { OnErr result (self.new ≡ self.old) }
+    {
+        if self.chunks.is_full() {
+            return Err(Refusal::TooManyChunks);
+        }
+        let least = block_bytes(bytes);
+        let larger = least.max(self.growth * PAGE);
+        let next = (2 * self.growth).min(MOST_GROWTH);
+        match self.add_chunk(memory, map, larger, next) {
+            Ok(()) => Ok(()),
+            Err(_) => self.add_chunk(memory, map, least, self.growth),
+        }
+    }
+
+    // Takes a dataspace of so many bytes in whole pages for a chunk, the last one. The growth number is then another one.
+    fn add_chunk(
+        &mut self,
+        memory: &mut Memory,
+        map: &mut RegionMap,
+        bytes: u64,
+        next: u64,
+    ) -> Result<(), Refusal>
+        requires sound { IsSound self.old memory.old map.old }
+        requires room { length self.old.chunks.items < 64 }
+        requires some { 1 ≤ bytes }
+        requires short { bytes ≤ 2 ^ 20 }
+        requires next_some { 1 ≤ next }
+        requires next_most { next ≤ 64 }
+        ensures refusal { result_err result ≡ shortage (account_in memory.old (payer_of self.old)) (page_of bytes) 1 }
+        ensures grows { OnOk result (
+            Grows self.old self.new (record { bytes = page_of bytes; next = next })
+            memory.old memory.new map.old map.new) }
+        ensures sound { IsSound self.new memory.new map.new }
+        ensures others { KeepsShares (payer_of self.old) memory.old memory.new
+            map.old.heap map.old.tags map.new.heap map.new.tags }
+        ensures payer { payer_of self.new ≡ payer_of self.old }
+        ensures memory_err { OnErr result (memory.new ≡ memory.old) }
+        ensures map_err { OnErr result (map.new ≡ map.old) }
+        ensures err { OnErr result (self.new ≡ self.old) }
+    {
+        let ds = memory.alloc(self.account, bytes)?;
+        let pages = memory.size(ds) / PAGE;
+        let start = map.attach_block(ds, pages, self.chunks.len() as u64);
+        self.chunks.push(Chunk { ds, start });
+        self.growth = next;
+        add::<Brand>(
+            &mut self.fit,
+            memory,
+            &self.chunks,
+            pages * PAGE,
+            Blank::new(1),
+        );
+        Ok(())
+    }
+}

@@ -1,0 +1,128 @@
+//! Which block of a heap an address lies in.
+ghost use Rattle.std.specs.Prelude.{◌≡◌, ◌+◌, ◌-◌, ◌<◌, ◌≤◌, ◌==◌, IfSome, IfNone, None};
+ghost use Rattle.std.specs.FinMap.{get};
+ghost use Rattle.own_model.specs.Sliced.{block_found};
+ghost use Rattle.dataspace_core.specs.Store.{Exists, space_at};
+ghost use Rattle.heap_core.specs.Calls.{HoldsRange};
+ghost use Rattle.heap_core.specs.Heap.{payer_of, share_at, heap_at, IsSound};
+ghost use Rattle.heap_core.specs.Lookup.{LiesAt, LiesInChunk, LiesInLarge, LiesOutside};
+
+use crate::blocks::look;
+use crate::heap::{Heap, LARGE};
+use avl_alloc::BlockAddr;
+use dataspace_core::Memory;
+use region_map::RegionMap;
+use std::marker::Brand;
+use std::sync::ledger::Blank;
+use trade_base::DsId;
+
+/// Where an address lies.
+#[derive(Clone, Copy)]
+pub enum Site {
+    /// In a chunk.
+    InChunk(BlockAddr),
+    /// In a large block, which starts at an address and is a dataspace.
+    InLarge { start: u64, ds: DsId },
+}
+
+impl Heap {
+    /// The dataspace in which `count` bytes from the address on lie, and the offset of the first of them. `None` where they
+    /// don't lie in one payload, as where one of them is a header's or a hole's. The memory is as it was.
+    pub fn block_of(
+        &self,
+        memory: &mut Memory,
+        map: &RegionMap,
+        address: u64,
+        count: u64,
+    ) -> Option<(DsId, u64)>
+        requires sound { IsSound self.now memory.old map.now }
+        requires some { 1 ≤ count }
+        ensures some { IfSome result (λ found. HoldsRange self.now memory.old map.now found.0.0 found.1 address count) }
+        ensures none { IfNone result (block_found (heap_at self.now memory.old map.now).payloads address count ≡ None) }
+        ensures memory { memory.new ≡ memory.old }
+    {
+        match self.site(memory, map, address)? {
+            Site::InChunk(at) => self.range_in_chunk(memory, map, at, address, count),
+            Site::InLarge { start, ds } => self.range_in_large(
+                memory, map, start, ds, address, count,
+            ),
+        }
+    }
+
+    // Where an address lies. A region is this heap's by who pays for its dataspace, and by the number kept with it.
+    pub(crate) fn site(&self, memory: &Memory, map: &RegionMap, address: u64) -> Option<Site>
+        requires { IsSound self.now memory.now map.now }
+        ensures some { IfSome result (LiesAt self.now (share_at (payer_of self.now) memory.now map.now) address) }
+        ensures none { IfNone result (LiesOutside self.now (share_at (payer_of self.now) memory.now map.now) address) }
+        ensures free { IfNone result (get (heap_at self.now memory.now map.now).payloads address ≡ None) }
+    {
+        let (start, ds, tag) = map.heap_region(address)?;
+        if tag > LARGE || !self.pays(memory, ds) {
+            return None;
+        }
+        if tag == LARGE {
+            return Some(Site::InLarge { start, ds });
+        }
+        Some(Site::InChunk(BlockAddr {
+            chunk: tag as usize,
+            offset: address - start,
+        }))
+    }
+
+    // Whether the account pays for a dataspace.
+    fn pays(&self, memory: &Memory, ds: DsId) -> bool
+        requires { Exists memory.now ds.0 }
+        ensures { result ≡ ((space_at memory.now ds.0).payer == payer_of self.now) }
+    {
+        memory.payer(ds) == self.account
+    }
+
+    // The range of so many bytes from an address in a chunk on.
+    fn range_in_chunk(
+        &self,
+        memory: &mut Memory,
+        map: &RegionMap,
+        at: BlockAddr,
+        address: u64,
+        count: u64,
+    ) -> Option<(DsId, u64)>
+        requires sound { IsSound self.now memory.old map.now }
+        requires some { 1 ≤ count }
+        requires lies { LiesInChunk self.now address at.chunk at.offset }
+        ensures some { IfSome result (λ found. HoldsRange self.now memory.old map.now found.0.0 found.1 address count) }
+        ensures none { IfNone result (block_found (heap_at self.now memory.old map.now).payloads address count ≡ None) }
+        ensures memory { memory.new ≡ memory.old }
+    {
+        let _ = map;
+        let _ = address;
+        let block = look::<Brand>(&self.fit, memory, &self.chunks, at, Blank::new(1))?;
+        if count > block.size - (at.offset - block.offset) {
+            return None;
+        }
+        Some((self.chunks[at.chunk].ds, at.offset))
+    }
+
+    // The range of so many bytes from an address in a large block on.
+    fn range_in_large(
+        &self,
+        memory: &Memory,
+        map: &RegionMap,
+        start: u64,
+        ds: DsId,
+        address: u64,
+        count: u64,
+    ) -> Option<(DsId, u64)>
+        requires sound { IsSound self.now memory.now map.now }
+        requires some { 1 ≤ count }
+        requires lies { LiesInLarge (share_at (payer_of self.now) memory.now map.now) address start ds.0 }
+        ensures some { IfSome result (λ found. HoldsRange self.now memory.now map.now found.0.0 found.1 address count) }
+        ensures none { IfNone result (block_found (heap_at self.now memory.now map.now).payloads address count ≡ None) }
+    {
+        let _ = map;
+        let offset = address - start;
+        if count > memory.size(ds) - offset {
+            return None;
+        }
+        Some((ds, offset))
+    }
+}

@@ -1,0 +1,204 @@
+//! What a heap gives back.
+ghost use Rattle.std.specs.Prelude.{◌≡◌, ℕ, ◌+◌, ◌*◌, ◌<◌, ◌≤◌, [], length, slice_index, IsSome, OnOk, OnErr, Some, None};
+ghost use Rattle.std.specs.FinMap.{get, remove};
+ghost use Rattle.std.specs.Result.{result_err};
+ghost use Rattle.dataspace_core.specs.Share.{KeepsShares};
+ghost use Rattle.heap_core.specs.Calls.{GivesAll, GivesSmall, GivesLarge, free_refusal};
+ghost use Rattle.heap_core.specs.End.{EndsChunks, EndsLarge};
+ghost use Rattle.heap_core.specs.Heap.{payer_of, share_at, heap_at, large_regions, times_in, IsSound};
+ghost use Rattle.heap_core.specs.Lookup.{LiesInChunk, LiesInLarge};
+
+use crate::blocks::give;
+use crate::heap::Heap;
+use crate::lookup::Site;
+use avl_alloc::BlockAddr;
+use dataspace_core::Memory;
+use region_map::RegionMap;
+use std::marker::Brand;
+use std::sync::ledger::Blank;
+use trade_base::{DsId, Refusal};
+
+/// The bytes of a block's header.
+const HEADER: u64 = 16;
+
+impl Heap {
+    /// Gives back the block whose payload starts at the address: a block of a chunk becomes a hole, and a large block goes,
+    /// and the account is credited with all that it was charged for it. `PageFault` where no payload starts there.
+    pub fn free(
+        &mut self,
+        memory: &mut Memory,
+        map: &mut RegionMap,
+        address: u64,
+    ) -> Result<(), Refusal>
+        requires { IsSound self.old memory.old map.old }
+        ensures refusal { result_err result ≡ free_refusal (heap_at self.old memory.old map.old) address }
+        ensures small { OnOk result (get (heap_at self.old memory.old map.old).large address ≡ None →
+            GivesSmall self.old self.new address memory.old memory.new map.old map.new) }
+        ensures large { (size : ℕ) → OnOk result (get (heap_at self.old memory.old map.old).large address ≡ Some size →
+            GivesLarge self.old self.new address memory.old memory.new map.old map.new) }
+        ensures sound { IsSound self.new memory.new map.new }
+        ensures others { KeepsShares (payer_of self.old) memory.old memory.new map.old.heap map.old.tags map.new.heap map.new.tags }
+        ensures payer { payer_of self.new ≡ payer_of self.old }
+        ensures memory_err { OnErr result (memory.new ≡ memory.old) }
+        ensures map_err { OnErr result (map.new ≡ map.old) }
+        ensures err { OnErr result (self.new ≡ self.old) }
+    {
+        match self.site(memory, map, address).ok_or(Refusal::PageFault)? {
+            Site::InChunk(at) => self.free_small(memory, map, at, address),
+            Site::InLarge { start, ds } => self.free_large(memory, map, start, ds, address),
+        }
+    }
+
+    /// Gives back all chunks and large blocks, and credits the account with all that it was charged for them. The heap is
+    /// then as a new one.
+    pub fn end(&mut self, memory: &mut Memory, map: &mut RegionMap)
+        requires { IsSound self.old memory.old map.old }
+        ensures given { GivesAll self.old self.new memory.old memory.new map.old map.new }
+        ensures sound { IsSound self.new memory.new map.new }
+        ensures others { KeepsShares (payer_of self.old) memory.old memory.new map.old.heap map.old.tags map.new.heap map.new.tags }
+        ensures payer { payer_of self.new ≡ payer_of self.old }
+    {
+        self.end_large(memory, map);
+        self.end_chunks(memory, map);
+        *self = Heap::new(self.account);
+    }
+
+    // Gives back all large blocks, the last of the list first.
+    fn end_large(&mut self, memory: &mut Memory, map: &mut RegionMap)
+        requires { IsSound self.old memory.old map.old }
+        ensures ends { EndsLarge self.old self.new memory.old memory.new map.old map.new }
+        ensures none { self.new.large.items ≡ [] }
+    {
+        while !self.large.is_empty() {
+            let index = self.large.len() - 1;
+            let ds = self.large_ds(memory, map, self.large[index]);
+            self.give_large(memory, map, index, ds);
+        }
+    }
+
+    // The dataspace of the large block that starts at an address.
+    fn large_ds(&self, memory: &Memory, map: &RegionMap, start: u64) -> DsId
+        requires sound { IsSound self.now memory.now map.now }
+        requires there { 1 ≤ times_in self.now.large.items start }
+        ensures { LiesInLarge (share_at (payer_of self.now) memory.now map.now) start start result.0 }
+    {
+        let _ = memory;
+        let (_, ds, _) = map.heap_region(start).unwrap();
+        ds
+    }
+
+    // Gives back the dataspaces of all chunks, the last one first.
+    fn end_chunks(&self, memory: &mut Memory, map: &mut RegionMap)
+        requires sound { IsSound self.now memory.old map.old }
+        requires none { self.now.large.items ≡ [] }
+        ensures ends { EndsChunks self.now 0 memory.old memory.new map.old map.new }
+    {
+        let mut left = self.chunks.len();
+        while left > 0 {
+            left -= 1;
+            let chunk = self.chunks[left];
+            map.detach_heap(chunk.start);
+            memory.free(chunk.ds);
+        }
+    }
+
+    // Gives back the block of a chunk whose payload starts at an address that lies there.
+    fn free_small(
+        &mut self,
+        memory: &mut Memory,
+        map: &RegionMap,
+        at: BlockAddr,
+        address: u64,
+    ) -> Result<(), Refusal>
+        requires sound { IsSound self.old memory.old map.now }
+        requires lies { LiesInChunk self.old address at.chunk at.offset }
+        ensures refusal { result_err result ≡ free_refusal (heap_at self.old memory.old map.now) address }
+        ensures small { OnOk result (GivesSmall self.old self.new address memory.old memory.new map.now map.now) }
+        ensures is_small { get (heap_at self.old memory.old map.now).large address ≡ None }
+        ensures sound { IsSound self.new memory.new map.now }
+        ensures others { KeepsShares (payer_of self.old) memory.old memory.new map.now.heap map.now.tags map.now.heap map.now.tags }
+        ensures payer { payer_of self.new ≡ payer_of self.old }
+        ensures memory_err { OnErr result (memory.new ≡ memory.old) }
+        ensures err { OnErr result (self.new ≡ self.old) }
+    {
+        let _ = map;
+        let _ = address;
+        if at.offset < HEADER {
+            return Err(Refusal::PageFault);
+        }
+        let block = BlockAddr {
+            chunk: at.chunk,
+            offset: at.offset - HEADER,
+        };
+        let given = give::<Brand>(&mut self.fit, memory, &self.chunks, block, Blank::new(1));
+        if given.is_none() {
+            return Err(Refusal::PageFault);
+        }
+        Ok(())
+    }
+
+    // Gives back the large block that holds an address, if it starts there.
+    fn free_large(
+        &mut self,
+        memory: &mut Memory,
+        map: &mut RegionMap,
+        start: u64,
+        ds: DsId,
+        address: u64,
+    ) -> Result<(), Refusal>
+        requires sound { IsSound self.old memory.old map.old }
+        requires lies { LiesInLarge (share_at (payer_of self.old) memory.old map.old) address start ds.0 }
+        ensures refusal { result_err result ≡ free_refusal (heap_at self.old memory.old map.old) address }
+        ensures large { OnOk result (GivesLarge self.old self.new address memory.old memory.new map.old map.new) }
+        ensures is_large { OnOk result (IsSome (get (heap_at self.old memory.old map.old).large address)) }
+        ensures sound { IsSound self.new memory.new map.new }
+        ensures others { KeepsShares (payer_of self.old) memory.old memory.new map.old.heap map.old.tags map.new.heap map.new.tags }
+        ensures payer { payer_of self.new ≡ payer_of self.old }
+        ensures memory_err { OnErr result (memory.new ≡ memory.old) }
+        ensures map_err { OnErr result (map.new ≡ map.old) }
+        ensures err { OnErr result (self.new ≡ self.old) }
+    {
+        if start != address {
+            return Err(Refusal::PageFault);
+        }
+        let index = index_of(&self.large, start);
+        self.give_large(memory, map, index, ds);
+        Ok(())
+    }
+
+    // Gives back the large block whose start stands at an index of the list.
+    fn give_large(&mut self, memory: &mut Memory, map: &mut RegionMap, index: usize, ds: DsId)
+        requires sound { IsSound self.old memory.old map.old }
+        requires there { index < length self.old.large.items }
+        requires block { let start = slice_index self.old.large.items index in
+            LiesInLarge (share_at (payer_of self.old) memory.old map.old) start start ds.0 }
+        ensures given { let start = slice_index self.old.large.items index in
+            GivesLarge self.old self.new start memory.old memory.new map.old map.new }
+        ensures count { length self.new.large.items + 1 ≡ length self.old.large.items }
+        ensures chunks { self.new.chunks ≡ self.old.chunks }
+        ensures fit { self.new.fit ≡ self.old.fit }
+        ensures left { let start = slice_index self.old.large.items index in
+            let account = payer_of self.old in
+            large_regions (share_at account memory.new map.new) ≡ remove (large_regions (share_at account memory.old map.old)) start }
+        ensures sound { IsSound self.new memory.new map.new }
+        ensures others { KeepsShares (payer_of self.old) memory.old memory.new map.old.heap map.old.tags map.new.heap map.new.tags }
+        ensures payer { payer_of self.new ≡ payer_of self.old }
+    {
+        let start = self.large.swap_remove(index);
+        map.detach_heap(start);
+        memory.free(ds);
+    }
+}
+
+// The index at which a number stands in a list that has it.
+fn index_of(numbers: &[u64], number: u64) -> usize
+    requires { 1 ≤ times_in numbers.now number }
+    ensures there { result < length numbers.now }
+    ensures is { slice_index numbers.now result ≡ number }
+{
+    let mut index = 0;
+    while numbers[index] != number {
+        index += 1;
+    }
+    index
+}
