@@ -1,5 +1,8 @@
 //! Worked requests, and the largest.
 
+mod machine;
+mod sessions;
+
 use crate::{LogService, LogSession};
 use server_frame::Reply;
 use std::alloc::AllocError;

@@ -1,5 +1,5 @@
 -- Laws for callers: a server that has just booted, and what calls beside a server leave of it.
-use Rattle.std.proofs.Common.{◌≡◌, ◌≢◌, ℕ, ◌*◌, [], get_or, length, Some, is_some, IsSome, refl, sym, ap, subst, ◌∙◌}
+use Rattle.std.proofs.Common.{◌≡◌, ◌≢◌, ℕ, ◌*◌, [], get_or, length, Some, is_some, sym, ap, subst, ◌∙◌}
 use Rattle.std.proofs.lemmas.Option.{none-some}
 use Rattle.std.specs.Prelude.{None}
 use Rattle.std.specs.FinMap.{get, empty}
@@ -9,7 +9,7 @@ use Rattle.own_model.specs.NatMap.{NatMap}
 use Rattle.own_model.specs.Region.{Region}
 use Rattle.own_model.proofs.NatMapLemmas.{get-empty}
 use Rattle.region_map.specs.Regions.{Regions}
-use Rattle.dataspace_core.specs.Store.{Store, Space, Part, part, space_at, parents_in, ram_limits_in, PartBecomes}
+use Rattle.dataspace_core.specs.Store.{Store, Space, Part, part, space_at, ram_limits_in, PartBecomes}
 use Rattle.dataspace_core.specs.Share.{Share, share_in}
 use Rattle.dataspace_core.proofs.PartLaws.{part_of_payer, paid_in_part}
 use Rattle.dataspace_core.proofs.PartLemmas.{space_at-some}
@@ -17,7 +17,7 @@ use Rattle.sliced_heap.specs.Heap.{MapsMemory}
 use Rattle.sliced_heap.proofs.HeapLaws.{empty_map}
 use Rattle.dataspace_core.proofs.WindowLaws.{shown_of_part}
 use Rattle.server_frame.specs.Session.{holding}
-use Rattle.server_frame.specs.Frame.{Holds, IsServer}
+use Rattle.server_frame.specs.Frame.{IsServer}
 use Rattle.server_frame.specs.declared.server.Session.{Session}
 use Rattle.server_frame.proofs.FrameLemmas.{Stays, holds_stays}
 

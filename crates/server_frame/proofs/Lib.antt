@@ -5,3 +5,5 @@ pub mod ServerLemmas
 pub mod OpenLemmas
 pub mod CloseLemmas
 pub mod FrameLaws
+pub mod PlaceLaws
+pub mod RowLaws

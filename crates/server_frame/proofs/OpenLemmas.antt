@@ -76,6 +76,7 @@ module _ {T V : Type 0} (kept : T → Share → Type 0) (value : T → Share →
     sessions =
         map_of-written (row_of value old regions) (row_of value new after) sessions now id (λ q x other found. row_stays old new regions after x value (stays q x other found)) session written
         ∙ ap (insert (sessions_of value sessions old regions) id) new_row;
+    charge = furnishes.charge;
     parted = furnishes.parted;
     others = furnishes.parts;
     root = furnishes.root;

@@ -1,7 +1,7 @@
 -- What a contract sees of a server: its sessions, each by itself.
-use Rattle.std.specs.Prelude.{◌≡◌, ◌≢◌, ℕ, ◌+◌, Some, None}
+use Rattle.std.specs.Prelude.{◌≡◌, ◌≢◌, ℕ, ◌+◌, ◌≤◌, Some, None}
 use Rattle.std.specs.FinMap.{get, insert}
-use Rattle.slab.specs.Slab.{Slab}
+use Rattle.slab.specs.Slab.{Slab, slab_len}
 use Rattle.slab.specs.Slab as slab
 use Rattle.own_model.specs.Account.{Account}
 use Rattle.own_model.specs.NatMap.{NatMap}
@@ -9,7 +9,7 @@ use Rattle.own_model.specs.Region.{Region}
 use Rattle.own_model.specs.Session.{session_account}
 use Rattle.quota_core.specs.SlabMap.{map_of}
 use Rattle.region_map.specs.Regions.{Regions}
-use Rattle.dataspace_core.specs.Store.{Store, part, parted_part, space_at, accounts_in, account_in, root_in, room_in, parents_in, IsChildIn, IsLeafIn}
+use Rattle.dataspace_core.specs.Store.{Store, part, parted_part, space_at, accounts_in, account_in, root_in, room_in, parents_in, IsOpenIn, IsChildIn, IsLeafIn}
 use Rattle.dataspace_core.specs.Share.{Share}
 use Rattle.sliced_heap.specs.Heap.{payer_of, share_at, MapsMemory}
 use Rattle.sliced_heap.specs.declared.heap.SlicedHeap.{SlicedHeap}
@@ -65,6 +65,15 @@ pub record IsServer {T : Type 0} (kept : T → Share → Type 0) (sessions : Sla
 abbrev pub IsNoSession : {T : Type 0} → Slab (Session T) → ℕ → Type 0
 IsNoSession {T} sessions account = (id : ℕ) (session : Session T) → slab.get sessions id ≡ Some session → session.account.0 ≢ account
 
+-- so many sessions of a client can be open in all, those that are open among them: the client's account is open and no
+-- session's, and there are places for as many sessions and accounts
+pub record Admits {T : Type 0} (kept : T → Share → Type 0) (sessions : Slab (Session T)) (client most : ℕ) (store : Store) (regions : Regions) : Type 0 where
+  pub server : IsServer kept sessions store regions
+  pub is_open : IsOpenIn store client
+  pub no_session : IsNoSession sessions client
+  pub places : most ≤ sessions.capacity
+  pub room : most ≤ room_in store + slab_len sessions
+
 -- ---- what calls do
 
 -- an account is opened for a session, and furnished: charged for the session itself and for its object
@@ -90,6 +99,7 @@ pub record OpensSession {V : Type 0} (client ram caps id : ℕ) (first : V) (old
   pub fresh : get (accounts_in old) key ≡ None
   pub free : get rows id ≡ None
   pub sessions : after ≡ insert rows id (record { client = client; key = key; account = session_account ram caps; value = first })
+  pub charge : (part key new).account ≡ Some (session_account ram caps)
   pub parted : part client new ≡ parted_part (part client old) ram caps
   pub others : (other : ℕ) → other ≢ client → other ≢ key → part other new ≡ part other old
   pub root : root_in new ≡ root_in old

@@ -2,3 +2,4 @@ pub mod Written
 pub mod Told
 pub mod Session
 pub mod Frame
+pub mod Laws

@@ -64,6 +64,13 @@ impl<S: Service + Drop> Server<S> {
         })
     }
 
+    /// How many sessions are open.
+    pub fn count(&self) -> usize
+        ensures { result ≡ slab_len self.now.sessions }
+    {
+        self.sessions.len()
+    }
+
     /// Whether a session is open.
     pub fn is_open(&self, id: SessionId) -> bool
         ensures { result ≡ is_some (slab.get self.now.sessions id.0) }
@@ -106,6 +113,8 @@ impl<S: Service + Drop> Server<S> {
             OpensSession client.0 ram.0 caps.0 id.0 (S.first label.now) memory.old memory.new
             (sessions_of S.value self.old.sessions memory.old self.old.map)
             (sessions_of S.value self.new.sessions memory.new self.new.map)) }
+        ensures places { self.new.sessions.capacity ≡ self.old.sessions.capacity }
+        ensures machine { ram_limits_in memory.new ≡ ram_limits_in memory.old }
         ensures err { OnErr result (self.new ≡ self.old) }
         ensures memory_err { OnErr result (memory.new ≡ memory.old) }
     {
@@ -143,6 +152,7 @@ impl<S: Service + Drop> Server<S> {
             OnOk result (sessions_of S.value self.new.sessions memory.new self.new.map
             ≡ insert (sessions_of S.value self.old.sessions memory.old self.old.map) id.0 (record row { account = raised row.account ram.0 caps.0 })) }
         ensures same { self.new ≡ self.old }
+        ensures machine { ram_limits_in memory.new ≡ ram_limits_in memory.old }
         ensures memory_err { OnErr result (memory.new ≡ memory.old) }
     {
         let session = &self.sessions[id.0];
@@ -163,6 +173,8 @@ impl<S: Service + Drop> Server<S> {
             ServesSession row id.0 (S.step request.now row.account row.value) memory.old memory.new
             (sessions_of S.value self.old.sessions memory.old self.old.map)
             (sessions_of S.value self.new.sessions memory.new self.new.map) }
+        ensures places { self.new.sessions.capacity ≡ self.old.sessions.capacity }
+        ensures machine { ram_limits_in memory.new ≡ ram_limits_in memory.old }
     {
         let session = &mut self.sessions[id.0];
         self.service.serve(
@@ -184,6 +196,8 @@ impl<S: Service + Drop> Server<S> {
             ClosesPart row.key row.client memory.old memory.new }
         ensures sessions { sessions_of S.value self.new.sessions memory.new self.new.map
             ≡ remove (sessions_of S.value self.old.sessions memory.old self.old.map) id.0 }
+        ensures places { self.new.sessions.capacity ≡ self.old.sessions.capacity }
+        ensures machine { ram_limits_in memory.new ≡ ram_limits_in memory.old }
     {
         let mut session = self.sessions.remove(id.0);
         self.service
