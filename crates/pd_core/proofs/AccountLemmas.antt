@@ -9,8 +9,10 @@ use Rattle.trade_base.specs.declared.refusal.Refusal.TheVariants.{InvalidCap}
 use Rattle.own_model.specs.Account.{shortage, alloc_refusal, credited, Fits}
 use Rattle.own_model.specs.Call.Call.{Alloc, Free, Capalloc, Capfree}
 use Rattle.own_model.specs.NatMap.{NatMap}
+use Rattle.own_model.specs.OwnHeap.{OwnHeap}
 use Rattle.own_model.specs.OwnState.{OwnState, Object, zeros, new_selector}
-use Rattle.own_model.specs.OwnState.Object.{Dataspace as ADataspace, RpcObject as AnRpcObject}
+use Rattle.own_model.specs.OwnState.Object.{Dataspace as ADataspace, RpcObject as AnRpcObject, OpenSession}
+use Rattle.own_model.specs.Session.{Session as AnOpenSession}
 use Rattle.own_model.specs.OwnStep.{Outcome, refused, allocated, freed, cap_allocated, cap_freed, unless, script_step}
 use Rattle.own_model.specs.Region.{Region, without}
 use Rattle.own_model.specs.Reply.Reply.{Selected, Done}
@@ -23,7 +25,7 @@ use Rattle.cap_space.specs.declared.cap.Cap.{Cap}
 use Rattle.cap_space.specs.declared.cap.Cap.TheVariants.{Dataspace, RpcObject, Session}
 use Rattle.region_map.specs.Regions.{Regions, all_detached}
 use Rattle.dataspace_core.specs.Store.{Part, account_of, part_with_space, part_without_space, charged_part, credited_part, bytes_of}
-use Rattle.pd_core.specs.Own.{object_of, selector_of, regions_of, own_of}
+use Rattle.pd_core.specs.Own.{Sessions, object_of, selector_of, regions_of, own_of}
 use Rattle.pd_core.specs.Sound.{rpc_weight, IsScript}
 use Rattle.pd_core.proofs.NameLemmas.{is_named, named_is}
 use Rattle.pd_core.proofs.OwnLemmas.{Settles, same_window, before, object_is, has_bytes, names_object, grows, shrinks}
@@ -50,22 +52,29 @@ same_cap a b e = cc
 same_key : (a b : DsId) → Dataspace a ≡ Dataspace b → a.0 ≡ b.0
 same_key a b e = let same : a ≡ b = cc in ap (λ (d : DsId). d.0) same
 
--- a call that refuses what names nothing or an RPC object refuses what names no dataspace
+-- a call that refuses a session refuses what may be one
+no_session : (step : Option Object → Outcome) (b : OwnState) → step None ≡ refused b InvalidCap → ((session : AnOpenSession) → step (Some (OpenSession session)) ≡ refused b InvalidCap) →
+    (o : Option AnOpenSession) → refused b InvalidCap ≡ step (option_map OpenSession o)
+no_session step b none known None = sym none
+no_session step b none known (Some session) = sym (known session)
+
+-- a call that refuses what names nothing, an RPC object or a session refuses what names no dataspace
 pub refuses : (step : Option Object → Outcome) (b : OwnState) → step None ≡ refused b InvalidCap → step (Some AnRpcObject) ≡ refused b InvalidCap →
-    (p : Part) (o : Option Cap) → dataspace_of o ≡ None → refused b InvalidCap ≡ step (option_and_then (object_of p) o)
-refuses step b none rpc p None h = sym none
-refuses step b none rpc p (Some (Dataspace d)) h = cc
-refuses step b none rpc p (Some RpcObject) h = sym rpc
-refuses step b none rpc p (Some (Session server session)) h = sym none
+    ((session : AnOpenSession) → step (Some (OpenSession session)) ≡ refused b InvalidCap) →
+    (sessions : Sessions) (p : Part) (o : Option Cap) → dataspace_of o ≡ None → refused b InvalidCap ≡ step (option_and_then (object_of sessions p) o)
+refuses step b none rpc known sessions p None h = sym none
+refuses step b none rpc known sessions p (Some (Dataspace d)) h = cc
+refuses step b none rpc known sessions p (Some RpcObject) h = sym rpc
+refuses step b none rpc known sessions p (Some (Session server session)) h = no_session step b none known (sessions server session.0)
 
 -- what is no RPC object isn't freed as one
-no_rpc : (p : Part) (s : ℕ) (b : OwnState) (o : Option Cap) → is_rpc_object o ≡ false → refused b InvalidCap ≡ cap_freed s (option_and_then (object_of p) o) b
-no_rpc p s b None h = refl
-no_rpc p s b (Some (Dataspace d)) h = elim (get p.spaces d.0) as (λ o. refused b InvalidCap ≡ cap_freed s (option_map ADataspace o) b) [ None ↦ refl | Some bytes ↦ refl ]
-no_rpc p s b (Some RpcObject) h = absurd (true≢false h)
-no_rpc p s b (Some (Session server session)) h = refl
+no_rpc : (sessions : Sessions) (p : Part) (s : ℕ) (b : OwnState) (o : Option Cap) → is_rpc_object o ≡ false → refused b InvalidCap ≡ cap_freed s (option_and_then (object_of sessions p) o) b
+no_rpc sessions p s b None h = refl
+no_rpc sessions p s b (Some (Dataspace d)) h = elim (get p.spaces d.0) as (λ o. refused b InvalidCap ≡ cap_freed s (option_map ADataspace o) b) [ None ↦ refl | Some bytes ↦ refl ]
+no_rpc sessions p s b (Some RpcObject) h = absurd (true≢false h)
+no_rpc sessions p s b (Some (Session server session)) h = no_session (λ o. cap_freed s o b) b refl (λ session. refl) (sessions server session.0)
 
-module _ (p : Part) (space : Space) (regions : Regions) (sliced : NatMap (List ℕ)) (sound : IsScript p space regions sliced) where
+module _ (p : Part) (space : Space) (regions : Regions) (heap : OwnHeap) (sliced : NatMap (List ℕ)) (sound : IsScript p space regions heap sliced) where
   -- there is a place for one more selector where the account covers one more capability
   pub has_place : (n : ℕ) → Fits (account_of p) n 1 → len space.caps < space.places
   has_place n fits = omega (arith, fits.caps_fit, sound.paid.named, sound.paid.placed)
@@ -73,9 +82,9 @@ module _ (p : Part) (space : Space) (regions : Regions) (sliced : NatMap (List �
   -- ---- alloc
 
   -- an alloc is refused as the account tells
-  pub alloc_refused : (n : ℕ) (refusal : Refusal) → Some refusal ≡ alloc_refusal n (account_of p) → refused (before p space regions sliced sound) refusal ≡ script_step (Alloc n) (before p space regions sliced sound)
+  pub alloc_refused : (n : ℕ) (refusal : Refusal) → Some refusal ≡ alloc_refusal n (account_of p) → (sessions : Sessions) → refused (before p space regions heap sliced sound sessions) refusal ≡ script_step (Alloc n) (before p space regions heap sliced sound sessions)
   unfolding own_of
-  alloc_refused n refusal is = let b = before p space regions sliced sound in ap (λ r. unless r b (allocated n b)) is
+  alloc_refused n refusal is sessions = let b = before p space regions heap sliced sound sessions in ap (λ r. unless r b (allocated n b)) is
 
   -- the account of one that isn't refused covers the pages and a capability
   pub alloc_fits : (n : ℕ) → None ≡ alloc_refusal n (account_of p) → Fits (account_of p) (page_of n) 1
@@ -87,25 +96,26 @@ module _ (p : Part) (space : Space) (regions : Regions) (sliced : NatMap (List �
     more = insert p.spaces ds.0 (zeros (page_of n))
 
     -- an alloc settles
-    pub alloc_settles : (s : ℕ) → s ≡ new_selector space.caps → Settles (Alloc n) p space regions sliced (Selected s) (part_with_space p ds.0 n) (with_cap space s (Dataspace ds)) regions
+    pub alloc_settles : (s : ℕ) → s ≡ new_selector space.caps → Settles (Alloc n) p space regions heap sliced (Selected s) (part_with_space p ds.0 n) (with_cap space s (Dataspace ds)) regions
     unfolding own_of
     alloc_settles s least =
-        let b = before p space regions sliced sound in
-        grows p space regions sliced sound (Alloc n) (page_of n) more (Dataspace ds) (ADataspace (zeros (page_of n)))
+        let fits = get-insert_same p.spaces ds.0 (zeros (page_of n)) ds.0 refl in
+        grows p space regions heap sliced sound (Alloc n) (page_of n) more (Dataspace ds) (ADataspace (zeros (page_of n)))
         (λ key there. get-insert_other p.spaces ds.0 (zeros (page_of n)) key (apart_from_free p.spaces ds.0 key free there))
         (λ d is. ap (get p.spaces) (sym (same_key ds d is)) ∙ free)
-        (omega (arith, len-insert_new p.spaces ds.0 (zeros (page_of n)) free))
-        (ap (option_map ADataspace) (get-insert_same p.spaces ds.0 (zeros (page_of n)) ds.0 refl)) s least
-        (ap (λ r. unless r b (allocated n b)) (sym accepted))
+        (omega (arith, len-insert_new p.spaces ds.0 (zeros (page_of n)) free)) refl
+        (λ d is. ap (λ k. is_some (get more k)) (sym (same_key ds d is)) ∙ ap is_some fits)
+        (λ sessions. ap (option_map ADataspace) fits) s least
+        (λ sessions. let b = before p space regions heap sliced sound sessions in ap (λ r. unless r b (allocated n b)) (sym accepted))
 
   -- ---- free
 
   module _ (s : ℕ) where
     -- a free of what is no dataspace is refused
-    pub free_refused : dataspace_of (get space.caps s) ≡ None → refused (before p space regions sliced sound) InvalidCap ≡ script_step (Free s) (before p space regions sliced sound)
-    free_refused h =
-        let b = before p space regions sliced sound in
-        refuses (λ o. freed s o b) b refl refl p (get space.caps s) h ∙ ap (λ o. freed s o b) (sym (object_is p space regions sliced sound s))
+    pub free_refused : dataspace_of (get space.caps s) ≡ None → (sessions : Sessions) → refused (before p space regions heap sliced sound sessions) InvalidCap ≡ script_step (Free s) (before p space regions heap sliced sound sessions)
+    free_refused h sessions =
+        let b = before p space regions heap sliced sound sessions in
+        refuses (λ o. freed s o b) b refl refl (λ session. refl) sessions p (get space.caps s) h ∙ ap (λ o. freed s o b) (sym (object_is p space regions heap sliced sound sessions s))
 
     module _ (ds : DsId) (named : get space.caps s ≡ Some (Dataspace ds)) where
       -- what the selector names is under one key
@@ -123,45 +133,45 @@ module _ (p : Part) (space : Space) (regions : Regions) (sliced : NatMap (List �
       left start region there = let was = left_without ds.0 regions.user start region there in (was.0, λ names. was.1 (alone region.of names))
 
       -- a free settles
-      pub free_settles : Settles (Free s) p space regions sliced Done (part_without_space p ds.0) (without_cap space s) (all_detached regions ds.0)
+      pub free_settles : Settles (Free s) p space regions heap sliced Done (part_without_space p ds.0) (without_cap space s) (all_detached regions ds.0)
       unfolding own_of regions_of
       free_settles =
-          let b = before p space regions sliced sound in
-          let has = has_bytes p space regions sliced sound s ds named in
+          let has = has_bytes p space regions heap sliced sound s ds named in
           let map = renamed-without (selector_of space.caps) ds.0 s (named_is space.caps sound.named.one s ds named) alone regions.user in
-          shrinks p space regions sliced sound (Free s) (length (bytes_of p ds.0)) (remove p.spaces ds.0) (Dataspace ds) s named (all_detached regions ds.0)
+          shrinks p space regions heap sliced sound (Free s) (length (bytes_of p ds.0)) (remove p.spaces ds.0) (Dataspace ds) s named (all_detached regions ds.0)
           (λ q d there. get-remove_other p.spaces ds.0 d.0 (rest_apart q d there)) left
           (λ start region there. get-remove_other p.spaces ds.0 region.of (λ e. sound.blocks.unnamed start s region ds there named (sym e)))
-          (omega (arith, len-remove_at p.spaces ds.0 (bytes_of p ds.0) has)) refl (record { heap = refl; tags = refl; most = refl; pages = refl })
-          (ap (λ o. freed s o b) (names_object p space regions sliced sound s ds named)
+          (omega (arith, len-remove_at p.spaces ds.0 (bytes_of p ds.0) has)) refl (record { heap = refl; tags = refl; most = refl; pages = refl }) refl
+          (λ sessions. let b = before p space regions heap sliced sound sessions in
+          ap (λ o. freed s o b) (names_object p space regions heap sliced sound sessions s ds named)
           ∙ (λ i. record { reply = Done; lines = []; next = record b { account = credited b.account (length (bytes_of p ds.0)) 1; selectors = remove b.selectors s; regions = sym map i } }))
 
   -- ---- capalloc
 
   -- a capalloc is refused as the account tells
-  pub capalloc_refused : (refusal : Refusal) → Some refusal ≡ shortage (account_of p) 0 1 → refused (before p space regions sliced sound) refusal ≡ script_step Capalloc (before p space regions sliced sound)
+  pub capalloc_refused : (refusal : Refusal) → Some refusal ≡ shortage (account_of p) 0 1 → (sessions : Sessions) → refused (before p space regions heap sliced sound sessions) refusal ≡ script_step Capalloc (before p space regions heap sliced sound sessions)
   unfolding own_of
-  capalloc_refused refusal is = let b = before p space regions sliced sound in ap (λ r. unless r b (cap_allocated b)) is
+  capalloc_refused refusal is sessions = let b = before p space regions heap sliced sound sessions in ap (λ r. unless r b (cap_allocated b)) is
 
   -- the account of one that isn't refused covers a capability
   pub cap_fits : None ≡ shortage (account_of p) 0 1 → Fits (account_of p) 0 1
   cap_fits accepted = covers _ _ _ (sym accepted)
 
   -- a capalloc settles
-  pub capalloc_settles : None ≡ shortage (account_of p) 0 1 → (s : ℕ) → s ≡ new_selector space.caps → Settles Capalloc p space regions sliced (Selected s) (charged_part p 1) (with_cap space s RpcObject) regions
+  pub capalloc_settles : None ≡ shortage (account_of p) 0 1 → (s : ℕ) → s ≡ new_selector space.caps → Settles Capalloc p space regions heap sliced (Selected s) (charged_part p 1) (with_cap space s RpcObject) regions
   unfolding own_of
   capalloc_settles accepted s least =
-      let b = before p space regions sliced sound in
-      grows p space regions sliced sound Capalloc 0 p.spaces RpcObject AnRpcObject (λ key there. refl) (λ ds is. cc) refl refl s least
-      (ap (λ r. unless r b (cap_allocated b)) (sym accepted))
+      grows p space regions heap sliced sound Capalloc 0 p.spaces RpcObject AnRpcObject (λ key there. refl) (λ ds is. cc) refl refl (λ ds is. cc) (λ sessions. refl) s least
+      (λ sessions. let b = before p space regions heap sliced sound sessions in ap (λ r. unless r b (cap_allocated b)) (sym accepted))
 
   -- ---- capfree
 
   module _ (s : ℕ) where
     -- a capfree of what is no RPC object is refused
-    pub capfree_refused : is_rpc_object (get space.caps s) ≡ false → refused (before p space regions sliced sound) InvalidCap ≡ script_step (Capfree s) (before p space regions sliced sound)
-    capfree_refused none =
-        let b = before p space regions sliced sound in no_rpc p s b (get space.caps s) none ∙ ap (λ o. cap_freed s o b) (sym (object_is p space regions sliced sound s))
+    pub capfree_refused : is_rpc_object (get space.caps s) ≡ false → (sessions : Sessions) → refused (before p space regions heap sliced sound sessions) InvalidCap ≡ script_step (Capfree s) (before p space regions heap sliced sound sessions)
+    capfree_refused none sessions =
+        let b = before p space regions heap sliced sound sessions in
+        no_rpc sessions p s b (get space.caps s) none ∙ ap (λ o. cap_freed s o b) (sym (object_is p space regions heap sliced sound sessions s))
 
     module _ (named : get space.caps s ≡ Some RpcObject) where
       -- the account uses a capability more than it pays dataspaces
@@ -173,10 +183,10 @@ module _ (p : Part) (space : Space) (regions : Regions) (sliced : NatMap (List �
       not_attached thing is = let of = is_named space.caps thing s is in let e = same_cap _ _ (sym of.there ∙ named) in cc
 
       -- a capfree settles
-      pub capfree_settles : Settles (Capfree s) p space regions sliced Done (credited_part p 1) (without_cap space s) regions
+      pub capfree_settles : Settles (Capfree s) p space regions heap sliced Done (credited_part p 1) (without_cap space s) regions
       unfolding own_of
       capfree_settles =
-          let b = before p space regions sliced sound in
-          shrinks p space regions sliced sound (Capfree s) 0 p.spaces RpcObject s named regions (λ q d there. refl) (λ start region there. (there, not_attached region.of))
-          (λ start region there. refl) refl refl same_window
-          (ap (λ o. cap_freed s o b) (object_is p space regions sliced sound s ∙ ap (option_and_then (object_of p)) named))
+          shrinks p space regions heap sliced sound (Capfree s) 0 p.spaces RpcObject s named regions (λ q d there. refl) (λ start region there. (there, not_attached region.of))
+          (λ start region there. refl) refl refl same_window refl
+          (λ sessions. let b = before p space regions heap sliced sound sessions in
+          ap (λ o. cap_freed s o b) (object_is p space regions heap sliced sound sessions s ∙ ap (option_and_then (object_of sessions p)) named))

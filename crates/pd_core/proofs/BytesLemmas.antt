@@ -1,5 +1,5 @@
 -- A script's peeks and pokes.
-use Rattle.std.proofs.Common.{◌≡◌, ℕ, ◌+◌, ◌-◌, ◌≤◌, List, [], length, Option, Some, None, is_some, IsSome, subst, refl, sym, ap, ◌∙◌, slice_range, arith}
+use Rattle.std.proofs.Common.{◌≡◌, ℕ, ◌+◌, ◌≤◌, List, [], length, Option, Some, None, is_some, IsSome, subst, refl, sym, ap, ◌∙◌, slice_range, arith}
 use Rattle.std.specs.Option.{option_map, option_and_then, option_or}
 use Rattle.std.specs.Prelude.{◌||◌, if◌then◌else◌}
 use Rattle.std.proofs.lemmas.Bool.Decides.{nat_tests}
@@ -10,9 +10,10 @@ use Rattle.own_model.specs.Call.Call.{Peek, Poke}
 use Rattle.own_model.specs.OwnState.Object.{Dataspace as ADataspace}
 use Rattle.own_model.specs.OwnStep.{Outcome, refused, unless, count_refusal, most_bytes, peeked, poked, script_step}
 use Rattle.own_model.specs.NatMap.{NatMap}
+use Rattle.own_model.specs.OwnHeap.{OwnHeap}
 use Rattle.own_model.specs.OwnState.{OwnState}
 use Rattle.own_model.specs.Place.{Place, in_dataspace, in_payload, in_block, found}
-use Rattle.own_model.specs.Sliced.{block_found, holds_in_payload}
+use Rattle.own_model.specs.Sliced.{block_found}
 use Rattle.own_model.specs.Region.{resolved}
 use Rattle.own_model.specs.Reply.Reply.{Bytes, Done}
 use Rattle.own_model.proofs.CallLemmas.{peeks, pokes}
@@ -23,31 +24,20 @@ use Rattle.own_model.proofs.NatMapLemmas.{some_of}
 use Rattle.cap_space.specs.Space.{Space}
 use Rattle.region_map.specs.Regions.{Regions}
 use Rattle.dataspace_core.specs.Store.{Part, bytes_of, part_with_bytes}
-use Rattle.pd_core.specs.Own.{selector_of, regions_of, own_of, range_refusal}
+use Rattle.pd_core.specs.Own.{Sessions, selector_of, regions_of, own_of, range_refusal}
 use Rattle.pd_core.specs.Sound.{IsScript}
 use Rattle.pd_core.proofs.NameLemmas.{Names, is_named}
-use Rattle.pd_core.proofs.OwnLemmas.{Settles, before, has_bytes, names_object, rewrites}
-use Rattle.std.specs.List.{find}
-use Rattle.own_model.proofs.NatMapLemmas.{entries-empty}
-use Rattle.std.specs.FinMap.{empty}
+use Rattle.pd_core.proofs.OwnLemmas.{Settles, all_sessions, before, has_bytes, names_object, rewrites}
 
 -- what refuses a range refuses a call that looks at the count and then at what is found
-ranges_refused : (b : OwnState) (step : Option Place → Outcome) (rename : ℕ × ℕ → Option (ℕ × ℕ)) → step None ≡ refused b PageFault → (refusal : Refusal) (count : Option Refusal) (region block : Option (ℕ × ℕ)) →
-    Some refusal ≡ option_or count (if is_some region || is_some block then None else Some PageFault) →
-    refused b refusal ≡ unless count b (step (option_or (option_map in_dataspace (option_and_then rename region)) (option_map in_payload block)))
-ranges_refused b step rename fault refusal (Some r) region block is = let e : refusal ≡ r = cc in ap (refused b) e
-ranges_refused b step rename fault refusal None None None is = let e : refusal ≡ PageFault = cc in ap (refused b) e ∙ sym fault
-ranges_refused b step rename fault refusal None None (Some y) is = cc
-ranges_refused b step rename fault refusal None (Some x) block is = cc
-
--- no payload of no heap holds a range
-none_in_no_block : (address count : ℕ) → block_found empty address count ≡ None
-none_in_no_block address count = ap (λ l. option_map (λ block. (block.0, address - block.0)) (find (holds_in_payload address count) l)) entries-empty
-
--- what is found in one of two, of which the other has nothing
-or_none : (o : Option Place) → option_or o None ≡ o
-or_none None = refl
-or_none (Some place) = refl
+ranges_refused : (b : OwnState) (step : Option Place → Outcome) (rename : ℕ × ℕ → Option (ℕ × ℕ)) → step None ≡ refused b PageFault → (refusal : Refusal) (count : Option Refusal) (region sliced block : Option (ℕ × ℕ)) →
+    Some refusal ≡ option_or count (if is_some region || is_some sliced || is_some block then None else Some PageFault) →
+    refused b refusal ≡ unless count b (step (option_or (option_map in_dataspace (option_and_then rename region)) (option_or (option_map in_payload sliced) (option_map in_block block))))
+ranges_refused b step rename fault refusal (Some r) region sliced block is = let e : refusal ≡ r = cc in ap (refused b) e
+ranges_refused b step rename fault refusal None None None None is = let e : refusal ≡ PageFault = cc in ap (refused b) e ∙ sym fault
+ranges_refused b step rename fault refusal None None None (Some z) is = cc
+ranges_refused b step rename fault refusal None None (Some y) block is = cc
+ranges_refused b step rename fault refusal None (Some x) sliced block is = cc
 
 -- a count that isn't refused
 counted : (count other : Option Refusal) → None ≡ option_or count other → count ≡ None
@@ -62,39 +52,39 @@ count_within count h = grind (arith, nat_tests)
 same_bytes : (a b : List ℕ) → Some (ADataspace a) ≡ Some (ADataspace b) → a ≡ b
 same_bytes a b e = cc
 
-module _ (p : Part) (space : Space) (regions : Regions) (sliced : NatMap (List ℕ)) (sound : IsScript p space regions sliced) (address count : ℕ) where
-  -- the own state finds a range where the map does, by the selector in place of the key
-  pub renamed_is : resolved (before p space regions sliced sound).regions address count
+module _ (p : Part) (space : Space) (regions : Regions) (heap : OwnHeap) (sliced : NatMap (List ℕ)) (sound : IsScript p space regions heap sliced) (address count : ℕ) where
+  -- the own state before a call
+  abbrev own : Sessions → OwnState
+  own = before p space regions heap sliced sound
+
+  -- it finds a range where the map does, by the selector in place of the key
+  pub renamed_is : (sessions : Sessions) → resolved (own sessions).regions address count
       ≡ option_and_then (λ (x : ℕ × ℕ). option_map (λ other. (other, x.1)) (selector_of space.caps x.0)) (resolved regions.user address count)
   unfolding own_of regions_of
-  renamed_is = resolved_renamed (selector_of space.caps) regions.user sound.attached address count
+  renamed_is sessions = resolved_renamed (selector_of space.caps) regions.user sound.attached address count
 
-  module _ (refusal : Refusal) (is : Some refusal ≡ range_refusal regions.user sliced address count) where
+  module _ (refusal : Refusal) (is : Some refusal ≡ range_refusal regions.user sliced heap address count) (sessions : Sessions) where
     -- a call that looks for the range is refused as the range is
-    range_refused : (step : Option Place → Outcome) → step None ≡ refused (before p space regions sliced sound) PageFault →
-        refused (before p space regions sliced sound) refusal ≡ unless (count_refusal count) (before p space regions sliced sound) (step (found (before p space regions sliced sound) address count))
+    range_refused : (step : Option Place → Outcome) → step None ≡ refused (own sessions) PageFault →
+        refused (own sessions) refusal ≡ unless (count_refusal count) (own sessions) (step (found (own sessions) address count))
     unfolding own_of
     range_refused step fault =
-        let b = before p space regions sliced sound in
-        let region = resolved b.regions address count in
-        let payload = option_map in_payload (block_found sliced address count) in
-        ranges_refused b step _ fault refusal (count_refusal count) (resolved regions.user address count) (block_found sliced address count) is
-        ∙ ap (λ o. unless (count_refusal count) b (step (option_or (option_map in_dataspace o) payload))) (sym renamed_is)
-        ∙ ap (λ o. unless (count_refusal count) b (step (option_or (option_map in_dataspace region) o))) (sym (or_none payload))
-        ∙ ap (λ o. unless (count_refusal count) b (step (option_or (option_map in_dataspace region) (option_or payload (option_map in_block o)))))
-        (sym (none_in_no_block address count))
+        let b = own sessions in
+        let payload = option_or (option_map in_payload (block_found sliced address count)) (option_map in_block (block_found heap.payloads address count)) in
+        ranges_refused b step _ fault refusal (count_refusal count) (resolved regions.user address count) (block_found sliced address count) (block_found heap.payloads address count) is
+        ∙ ap (λ o. unless (count_refusal count) b (step (option_or (option_map in_dataspace o) payload))) (sym (renamed_is sessions))
 
     -- so a peek is
-    pub peek_refused : refused (before p space regions sliced sound) refusal ≡ script_step (Peek address count) (before p space regions sliced sound)
-    peek_refused = range_refused (λ o. peeked count o (before p space regions sliced sound)) refl
+    pub peek_refused : refused (own sessions) refusal ≡ script_step (Peek address count) (own sessions)
+    peek_refused = range_refused (λ o. peeked count o (own sessions)) refl
 
     -- and so is a poke
-    pub poke_refused : (bytes : List ℕ) → count ≡ length bytes → refused (before p space regions sliced sound) refusal ≡ script_step (Poke address bytes) (before p space regions sliced sound)
+    pub poke_refused : (bytes : List ℕ) → count ≡ length bytes → refused (own sessions) refusal ≡ script_step (Poke address bytes) (own sessions)
     poke_refused bytes size =
-        let b = before p space regions sliced sound in
+        let b = own sessions in
         range_refused (λ o. poked bytes o b) refl ∙ ap (λ n. unless (count_refusal n) b (poked bytes (found b address n) b)) size
 
-  module _ (accepted : None ≡ range_refusal regions.user sliced address count) where
+  module _ (accepted : None ≡ range_refusal regions.user sliced heap address count) where
     -- the range is of as many bytes as can be
     pub few : count_refusal count ≡ None
     few = counted _ _ accepted
@@ -116,33 +106,35 @@ module _ (p : Part) (space : Space) (regions : Regions) (sliced : NatMap (List �
 
     -- the part has its bytes
     pub has : get p.spaces key ≡ Some (bytes_of p key)
-    has = subst (λ k. get p.spaces k ≡ Some (bytes_of p k)) names.same (has_bytes p space regions sliced sound selector.0 names.ds names.there)
+    has = subst (λ k. get p.spaces k ≡ Some (bytes_of p k)) names.same (has_bytes p space regions heap sliced sound selector.0 names.ds names.there)
 
     -- in the own state the selector names these bytes
-    object : get (before p space regions sliced sound).selectors selector.0 ≡ Some (ADataspace (bytes_of p key))
-    object = subst (λ k. get (before p space regions sliced sound).selectors selector.0 ≡ Some (ADataspace (bytes_of p k))) names.same (names_object p space regions sliced sound selector.0 names.ds names.there)
+    object : (sessions : Sessions) → get (own sessions).selectors selector.0 ≡ Some (ADataspace (bytes_of p key))
+    object sessions = subst (λ k. get (own sessions).selectors selector.0 ≡ Some (ADataspace (bytes_of p k))) names.same (names_object p space regions heap sliced sound sessions selector.0 names.ds names.there)
 
     -- the own state finds the range under that selector, at the same offset
-    own_found : resolved (before p space regions sliced sound).regions address count ≡ Some (selector.0, offset)
-    own_found =
-        renamed_is ∙ ap (option_and_then (λ (x : ℕ × ℕ). option_map (λ other. (other, x.1)) (selector_of space.caps x.0))) at
+    own_found : (sessions : Sessions) → resolved (own sessions).regions address count ≡ Some (selector.0, offset)
+    own_found sessions =
+        renamed_is sessions ∙ ap (option_and_then (λ (x : ℕ × ℕ). option_map (λ other. (other, x.1)) (selector_of space.caps x.0))) at
         ∙ ap (option_map (λ other. (other, offset))) selector.1
 
     -- the range lies within the bytes
     pub fits : offset + count ≤ length (bytes_of p key)
     fits =
-        let range = range_fits (before p space regions sliced sound) address count selector.0 offset sound.lawful.sound own_found in
-        subst (λ (l : List ℕ). offset + count ≤ length l) (same_bytes range.0 (bytes_of p key) (sym range.1 ∙ object)) range.2
+        let law = (sound.lawful all_sessions (λ q server session there. refl)).sound in
+        let range = range_fits (own all_sessions) address count selector.0 offset law (own_found all_sessions) in
+        subst (λ (l : List ℕ). offset + count ≤ length l) (same_bytes range.0 (bytes_of p key) (sym range.1 ∙ object all_sessions)) range.2
 
     -- a peek tells the bytes of the dataspace
-    pub peek_is : record { reply = Bytes (slice_range (bytes_of p key) offset (offset + count)); lines = []; next = before p space regions sliced sound } ≡ script_step (Peek address count) (before p space regions sliced sound)
-    peek_is = sym (peeks (before p space regions sliced sound) address count selector.0 offset (bytes_of p key) some own_found object)
+    pub peek_is : (sessions : Sessions) → record { reply = Bytes (slice_range (bytes_of p key) offset (offset + count)); lines = []; next = own sessions } ≡ script_step (Peek address count) (own sessions)
+    peek_is sessions = sym (peeks (own sessions) address count selector.0 offset (bytes_of p key) some (own_found sessions) (object sessions))
 
     -- a poke puts its bytes over those of the dataspace
-    pub poke_settles : (bytes : List ℕ) → count ≡ length bytes → Settles (Poke address bytes) p space regions sliced Done (part_with_bytes p key offset bytes) space regions
+    pub poke_settles : (bytes : List ℕ) → count ≡ length bytes → Settles (Poke address bytes) p space regions heap sliced Done (part_with_bytes p key offset bytes) space regions
     poke_settles bytes size =
-        let b = before p space regions sliced sound in
         let over = with_part-within (bytes_of p key) offset bytes (subst (λ n. offset + n ≤ length (bytes_of p key)) size fits) in
-        rewrites p space regions sliced sound (Poke address bytes) key selector.0 _ names (ap length (sym over) ∙ length-with_part (bytes_of p key) offset bytes)
-        (pokes b address selector.0 offset bytes (ADataspace (bytes_of p key)) (ap count_refusal (sym size) ∙ some) (ap (resolved b.regions address) (sym size) ∙ own_found) object
+        rewrites p space regions heap sliced sound (Poke address bytes) key selector.0 _ names (ap length (sym over) ∙ length-with_part (bytes_of p key) offset bytes)
+        (λ sessions.
+        let b = own sessions in
+        pokes b address selector.0 offset bytes (ADataspace (bytes_of p key)) (ap count_refusal (sym size) ∙ some) (ap (resolved b.regions address) (sym size) ∙ own_found sessions) (object sessions)
         ∙ ap (λ l. record { reply = Done; lines = []; next = record b { selectors = insert b.selectors selector.0 (ADataspace l) } }) over)

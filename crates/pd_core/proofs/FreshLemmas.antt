@@ -1,6 +1,7 @@
 -- A core of fresh parts is sound, and its own states are the start states.
-use Rattle.std.proofs.Common.{◌≡◌, ℕ, ◌+◌, ◌*◌, ◌≤◌, Option, is_some, List, [], ◌∷◌, map, subst, refl, sym, ap, ◌∙◌, arith, nat_cmp}
-use Rattle.std.specs.Prelude.{IfSome, IsSome}
+use Rattle.std.proofs.Common.{◌≡◌, ℕ, zero, suc, ◌+◌, ◌*◌, ◌≤◌, Option, is_some, List, [], ◌∷◌, map, subst, refl, sym, ap, ◌∙◌, arith, nat_cmp}
+use Rattle.std.specs.Prelude.{IfSome, IsSome, None}
+use Rattle.std.proofs.lemmas.Option.{none-some}
 use Rattle.std.specs.Option.{option_map, unwrap_or}
 use Rattle.std.specs.List.{All}
 use Rattle.std.specs.FinMap as finmap
@@ -9,6 +10,7 @@ use Rattle.std.proofs.lemmas.List.Elements.{All-head, All-tail}
 use Rattle.own_model.specs.NatMap.{NatMap, picked, total}
 use Rattle.own_model.specs.Account.{Account, opened}
 use Rattle.own_model.specs.Moved.{moved_up}
+use Rattle.own_model.specs.Limits.{caps_with, caps_limits}
 use Rattle.own_model.specs.Region.{Region}
 use Rattle.own_model.specs.Sliced.{sliced_header}
 use Rattle.own_model.specs.StartList.{StartEntry, start_state}
@@ -18,42 +20,48 @@ use Rattle.own_model.proofs.NatMapLemmas.{same, get-empty, some_of, none_in_empt
 use Rattle.own_model.proofs.SoundLemmas.{start_sound}
 use Rattle.own_model.proofs.UseLemmas.{start_uses}
 use Rattle.own_model.proofs.Totals.{total-empty, total_at_le}
+use Rattle.quota_core.proofs.SlabMap.{map_of-empty}
+use Rattle.trade_base.specs.declared.id.AccountId.{AccountId}
+use Rattle.dataspace_core.specs.Room.{HasRoom}
+use Rattle.server_frame.specs.Frame.{Row, row_of}
+use Rattle.server_frame.specs.Session.{HasBlocksAlone}
+use Rattle.server_frame.proofs.FrameLaws.{server_at_first}
+use Rattle.log_service.specs.Session.{LabelledLine}
 use Rattle.cap_space.specs.declared.cap.Cap.{Cap}
-use Rattle.region_map.specs.Regions.{Regions}
-use Rattle.dataspace_core.specs.Store.{Store, Part, part, root_in, account_in, accounts_in, account_of, IsOpenIn}
+use Rattle.dataspace_core.specs.Store.{Store, Part, part, root_in, account_in, accounts_in, account_of, IsOpenIn, ram_limits_in, caps_limits_in}
 use Rattle.dataspace_core.specs.Share.{Share}
 use Rattle.dataspace_core.proofs.PartLaws.{open_in_part}
-use Rattle.sliced_heap.specs.Heap.{payer_of, share_at, MapsMemory, HasNoBlocks}
+use Rattle.own_model.specs.Use.{heap_count}
+use Rattle.heap_core.specs.Heap.{payer_of as heap_payer, HasNoBlocks as HasNoHeapBlocks}
+use Rattle.heap_core.specs.Laws.{IsMapOf}
+use Rattle.heap_core.proofs.StayLemmas.{empty_map as empty_heap_map}
+use Rattle.sliced_heap.specs.Heap.{payer_of as sliced_payer, share_at, MapsMemory, HasNoBlocks}
 use Rattle.sliced_heap.specs.Sliced.{block_regions, payload_of, sliced_of}
 use Rattle.pd_core.specs.declared.component.Component.{Component}
 use Rattle.pd_core.specs.declared.component.Role.{Role}
 use Rattle.own_model.specs.OwnHeap.{no_heap}
-use Rattle.pd_core.specs.declared.component.Role.TheVariants.{Script as AScript, Server as AServer}
+use Rattle.pd_core.specs.declared.component.Role.TheVariants.{Script as AScript, Server as AServer, Log as ALog}
 use Rattle.pd_core.specs.declared.script.Script.{Script}
 use Rattle.sliced_heap.proofs.HeapLaws.{empty_map}
-use Rattle.pd_core.specs.Own.{own_of, own_at, part_at, sliced_at, object_of, regions_of, selector_of}
-use Rattle.pd_core.specs.Sound.{rpc_weight, IsLawful, IsNewHeap, IsSoundScript}
-use Rattle.pd_core.specs.Component.{entry_of, payer_in, tables_in, HasNewHeap, own_in, own, IsSound, IsSoundRole}
-use Rattle.pd_core.specs.Core.{world_of, IsCore}
-use Rattle.pd_core.specs.Fresh.{start_of, starts_of, opened_part, started_world, AreEmpty, IsFresh, AreFresh}
+use Rattle.pd_core.specs.Own.{Sessions, no_sessions, own_of, own_at, part_at, own_heap_at, sliced_at, object_of, regions_of, selector_of}
+use Rattle.pd_core.specs.Sound.{session_at, rpc_weight, session_weight, IsLawful, IsSoundScript}
+use Rattle.pd_core.specs.Component.{entry_of, payer_in, payer_of, caps_in, caps_of, places_in, places_of, rows_in, rows_of, tables_in, NamesItsSessions, HasPlaces, HasNewHeap, HasNewHeaps, own_in, own, IsSoundRole}
+use Rattle.pd_core.specs.Core.{rows_at, sessions_in, world_of, IsCore}
+use Rattle.pd_core.specs.Fresh.{start_of, starts_of, opened_part, started_world, AreEmpty, IsNewServer, IsFresh, AreFresh}
 
 -- a start with this budget
 abbrev budget : ℕ → ℕ → StartEntry
 budget ram caps = record { entry = nobody; ram = ram; caps = caps }
 
 -- who has nothing has the own state of a start
-own_opened : (ram caps : ℕ) → own_of (opened_part ram caps) empty empty empty ≡ start_state (budget ram caps)
+own_opened : (sessions : Sessions) (ram caps : ℕ) → own_of sessions (opened_part ram caps) empty empty no_heap empty ≡ start_state (budget ram caps)
 unfolding own_of regions_of
-own_opened ram caps =
-    let selectors = picked-empty (object_of (opened_part ram caps)) in
+own_opened sessions ram caps =
+    let selectors = picked-empty (object_of sessions (opened_part ram caps)) in
     let regions = picked-empty (λ (region : Region). option_map (λ (other : ℕ). record region { of = other }) (selector_of empty region.of)) in
     λ j. record { account = (start_state (budget ram caps)).account; selectors = selectors j; regions = regions j; heap = no_heap; sliced = empty; gone = (start_state (budget ram caps)).gone }
 
--- a map without a heap region has no block of anyone
-none_attached : (account : ℕ) (store : Store) (regions : Regions) → regions.heap ≡ empty → HasNoBlocks (share_at account store regions) → block_regions (share_at account store regions) ≡ regions.heap
-none_attached account store regions none blocks = same _ _ (λ s. blocks s ∙ sym (ap (λ m. get m s) none ∙ get-empty s))
-
--- so no payload stands there
+-- where no block is, no payload stands
 no_payloads : (share : Share) → HasNoBlocks share → sliced_of share ≡ empty
 unfolding sliced_of
 no_payloads share none =
@@ -66,7 +74,7 @@ no_payloads share none =
 module _ (store : Store) (ram caps : ℕ) where
   -- a script before its first call
   module _ (script : Script) (unused : part_at store script ≡ opened_part ram caps) (fresh : AreEmpty store caps script.caps script.regions)
-      (heap : (payer_of script.heap ≡ script.account.0) × IsNewHeap script.heap) where
+      (heaps : HasNewHeaps script) where
     -- its account is open
     opens : IsOpenIn store script.account.0
     opens = open_in_part script.account.0 store (subst (λ (p : Part). IsSome p.account) (sym unused) refl)
@@ -75,17 +83,21 @@ module _ (store : Store) (ram caps : ℕ) where
     maps : MapsMemory store script.regions × ((account : ℕ) → HasNoBlocks (share_at account store script.regions))
     maps = empty_map store script.regions fresh.no_heap fresh.pages fresh.heap_most
 
-    -- nor does the own state
+    -- it is one for a heap, and holds none of its blocks
+    heap_maps : IsMapOf store script.regions × ((account : ℕ) → HasNoHeapBlocks (share_at account store script.regions))
+    heap_maps = empty_heap_map store script.regions fresh.no_heap fresh.pages fresh.heap_most fresh.few
+
+    -- nor does the own state have any
+    no_heap_yet : own_heap_at store script ≡ no_heap
+    no_heap_yet = heaps.heap.empty (share_at (heap_payer script.heap) store script.regions) (heap_maps.1 (heap_payer script.heap))
+
     no_blocks : sliced_at store script ≡ empty
     no_blocks = no_payloads (share_at script.account.0 store script.regions) (maps.1 script.account.0)
 
     -- the own state is that of a start
-    script_unused : own_at store script ≡ start_state (budget ram caps)
-    script_unused =
-        ap (λ p. own_of p script.caps.caps script.regions.user (sliced_at store script)) unused
-        ∙ ap (λ (c : NatMap Cap). own_of (opened_part ram caps) c script.regions.user (sliced_at store script)) fresh.no_caps
-        ∙ ap (λ (user : NatMap Region). own_of (opened_part ram caps) empty user (sliced_at store script)) fresh.no_regions
-        ∙ ap (own_of (opened_part ram caps) empty empty) no_blocks ∙ own_opened ram caps
+    script_unused : (sessions : Sessions) → own_at sessions store script ≡ start_state (budget ram caps)
+    script_unused sessions =
+        (λ i. own_of sessions (unused i) (fresh.no_caps i) (fresh.no_regions i) (no_heap_yet i) (no_blocks i)) ∙ own_opened sessions ram caps
 
     -- its limit is among all limits
     within : (account_of (part_at store script)).ram_limit ≤ script.regions.pages * 4096
@@ -100,15 +112,17 @@ module _ (store : Store) (ram caps : ℕ) where
         let few : len script.caps.caps ≡ 0 = ap (λ m. len m) fresh.no_caps ∙ finmap.len-empty nat_cmp Cap in
         let none : len (part_at store script).spaces ≡ 0 = ap (λ (p : Part). len p.spaces) unused ∙ finmap.len-empty nat_cmp (List ℕ) in
         let blocks : len (sliced_at store script) ≡ 0 = ap (λ m. len m) no_blocks ∙ finmap.len-empty nat_cmp (List ℕ) in
+        let heap : heap_count (own_heap_at store script) ≡ 0 = omega (arith, ap heap_count no_heap_yet, finmap.len-empty nat_cmp ℕ) in
+        let sessions : total session_weight script.caps.caps ≡ 0 = ap (total session_weight) fresh.no_caps ∙ total-empty session_weight in
         let weight : total rpc_weight script.caps.caps ≡ 0 = ap (total rpc_weight) fresh.no_caps ∙ total-empty rpc_weight in
         let limit = ap (λ p. (account_of p).caps_limit) unused in
         record {
           own = record {
             named = record {
-              there = λ q cap names. absurd (none_in_empty _ fresh.no_caps q cap names);
+              there = λ q ds names. absurd (none_in_empty _ fresh.no_caps q _ names);
               one = λ s t a b first second same. absurd (none_in_empty _ fresh.no_caps s _ first);
             };
-            paid = record { is_open = ap (λ (p : Part). is_some p.account) unused; named = omega (arith, few, blocks); spare = omega (arith, none, weight); placed = omega (arith, limit, fresh.places) };
+            paid = record { is_open = ap (λ (p : Part). is_some p.account) unused; named = omega (arith, few, blocks, heap); spare = omega (arith, none, weight); placed = omega (arith, limit, sessions, fresh.places) };
             ram = within;
             attached = λ start region there. absurd (none_in_empty _ fresh.no_regions start region there);
             most = fresh.most;
@@ -116,36 +130,79 @@ module _ (store : Store) (ram caps : ℕ) where
               held = λ start region there. absurd (none_in_empty _ fresh.no_heap start region there);
               unnamed = λ start q region ds there names. absurd (none_in_empty _ fresh.no_heap start region there);
             };
-            lawful = subst IsLawful (sym script_unused)
+            lawful = λ open_sessions ready. subst IsLawful (sym (script_unused open_sessions))
                 (record { sound = start_sound (budget ram caps); uses = start_uses (budget ram caps); within = record { ram = omega arith; caps = omega arith } });
           };
-          heap = record {
-            sound = heap.1 store script.regions (subst (IsOpenIn store) (sym heap.0) opens) maps.0 (maps.1 (payer_of script.heap));
-            payer = heap.0;
-            all = none_attached script.account.0 store script.regions fresh.no_heap (maps.1 script.account.0);
+          heaps = record {
+            heap = heaps.heap.sound store script.regions (subst (IsOpenIn store) (sym heaps.heap_pays) opens) heap_maps.0 (heap_maps.1 (heap_payer script.heap));
+            sliced = heaps.sliced store script.regions (subst (IsOpenIn store) (sym heaps.sliced_pays) opens) maps.0 (maps.1 (sliced_payer script.sliced));
+            heap_pays = heaps.heap_pays;
+            sliced_pays = heaps.sliced_pays;
+            all = λ start region there. absurd (none_in_empty _ fresh.no_heap start region there);
           };
         }
 
   -- the same of a role
-  role_fresh : (role : Role) → part (payer_in role) store ≡ opened_part ram caps → IfSome (tables_in role) (λ tables. AreEmpty store caps tables.0 tables.1) → HasNewHeap role →
-      IsSoundRole store role × (own_in store role ≡ start_state (budget ram caps))
-  role_fresh (AScript script) unused fresh heap = (script_sound script unused fresh heap, script_unused script unused fresh heap)
-  role_fresh (AServer account) unused fresh heap =
-      (subst (λ (p : Part). IsSome p.account) (sym unused) refl, ap (λ p. own_of p empty empty empty) unused ∙ own_opened ram caps)
+  record RoleIsFresh (role : Role) : Type 0 where
+    sound : IsSoundRole store role
+    state : (sessions : Sessions) → own_in sessions store role ≡ start_state (budget ram caps)
+    no_caps : caps_in role ≡ empty
+    no_rows : rows_in store role ≡ empty
+    places : IfSome (places_in role) (λ places. caps ≤ places)
+
+  -- a server's account is all that it has
+  server_state : (account : AccountId) → part account.0 store ≡ opened_part ram caps → own_of no_sessions (part account.0 store) empty empty no_heap empty ≡ start_state (budget ram caps)
+  server_state account unused = ap (λ p. own_of no_sessions p empty empty no_heap empty) unused ∙ own_opened no_sessions ram caps
+
+  role_fresh : (role : Role) → part (payer_in role) store ≡ opened_part ram caps → IfSome (tables_in role) (λ tables. AreEmpty store caps tables.0 tables.1) → HasNewHeap role → IsNewServer store role →
+      RoleIsFresh role
+  role_fresh (AScript script) unused fresh heap new =
+      record { sound = script_sound script unused fresh heap; state = script_unused script unused fresh heap; no_caps = fresh.no_caps; no_rows = refl; places = fresh.places }
+  role_fresh (AServer account) unused fresh heap new = record {
+    sound = subst (λ (p : Part). IsSome p.account) (sym unused) refl;
+    state = λ sessions. server_state account unused;
+    no_caps = refl;
+    no_rows = refl;
+    places = tt;
+  }
+  role_fresh (ALog account server) unused fresh heap new = record {
+    sound = record { is_open = subst (λ (p : Part). IsSome p.account) (sym unused) refl; server = server_at_first (λ line share. HasBlocksAlone share) server.sessions store server.map new.none new.no_heap new.pages new.heap_most; places = new.places };
+    state = λ sessions. server_state account unused;
+    no_caps = refl;
+    no_rows = map_of-empty (row_of (λ line share. line) store server.map) server.sessions new.none;
+    places = tt;
+  }
 
 -- a fresh component is sound, and its own state is that of its start
 module _ (store : Store) (component : Component) (fresh : IsFresh store component) where
   -- as its role is
-  both : IsSoundRole store component.role × (own_in store component.role ≡ start_state (budget (start_of store component).ram (start_of store component).caps))
-  both = role_fresh store _ _ component.role fresh.unused fresh.tables fresh.heap
-
-  -- the component is sound
-  fresh_sound : IsSound store component
-  fresh_sound = both.0
+  role : RoleIsFresh store (start_of store component).ram (start_of store component).caps component.role
+  role = role_fresh store _ _ component.role fresh.unused fresh.tables fresh.heap fresh.server
 
   -- its own state is that of its start
-  fresh_state : own store component ≡ start_state (start_of store component)
-  fresh_state = both.1
+  fresh_state : (sessions : Sessions) → own sessions store component ≡ start_state (start_of store component)
+  fresh_state = role.state
+
+  -- it names no session
+  fresh_named : (rows : ℕ → NatMap (Row LabelledLine)) → NamesItsSessions rows (payer_of component) (caps_of component)
+  fresh_named rows =
+      let none : (q : ℕ) → session_at (get (caps_of component) q) ≡ None = λ q. ap session_at (ap (λ (m : NatMap Cap). get m q) role.no_caps ∙ get-empty q) in
+      record {
+        its = λ q server session there. absurd (none-some (server, session) (sym (none q) ∙ there));
+        once = λ p q server a b there _ _. absurd (none-some (server, a) (sym (none p) ∙ there));
+      }
+
+  -- there is a place for each capability of its budget
+  fresh_places : (sessions : Sessions) → HasPlaces sessions store component
+  fresh_places sessions =
+      let all : caps_limits (own sessions store component) ≡ (start_of store component).caps = omega (arith, ap caps_limits (fresh_state sessions), total-empty caps_with) in
+      subst (λ n. IfSome (places_of component) (λ places. n ≤ places)) (sym all) role.places
+
+-- where each component serves none, no session is open
+no_rows_at : (store : Store) (components : List Component) → All (λ c. rows_of store c ≡ empty) components → (k : ℕ) → rows_at store components k ≡ empty
+no_rows_at store [] all k = refl
+no_rows_at store (c ∷ rest) all zero = All-head (λ c. rows_of store c ≡ empty) c rest all
+no_rows_at store (c ∷ rest) all (suc k) = no_rows_at store rest (All-tail (λ c. rows_of store c ≡ empty) c rest all) k
 
 -- the entries and the own states are those of the starts
 fresh_entries : (store : Store) (components : List Component) → map entry_of components ≡ map (λ start. start.entry) (starts_of store components)
@@ -153,25 +210,45 @@ fresh_entries store [] = refl
 fresh_entries store (c ∷ rest) = ap (λ entries. entry_of c ∷ entries) (fresh_entries store rest)
 
 -- the same of the own states
-fresh_states : (store : Store) (components : List Component) → All (IsFresh store) components → map (own store) components ≡ map start_state (starts_of store components)
-fresh_states store [] fresh = refl
-fresh_states store (c ∷ rest) fresh =
-    let first = fresh_state store c (All-head (IsFresh store) c rest fresh) in
-    let others = fresh_states store rest (All-tail (IsFresh store) c rest fresh) in
+fresh_states : (sessions : Sessions) (store : Store) (components : List Component) → All (IsFresh store) components → map (own sessions store) components ≡ map start_state (starts_of store components)
+fresh_states sessions store [] fresh = refl
+fresh_states sessions store (c ∷ rest) fresh =
+    let first = fresh_state store c (All-head (IsFresh store) c rest fresh) sessions in
+    let others = fresh_states sessions store rest (All-tail (IsFresh store) c rest fresh) in
     λ j. first j ∷ others j
 
 module _ (store : Store) (components : List Component) (fresh : AreFresh store components) where
+  -- no session is open
+  none_open : (server session : ℕ) → get (rows_at store components server) session ≡ None
+  none_open server session =
+      ap (λ (m : NatMap (Row LabelledLine)). get m session) (no_rows_at store components (λ k d h. (role store _ (fresh.each k d h)).no_rows) server) ∙ get-empty session
+
   -- fresh components are a sound core
-  pub fresh_core : IsCore store components
-  fresh_core = record {
-    sound = λ k d h. fresh_sound store _ (fresh.each k d h);
+  pub fresh_core : HasRoom store → IsCore store components
+  fresh_core room = record {
+    sound = λ k d h. (role store _ (fresh.each k d h)).sound;
     not_init = λ k d h. (fresh.each k d h).not_init;
+    children = λ k d h. (fresh.each k d h).child;
     apart = fresh.apart;
+    named = λ k d h. fresh_named store _ (fresh.each k d h) (rows_at store components);
+    placed = λ k d h. fresh_places store _ (fresh.each k d h) (sessions_in store components);
+    sessions = record {
+      each = λ server session row there. absurd (none-some row (sym (none_open server session) ∙ there));
+      apart = λ server other a b row next there _ _. absurd (none-some row (sym (none_open server a) ∙ there));
+    };
+    room = room;
   }
 
   -- their world is the one that starts with them
   pub fresh_world : world_of store components ≡ started_world store components
   fresh_world =
       let entries = fresh_entries store components in
-      let states = fresh_states store components fresh.each in
+      let states = fresh_states (sessions_in store components) store components fresh.each in
       λ j. record { entries = entries j; init = account_in store (root_in store); states = states j }
+
+-- a new server is still new while other accounts are opened
+pub new_server_stays : (store store' : Store) → ram_limits_in store' ≡ ram_limits_in store → caps_limits_in store' ≡ caps_limits_in store → (role : Role) → IsNewServer store role → IsNewServer store' role
+new_server_stays store store' ram caps (AScript script) new = tt
+new_server_stays store store' ram caps (AServer account) new = tt
+new_server_stays store store' ram caps (ALog account server) new =
+    record { none = new.none; places = omega (arith, new.places, caps); no_heap = new.no_heap; heap_most = new.heap_most; pages = new.pages ∙ sym ram }

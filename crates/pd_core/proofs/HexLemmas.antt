@@ -1,10 +1,12 @@
 -- Bytes and their hexadecimal digits.
-use Rattle.std.proofs.Common.{◌≡◌, ℕ, ◌+◌, ◌*◌, ◌/◌, ◌%◌, List, [], ◌∷◌, length, refl, sym, ap, ◌∙◌, arith, is_some, IsSome, true, false, eqb, cond, true≢false, Option, Some, None}
-use Rattle.std.specs.Prelude.{Result, Ok}
+use Rattle.std.proofs.Common.{◌≡◌, ℕ, ◌+◌, ◌*◌, ◌/◌, ◌%◌, ◌<◌, nat_lt, List, [], ◌∷◌, length, refl, sym, ap, ◌∙◌, arith, is_some, IsSome, true, false, eqb, cond, true≢false, Option, Some, None}
+use Rattle.std.specs.Prelude.{Result, Ok, ◌&&◌}
 use Rattle.std.specs.Option.{option_map, option_and_then, unwrap_or}
 use Rattle.std.proofs.lemmas.Bool.Decides.{nat_tests}
 use Rattle.own_model.proofs.NatMapLemmas.{some_of}
 use Rattle.own_model.specs.Text.{bytes_of_hex, hex_digit_of}
+use Rattle.std.proofs.lemmas.Option.{same_Some}
+use Rattle.heap_core.specs.Words.{are_bytes}
 use Rattle.pd_core.specs.Call.{bytes_in}
 use Rattle.hex.specs.declared.error.FromHexError.{FromHexError}
 use Rattle.hex.specs.Hex.{decode_pairs, decode_sized, hex_digit_value, digit_or_error, ◌>>=◌}
@@ -69,3 +71,26 @@ pub half_is : (text : List ℕ) → IsSome (bytes_of_hex text) → length text /
 half_is text some =
     let bytes = some_of (bytes_of_hex text) some in
     half text bytes.0 bytes.1 ∙ ap (λ o. length (unwrap_or o [])) (sym bytes.1)
+
+-- a digit's value is below 16
+digit_small : (b d : ℕ) → hex_digit_of b ≡ Some d → d < 16
+digit_small b d is = grind (arith, nat_tests, same_Some)
+
+-- so two digits are a byte
+byte_small : (high low : ℕ) → high < 16 → low < 16 → nat_lt (high * 16 + low) 256 ≡ true
+byte_small high low h l = grind (arith, nat_tests)
+
+-- what is decoded are bytes
+decoded_small : (text bytes : List ℕ) → bytes_of_hex text ≡ Some bytes → are_bytes bytes ≡ true
+decoded_small [] bytes is = ap are_bytes (same_list [] bytes is)
+decoded_small (digit ∷ []) bytes is = absurd (true≢false (sym (ap is_some is)))
+decoded_small (high ∷ low ∷ rest) bytes is =
+    let p = parts (hex_digit_of high) (hex_digit_of low) (bytes_of_hex rest) bytes is in
+    ap are_bytes p.all ∙ ap (λ b. b && are_bytes p.rest) (byte_small p.high p.low (digit_small high p.high p.is_high) (digit_small low p.low p.is_low))
+    ∙ decoded_small rest p.rest p.is_rest
+
+-- the same of the bytes that text stands for
+pub bytes_small : (text : List ℕ) → IsSome (bytes_of_hex text) → are_bytes (bytes_in text) ≡ true
+bytes_small text some =
+    let bytes = some_of (bytes_of_hex text) some in
+    ap (λ o. are_bytes (unwrap_or o [])) bytes.1 ∙ decoded_small text bytes.0 bytes.1

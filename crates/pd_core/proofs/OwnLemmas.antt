@@ -4,22 +4,25 @@ use Rattle.std.specs.Option.{option_map, option_and_then, unwrap_or}
 use Rattle.std.specs.FinMap.{get, insert, remove, len}
 use Rattle.std.specs.Prelude.{Result, IsErrAnd}
 use Rattle.std.proofs.lemmas.Bool.{cases_eq}
+use Rattle.std.proofs.lemmas.Option.{same_Some}
 use Rattle.std.proofs.lemmas.Result.{err_from_is_err_and}
 use Rattle.trade_base.specs.declared.id.DsId.{DsId}
+use Rattle.trade_base.specs.declared.id.SessionId.{SessionId}
 use Rattle.trade_base.specs.declared.refusal.Refusal.{Refusal}
 use Rattle.own_model.specs.NatMap.{NatMap, picked, total}
-use Rattle.own_model.specs.Account.{charged, credited}
+use Rattle.own_model.specs.Account.{opened, charged, credited}
 use Rattle.own_model.specs.Call.{Call}
-use Rattle.own_model.specs.OwnHeap.{no_heap}
+use Rattle.own_model.specs.OwnHeap.{OwnHeap}
 use Rattle.own_model.specs.OwnState.{OwnState, Object, new_selector, pages_in}
-use Rattle.own_model.specs.OwnState.Object.{Dataspace as ADataspace}
+use Rattle.own_model.specs.OwnState.Object.{Dataspace as ADataspace, OpenSession}
 use Rattle.own_model.specs.OwnStep.{Outcome, refused, script_step, unrouted}
 use Rattle.own_model.specs.Region.{Region}
 use Rattle.own_model.specs.Reply.{Reply}
 use Rattle.own_model.specs.Reply.Reply.{Selected, Done}
+use Rattle.own_model.specs.Session.ServiceState.{Logging}
 use Rattle.own_model.specs.Use.{object_size, object_caps}
 use Rattle.own_model.specs.StartList.{Entry}
-use Rattle.own_model.proofs.NatMapLemmas.{same, get-insert_same, get-insert_other, get-remove_other, get-picked, picked-insert_some, picked-remove, picked_alike, and_then_alike, after_insert, apart_from_free, none_at, before_remove}
+use Rattle.own_model.proofs.NatMapLemmas.{same, get-insert_same, get-insert_other, get-remove_same, get-remove_other, get-picked, picked-insert_some, picked-remove, picked_alike, and_then_alike, after_insert, apart_from_free, none_at, before_remove}
 use Rattle.own_model.proofs.NewSelector.{new_selector_is, new_selector_positive, new_selector_free, new_selector_least}
 use Rattle.own_model.proofs.Totals.{len-insert_new, len-insert_at, len-remove_at, total-insert_new, total-remove, total_at_le}
 use Rattle.own_model.proofs.SoundLemmas.{step_sound}
@@ -34,32 +37,46 @@ use Rattle.dataspace_core.proofs.PartLaws.{paid_in_part}
 use Rattle.sliced_heap.specs.Laws.{KeepsHeapWindow}
 use Rattle.pd_core.specs.declared.answer.Answer.{Answer}
 use Rattle.pd_core.specs.Answer.{outcome_of}
-use Rattle.pd_core.specs.Own.{object_of, selector_of, regions_of, own_of}
-use Rattle.pd_core.specs.Sound.{rpc_weight, IsOne, AreNamed, AreBlocks, IsLawful, IsScript}
+use Rattle.pd_core.specs.Own.{Sessions, HasSessions, object_of, selector_of, regions_of, own_of}
+use Rattle.pd_core.specs.Sound.{rpc_weight, session_weight, session_at, IsOne, AreNamed, AreBlocks, IsLawful, IsScript}
 use Rattle.pd_core.proofs.NameLemmas.{Names, is_named, regions_alike, attached_alike}
 
--- what a call leaves to the sliced blocks: the heap window, the limit of RAM, and what their dataspaces hold
+-- what a call leaves to the heaps: the heap window, and what their dataspaces hold
 pub record Spares (p p' : Part) (regions regions' : Regions) : Type 0 where
   pub window : KeepsHeapWindow regions regions'
-  pub limit : (account_of p').ram_limit ≡ (account_of p).ram_limit
   pub bytes : (start : ℕ) (region : Region) → get regions.heap start ≡ Some region → get p'.spaces region.of ≡ get p.spaces region.of
 
--- what a call makes of a script's part, capabilities, regions and sliced blocks: the model's outcome, and a sound script
-pub record Makes (call : Call) (p : Part) (space : Space) (regions : Regions) (sliced : NatMap (List ℕ)) (reply : Reply) (p' : Part) (space' : Space) (regions' : Regions) (sliced' : NatMap (List ℕ)) : Type 0 where
-  pub outcome : ◌≡◌ {A = Outcome} (record { reply = reply; lines = []; next = own_of p' space'.caps regions'.user sliced' }) (script_step call (own_of p space.caps regions.user sliced))
-  pub script : IsScript p' space' regions' sliced'
+-- what a call leaves of the limits and of the sessions
+pub record Leaves (p p' : Part) (space space' : Space) : Type 0 where
+  pub ram_limit : (account_of p').ram_limit ≡ (account_of p).ram_limit
+  pub caps_limit : (account_of p').caps_limit ≡ (account_of p).caps_limit
+  pub places : space'.places ≡ space.places
+  pub sessions : (q : ℕ) → session_at (get space'.caps q) ≡ session_at (get space.caps q)
+  pub session_count : total session_weight space'.caps ≡ total session_weight space.caps
 
--- the same of a call that leaves the sliced blocks
-pub record Settles (call : Call) (p : Part) (space : Space) (regions : Regions) (sliced : NatMap (List ℕ)) (reply : Reply) (p' : Part) (space' : Space) (regions' : Regions) : Type 0 where
-  pub makes : Makes call p space regions sliced reply p' space' regions' sliced
+-- a call answers this and makes the own state of this part and these tables of what it was, whatever the sessions are
+abbrev pub DoesOwn : Call → Part → Space → Regions → OwnHeap → NatMap (List ℕ) → Reply → Part → Space → Regions → OwnHeap → NatMap (List ℕ) → Type 0
+DoesOwn call p space regions heap sliced reply p' space' regions' heap' sliced' =
+    (sessions : Sessions) → HasSessions sessions space.caps →
+    ◌≡◌ {A = Outcome} (record { reply = reply; lines = []; next = own_of sessions p' space'.caps regions'.user heap' sliced' }) (script_step call (own_of sessions p space.caps regions.user heap sliced))
+
+-- what a call makes of a script's part, capabilities, regions and heaps: the model's outcome, and a sound script
+pub record Makes (call : Call) (p : Part) (space : Space) (regions : Regions) (heap : OwnHeap) (sliced : NatMap (List ℕ)) (reply : Reply) (p' : Part) (space' : Space) (regions' : Regions) (heap' : OwnHeap) (sliced' : NatMap (List ℕ)) : Type 0 where
+  pub outcome : DoesOwn call p space regions heap sliced reply p' space' regions' heap' sliced'
+  pub script : IsScript p' space' regions' heap' sliced'
+  pub leaves : Leaves p p' space space'
+
+-- the same of a call that leaves the heaps
+pub record Settles (call : Call) (p : Part) (space : Space) (regions : Regions) (heap : OwnHeap) (sliced : NatMap (List ℕ)) (reply : Reply) (p' : Part) (space' : Space) (regions' : Regions) : Type 0 where
+  pub makes : Makes call p space regions heap sliced reply p' space' regions' heap sliced
   pub spares : Spares p p' regions regions'
 
 -- the same of what they are equal to
-pub settled : {call : Call} {p q p' : Part} {space t space' : Space} {regions r regions' : Regions} {sliced : NatMap (List ℕ)} {reply : Reply} → q ≡ p' → t ≡ space' → r ≡ regions' →
-    Settles call p space regions sliced reply p' space' regions' → Settles call p space regions sliced reply q t r
-settled {call} {p} {q} {p'} {space} {t} {space'} {regions} {r} {sliced = sliced} {reply} part caps map done =
-    subst (λ x. Settles call p space regions sliced reply x t r) (sym part)
-    (subst (λ x. Settles call p space regions sliced reply p' x r) (sym caps) (subst (λ x. Settles call p space regions sliced reply p' space' x) (sym map) done))
+pub settled : {call : Call} {p q p' : Part} {space t space' : Space} {regions r regions' : Regions} {heap : OwnHeap} {sliced : NatMap (List ℕ)} {reply : Reply} → q ≡ p' → t ≡ space' → r ≡ regions' →
+    Settles call p space regions heap sliced reply p' space' regions' → Settles call p space regions heap sliced reply q t r
+settled {call} {p} {q} {p'} {space} {t} {space'} {regions} {r} {heap = heap} {sliced} {reply} part caps map done =
+    subst (λ x. Settles call p space regions heap sliced reply x t r) (sym part)
+    (subst (λ x. Settles call p space regions heap sliced reply p' x r) (sym caps) (subst (λ x. Settles call p space regions heap sliced reply p' space' x) (sym map) done))
 
 -- a map that stays
 pub same_window : {regions : Regions} → KeepsHeapWindow regions regions
@@ -72,93 +89,131 @@ refused_told answered {refusal} {b = b} err same =
     ap (outcome_of answered) same ∙ ap (λ r. outcome_of r b) told.1 ∙ ap (refused b) told.2
 
 -- what holds of a capability's object, by kinds: a dataspace's depends on its bytes alone
-object_alike : (p p' : Part) (cap : Cap) → ((ds : DsId) → cap ≡ Dataspace ds → get p'.spaces ds.0 ≡ get p.spaces ds.0) → object_of p' cap ≡ object_of p cap
-object_alike p p' (Dataspace ds) same = ap (option_map ADataspace) (same ds refl)
-object_alike p p' RpcObject same = refl
-object_alike p p' (Session server session) same = refl
-
--- where there is a dataspace, there are bytes
-some_bytes : (o : Option (List ℕ)) → IsSome (option_map ADataspace o) → IsSome o
-some_bytes None h = h
-some_bytes (Some bytes) h = refl
+object_alike : (sessions : Sessions) (p p' : Part) (cap : Cap) → ((ds : DsId) → cap ≡ Dataspace ds → get p'.spaces ds.0 ≡ get p.spaces ds.0) → object_of sessions p' cap ≡ object_of sessions p cap
+object_alike sessions p p' (Dataspace ds) alike = ap (option_map ADataspace) (alike ds refl)
+object_alike sessions p p' RpcObject alike = refl
+object_alike sessions p p' (Session server session) alike = refl
 
 -- what is there is its value
 pub value_of : (o : Option (List ℕ)) → IsSome o → o ≡ Some (unwrap_or o [])
 value_of None h = absurd (true≢false (sym h))
 value_of (Some bytes) h = refl
 
-module _ (p : Part) (space : Space) (regions : Regions) (sliced : NatMap (List ℕ)) (sound : IsScript p space regions sliced) where
-  -- the own state before the change
-  abbrev pub before : OwnState
-  before = own_of p space.caps regions.user sliced
+-- what is made of something is there where that is
+map_some : {X Y : Type 0} (f : X → Y) (o : Option X) → is_some (option_map f o) ≡ is_some o
+map_some f None = refl
+map_some f (Some x) = refl
 
-  -- what the own state has under a selector is the object of the capability there
-  pub object_is : (s : ℕ) → get before.selectors s ≡ option_and_then (object_of p) (get space.caps s)
-  unfolding own_of
-  object_is s = get-picked (object_of p) space.caps s
+-- there is an object where there is a capability, and nowhere else
+has_object : (sessions : Sessions) (p : Part) (o : Option Cap) → ((ds : DsId) → o ≡ Some (Dataspace ds) → IsSome (get p.spaces ds.0)) →
+    ((server : ℕ) (session : SessionId) → o ≡ Some (Session server session) → IsSome (sessions server session.0)) → is_some (option_and_then (object_of sessions p) o) ≡ is_some o
+has_object sessions p None there ready = refl
+has_object sessions p (Some (Dataspace ds)) there ready = map_some ADataspace (get p.spaces ds.0) ∙ there ds refl
+has_object sessions p (Some RpcObject) there ready = refl
+has_object sessions p (Some (Session server session)) there ready = map_some OpenSession (sessions server session.0) ∙ ready server session refl
 
+-- ---- sessions
+
+-- sessions of which each is open
+abbrev pub all_sessions : Sessions
+all_sessions server session = Some (record { label = []; account = opened 0 0; state = Logging [] })
+
+-- a capability of a session is one
+session_is : (o : Option Cap) (server : ℕ) (session : SessionId) → session_at o ≡ Some (server, session) → o ≡ Some (Session server session)
+session_is None server session h = cc
+session_is (Some (Dataspace ds)) server session h = cc
+session_is (Some RpcObject) server session h = cc
+session_is (Some (Session a b)) server session h =
+    let e : (a, b) ≡ (server, session) = same_Some (a, b) (server, session) h in ap (λ (x : ℕ × SessionId). Some (Session x.0 x.1)) e
+
+-- sessions that are open after a call were before it
+pub open_before : (sessions : Sessions) (caps caps' : NatMap Cap) → ((q : ℕ) → session_at (get caps' q) ≡ session_at (get caps q)) → HasSessions sessions caps' → HasSessions sessions caps
+open_before sessions caps caps' alike ready q server session there =
+    ready q server session (session_is (get caps' q) server session (alike q ∙ ap session_at there))
+
+-- what is no session counts as none
+no_weight : (cap : Cap) → session_at (Some cap) ≡ None → session_weight cap ≡ 0
+no_weight (Dataspace ds) plain = refl
+no_weight RpcObject plain = refl
+no_weight (Session server session) plain = cc
+
+module _ (p : Part) (space : Space) (regions : Regions) (heap : OwnHeap) (sliced : NatMap (List ℕ)) (sound : IsScript p space regions heap sliced) where
   -- the part has the bytes of a dataspace that a selector names
   pub is_held : (s : ℕ) (ds : DsId) → get space.caps s ≡ Some (Dataspace ds) → IsSome (get p.spaces ds.0)
-  is_held s ds names = some_bytes _ (sound.named.there s (Dataspace ds) names)
+  is_held s ds names = sound.named.there s ds names
 
   -- they are these
   pub has_bytes : (s : ℕ) (ds : DsId) → get space.caps s ≡ Some (Dataspace ds) → get p.spaces ds.0 ≡ Some (bytes_of p ds.0)
   has_bytes s ds names = value_of (get p.spaces ds.0) (is_held s ds names)
 
-  -- and what the own state has under the selector
-  pub names_object : (s : ℕ) (ds : DsId) → get space.caps s ≡ Some (Dataspace ds) → get before.selectors s ≡ Some (ADataspace (bytes_of p ds.0))
-  names_object s ds names = object_is s ∙ ap (option_and_then (object_of p)) names ∙ ap (option_map ADataspace) (has_bytes s ds names)
+  module _ (sessions : Sessions) where
+    -- the own state before the change
+    abbrev pub before : OwnState
+    before = own_of sessions p space.caps regions.user heap sliced
 
-  -- which are no more than the machine's
+    -- what the own state has under a selector is the object of the capability there
+    pub object_is : (s : ℕ) → get before.selectors s ≡ option_and_then (object_of sessions p) (get space.caps s)
+    unfolding own_of
+    object_is s = get-picked (object_of sessions p) space.caps s
+
+    -- and what the own state has under the selector
+    pub names_object : (s : ℕ) (ds : DsId) → get space.caps s ≡ Some (Dataspace ds) → get before.selectors s ≡ Some (ADataspace (bytes_of p ds.0))
+    names_object s ds names = object_is s ∙ ap (option_and_then (object_of sessions p)) names ∙ ap (option_map ADataspace) (has_bytes s ds names)
+
+    module _ (ready : HasSessions sessions space.caps) where
+      -- the own state has the selectors of the space
+      selects : (q : ℕ) → is_some (get before.selectors q) ≡ is_some (get space.caps q)
+      selects q = ap is_some (object_is q) ∙ has_object sessions p (get space.caps q) (sound.named.there q) (ready q)
+
+      -- the own state's new selector is the space's
+      pub same_new_selector : new_selector before.selectors ≡ new_selector space.caps
+      same_new_selector =
+          new_selector_is _ _ (new_selector_positive space.caps)
+          (none_at _ _ (selects _ ∙ ap is_some (new_selector_free space.caps)))
+          (λ t positive below. selects t ∙ new_selector_least space.caps t positive below)
+
+  -- the bytes of a dataspace that a selector names are no more than the machine's
   pub few_bytes : (s : ℕ) (ds : DsId) → get space.caps s ≡ Some (Dataspace ds) → length (bytes_of p ds.0) ≤ regions.pages * 4096
   unfolding own_of
   few_bytes s ds names =
-      omega (arith, total_at_le object_size before.selectors s (ADataspace (bytes_of p ds.0)) (names_object s ds names), sound.lawful.uses.ram, sound.lawful.within.ram, sound.ram)
-
-  -- there is an object where there is a capability, and nowhere else
-  has_object : (o : Option Cap) → ((cap : Cap) → o ≡ Some cap → IsSome (object_of p cap)) → is_some (option_and_then (object_of p) o) ≡ is_some o
-  has_object None there = refl
-  has_object (Some cap) there = there cap refl
-
-  -- the own state has the selectors of the space
-  selects : (q : ℕ) → is_some (get before.selectors q) ≡ is_some (get space.caps q)
-  selects q = ap is_some (object_is q) ∙ has_object (get space.caps q) (sound.named.there q)
-
-  -- the own state's new selector is the space's
-  pub same_new_selector : new_selector before.selectors ≡ new_selector space.caps
-  same_new_selector =
-      new_selector_is _ _ (new_selector_positive space.caps)
-      (none_at _ _ (selects _ ∙ ap is_some (new_selector_free space.caps)))
-      (λ t positive below. selects t ∙ new_selector_least space.caps t positive below)
+      let law = sound.lawful all_sessions (λ q server session there. refl) in
+      omega (arith, total_at_le object_size (before all_sessions).selectors s (ADataspace (bytes_of p ds.0)) (names_object all_sessions s ds names), law.uses.ram, law.within.ram, sound.ram)
 
   module _ (call : Call) where
     -- what the call makes of the own state is lawful, as it was before
-    pub kept : (o : Outcome) → o ≡ script_step call before → IsLawful o.next
+    pub kept : (reply : Reply) (p' : Part) (space' : Space) (regions' : Regions) (heap' : OwnHeap) (sliced' : NatMap (List ℕ)) → ((q : ℕ) → session_at (get space'.caps q) ≡ session_at (get space.caps q)) →
+        DoesOwn call p space regions heap sliced reply p' space' regions' heap' sliced' →
+        (sessions : Sessions) → HasSessions sessions space'.caps → IsLawful (own_of sessions p' space'.caps regions'.user heap' sliced')
     unfolding own_of
-    kept o is = let entry : Entry = unrouted in subst (λ (x : Outcome). IsLawful x.next) (sym is) (record {
-      sound = step_sound entry call before sound.lawful.sound;
-      uses = run_uses entry (call ∷ []) before sound.lawful.uses;
-      within = step_within entry call before sound.lawful.within;
-    })
+    kept reply p' space' regions' heap' sliced' alike outcome sessions ready =
+        let entry : Entry = unrouted in
+        let was = open_before sessions space.caps space'.caps alike ready in
+        let law = sound.lawful sessions was in
+        subst (λ (x : Outcome). IsLawful x.next) (sym (outcome sessions was)) (record {
+          sound = step_sound entry call (before sessions) law.sound;
+          uses = run_uses entry (call ∷ []) (before sessions) law.uses;
+          within = step_within entry call (before sessions) law.within;
+        })
 
     -- ---- a new capability
 
     module _ (n : ℕ) (spaces : NatMap (List ℕ)) (cap : Cap) (object : Object)
         (still : (key : ℕ) → IsSome (get p.spaces key) → get spaces key ≡ get p.spaces key)
         (fresh : (ds : DsId) → cap ≡ Dataspace ds → get p.spaces ds.0 ≡ None)
-        (counts : len spaces + rpc_weight cap ≡ len p.spaces + 1) where
+        (counts : len spaces + rpc_weight cap ≡ len p.spaces + 1)
+        (plain : session_at (Some cap) ≡ None) (present : (ds : DsId) → cap ≡ Dataspace ds → IsSome (get spaces ds.0)) where
       -- the part with the charge, and these dataspaces
       abbrev pub charged_part : Part
       charged_part = record { account = Some (charged (account_of p) n 1); spaces = spaces }
 
-      module _ (new : object_of charged_part cap ≡ Some object) (s : ℕ) (least : s ≡ new_selector space.caps) where
+      module _ (new : (sessions : Sessions) → object_of sessions charged_part cap ≡ Some object) (s : ℕ) (least : s ≡ new_selector space.caps) where
         -- the new selector named nothing before
         free_selector : get space.caps s ≡ None
         free_selector = rw least (new_selector_free space.caps)
 
         -- what was named keeps its object
-        object_stays : (q : ℕ) (c : Cap) → get space.caps q ≡ Some c → object_of charged_part c ≡ object_of p c
-        object_stays q c there = object_alike p charged_part c (λ ds is. still ds.0 (is_held q ds (there ∙ ap (λ x. Some x) is)))
+        object_stays : (sessions : Sessions) (q : ℕ) (c : Cap) → get space.caps q ≡ Some c → object_of sessions charged_part c ≡ object_of sessions p c
+        object_stays sessions q c there = object_alike sessions p charged_part c (λ ds is. still ds.0 (is_held q ds (there ∙ ap (λ x. Some x) is)))
 
         -- no selector named the new dataspace
         unnamed : (q : ℕ) (a b : DsId) → a.0 ≡ b.0 → cap ≡ Dataspace a → get space.caps q ≢ Some (Dataspace b)
@@ -177,11 +232,11 @@ module _ (p : Part) (space : Space) (regions : Regions) (sliced : NatMap (List �
           ]
         ]
 
-        -- each capability has an object, and so has the new one
-        grown_there : (q : ℕ) (c : Cap) → get (insert space.caps s cap) q ≡ Some c → IsSome (object_of charged_part c)
-        grown_there q c there = elim (after_insert space.caps s cap q c there) [
-          | inl here ↦ ap (λ x. is_some (object_of charged_part x)) here.1 ∙ ap is_some new
-          | inr old ↦ ap is_some (object_stays q c old.1) ∙ sound.named.there q c old.1
+        -- each dataspace is there, and so is the new one
+        grown_there : (q : ℕ) (ds : DsId) → get (insert space.caps s cap) q ≡ Some (Dataspace ds) → IsSome (get spaces ds.0)
+        grown_there q ds there = elim (after_insert space.caps s cap q (Dataspace ds) there) [
+          | inl here ↦ present ds (sym here.1)
+          | inr old ↦ let held = is_held q ds old.1 in ap is_some (still ds.0 held) ∙ held
         ]
 
         -- the new selector names no block, and neither does another
@@ -196,43 +251,57 @@ module _ (p : Part) (space : Space) (regions : Regions) (sliced : NatMap (List �
         named_apart q start region there names =
             get-insert_other space.caps s cap q (apart_from_free space.caps s q free_selector (ap is_some (is_named space.caps region.of q names).there))
 
+        -- the sessions stay
+        grown_sessions : (q : ℕ) → session_at (get (insert space.caps s cap) q) ≡ session_at (get space.caps q)
+        grown_sessions q = elim (cases_eq q s) [
+          | inl at ↦ ap session_at (get-insert_same space.caps s cap q at) ∙ plain ∙ sym (ap session_at (ap (get space.caps) at ∙ free_selector))
+          | inr apart ↦ ap session_at (get-insert_other space.caps s cap q apart)
+        ]
+
+        -- and there are as many
+        grown_count : total session_weight (insert space.caps s cap) ≡ total session_weight space.caps
+        grown_count = omega (arith, total-insert_new session_weight space.caps s cap free_selector, no_weight cap plain)
+
         -- the own state has the object under its new selector
-        grown_own : own_of charged_part (insert space.caps s cap) regions.user sliced
-            ≡ record before { account = charged before.account n 1; selectors = insert before.selectors (new_selector before.selectors) object }
+        grown_own : (sessions : Sessions) → HasSessions sessions space.caps → own_of sessions charged_part (insert space.caps s cap) regions.user heap sliced
+            ≡ record (before sessions) { account = charged (before sessions).account n 1; selectors = insert (before sessions).selectors (new_selector (before sessions).selectors) object }
         unfolding own_of
-        grown_own =
-            let names = picked-insert_some (object_of charged_part) space.caps s cap object new
-            ∙ ap (λ m. insert m s object) (picked_alike (object_of charged_part) (object_of p) space.caps object_stays)
-            ∙ ap (λ k. insert (picked (object_of p) space.caps) k object) (least ∙ sym same_new_selector) in
+        grown_own sessions ready =
+            let names = picked-insert_some (object_of sessions charged_part) space.caps s cap object (new sessions)
+            ∙ ap (λ m. insert m s object) (picked_alike (object_of sessions charged_part) (object_of sessions p) space.caps (object_stays sessions))
+            ∙ ap (λ k. insert (picked (object_of sessions p) space.caps) k object) (least ∙ sym (same_new_selector sessions ready)) in
             let attached = regions_alike space.caps (insert space.caps s cap) regions.user grown_one sound.attached named_apart in
-            λ i. record { account = charged (account_of p) n 1; selectors = names i; regions = attached i; heap = no_heap; sliced = sliced; gone = false }
+            λ i. record { account = charged (account_of p) n 1; selectors = names i; regions = attached i; heap = heap; sliced = sliced; gone = false }
 
         -- so a call that does this settles
-        pub grows : script_step call before ≡ record {
-          reply = Selected (new_selector before.selectors);
+        pub grows : ((sessions : Sessions) → script_step call (before sessions) ≡ record {
+          reply = Selected (new_selector (before sessions).selectors);
           lines = [];
-          next = record before { account = charged before.account n 1; selectors = insert before.selectors (new_selector before.selectors) object };
-        } → Settles call p space regions sliced (Selected s) charged_part (with_cap space s cap) regions
+          next = record (before sessions) { account = charged (before sessions).account n 1; selectors = insert (before sessions).selectors (new_selector (before sessions).selectors) object };
+        }) → Settles call p space regions heap sliced (Selected s) charged_part (with_cap space s cap) regions
         grows is =
-            let outcome : ◌≡◌ {A = Outcome} (record { reply = Selected s; lines = []; next = own_of charged_part (insert space.caps s cap) regions.user sliced }) (script_step call before)
-            = (λ i. record { reply = Selected ((least ∙ sym same_new_selector) i); lines = []; next = grown_own i }) ∙ sym is in
+            let outcome : DoesOwn call p space regions heap sliced (Selected s) charged_part (with_cap space s cap) regions heap sliced
+            = λ sessions ready. (λ i. record { reply = Selected ((least ∙ sym (same_new_selector sessions ready)) i); lines = []; next = grown_own sessions ready i }) ∙ sym (is sessions) in
             let bytes : (start : ℕ) (region : Region) → get regions.heap start ≡ Some region → get spaces region.of ≡ get p.spaces region.of
             = (λ start region there. still region.of (sound.blocks.held start region there)) in
-            let script : IsScript charged_part (with_cap space s cap) regions sliced = record {
+            let script : IsScript charged_part (with_cap space s cap) regions heap sliced = record {
               named = record { there = grown_there; one = grown_one };
               paid = record {
                 is_open = refl;
-                named = omega (arith, len-insert_new space.caps s cap free_selector, sound.paid.named);
+                named = omega (arith, len-insert_new space.caps s cap free_selector, sound.paid.named, grown_count);
                 spare = omega (arith, counts, sound.paid.spare, total-insert_new rpc_weight space.caps s cap free_selector);
-                placed = sound.paid.placed;
+                placed = omega (arith, sound.paid.placed, grown_count);
               };
               ram = sound.ram;
               attached = attached_alike space.caps (insert space.caps s cap) regions.user grown_one sound.attached named_apart;
               most = sound.most;
               blocks = record { held = λ start region there. ap is_some (bytes start region there) ∙ sound.blocks.held start region there; unnamed = grown_unnamed };
-              lawful = kept _ outcome;
+              lawful = kept (Selected s) charged_part (with_cap space s cap) regions heap sliced grown_sessions outcome;
             } in
-            record { makes = record { outcome = outcome; script = script }; spares = record { window = same_window; limit = refl; bytes = bytes } }
+            record {
+              makes = record { outcome = outcome; script = script; leaves = record { ram_limit = refl; caps_limit = refl; places = refl; sessions = grown_sessions; session_count = grown_count } };
+              spares = record { window = same_window; bytes = bytes };
+            }
 
     -- ---- a capability that goes
 
@@ -240,14 +309,14 @@ module _ (p : Part) (space : Space) (regions : Regions) (sliced : NatMap (List �
         (still : (q : ℕ) (ds : DsId) → get (remove space.caps s) q ≡ Some (Dataspace ds) → get spaces ds.0 ≡ get p.spaces ds.0)
         (left : (start : ℕ) (region : Region) → get regions'.user start ≡ Some region → (get regions.user start ≡ Some region) × (selector_of space.caps region.of ≢ Some s))
         (spared : (start : ℕ) (region : Region) → get regions.heap start ≡ Some region → get spaces region.of ≡ get p.spaces region.of)
-        (counts : len spaces + 1 ≡ len p.spaces + rpc_weight cap) (most : regions'.most ≡ regions.most) (window : KeepsHeapWindow regions regions') where
+        (counts : len spaces + 1 ≡ len p.spaces + rpc_weight cap) (most : regions'.most ≡ regions.most) (window : KeepsHeapWindow regions regions') (plain : session_at (Some cap) ≡ None) where
       -- the part with the credit, and these dataspaces
       abbrev pub credited_part : Part
       credited_part = record { account = Some (credited (account_of p) n 1); spaces = spaces }
 
       -- what is named still keeps its object
-      object_left : (q : ℕ) (c : Cap) → get (remove space.caps s) q ≡ Some c → object_of credited_part c ≡ object_of p c
-      object_left q c here = object_alike p credited_part c (λ ds is. still q ds (here ∙ ap (λ x. Some x) is))
+      object_left : (sessions : Sessions) (q : ℕ) (c : Cap) → get (remove space.caps s) q ≡ Some c → object_of sessions credited_part c ≡ object_of sessions p c
+      object_left sessions q c here = object_alike sessions p credited_part c (λ ds is. still q ds (here ∙ ap (λ x. Some x) is))
 
       -- a dataspace still has one selector at most
       shrunk_one : IsOne (remove space.caps s)
@@ -261,32 +330,43 @@ module _ (p : Part) (space : Space) (regions : Regions) (sliced : NatMap (List �
       left_apart : (q start : ℕ) (region : Region) → get regions'.user start ≡ Some region → selector_of space.caps region.of ≡ Some q → get (remove space.caps s) q ≡ get space.caps q
       left_apart q start region here names = get-remove_other space.caps s q (λ e. (left start region here).1 (names ∙ ap (λ k. Some k) e))
 
+      -- the sessions stay
+      shrunk_sessions : (q : ℕ) → session_at (get (remove space.caps s) q) ≡ session_at (get space.caps q)
+      shrunk_sessions q = elim (cases_eq q s) [
+        | inl at ↦ ap session_at (get-remove_same space.caps s q at) ∙ sym plain ∙ sym (ap session_at (ap (get space.caps) at ∙ there))
+        | inr apart ↦ ap session_at (get-remove_other space.caps s q apart)
+      ]
+
+      -- and there are as many
+      shrunk_count : total session_weight (remove space.caps s) ≡ total session_weight space.caps
+      shrunk_count = omega (arith, total-remove session_weight space.caps s cap there, no_weight cap plain)
+
       -- the own state has nothing under the selector
-      shrunk_own : own_of credited_part (remove space.caps s) regions'.user sliced
-          ≡ record before { account = credited before.account n 1; selectors = remove before.selectors s; regions = regions_of space.caps regions'.user }
+      shrunk_own : (sessions : Sessions) → own_of sessions credited_part (remove space.caps s) regions'.user heap sliced
+          ≡ record (before sessions) { account = credited (before sessions).account n 1; selectors = remove (before sessions).selectors s; regions = regions_of space.caps regions'.user }
       unfolding own_of
-      shrunk_own =
-          let names = picked_alike (object_of credited_part) (object_of p) (remove space.caps s) object_left ∙ picked-remove (object_of p) space.caps s in
+      shrunk_own sessions =
+          let names = picked_alike (object_of sessions credited_part) (object_of sessions p) (remove space.caps s) (object_left sessions) ∙ picked-remove (object_of sessions p) space.caps s in
           let attached = regions_alike space.caps (remove space.caps s) regions'.user shrunk_one left_named left_apart in
-          λ i. record { account = credited (account_of p) n 1; selectors = names i; regions = attached i; heap = no_heap; sliced = sliced; gone = false }
+          λ i. record { account = credited (account_of p) n 1; selectors = names i; regions = attached i; heap = heap; sliced = sliced; gone = false }
 
       -- so a call that does this settles
-      pub shrinks : script_step call before ≡ record {
+      pub shrinks : ((sessions : Sessions) → script_step call (before sessions) ≡ record {
         reply = Done;
         lines = [];
-        next = record before { account = credited before.account n 1; selectors = remove before.selectors s; regions = regions_of space.caps regions'.user };
-      } → Settles call p space regions sliced Done credited_part (without_cap space s) regions'
+        next = record (before sessions) { account = credited (before sessions).account n 1; selectors = remove (before sessions).selectors s; regions = regions_of space.caps regions'.user };
+      }) → Settles call p space regions heap sliced Done credited_part (without_cap space s) regions'
       shrinks is =
-          let outcome : ◌≡◌ {A = Outcome} (record { reply = Done; lines = []; next = own_of credited_part (remove space.caps s) regions'.user sliced }) (script_step call before)
-          = (λ i. record { reply = Done; lines = []; next = shrunk_own i }) ∙ sym is in
+          let outcome : DoesOwn call p space regions heap sliced Done credited_part (without_cap space s) regions' heap sliced
+          = λ sessions ready. (λ i. record { reply = Done; lines = []; next = shrunk_own sessions i }) ∙ sym (is sessions) in
           let shorter = len-remove_at space.caps s cap there in
-          let script : IsScript credited_part (without_cap space s) regions' sliced = record {
-            named = record { there = λ q c here. ap is_some (object_left q c here) ∙ sound.named.there q c (before_remove space.caps s q c here); one = shrunk_one };
+          let script : IsScript credited_part (without_cap space s) regions' heap sliced = record {
+            named = record { there = λ q ds here. ap is_some (still q ds here) ∙ is_held q ds (before_remove space.caps s q (Dataspace ds) here); one = shrunk_one };
             paid = record {
               is_open = refl;
-              named = omega (arith, shorter, sound.paid.named);
+              named = omega (arith, shorter, sound.paid.named, shrunk_count);
               spare = omega (arith, counts, sound.paid.spare, total-remove rpc_weight space.caps s cap there);
-              placed = sound.paid.placed;
+              placed = omega (arith, sound.paid.placed, shrunk_count);
             };
             ram = rw window.pages sound.ram;
             attached = attached_alike space.caps (remove space.caps s) regions'.user shrunk_one left_named left_apart;
@@ -295,15 +375,18 @@ module _ (p : Part) (space : Space) (regions : Regions) (sliced : NatMap (List �
               held = λ start region here. ap is_some (spared start region here) ∙ sound.blocks.held start region here;
               unnamed = λ start q region ds here names. sound.blocks.unnamed start q region ds here (before_remove space.caps s q (Dataspace ds) names);
             });
-            lawful = kept _ outcome;
+            lawful = kept Done credited_part (without_cap space s) regions' heap sliced shrunk_sessions outcome;
           } in
-          record { makes = record { outcome = outcome; script = script }; spares = record { window = window; limit = refl; bytes = spared } }
+          record {
+            makes = record { outcome = outcome; script = script; leaves = record { ram_limit = refl; caps_limit = refl; places = refl; sessions = shrunk_sessions; session_count = shrunk_count } };
+            spares = record { window = window; bytes = spared };
+          }
 
     -- ---- other regions
 
     -- a call that changes the regions settles, if selectors name their dataspaces
     pub remaps : (regions' : Regions) (reply : Reply) → regions'.most ≡ regions.most → KeepsHeapWindow regions regions' → AreNamed space.caps regions'.user →
-        ◌≡◌ {A = Outcome} (record { reply = reply; lines = []; next = own_of p space.caps regions'.user sliced }) (script_step call before) → Settles call p space regions sliced reply p space regions'
+        DoesOwn call p space regions heap sliced reply p space regions' heap sliced → Settles call p space regions heap sliced reply p space regions'
     remaps regions' reply most window attached is = record {
       makes = record {
         outcome = is;
@@ -314,10 +397,11 @@ module _ (p : Part) (space : Space) (regions : Regions) (sliced : NatMap (List �
           attached = attached;
           most = most ∙ sound.most;
           blocks = rw window.heap sound.blocks;
-          lawful = kept _ is;
+          lawful = kept reply p space regions' heap sliced (λ q. refl) is;
         };
+        leaves = record { ram_limit = refl; caps_limit = refl; places = refl; sessions = λ q. refl; session_count = refl };
       };
-      spares = record { window = window; limit = refl; bytes = λ start region there. refl };
+      spares = record { window = window; bytes = λ start region there. refl };
     }
 
     -- ---- other bytes
@@ -332,42 +416,41 @@ module _ (p : Part) (space : Space) (regions : Regions) (sliced : NatMap (List �
       written = record p { spaces = insert p.spaces key over }
 
       -- other selectors keep their objects
-      object_other : (q : ℕ) (c : Cap) → q ≢ s → get space.caps q ≡ Some c → object_of written c ≡ object_of p c
-      object_other q c apart there = object_alike p written c (λ d is.
+      object_other : (sessions : Sessions) (q : ℕ) (c : Cap) → q ≢ s → get space.caps q ≡ Some c → object_of sessions written c ≡ object_of sessions p c
+      object_other sessions q c apart there = object_alike sessions p written c (λ d is.
           get-insert_other p.spaces key over d.0 (λ e. apart (sound.named.one q s d names.ds (there ∙ ap (λ x. Some x) is) names.there (e ∙ sym names.same))))
 
       -- the dataspace's selector names the new bytes
-      object_here : (q : ℕ) → q ≡ s → option_and_then (object_of written) (get space.caps q) ≡ Some (ADataspace over)
-      object_here q at =
-          ap (option_and_then (object_of written)) (ap (get space.caps) at ∙ names.there) ∙ ap (option_map ADataspace) (get-insert_same p.spaces key over names.ds.0 names.same)
+      object_here : (sessions : Sessions) (q : ℕ) → q ≡ s → option_and_then (object_of sessions written) (get space.caps q) ≡ Some (ADataspace over)
+      object_here sessions q at =
+          ap (option_and_then (object_of sessions written)) (ap (get space.caps) at ∙ names.there) ∙ ap (option_map ADataspace) (get-insert_same p.spaces key over names.ds.0 names.same)
 
       -- and the others what they did
-      written_at : (q : ℕ) → get (picked (object_of written) space.caps) q ≡ get (insert (picked (object_of p) space.caps) s (ADataspace over)) q
-      written_at q = get-picked (object_of written) space.caps q ∙ (elim (cases_eq q s) [
-        | inl at ↦ object_here q at ∙ sym (get-insert_same (picked (object_of p) space.caps) s (ADataspace over) q at)
+      written_at : (sessions : Sessions) (q : ℕ) → get (picked (object_of sessions written) space.caps) q ≡ get (insert (picked (object_of sessions p) space.caps) s (ADataspace over)) q
+      written_at sessions q = get-picked (object_of sessions written) space.caps q ∙ (elim (cases_eq q s) [
+        | inl at ↦ object_here sessions q at ∙ sym (get-insert_same (picked (object_of sessions p) space.caps) s (ADataspace over) q at)
         | inr apart ↦
-            and_then_alike (object_of written) (object_of p) (get space.caps q) (λ c there. object_other q c apart there)
-            ∙ sym (get-picked (object_of p) space.caps q) ∙ sym (get-insert_other (picked (object_of p) space.caps) s (ADataspace over) q apart)
+            and_then_alike (object_of sessions written) (object_of sessions p) (get space.caps q) (λ c there. object_other sessions q c apart there)
+            ∙ sym (get-picked (object_of sessions p) space.caps q) ∙ sym (get-insert_other (picked (object_of sessions p) space.caps) s (ADataspace over) q apart)
       ])
 
-      -- each capability has an object still
-      written_there : (q : ℕ) (c : Cap) → get space.caps q ≡ Some c → IsSome (object_of written c)
-      written_there q c there = elim (cases_eq q s) [
-        | inl at ↦ ap is_some (sym (ap (option_and_then (object_of written)) there) ∙ object_here q at)
-        | inr apart ↦ ap is_some (object_other q c apart there) ∙ sound.named.there q c there
+      -- each dataspace is there still
+      written_there : (q : ℕ) (ds : DsId) → get space.caps q ≡ Some (Dataspace ds) → IsSome (get written.spaces ds.0)
+      written_there q ds there = elim (cases_eq ds.0 key) [
+        | inl at ↦ ap is_some (get-insert_same p.spaces key over ds.0 at)
+        | inr apart ↦ ap is_some (get-insert_other p.spaces key over ds.0 apart) ∙ is_held q ds there
       ]
 
       -- so a call that does this settles
-      pub rewrites : script_step call before ≡ record { reply = Done; lines = []; next = record before { selectors = insert before.selectors s (ADataspace over) } } →
-          Settles call p space regions sliced Done written space regions
+      pub rewrites : ((sessions : Sessions) → script_step call (before sessions) ≡ record { reply = Done; lines = []; next = record (before sessions) { selectors = insert (before sessions).selectors s (ADataspace over) } }) →
+          Settles call p space regions heap sliced Done written space regions
       unfolding own_of
       rewrites is =
-          let selectors = same _ _ written_at in
-          let outcome : ◌≡◌ {A = Outcome} (record { reply = Done; lines = []; next = own_of written space.caps regions.user sliced }) (script_step call before)
-          = (λ i. record { reply = Done; lines = []; next = record before { selectors = selectors i } }) ∙ sym is in
+          let outcome : DoesOwn call p space regions heap sliced Done written space regions heap sliced
+          = λ sessions ready. (λ i. record { reply = Done; lines = []; next = record (before sessions) { selectors = same _ _ (written_at sessions) i } }) ∙ sym (is sessions) in
           let bytes : (start : ℕ) (region : Region) → get regions.heap start ≡ Some region → get written.spaces region.of ≡ get p.spaces region.of
           = (λ start region there. get-insert_other p.spaces key over region.of (λ e. sound.blocks.unnamed start s region names.ds there names.there (names.same ∙ sym e))) in
-          let script : IsScript written space regions sliced = record {
+          let script : IsScript written space regions heap sliced = record {
             named = record { there = written_there; one = sound.named.one };
             paid = record {
               is_open = sound.paid.is_open;
@@ -379,37 +462,43 @@ module _ (p : Part) (space : Space) (regions : Regions) (sliced : NatMap (List �
             attached = sound.attached;
             most = sound.most;
             blocks = record { held = λ start region there. ap is_some (bytes start region there) ∙ sound.blocks.held start region there; unnamed = sound.blocks.unnamed };
-            lawful = kept _ outcome;
+            lawful = kept Done written space regions heap sliced (λ q. refl) outcome;
           } in
-          record { makes = record { outcome = outcome; script = script }; spares = record { window = same_window; limit = refl; bytes = bytes } }
+          record {
+            makes = record { outcome = outcome; script = script; leaves = record { ram_limit = refl; caps_limit = refl; places = refl; sessions = λ q. refl; session_count = refl } };
+            spares = record { window = same_window; bytes = bytes };
+          }
 
-    -- ---- other sliced blocks
+    -- ---- other blocks
 
-    module _ (p' : Part) (regions' : Regions) (sliced' : NatMap (List ℕ)) (reply : Reply)
+    module _ (p' : Part) (regions' : Regions) (heap' : OwnHeap) (sliced' : NatMap (List ℕ)) (reply : Reply)
         (still : (q : ℕ) (ds : DsId) → get space.caps q ≡ Some (Dataspace ds) → get p'.spaces ds.0 ≡ get p.spaces ds.0)
         (user : regions'.user ≡ regions.user) (most : regions'.most ≡ regions.most) (pages : regions'.pages ≡ regions.pages)
         (is_open : IsSome p'.account) (ram_limit : (account_of p').ram_limit ≡ (account_of p).ram_limit) (caps_limit : (account_of p').caps_limit ≡ (account_of p).caps_limit)
         (spare : len p'.spaces + total rpc_weight space.caps ≤ (account_of p').caps_used) (blocks : AreBlocks p' space.caps regions'.heap) where
       -- what is named keeps its object
-      object_kept : (q : ℕ) (c : Cap) → get space.caps q ≡ Some c → object_of p' c ≡ object_of p c
-      object_kept q c there = object_alike p p' c (λ ds is. still q ds (there ∙ ap (λ x. Some x) is))
+      object_kept : (sessions : Sessions) (q : ℕ) (c : Cap) → get space.caps q ≡ Some c → object_of sessions p' c ≡ object_of sessions p c
+      object_kept sessions q c there = object_alike sessions p p' c (λ ds is. still q ds (there ∙ ap (λ x. Some x) is))
 
-      -- a call that changes the account and the sliced blocks alone settles
-      pub slices : script_step call before ≡ record { reply = reply; lines = []; next = record before { account = account_of p'; sliced = sliced' } } →
-          Makes call p space regions sliced reply p' space regions' sliced'
+      -- a call that changes the account and the heaps alone settles
+      pub slices : ((sessions : Sessions) → script_step call (before sessions) ≡ record { reply = reply; lines = []; next = record (before sessions) { account = account_of p'; heap = heap'; sliced = sliced' } }) →
+          Makes call p space regions heap sliced reply p' space regions' heap' sliced'
       unfolding own_of
       slices is =
-          let selectors = picked_alike (object_of p') (object_of p) space.caps object_kept in
+          let selectors : (sessions : Sessions) → picked (object_of sessions p') space.caps ≡ picked (object_of sessions p) space.caps
+          = λ sessions. picked_alike (object_of sessions p') (object_of sessions p) space.caps (object_kept sessions) in
           let attached = ap (regions_of space.caps) user in
-          let outcome : ◌≡◌ {A = Outcome} (record { reply = reply; lines = []; next = own_of p' space.caps regions'.user sliced' }) (script_step call before)
-          = (λ i. record { reply = reply; lines = []; next = record { account = account_of p'; selectors = selectors i; regions = attached i; heap = no_heap; sliced = sliced'; gone = false } }) ∙ sym is in
-          let lawful = kept _ outcome in record {
+          let outcome : DoesOwn call p space regions heap sliced reply p' space regions' heap' sliced'
+          = λ sessions ready. (λ i. record { reply = reply; lines = []; next = record { account = account_of p'; selectors = selectors sessions i; regions = attached i; heap = heap'; sliced = sliced'; gone = false } }) ∙ sym (is sessions) in
+          let lawful = kept reply p' space regions' heap' sliced' (λ q. refl) outcome in
+          let was = sound.lawful all_sessions (λ q server session there. refl) in
+          let now = lawful all_sessions (λ q server session there. refl) in record {
             outcome = outcome;
             script = record {
-              named = record { there = λ q c there. ap is_some (object_kept q c there) ∙ sound.named.there q c there; one = sound.named.one };
+              named = record { there = λ q ds there. ap is_some (still q ds there) ∙ is_held q ds there; one = sound.named.one };
               paid = record {
                 is_open = is_open;
-                named = omega (arith, lawful.uses.caps, sound.lawful.uses.caps, ap (total object_caps) selectors, sound.paid.named);
+                named = omega (arith, now.uses.caps, was.uses.caps, ap (total object_caps) (selectors all_sessions), sound.paid.named);
                 spare = spare;
                 placed = omega (arith, caps_limit, sound.paid.placed);
               };
@@ -419,6 +508,7 @@ module _ (p : Part) (space : Space) (regions : Regions) (sliced : NatMap (List �
               blocks = blocks;
               lawful = lawful;
             };
+            leaves = record { ram_limit = ram_limit; caps_limit = caps_limit; places = refl; sessions = λ q. refl; session_count = refl };
           }
 
 -- ---- over the memory

@@ -9,8 +9,10 @@ use Rattle.trade_base.specs.declared.refusal.Refusal.TheVariants.{InvalidCap}
 use Rattle.own_model.specs.Call.{Call}
 use Rattle.own_model.specs.Call.Call.{Attach, AttachAt, Detach}
 use Rattle.own_model.specs.NatMap.{NatMap}
+use Rattle.own_model.specs.OwnHeap.{OwnHeap}
 use Rattle.own_model.specs.OwnState.{Object, pages_in}
-use Rattle.own_model.specs.OwnState.Object.{RpcObject}
+use Rattle.own_model.specs.OwnState.Object.{RpcObject, OpenSession}
+use Rattle.own_model.specs.Session.{Session as AnOpenSession}
 use Rattle.own_model.specs.OwnStep.{Outcome, refused, unless, attached_first, attached_at, with_region, region_detached, script_step}
 use Rattle.own_model.specs.Region.{Region, user_low, user_high, first_gap, user_gap, attach_refusal, attach_at_refusal, detach_refusal, most_regions}
 use Rattle.own_model.specs.Reply.Reply.{Attached, Done}
@@ -22,10 +24,10 @@ use Rattle.cap_space.specs.declared.cap.Cap.{Cap}
 use Rattle.cap_space.specs.declared.cap.Cap.TheVariants.{Dataspace, RpcObject as AnRpcCap, Session}
 use Rattle.region_map.specs.Regions.{Regions, attached, detached}
 use Rattle.dataspace_core.specs.Store.{Part, bytes_of}
-use Rattle.pd_core.specs.Own.{selector_of, regions_of, own_of, sized_at}
+use Rattle.pd_core.specs.Own.{Sessions, selector_of, regions_of, own_of, sized_at}
 use Rattle.pd_core.specs.Sound.{AreNamed, IsScript}
 use Rattle.pd_core.proofs.NameLemmas.{named_is}
-use Rattle.pd_core.proofs.OwnLemmas.{Settles, before, object_is, few_bytes, names_object, remaps}
+use Rattle.pd_core.proofs.OwnLemmas.{Settles, all_sessions, before, object_is, few_bytes, names_object, remaps}
 use Rattle.pd_core.proofs.AccountLemmas.{refuses}
 
 -- what a look-up finds, with its pages
@@ -44,30 +46,31 @@ unsized p (Some (Dataspace d)) refusal h = cc
 unsized p (Some AnRpcCap) refusal h = (cc, refl)
 unsized p (Some (Session server session)) refusal h = (cc, refl)
 
-module _ (p : Part) (space : Space) (regions : Regions) (sliced : NatMap (List ℕ)) (sound : IsScript p space regions sliced) where
+module _ (p : Part) (space : Space) (regions : Regions) (heap : OwnHeap) (sliced : NatMap (List ℕ)) (sound : IsScript p space regions heap sliced) where
   -- the own state's regions have the starts and pages of the map's
-  alike : AreAlike regions.user (before p space regions sliced sound).regions
+  alike : (sessions : Sessions) → AreAlike regions.user (before p space regions heap sliced sound sessions).regions
   unfolding own_of regions_of
-  alike = AreAlike-renamed (selector_of space.caps) regions.user sound.attached
+  alike sessions = AreAlike-renamed (selector_of space.caps) regions.user sound.attached
 
   -- ---- attach
 
   module _ (s : ℕ) (refusal : Refusal) (none : Err refusal ≡ sized_at p (get space.caps s)) where
     -- a call that attaches what is no dataspace is refused
-    unnamed : (step : Option Object → Outcome) → step None ≡ refused (before p space regions sliced sound) InvalidCap → step (Some RpcObject) ≡ refused (before p space regions sliced sound) InvalidCap →
-        refused (before p space regions sliced sound) refusal ≡ step (get (before p space regions sliced sound).selectors s)
-    unnamed step nothing rpc =
-        let b = before p space regions sliced sound in
+    unnamed : (sessions : Sessions) (step : Option Object → Outcome) → step None ≡ refused (before p space regions heap sliced sound sessions) InvalidCap → step (Some RpcObject) ≡ refused (before p space regions heap sliced sound sessions) InvalidCap →
+        ((session : AnOpenSession) → step (Some (OpenSession session)) ≡ refused (before p space regions heap sliced sound sessions) InvalidCap) →
+        refused (before p space regions heap sliced sound sessions) refusal ≡ step (get (before p space regions heap sliced sound sessions).selectors s)
+    unnamed sessions step nothing rpc known =
+        let b = before p space regions heap sliced sound sessions in
         let un = unsized p (get space.caps s) refusal none in
-        ap (refused b) un.0 ∙ refuses step b nothing rpc p (get space.caps s) un.1 ∙ ap step (sym (object_is p space regions sliced sound s))
+        ap (refused b) un.0 ∙ refuses step b nothing rpc known sessions p (get space.caps s) un.1 ∙ ap step (sym (object_is p space regions heap sliced sound sessions s))
 
     -- so an attach is
-    pub attach_unnamed : refused (before p space regions sliced sound) refusal ≡ script_step (Attach s) (before p space regions sliced sound)
-    attach_unnamed = let b = before p space regions sliced sound in unnamed (λ o. attached_first s o b) refl refl
+    pub attach_unnamed : (sessions : Sessions) → refused (before p space regions heap sliced sound sessions) refusal ≡ script_step (Attach s) (before p space regions heap sliced sound sessions)
+    attach_unnamed sessions = let b = before p space regions heap sliced sound sessions in unnamed sessions (λ o. attached_first s o b) refl refl (λ session. refl)
 
     -- and so is one at an address
-    pub attach_at_unnamed : (address : ℕ) → refused (before p space regions sliced sound) refusal ≡ script_step (AttachAt s address) (before p space regions sliced sound)
-    attach_at_unnamed address = let b = before p space regions sliced sound in unnamed (λ o. attached_at s address o b) refl refl
+    pub attach_at_unnamed : (address : ℕ) (sessions : Sessions) → refused (before p space regions heap sliced sound sessions) refusal ≡ script_step (AttachAt s address) (before p space regions heap sliced sound sessions)
+    attach_at_unnamed address sessions = let b = before p space regions heap sliced sound sessions in unnamed sessions (λ o. attached_at s address o b) refl refl (λ session. refl)
 
   module _ (s : ℕ) (found : DsId × ℕ) (is : Ok found ≡ sized_at p (get space.caps s)) where
     -- the dataspace and its pages
@@ -87,7 +90,7 @@ module _ (p : Part) (space : Space) (regions : Regions) (sliced : NatMap (List �
 
     -- what is attached is pages
     whole : IsPages (bytes_of p ds.0)
-    whole = sound.lawful.sound.whole s (bytes_of p ds.0) (names_object p space regions sliced sound s ds named)
+    whole = (sound.lawful all_sessions (λ q server session there. refl)).sound.whole s (bytes_of p ds.0) (names_object p space regions heap sliced sound all_sessions s ds named)
 
     -- at least one
     pub some_pages : 1 ≤ pages
@@ -95,38 +98,38 @@ module _ (p : Part) (space : Space) (regions : Regions) (sliced : NatMap (List �
 
     -- and no more than the machine has
     pub few_pages : pages ≤ regions.pages
-    few_pages = omega (arith, size, whole.whole, few_bytes p space regions sliced sound s ds named)
+    few_pages = omega (arith, size, whole.whole, few_bytes p space regions heap sliced sound s ds named)
 
     -- an attach does to the own state what it does to the map
-    first_is : script_step (Attach s) (before p space regions sliced sound)
-        ≡ unless (attach_refusal regions.most regions.user pages) (before p space regions sliced sound)
-        (with_region s pages (unwrap_or (first_gap user_low user_high regions.user pages) 0) (before p space regions sliced sound))
-    first_is =
-        let b = before p space regions sliced sound in
-        ap (λ x. attached_first s x b) (names_object p space regions sliced sound s ds named)
+    first_is : (sessions : Sessions) → script_step (Attach s) (before p space regions heap sliced sound sessions)
+        ≡ unless (attach_refusal regions.most regions.user pages) (before p space regions heap sliced sound sessions)
+        (with_region s pages (unwrap_or (first_gap user_low user_high regions.user pages) 0) (before p space regions heap sliced sound sessions))
+    first_is sessions =
+        let b = before p space regions heap sliced sound sessions in
+        ap (λ x. attached_first s x b) (names_object p space regions heap sliced sound sessions s ds named)
         ∙ ap (λ n. unless (attach_refusal most_regions b.regions n) b (with_region s n (user_gap b.regions n) b)) (sym size)
         ∙ ap (λ r. unless r b (with_region s pages (user_gap b.regions pages) b))
-        (sym (attach_refusal_alike regions.user b.regions alike most_regions pages) ∙ ap (λ m. attach_refusal m regions.user pages) (sym sound.most))
-        ∙ ap (λ o. unless (attach_refusal regions.most regions.user pages) b (with_region s pages (unwrap_or o 0) b)) (sym (first_gap_alike regions.user b.regions alike user_low user_high pages))
+        (sym (attach_refusal_alike regions.user b.regions (alike sessions) most_regions pages) ∙ ap (λ m. attach_refusal m regions.user pages) (sym sound.most))
+        ∙ ap (λ o. unless (attach_refusal regions.most regions.user pages) b (with_region s pages (unwrap_or o 0) b)) (sym (first_gap_alike regions.user b.regions (alike sessions) user_low user_high pages))
 
     -- so does one at an address
-    place_is : (address : ℕ) → script_step (AttachAt s address) (before p space regions sliced sound)
-        ≡ unless (attach_at_refusal regions.most regions.user pages address) (before p space regions sliced sound) (with_region s pages address (before p space regions sliced sound))
-    place_is address =
-        let b = before p space regions sliced sound in
-        ap (λ x. attached_at s address x b) (names_object p space regions sliced sound s ds named)
+    place_is : (address : ℕ) (sessions : Sessions) → script_step (AttachAt s address) (before p space regions heap sliced sound sessions)
+        ≡ unless (attach_at_refusal regions.most regions.user pages address) (before p space regions heap sliced sound sessions) (with_region s pages address (before p space regions heap sliced sound sessions))
+    place_is address sessions =
+        let b = before p space regions heap sliced sound sessions in
+        ap (λ x. attached_at s address x b) (names_object p space regions heap sliced sound sessions s ds named)
         ∙ ap (λ n. unless (attach_at_refusal most_regions b.regions n address) b (with_region s n address b)) (sym size)
         ∙ ap (λ r. unless r b (with_region s pages address b))
-        (sym (attach_at_refusal_alike regions.user b.regions alike most_regions pages address) ∙ ap (λ m. attach_at_refusal m regions.user pages address) (sym sound.most))
+        (sym (attach_at_refusal_alike regions.user b.regions (alike sessions) most_regions pages address) ∙ ap (λ m. attach_at_refusal m regions.user pages address) (sym sound.most))
 
     -- what the map refuses, the attach is refused
-    pub attach_refused : (refusal : Refusal) → Some refusal ≡ attach_refusal regions.most regions.user pages → refused (before p space regions sliced sound) refusal ≡ script_step (Attach s) (before p space regions sliced sound)
-    attach_refused refusal is = let b = before p space regions sliced sound in ap (λ r. unless r b (with_region s pages (unwrap_or (first_gap user_low user_high regions.user pages) 0) b)) is ∙ sym first_is
+    pub attach_refused : (refusal : Refusal) → Some refusal ≡ attach_refusal regions.most regions.user pages → (sessions : Sessions) → refused (before p space regions heap sliced sound sessions) refusal ≡ script_step (Attach s) (before p space regions heap sliced sound sessions)
+    attach_refused refusal is sessions = let b = before p space regions heap sliced sound sessions in ap (λ r. unless r b (with_region s pages (unwrap_or (first_gap user_low user_high regions.user pages) 0) b)) is ∙ sym (first_is sessions)
 
     -- and one at an address
     pub attach_at_refused : (address : ℕ) (refusal : Refusal) → Some refusal ≡ attach_at_refusal regions.most regions.user pages address →
-        refused (before p space regions sliced sound) refusal ≡ script_step (AttachAt s address) (before p space regions sliced sound)
-    attach_at_refused address refusal is = let b = before p space regions sliced sound in ap (λ r. unless r b (with_region s pages address b)) is ∙ sym (place_is address)
+        (sessions : Sessions) → refused (before p space regions heap sliced sound sessions) refusal ≡ script_step (AttachAt s address) (before p space regions heap sliced sound sessions)
+    attach_at_refused address refusal is sessions = let b = before p space regions heap sliced sound sessions in ap (λ r. unless r b (with_region s pages address b)) is ∙ sym (place_is address sessions)
 
     -- a region more is named too
     attached_more : (address : ℕ) → AreNamed space.caps (attached regions ds.0 pages address).user
@@ -136,48 +139,46 @@ module _ (p : Part) (space : Space) (regions : Regions) (sliced : NatMap (List �
     ]
 
     -- a call that attaches the pages settles
-    attaches : (call : Call) (address : ℕ) → script_step call (before p space regions sliced sound) ≡ with_region s pages address (before p space regions sliced sound) →
-        Settles call p space regions sliced (Attached address) p space (attached regions ds.0 pages address)
+    attaches : (call : Call) (address : ℕ) → ((sessions : Sessions) → script_step call (before p space regions heap sliced sound sessions) ≡ with_region s pages address (before p space regions heap sliced sound sessions)) →
+        Settles call p space regions heap sliced (Attached address) p space (attached regions ds.0 pages address)
     unfolding own_of regions_of
     attaches call address is =
-        let b = before p space regions sliced sound in
         let more = renamed-insert (selector_of space.caps) regions.user address ds.0 pages s (named_is space.caps sound.named.one s ds named) in
-        remaps p space regions sliced sound call (attached regions ds.0 pages address) (Attached address) refl (record { heap = refl; tags = refl; most = refl; pages = refl }) (attached_more address)
-        ((λ i. record { reply = Attached address; lines = []; next = record b { regions = more i } }) ∙ sym is)
+        remaps p space regions heap sliced sound call (attached regions ds.0 pages address) (Attached address) refl (record { heap = refl; tags = refl; most = refl; pages = refl }) (attached_more address)
+        (λ sessions ready. (λ i. record { reply = Attached address; lines = []; next = record (before p space regions heap sliced sound sessions) { regions = more i } }) ∙ sym (is sessions))
 
     -- an attach settles
     pub attach_settles : (address : ℕ) → None ≡ attach_refusal regions.most regions.user pages → first_gap user_low user_high regions.user pages ≡ Some address →
-        Settles (Attach s) p space regions sliced (Attached address) p space (attached regions ds.0 pages address)
+        Settles (Attach s) p space regions heap sliced (Attached address) p space (attached regions ds.0 pages address)
     attach_settles address accepted gap =
-        let b = before p space regions sliced sound in
-        attaches (Attach s) address (first_is ∙ ap (λ r. unless r b (with_region s pages (unwrap_or (first_gap user_low user_high regions.user pages) 0) b)) (sym accepted)
+        attaches (Attach s) address (λ sessions. let b = before p space regions heap sliced sound sessions in
+        first_is sessions ∙ ap (λ r. unless r b (with_region s pages (unwrap_or (first_gap user_low user_high regions.user pages) 0) b)) (sym accepted)
         ∙ ap (λ o. with_region s pages (unwrap_or o 0) b) gap)
 
     -- so does one at an address
     pub attach_at_settles : (address told : ℕ) → told ≡ address → None ≡ attach_at_refusal regions.most regions.user pages address →
-        Settles (AttachAt s address) p space regions sliced (Attached told) p space (attached regions ds.0 pages address)
+        Settles (AttachAt s address) p space regions heap sliced (Attached told) p space (attached regions ds.0 pages address)
     attach_at_settles address told same accepted =
-        let b = before p space regions sliced sound in
-        subst (λ a. Settles (AttachAt s address) p space regions sliced (Attached a) p space (attached regions ds.0 pages address)) (sym same)
-        (attaches (AttachAt s address) address (place_is address ∙ ap (λ r. unless r b (with_region s pages address b)) (sym accepted)))
+        subst (λ a. Settles (AttachAt s address) p space regions heap sliced (Attached a) p space (attached regions ds.0 pages address)) (sym same)
+        (attaches (AttachAt s address) address (λ sessions. let b = before p space regions heap sliced sound sessions in place_is address sessions ∙ ap (λ r. unless r b (with_region s pages address b)) (sym accepted)))
 
   -- ---- detach
 
   module _ (address : ℕ) where
     -- a detach does to the own state what it does to the map
-    detach_is : script_step (Detach address) (before p space regions sliced sound) ≡ unless (detach_refusal regions.user address) (before p space regions sliced sound) (region_detached address (before p space regions sliced sound))
-    detach_is = let b = before p space regions sliced sound in ap (λ r. unless r b (region_detached address b)) (sym (detach_refusal_alike regions.user b.regions alike address))
+    detach_is : (sessions : Sessions) → script_step (Detach address) (before p space regions heap sliced sound sessions) ≡ unless (detach_refusal regions.user address) (before p space regions heap sliced sound sessions) (region_detached address (before p space regions heap sliced sound sessions))
+    detach_is sessions = let b = before p space regions heap sliced sound sessions in ap (λ r. unless r b (region_detached address b)) (sym (detach_refusal_alike regions.user b.regions (alike sessions) address))
 
     -- what the map refuses, the detach is refused
-    pub detach_refused : (refusal : Refusal) → Some refusal ≡ detach_refusal regions.user address → refused (before p space regions sliced sound) refusal ≡ script_step (Detach address) (before p space regions sliced sound)
-    detach_refused refusal is = let b = before p space regions sliced sound in ap (λ r. unless r b (region_detached address b)) is ∙ sym detach_is
+    pub detach_refused : (refusal : Refusal) → Some refusal ≡ detach_refusal regions.user address → (sessions : Sessions) → refused (before p space regions heap sliced sound sessions) refusal ≡ script_step (Detach address) (before p space regions heap sliced sound sessions)
+    detach_refused refusal is sessions = let b = before p space regions heap sliced sound sessions in ap (λ r. unless r b (region_detached address b)) is ∙ sym (detach_is sessions)
 
     -- a detach settles
-    pub detach_settles : None ≡ detach_refusal regions.user address → Settles (Detach address) p space regions sliced Done p space (detached regions address)
+    pub detach_settles : None ≡ detach_refusal regions.user address → Settles (Detach address) p space regions heap sliced Done p space (detached regions address)
     unfolding own_of regions_of
     detach_settles accepted =
-        let b = before p space regions sliced sound in
         let less = renamed-remove (selector_of space.caps) regions.user address in
-        remaps p space regions sliced sound (Detach address) (detached regions address) Done refl (record { heap = refl; tags = refl; most = refl; pages = refl })
+        remaps p space regions heap sliced sound (Detach address) (detached regions address) Done refl (record { heap = refl; tags = refl; most = refl; pages = refl })
         (λ start region there. sound.attached start region (before_remove regions.user address start region there))
-        ((λ i. record { reply = Done; lines = []; next = record b { regions = less i } }) ∙ sym (detach_is ∙ ap (λ r. unless r b (region_detached address b)) (sym accepted)))
+        (λ sessions ready. let b = before p space regions heap sliced sound sessions in
+        (λ i. record { reply = Done; lines = []; next = record b { regions = less i } }) ∙ sym (detach_is sessions ∙ ap (λ r. unless r b (region_detached address b)) (sym accepted)))

@@ -1,6 +1,6 @@
 -- A script over the memory: what its own calls leave, and what another's call leaves of it.
-use Rattle.std.proofs.Common.{◌≡◌, ℕ, [], Some, subst, refl, sym, ap, ◌∙◌, length}
-use Rattle.std.specs.Prelude.{Option, IsSome}
+use Rattle.std.proofs.Common.{◌≡◌, ℕ, [], Some, subst, refl, sym, ap, ◌∙◌, ⊎_elim, inl, inr, length, is_some}
+use Rattle.std.specs.Prelude.{◌⊎◌, Option, IsSome}
 use Rattle.std.specs.Option.{option_map, unwrap_or}
 use Rattle.std.specs.FinMap.{get}
 use Rattle.own_model.specs.Account.{Account, opened}
@@ -11,67 +11,127 @@ use Rattle.own_model.specs.Reply.{Reply}
 use Rattle.own_model.proofs.NatMapLemmas.{some_of}
 use Rattle.cap_space.specs.Space.{Space}
 use Rattle.region_map.specs.Regions.{Regions}
-use Rattle.dataspace_core.specs.Store.{Store, Part, part, account_in, ram_limits_in, PartBecomes}
+use Rattle.dataspace_core.specs.Share.{share_in, tags_of}
+use Rattle.dataspace_core.specs.Store.{Store, Part, part, account_in, ram_limits_in, IsOpenIn, PartBecomes}
 use Rattle.dataspace_core.proofs.LimitLaws.{limits_after}
-use Rattle.dataspace_core.proofs.PartLaws.{account_of-part, open_in_part}
-use Rattle.sliced_heap.specs.Heap.{payer_of, share_at, blocks_at, MapsMemory}
+use Rattle.dataspace_core.proofs.PartLaws.{account_of-part, open_after, open_in_part}
+use Rattle.heap_core.specs.Heap.{payer_of as heap_payer}
+use Rattle.heap_core.specs.Laws.{block_region, IsMapOf, HeapStays as HeapStaysAs}
+use Rattle.sliced_heap.specs.Heap.{payer_of as sliced_payer, share_at, blocks_at, MapsMemory}
 use Rattle.sliced_heap.specs.Sliced.{block_regions}
 use Rattle.sliced_heap.specs.Laws.{HeapStays}
+use Rattle.sliced_heap.proofs.ShareLemmas.{shown_block}
 use Rattle.sliced_heap.proofs.HeapLaws.{map_stays_for_payer, heap_stays, heap_stays_elsewhere}
-use Rattle.pd_core.specs.Own.{own_of, own_at, part_at, sliced_at}
+use Rattle.pd_core.specs.Own.{Sessions, HasSessions, own_of, own_at, part_at, own_heap_at, sliced_at}
 use Rattle.pd_core.specs.Sound.{IsScript, IsSoundScript, Keeps}
 use Rattle.pd_core.specs.declared.script.Script.{Script}
+use Rattle.pd_core.proofs.BesideLemmas.{map_of, whole_share, whole_tags, region_of_block, stands_alike}
+use Rattle.heap_core.proofs.StayLemmas as heap_laws
 use Rattle.pd_core.proofs.OwnLemmas.{Settles}
 
 -- what a call does to the script that makes it: the model's outcome, and what it keeps
 pub record Finishes (call : Call) (reply : Reply) (store : Store) (script : Script) (store' : Store) (script' : Script) : Type 0 where
-  pub outcome : ◌≡◌ {A = Outcome} (record { reply = reply; lines = []; next = own_at store' script' }) (script_step call (own_at store script))
+  pub outcome : (sessions : Sessions) → HasSessions sessions script.caps.caps →
+      ◌≡◌ {A = Outcome} (record { reply = reply; lines = []; next = own_at sessions store' script' }) (script_step call (own_at sessions store script))
   pub keeps : Keeps store script store' script'
 
 -- a script that stays as it is while another's call changes the memory
 pub record Stays (store : Store) (script : Script) (store' : Store) : Type 0 where
   pub sound : IsSoundScript store' script
-  pub own : own_at store' script ≡ own_at store script
+  pub own : (sessions : Sessions) → own_at sessions store' script ≡ own_at sessions store script
 
 module _ (store : Store) (script : Script) (sound : IsSoundScript store script) where
-  -- the account that the heap takes blocks for is the script's
-  payer : payer_of script.heap ≡ script.account.0
-  payer = sound.heap.payer
+  -- what is so of the script's account is so of the one that a heap takes blocks for
+  pub at_heap : (P : ℕ → Type 0) → P script.account.0 → P (heap_payer script.heap)
+  at_heap P = subst P (sym sound.heaps.heap_pays)
 
-  -- what stands in the heap window are blocks
-  pub is_region : (start : ℕ) (region : Region) → get (block_regions (share_at script.account.0 store script.regions)) start ≡ Some region → get script.regions.heap start ≡ Some region
-  is_region start region at = sym (ap (λ m. get m start) sound.heap.all) ∙ at
+  pub at_sliced : (P : ℕ → Type 0) → P script.account.0 → P (sliced_payer script.sliced)
+  at_sliced P = subst P (sym sound.heaps.sliced_pays)
+
+  -- its share shows the whole heap window of its map
+  pub shows_all : (share_at script.account.0 store script.regions).heap ≡ script.regions.heap
+  shows_all = whole_share (part_at store script) script.regions.heap script.regions.tags sound.own.blocks.held
+
+  -- and the numbers kept there
+  pub shows_tags : (share_at script.account.0 store script.regions).tags ≡ tags_of script.regions.heap script.regions.tags
+  shows_tags = whole_tags (part_at store script) script.regions.heap script.regions.tags sound.own.blocks.held
+
+  -- a chunk or large block is a region of the map
+  pub block_there : (s : ℕ) (e : Region × ℕ) → block_region (share_at script.account.0 store script.regions) s ≡ Some e → get script.regions.heap s ≡ Some e.0
+  block_there s e h = ap (λ m. get m s) (sym shows_all) ∙ (region_of_block (share_at script.account.0 store script.regions) s e h).0
+
+  -- and so is a sliced block
+  pub is_region : (s : ℕ) (r : Region) → get (block_regions (share_at script.account.0 store script.regions)) s ≡ Some r → get script.regions.heap s ≡ Some r
+  is_region s r h = (shown_block script.account.0 store script.regions s r h).there
+
+  -- each heap region is still one of a block where the blocks stand where they stood
+  still_all : (store' : Store) (regions' : Regions) → regions'.heap ≡ script.regions.heap →
+      block_regions (share_at script.account.0 store' regions') ≡ block_regions (share_at script.account.0 store script.regions) →
+      ((s : ℕ) → block_region (share_at script.account.0 store' regions') s ≡ block_region (share_at script.account.0 store script.regions) s) →
+      (s : ℕ) (r : Region) → get regions'.heap s ≡ Some r →
+      (get (block_regions (share_at script.account.0 store' regions')) s ≡ Some r) ⊎ IsSome (block_region (share_at script.account.0 store' regions') s)
+  still_all store' regions' same sliced blocks s r h = ⊎_elim
+      (λ (one : get (block_regions (share_at script.account.0 store script.regions)) s ≡ Some r). inl (ap (λ m. get m s) sliced ∙ one))
+      (λ (one : IsSome (block_region (share_at script.account.0 store script.regions) s)). inr (ap is_some (blocks s) ∙ one))
+      (sound.heaps.all s r (ap (λ m. get m s) (sym same) ∙ h))
 
   -- ---- its own calls
 
-  -- a call that leaves the sliced blocks
+  -- a call that leaves the heaps
   pub finishes : {call : Call} {reply : Reply} {store' : Store} {q : Part} {space' : Space} {regions' : Regions} → PartBecomes script.account.0 q store store' →
-      Settles call (part_at store script) script.caps script.regions (sliced_at store script) reply (part script.account.0 store') space' regions' →
+      Settles call (part_at store script) script.caps script.regions (own_heap_at store script) (sliced_at store script) reply (part script.account.0 store') space' regions' →
       Finishes call reply store script store' (record script { caps = space'; regions = regions' })
   finishes {call} {reply} {store'} {q} {space'} {regions'} becomes done =
       let account = script.account.0 in
       let p' = part account store' in
+      let made = done.makes in
+      let window = done.spares.window in
       let own : PartBecomes account p' store store' = record { own = refl; others = becomes.others; root = becomes.root; parents = becomes.parents; room = becomes.room } in
       let opens = open_in_part account store sound.own.paid.is_open in
-      let there = some_of p'.account done.makes.script.paid.is_open in
+      let there = some_of p'.account made.script.paid.is_open in
       let limit : there.0.ram_limit ≡ (account_in store account).ram_limit
-      = ap (λ (o : Option Account). (unwrap_or o (opened 0 0)).ram_limit) (sym there.1) ∙ done.spares.limit ∙ ap (λ (a : Account). a.ram_limit) (account_of-part account store) in
-      let maps : MapsMemory store' regions' = map_stays_for_payer account p' there.0 store store' script.regions regions' sound.heap.sound.maps done.spares.window own opens there.1 limit
+      = ap (λ (o : Option Account). (unwrap_or o (opened 0 0)).ram_limit) (sym there.1) ∙ made.leaves.ram_limit ∙ ap (λ (a : Account). a.ram_limit) (account_of-part account store) in
+      let maps : MapsMemory store' regions' = map_stays_for_payer account p' there.0 store store' script.regions regions' sound.heaps.sliced.maps window own opens there.1 limit
       (λ start region at. ap (option_map length) (done.spares.bytes start region at)) in
-      let stays : HeapStays script.heap store store' script.regions regions' = heap_stays script.heap p' store store' script.regions regions' sound.heap.sound done.spares.window maps
-      (subst (λ a. PartBecomes a p' store store') (sym payer) own) done.makes.script.paid.is_open
-      (subst (λ a. (start : ℕ) (region : Region) → get (block_regions (share_at a store script.regions)) start ≡ Some region → get p'.spaces region.of ≡ get (part a store).spaces region.of) (sym payer)
+      let map : IsMapOf store' regions' = map_of maps (rw window.pages sound.heaps.heap.window.few) (rw (window.pages, window.heap) sound.heaps.heap.window.lie) in
+      -- the sliced blocks
+      let sliced : HeapStays script.sliced store store' script.regions regions' = heap_stays script.sliced p' store store' script.regions regions' sound.heaps.sliced window maps
+      (at_sliced (λ a. PartBecomes a p' store store') own) made.script.paid.is_open
+      (at_sliced (λ a. (start : ℕ) (region : Region) → get (block_regions (share_at a store script.regions)) start ≡ Some region → get p'.spaces region.of ≡ get (part a store).spaces region.of)
       (λ start region at. done.spares.bytes start region (is_region start region at))) in
-      let blocks : blocks_at account store' regions' ≡ blocks_at account store script.regions = subst (λ a. blocks_at a store' regions' ≡ blocks_at a store script.regions) payer stays.blocks in
-      let stands = subst (λ a. block_regions (share_at a store' regions') ≡ block_regions (share_at a store script.regions)) payer stays.stands in record {
-        outcome = (λ i. record { reply = reply; lines = []; next = own_of p' space'.caps regions'.user (blocks i) }) ∙ done.makes.outcome;
+      let blocks : blocks_at account store' regions' ≡ blocks_at account store script.regions = subst (λ a. blocks_at a store' regions' ≡ blocks_at a store script.regions) sound.heaps.sliced_pays sliced.blocks in
+      let stands = subst (λ a. block_regions (share_at a store' regions') ≡ block_regions (share_at a store script.regions)) sound.heaps.sliced_pays sliced.stands in
+      -- the heap
+      let numbers : (s : ℕ) → block_region (share_at account store' regions') s ≡ block_region (share_at account store script.regions) s
+      = stands_alike (share_at account store script.regions) (share_at account store' regions')
+      (whole_share p' regions'.heap regions'.tags made.script.blocks.held ∙ window.heap ∙ sym shows_all)
+      (whole_tags p' regions'.heap regions'.tags made.script.blocks.held ∙ (λ i. tags_of (window.heap i) (window.tags i)) ∙ sym shows_tags) in
+      let heap : HeapStaysAs script.heap store store' script.regions regions' = heap_laws.heap_stays script.heap store store' script.regions regions' sound.heaps.heap map
+      (at_heap (IsOpenIn store') (open_after own made.script.paid.is_open))
+      (at_heap (λ a. (s : ℕ) → block_region (share_at a store' regions') s ≡ block_region (share_at a store script.regions) s) numbers)
+      (at_heap (λ a. (s k : ℕ) (r : Region) → block_region (share_at a store script.regions) s ≡ Some (r, k) → get (part a store').spaces r.of ≡ get (part a store).spaces r.of)
+      (λ s k r h. done.spares.bytes s r (block_there s (r, k) h))) in record {
+        outcome = λ sessions ready. (λ i. record { reply = reply; lines = []; next = own_of sessions p' space'.caps regions'.user (heap.value i) (blocks i) }) ∙ made.outcome sessions ready;
         keeps = record {
           sound = record {
-            own = subst (IsScript p' space' regions') (sym blocks) done.makes.script;
-            heap = record { sound = stays.sound; payer = payer; all = stands ∙ sound.heap.all ∙ sym done.spares.window.heap };
+            own = subst (λ h. IsScript p' space' regions' h (blocks_at account store' regions')) (sym heap.value) (subst (IsScript p' space' regions' (own_heap_at store script)) (sym blocks) made.script);
+            heaps = record {
+              heap = heap.sound;
+              sliced = sliced.sound;
+              heap_pays = sound.heaps.heap_pays;
+              sliced_pays = sound.heaps.sliced_pays;
+              all = still_all store' regions' window.heap stands numbers;
+            };
           };
           account = refl;
+          ram_limit = made.leaves.ram_limit;
+          caps_limit = made.leaves.caps_limit;
+          places = made.leaves.places;
+          sessions = made.leaves.sessions;
+          session_count = made.leaves.session_count;
           root = becomes.root;
+          parents = becomes.parents;
+          room = becomes.room;
           others = becomes.others;
           limits = limits_after account p' store store' there.0 own there.1 opens limit;
         };
@@ -83,14 +143,31 @@ module _ (store : Store) (script : Script) (sound : IsSoundScript store script) 
   pub stays_elsewhere : (store' : Store) → part_at store' script ≡ part_at store script → ram_limits_in store' ≡ ram_limits_in store → Stays store script store'
   stays_elsewhere store' same limits =
       let account = script.account.0 in
-      let stays : HeapStays script.heap store store' script.regions script.regions = heap_stays_elsewhere script.heap store store' script.regions sound.heap.sound
-      (subst (λ a. part a store' ≡ part a store) (sym payer) same) limits
-      (subst (λ a. (start : ℕ) (region : Region) → get script.regions.heap start ≡ Some region → IsSome (get (part a store).spaces region.of)) (sym payer) sound.own.blocks.held) in
-      let blocks : sliced_at store' script ≡ sliced_at store script = subst (λ a. blocks_at a store' script.regions ≡ blocks_at a store script.regions) payer stays.blocks in
-      let stands = subst (λ a. block_regions (share_at a store' script.regions) ≡ block_regions (share_at a store script.regions)) payer stays.stands in record {
+      let regions = script.regions in
+      let sliced : HeapStays script.sliced store store' regions regions = heap_stays_elsewhere script.sliced store store' regions sound.heaps.sliced
+      (at_sliced (λ a. part a store' ≡ part a store) same) limits
+      (at_sliced (λ a. (start : ℕ) (region : Region) → get regions.heap start ≡ Some region → IsSome (get (part a store).spaces region.of)) sound.own.blocks.held) in
+      let blocks : sliced_at store' script ≡ sliced_at store script = subst (λ a. blocks_at a store' regions ≡ blocks_at a store regions) sound.heaps.sliced_pays sliced.blocks in
+      let stands = subst (λ a. block_regions (share_at a store' regions) ≡ block_regions (share_at a store regions)) sound.heaps.sliced_pays sliced.stands in
+      let numbers : (s : ℕ) → block_region (share_at account store' regions) s ≡ block_region (share_at account store regions) s
+      = λ s i. block_region (share_in (same i) regions.heap regions.tags) s in
+      let heap : HeapStaysAs script.heap store store' regions regions = heap_laws.heap_stays script.heap store store' regions regions sound.heaps.heap
+      (map_of sliced.sound.maps sound.heaps.heap.window.few sound.heaps.heap.window.lie)
+      (at_heap (IsOpenIn store') (open_in_part account store' (subst (λ (p : Part). IsSome p.account) (sym same) sound.own.paid.is_open)))
+      (at_heap (λ a. (s : ℕ) → block_region (share_at a store' regions) s ≡ block_region (share_at a store regions) s) numbers)
+      (at_heap (λ a. (s k : ℕ) (r : Region) → block_region (share_at a store regions) s ≡ Some (r, k) → get (part a store').spaces r.of ≡ get (part a store).spaces r.of)
+      (λ s k r h. ap (λ (p : Part). get p.spaces r.of) same)) in record {
         sound = record {
-          own = subst (λ p. IsScript p script.caps script.regions (sliced_at store' script)) (sym same) (subst (IsScript (part_at store script) script.caps script.regions) (sym blocks) sound.own);
-          heap = record { sound = stays.sound; payer = payer; all = stands ∙ sound.heap.all };
+          own = subst (λ p. IsScript p script.caps regions (own_heap_at store' script) (sliced_at store' script)) (sym same)
+              (subst (λ h. IsScript (part_at store script) script.caps regions h (sliced_at store' script)) (sym heap.value)
+              (subst (IsScript (part_at store script) script.caps regions (own_heap_at store script)) (sym blocks) sound.own));
+          heaps = record {
+            heap = heap.sound;
+            sliced = sliced.sound;
+            heap_pays = sound.heaps.heap_pays;
+            sliced_pays = sound.heaps.sliced_pays;
+            all = still_all store' regions refl stands numbers;
+          };
         };
-        own = λ i. own_of (same i) script.caps.caps script.regions.user (blocks i);
+        own = λ sessions i. own_of sessions (same i) script.caps.caps regions.user (heap.value i) (blocks i);
       }

@@ -1,7 +1,8 @@
--- A script's calls on its sliced blocks.
+-- A script's calls on its sliced blocks, and calls that change its heaps alone.
 use Rattle.std.proofs.Common.{◌≡◌, ◌≢◌, ℕ, ◌+◌, ◌-◌, ◌*◌, ◌/◌, ◌≤◌, List, [], Some, None, is_some, subst, refl, sym, ap, ◌∙◌, arith, inl, inr}
-use Rattle.std.specs.Prelude.{Option, IsSome, if◌then◌else◌}
-use Rattle.std.specs.Option.{unwrap_or}
+use Rattle.std.proofs.lemmas.Option.{none-some, same_Some}
+use Rattle.std.specs.Prelude.{◌⊎◌, Option, IsSome, if◌then◌else◌}
+use Rattle.std.specs.Option.{option_map, unwrap_or}
 use Rattle.std.specs.FinMap.{get, insert, remove, len}
 use Rattle.trade_base.specs.declared.id.DsId.{DsId}
 use Rattle.trade_base.specs.declared.refusal.Refusal.{Refusal}
@@ -9,188 +10,370 @@ use Rattle.trade_base.specs.declared.refusal.Refusal.TheVariants.{PageFault}
 use Rattle.own_model.specs.Account.{Account, opened, charged, credited}
 use Rattle.own_model.specs.Call.{Call}
 use Rattle.own_model.specs.Call.Call.{Snew, Sdel}
-use Rattle.own_model.specs.HeapWindow.{heap_gap, largest_machine}
-use Rattle.own_model.specs.NatMap.{total}
+use Rattle.own_model.specs.HeapWindow.{heap_low, heap_high, heap_gap, largest_machine}
+use Rattle.own_model.specs.NatMap.{joined, total}
+use Rattle.own_model.specs.OwnHeap.{ranges_of_heap}
 use Rattle.own_model.specs.OwnState.{OwnState, zeros}
 use Rattle.own_model.specs.OwnStep.{refused, unless, sliced_in, sliced_freed, own_heap_gap, script_step}
 use Rattle.own_model.specs.Region.{Region}
 use Rattle.own_model.specs.Reply.{Reply}
 use Rattle.own_model.specs.Reply.Reply.{Attached, Done}
-use Rattle.own_model.specs.Sliced.{sliced_header, sliced_size, sliced_refusal, block_size, ranges_of_blocks}
-use Rattle.own_model.proofs.NatMapLemmas.{after_insert, before_remove, apart_from_free}
+use Rattle.own_model.specs.Sliced.{sliced_header, sliced_size, sliced_refusal, block_size, block_pages, ranges_of_blocks}
+use Rattle.own_model.specs.Sound.{LieApart}
+use Rattle.own_model.proofs.HeapRangeLemmas.{new_page, range_at}
+use Rattle.own_model.proofs.NatMapLemmas.{after_insert, before_remove, apart_from_free, get-insert_same, get-insert_other, get-remove_same, get-remove_other, some_of}
+use Rattle.own_model.proofs.RegionLemmas.{first_gap_alike}
 use Rattle.region_map.specs.Regions.{Regions}
 use Rattle.cap_space.specs.declared.cap.Cap.TheVariants.{Dataspace}
-use Rattle.dataspace_core.specs.Store.{Store, part, account_in, account_of, root_in, IsOpenIn}
+use Rattle.dataspace_core.specs.Store.{Store, part, account_in, account_of, root_in, parents_in, room_in, IsOpenIn}
 use Rattle.dataspace_core.specs.Share.{Share, share_in}
 use Rattle.dataspace_core.proofs.PartLaws.{account_of-part, part_open}
 use Rattle.dataspace_core.proofs.PartLemmas.{part-fresh}
+use Rattle.heap_core.specs.declared.heap.Heap.{Heap}
+use Rattle.heap_core.specs.Heap.{heap_at}
+use Rattle.heap_core.specs.Laws.{block_region, HeapStays}
 use Rattle.sliced_heap.specs.declared.heap.SlicedHeap.{SlicedHeap}
-use Rattle.sliced_heap.specs.Heap.{payer_of, share_at, blocks_at, IsSound as IsSoundHeap, KeepsOthers, TakesBlock, GivesBlock, IsNoBlock, free_refusal}
-use Rattle.sliced_heap.specs.Sliced.{block_regions}
+use Rattle.sliced_heap.specs.Heap.{payer_of, share_at, blocks_at, IsSound as IsSoundSliced, KeepsOthers, TakesBlock, GivesBlock, IsNoBlock, free_refusal}
+use Rattle.sliced_heap.specs.Sliced.{sliced_tag, block_regions}
 use Rattle.sliced_heap.proofs.ShareLemmas.{shown_block}
-use Rattle.sliced_heap.proofs.HeapLaws.{gaps_between_blocks}
-use Rattle.pd_core.specs.Own.{own_at, own_of, part_at, sliced_at}
-use Rattle.pd_core.specs.Sound.{rpc_weight, HasHeap, IsSoundScript}
+use Rattle.sliced_heap.proofs.HeapLaws.{blocks_are_regions}
+use Rattle.pd_core.specs.Own.{Sessions, own_at, own_of, part_at, own_heap_at, sliced_at}
+use Rattle.pd_core.specs.Sound.{rpc_weight, HasHeaps, IsSoundScript}
 use Rattle.pd_core.specs.declared.script.Script.{Script}
-use Rattle.pd_core.proofs.OwnLemmas.{is_held, slices}
-use Rattle.pd_core.proofs.ScriptLemmas.{Finishes, is_region}
-use Rattle.own_model.proofs.OwnHeapLemmas.{joined-no_heap}
+use Rattle.pd_core.proofs.BesideLemmas.{map_of, standing, whole_standing, sliced_no_block, stands_beside_more, stands_beside_less, ranges_alike, gap_is_free, lie_with, lie_without}
+use Rattle.heap_core.proofs.StayLemmas.{heap_stays}
+use Rattle.heap_core.proofs.BlockRangeLemmas.{blocks_are_regions as heap_blocks_are_regions}
+use Rattle.pd_core.proofs.OwnLemmas.{slices}
+use Rattle.pd_core.proofs.ScriptLemmas.{Finishes, at_heap, block_there, is_region}
 
--- a block's dataspace is its account's
-block_held : (account : ℕ) (store : Store) (regions : Regions) (start : ℕ) (region : Region) → get (block_regions (share_at account store regions)) start ≡ Some region → IsSome (get (part account store).spaces region.of)
-block_held account store regions start region at = (shown_block account store regions start region at).paid
+-- what is made of something comes of something
+mapped_some : {X Y : Type 0} (f : X → Y) (o : Option X) (y : Y) → option_map f o ≡ Some y → (x : X) × (o ≡ Some x)
+mapped_some f None y h = absurd (none-some y h)
+mapped_some f (Some x) y h = (x, refl)
 
 -- where no payload starts, none goes
 none_freed : (address : ℕ) (refusal : Refusal) (b : OwnState) (o : Option (List ℕ)) → Some refusal ≡ (if is_some o then None else Some PageFault) → refused b refusal ≡ sliced_freed address o b
 none_freed address refusal b None is = let e : refusal ≡ PageFault = cc in ap (refused b) e
 none_freed address refusal b (Some payload) is = cc
 
--- a call changes the sliced blocks, the account's use and nothing else of a script
-pub record SlicesAlone (store : Store) (script : Script) (store' : Store) (after : Regions) (heap' : SlicedHeap) : Type 0 where
-  pub has : HasHeap store' (record script { regions = after; heap = heap' })
-  pub user : after.user ≡ script.regions.user
-  pub most : after.most ≡ script.regions.most
-  pub pages : after.pages ≡ script.regions.pages
-  pub others : (other : ℕ) → other ≢ script.account.0 → part other store' ≡ part other store
-  pub root : root_in store' ≡ root_in store
+-- a call changes the heaps, the account's use and nothing else of a script
+pub record ChangesHeaps (store : Store) (script : Script) (store' : Store) (after : Regions) (heap' : Heap) (sliced' : SlicedHeap) : Type 0 where
+  pub has : HasHeaps store' (record script { regions = after; heap = heap'; sliced = sliced' })
+  pub held : (start : ℕ) (region : Region) → get after.heap start ≡ Some region → IsSome (get (part script.account.0 store').spaces region.of)
+  pub unnamed : (start selector : ℕ) (region : Region) (ds : DsId) → get after.heap start ≡ Some region → get script.caps.caps selector ≡ Some (Dataspace ds) → ds.0 ≢ region.of
+  pub still : (selector : ℕ) (ds : DsId) → get script.caps.caps selector ≡ Some (Dataspace ds) → get (part script.account.0 store').spaces ds.0 ≡ get (part_at store script).spaces ds.0
+  pub rest : after ≡ record script.regions { heap = after.heap; tags = after.tags }
   pub ram_limit : (account_of (part script.account.0 store')).ram_limit ≡ (account_of (part_at store script)).ram_limit
   pub caps_limit : (account_of (part script.account.0 store')).caps_limit ≡ (account_of (part_at store script)).caps_limit
   pub spare : len (part script.account.0 store').spaces + total rpc_weight script.caps.caps ≤ (account_of (part script.account.0 store')).caps_used
-  pub still : (selector : ℕ) (ds : DsId) → get script.caps.caps selector ≡ Some (Dataspace ds) → get (part script.account.0 store').spaces ds.0 ≡ get (part_at store script).spaces ds.0
-  pub unnamed : (start selector : ℕ) (region : Region) (ds : DsId) → get after.heap start ≡ Some region → get script.caps.caps selector ≡ Some (Dataspace ds) → ds.0 ≢ region.of
+  pub others : (other : ℕ) → other ≢ script.account.0 → part other store' ≡ part other store
+  pub root : root_in store' ≡ root_in store
+  pub parents : parents_in store' ≡ parents_in store
+  pub room : room_in store' ≡ room_in store
 
 module _ (store : Store) (script : Script) (sound : IsSoundScript store script) where
-  -- the account that the heap takes blocks for is the script's
-  pub payer : payer_of script.heap ≡ script.account.0
-  payer = sound.heap.payer
+  -- such a call finishes
+  pub finishes_heaps : {store' : Store} {after : Regions} {heap' : Heap} {sliced' : SlicedHeap} → ChangesHeaps store script store' after heap' sliced' → {call : Call} {reply : Reply} →
+      ((sessions : Sessions) → script_step call (own_at sessions store script) ≡ record {
+        reply = reply;
+        lines = [];
+        next = record (own_at sessions store script) { account = account_of (part script.account.0 store'); heap = heap_at heap' store' after; sliced = blocks_at script.account.0 store' after };
+      }) → Finishes call reply store script store' (record script { regions = after; heap = heap'; sliced = sliced' })
+  finishes_heaps {store'} {after} {heap'} {sliced'} changes {call} {reply} is =
+      let account = script.account.0 in
+      let p' = part account store' in
+      let has = changes.has in
+      let user : after.user ≡ script.regions.user = ap (λ (r : Regions). r.user) changes.rest in
+      let most : after.most ≡ script.regions.most = ap (λ (r : Regions). r.most) changes.rest in
+      let pages : after.pages ≡ script.regions.pages = ap (λ (r : Regions). r.pages) changes.rest in
+      let is_open = part_open account store' (subst (IsOpenIn store') has.sliced_pays has.sliced.opens) in
+      let made = slices (part_at store script) script.caps script.regions (own_heap_at store script) (sliced_at store script) sound.own call p' after (heap_at heap' store' after) (blocks_at account store' after) reply
+      changes.still user most pages is_open changes.ram_limit changes.caps_limit changes.spare (record { held = changes.held; unnamed = changes.unnamed }) is in record {
+        outcome = made.outcome;
+        keeps = record {
+          sound = record { own = made.script; heaps = has };
+          account = refl;
+          ram_limit = changes.ram_limit;
+          caps_limit = changes.caps_limit;
+          places = refl;
+          sessions = λ selector. refl;
+          session_count = refl;
+          root = changes.root;
+          parents = changes.parents;
+          room = changes.room;
+          others = changes.others;
+          limits = sym has.sliced.maps.pages ∙ ap (λ n. n * 4096) pages ∙ sound.heaps.sliced.maps.pages;
+        };
+      }
 
-  -- and each heap region is a block
-  is_block : (start : ℕ) (region : Region) → get script.regions.heap start ≡ Some region → get (block_regions (share_at (payer_of script.heap) store script.regions)) start ≡ Some region
-  is_block start region at = ap (λ a. get (block_regions (share_at a store script.regions)) start) payer ∙ ap (λ m. get m start) sound.heap.all ∙ at
-
-  -- no selector names a block
+  -- no selector names a sliced block
   pub no_block : (selector : ℕ) (ds : DsId) → get script.caps.caps selector ≡ Some (Dataspace ds) → IsNoBlock (share_at script.account.0 store script.regions) ds.0
   no_block selector ds names start region at e = sound.own.blocks.unnamed start selector region ds (is_region store script sound start region at) names (sym e)
 
-  module _ {store' : Store} {after : Regions} {heap' : SlicedHeap} where
-    -- such a call finishes
-    pub finishes_sliced : SlicesAlone store script store' after heap' → {call : Call} {reply : Reply} →
-        script_step call (own_at store script) ≡ record {
-          reply = reply;
-          lines = [];
-          next = record (own_at store script) { account = account_of (part script.account.0 store'); sliced = blocks_at script.account.0 store' after };
-        } → Finishes call reply store script store' (record script { regions = after; heap = heap' })
-    finishes_sliced alone {call} {reply} is =
-        let account = script.account.0 in
-        let p' = part account store' in
-        let has = alone.has in
-        let is_open = part_open account store' (subst (IsOpenIn store') has.payer has.sound.opens) in
-        let held : (start : ℕ) (region : Region) → get after.heap start ≡ Some region → IsSome (get p'.spaces region.of)
-        = (λ start region there. block_held account store' after start region (ap (λ m. get m start) has.all ∙ there)) in
-        let made = slices (part_at store script) script.caps script.regions (sliced_at store script) sound.own call p' after (blocks_at account store' after) reply
-        alone.still alone.user alone.most alone.pages is_open alone.ram_limit alone.caps_limit alone.spare (record { held = held; unnamed = alone.unnamed }) is in record {
-          outcome = made.outcome;
-          keeps = record {
-            sound = record { own = made.script; heap = has };
-            account = refl;
-            root = alone.root;
-            others = alone.others;
-            limits = sym has.sound.maps.pages ∙ ap (λ n. n * 4096) alone.pages ∙ sound.heap.sound.maps.pages;
-          };
-        }
+  -- nor is a chunk's or a large block's dataspace one
+  heap_apart : (s k : ℕ) (r : Region) → block_region (share_at script.account.0 store script.regions) s ≡ Some (r, k) → IsNoBlock (share_at script.account.0 store script.regions) r.of
+  heap_apart s k r at start region sliced e =
+      let window = sound.heaps.heap.window in
+      let same : start ≡ s = window.once start s region r (is_region store script sound start region sliced) (block_there store script sound s (r, k) at) e in
+      let share = share_at script.account.0 store script.regions in
+      absurd (none-some (r, k) (sym (sliced_no_block share start region sliced) ∙ ap (block_region share) same ∙ at))
 
-    module _ (sound' : IsSoundHeap heap' store' after) (same : payer_of heap' ≡ payer_of script.heap) (others : KeepsOthers (payer_of script.heap) store store' script.regions after) where
-      -- other accounts keep their parts
-      parts_stay : (other : ℕ) → other ≢ script.account.0 → part other store' ≡ part other store
-      unfolding share_in
-      parts_stay other apart = ap (λ (s : Share). s.part) (others.shares other (λ e. apart (e ∙ payer)))
+  -- sliced blocks range where their regions stand
+  same_ranges : (s : ℕ) → get (ranges_of_blocks (sliced_at store script)) s ≡ option_map (λ (r : Region). record { of = 0; pages = r.pages }) (get (block_regions (share_at script.account.0 store script.regions)) s)
+  same_ranges = subst (λ a. (s : ℕ) → get (ranges_of_blocks (blocks_at a store script.regions)) s ≡ option_map (λ (r : Region). record { of = 0; pages = r.pages }) (get (block_regions (share_at a store script.regions)) s)) sound.heaps.sliced_pays
+      (blocks_are_regions script.sliced store script.regions sound.heaps.sliced)
 
-      -- ---- snew
+  -- the first gap of the own state's heap window is the map's
+  pub same_gap : (sessions : Sessions) (bytes : ℕ) → own_heap_gap bytes (own_at sessions store script) ≡ heap_gap largest_machine script.regions.heap (bytes / 4096)
+  unfolding own_of
+  same_gap sessions bytes =
+      let account = script.account.0 in
+      let blocks : (s : ℕ) → get (ranges_of_heap (own_heap_at store script)) s ≡ option_map (λ (e : Region × ℕ). record { of = 0; pages = e.0.pages }) (block_region (share_at account store script.regions) s)
+      = subst (λ a. (s : ℕ) → get (ranges_of_heap (own_heap_at store script)) s ≡ option_map (λ (e : Region × ℕ). record { of = 0; pages = e.0.pages }) (block_region (share_at a store script.regions) s)) sound.heaps.heap_pays
+      (heap_blocks_are_regions script.heap store script.regions sound.heaps.heap) in
+      first_gap_alike (joined (ranges_of_blocks (sliced_at store script)) (ranges_of_heap (own_heap_at store script))) script.regions.heap
+      (ranges_alike (block_regions (share_at account store script.regions)) (share_at account store script.regions) script.regions.heap (ranges_of_blocks (sliced_at store script)) (ranges_of_heap (own_heap_at store script)) same_ranges blocks
+      (is_region store script sound) (block_there store script sound) sound.heaps.all) heap_low (heap_high largest_machine) (bytes / 4096)
 
-      -- a block that the heap takes is the model's
-      pub snew_finishes : (n address : ℕ) → None ≡ sliced_refusal n (account_in store (payer_of script.heap)) → TakesBlock (payer_of script.heap) n address store store' script.regions after →
-          Finishes (Snew n) (Attached address) store script store' (record script { regions = after; heap = heap' })
+  module _ {store' : Store} {after : Regions} {sliced' : SlicedHeap} (sound' : IsSoundSliced sliced' store' after) (pays : payer_of sliced' ≡ payer_of script.sliced)
+      (others : KeepsOthers (payer_of script.sliced) store store' script.regions after) where
+    -- other accounts keep their parts
+    parts_stay : (other : ℕ) → other ≢ script.account.0 → part other store' ≡ part other store
+    unfolding share_in
+    parts_stay other apart = ap (λ (s : Share). s.part) (others.shares other (λ e. apart (e ∙ sound.heaps.sliced_pays)))
+
+    module _ (lie : LieApart heap_low (heap_high script.regions.pages) after.heap)
+        (beside : (s : ℕ) → standing after.heap after.tags s ≡ standing script.regions.heap script.regions.tags s)
+        (keeps : (k : ℕ) → IsNoBlock (share_at script.account.0 store script.regions) k → IsSome (get (part_at store script).spaces k) → get (part script.account.0 store').spaces k ≡ get (part_at store script).spaces k)
+        (where_is : (s : ℕ) (r : Region) → get after.heap s ≡ Some r →
+        (get (block_regions (share_at script.account.0 store' after)) s ≡ Some r) ⊎ ((get script.regions.heap s ≡ Some r) × IsSome (block_region (share_at script.account.0 store script.regions) s))) where
+      -- the dataspace of a chunk or a large block stays
+      block_stays : (s k : ℕ) (r : Region) → block_region (share_at script.account.0 store script.regions) s ≡ Some (r, k) → get (part script.account.0 store').spaces r.of ≡ get (part_at store script).spaces r.of
+      block_stays s k r at = keeps r.of (heap_apart s k r at) (sound.own.blocks.held s r (block_there store script sound s (r, k) at))
+
+      -- each heap region is still of the account's
+      held_after : (s : ℕ) (r : Region) → get after.heap s ≡ Some r → IsSome (get (part script.account.0 store').spaces r.of)
+      held_after s r at = elim (where_is s r at) [
+        | inl one ↦ (shown_block script.account.0 store' after s r one).paid
+        | inr old ↦
+            let e = some_of (block_region (share_at script.account.0 store script.regions) s) old.1 in
+            let there = block_there store script sound s e.0 e.1 in
+            let same : r ≡ e.0.0 = same_Some r e.0.0 (sym old.0 ∙ there) in
+            ap (λ (q : Region). is_some (get (part script.account.0 store').spaces q.of)) same ∙ ap is_some (block_stays s e.0.1 e.0.0 e.1) ∙ sound.own.blocks.held s e.0.0 there
+      ]
+
+      -- chunks and large blocks stand where they stood
+      stand_after : (s : ℕ) → block_region (share_at script.account.0 store' after) s ≡ block_region (share_at script.account.0 store script.regions) s
+      stand_after s =
+          whole_standing (part script.account.0 store') after.heap after.tags held_after s ∙ beside s
+          ∙ sym (whole_standing (part_at store script) script.regions.heap script.regions.tags sound.own.blocks.held s)
+
+      -- so the heap stays
+      heap_beside : HeapStays script.heap store store' script.regions after
+      heap_beside =
+          let pages : after.pages ≡ script.regions.pages = ap (λ (r : Regions). r.pages) others.rest in
+          let window = sound.heaps.heap.window in
+          heap_stays script.heap store store' script.regions after sound.heaps.heap
+          (map_of sound'.maps (rw pages window.few) (rw pages lie))
+          (at_heap store script sound (IsOpenIn store') (subst (IsOpenIn store') (pays ∙ sound.heaps.sliced_pays) sound'.opens))
+          (at_heap store script sound (λ a. (s : ℕ) → block_region (share_at a store' after) s ≡ block_region (share_at a store script.regions) s) stand_after)
+          (at_heap store script sound (λ a. (s k : ℕ) (r : Region) → block_region (share_at a store script.regions) s ≡ Some (r, k) → get (part a store').spaces r.of ≡ get (part a store).spaces r.of) block_stays)
+
+      -- and both heaps are the script's
+      has_both : HasHeaps store' (record script { regions = after; sliced = sliced' })
+      has_both = record {
+        heap = heap_beside.sound;
+        sliced = sound';
+        heap_pays = sound.heaps.heap_pays;
+        sliced_pays = pays ∙ sound.heaps.sliced_pays;
+        all = λ s r at. elim (where_is s r at) [
+          | inl one ↦ inl one
+          | inr old ↦ inr (ap is_some (stand_after s) ∙ old.1)
+        ];
+      }
+
+    -- ---- snew
+
+    module _ (n address : ℕ) (takes : TakesBlock (payer_of script.sliced) n address store store' script.regions after) where
+      -- the block is the script's
+      taken : TakesBlock script.account.0 n address store store' script.regions after
+      taken = subst (λ a. TakesBlock a n address store store' script.regions after) sound.heaps.sliced_pays takes
+
+      -- its region
+      abbrev more : Region
+      more = record { of = taken.ds; pages = sliced_size n / 4096 }
+
+      more_heap : after.heap ≡ insert script.regions.heap taken.start more
+      more_heap = ap (λ (r : Regions). r.heap) taken.attached
+
+      -- nothing stood there
+      more_free : get script.regions.heap taken.start ≡ None
+      more_free = gap_is_free script.regions.pages script.regions.heap (sliced_size n / 4096) taken.start (new_page n) sound.heaps.heap.window.lie taken.gap
+
+      -- its dataspace is new
+      more_fresh : get (part_at store script).spaces taken.ds ≡ None
+      more_fresh = part-fresh store script.account.0 taken.ds taken.fresh
+
+      -- the others stay, but those of sliced blocks
+      more_keeps : (k : ℕ) → IsNoBlock (share_at script.account.0 store script.regions) k → IsSome (get (part_at store script).spaces k) → get (part script.account.0 store').spaces k ≡ get (part_at store script).spaces k
+      more_keeps k none held = taken.dataspaces k (apart_from_free (part_at store script).spaces taken.ds k more_fresh held) none
+
+      -- a heap region is the new block's or was there
+      more_where : (s : ℕ) (r : Region) → get after.heap s ≡ Some r →
+          (get (block_regions (share_at script.account.0 store' after)) s ≡ Some r) ⊎ ((get script.regions.heap s ≡ Some r) × IsSome (block_region (share_at script.account.0 store script.regions) s))
+      more_where s r at =
+          let blocks = block_regions (share_at script.account.0 store script.regions) in
+          elim (after_insert script.regions.heap taken.start more s r (sym (ap (λ m. get m s) more_heap) ∙ at)) [
+            | inl here ↦ inl (ap (λ m. get m s) taken.stands ∙ get-insert_same blocks taken.start more s here.0 ∙ ap (λ x. Some x) (sym here.1))
+            | inr old ↦ elim (sound.heaps.all s r old.1) [
+              | inl one ↦ inl (ap (λ m. get m s) taken.stands ∙ get-insert_other blocks taken.start more s old.0 ∙ one)
+              | inr one ↦ inr (old.1, one)
+            ]
+          ]
+
+      -- the regions still lie apart
+      more_lie : LieApart heap_low (heap_high script.regions.pages) after.heap
+      more_lie = rw more_heap (lie_with script.regions.pages script.regions.heap taken.ds (sliced_size n / 4096) taken.start (new_page n) sound.heaps.heap.window.lie taken.gap)
+
+      -- chunks and large blocks stand where they stood
+      more_beside : (s : ℕ) → standing after.heap after.tags s ≡ standing script.regions.heap script.regions.tags s
+      more_beside s =
+          (λ i. standing (more_heap i) (ap (λ (r : Regions). r.tags) taken.attached i) s)
+          ∙ stands_beside_more script.regions.heap script.regions.tags taken.start more more_free s
+
+      -- the account is charged
+      more_charge : account_of (part script.account.0 store') ≡ charged (account_of (part_at store script)) (sliced_size n) 1
+      more_charge = ap (λ (o : Option Account). unwrap_or o (opened 0 0)) taken.charge ∙ ap (λ a. charged a (sliced_size n) 1) (sym (account_of-part script.account.0 store))
+
+      -- no selector names the new dataspace
+      more_apart : (q : ℕ) (d : DsId) → get script.caps.caps q ≡ Some (Dataspace d) → d.0 ≢ taken.ds
+      more_apart q d names = apart_from_free (part_at store script).spaces taken.ds d.0 more_fresh (sound.own.named.there q d names)
+
+      -- nothing else of the script changes
+      more_changes : ChangesHeaps store script store' after script.heap sliced'
+      more_changes = record {
+        has = has_both more_lie more_beside more_keeps more_where;
+        held = held_after more_lie more_beside more_keeps more_where;
+        unnamed = λ start q r d there names. elim (after_insert script.regions.heap taken.start more start r (sym (ap (λ m. get m start) more_heap) ∙ there)) [
+          | inl here ↦ λ e. more_apart q d names (e ∙ ap (λ (x : Region). x.of) here.1)
+          | inr old ↦ sound.own.blocks.unnamed start q r d old.1 names
+        ];
+        still = λ q d names. more_keeps d.0 (no_block q d names) (sound.own.named.there q d names);
+        rest = others.rest;
+        ram_limit = ap (λ (a : Account). a.ram_limit) more_charge;
+        caps_limit = ap (λ (a : Account). a.caps_limit) more_charge;
+        spare = omega (arith, taken.count, sound.own.paid.spare, ap (λ (a : Account). a.caps_used) more_charge);
+        others = parts_stay;
+        root = others.root;
+        parents = others.parents;
+        room = others.room;
+      }
+
+      -- a block that the sliced heap takes is the model's
+      pub snew_finishes : None ≡ sliced_refusal n (account_in store (payer_of script.sliced)) → Finishes (Snew n) (Attached address) store script store' (record script { regions = after; sliced = sliced' })
       unfolding own_of part
-      snew_finishes n address accepted takes =
-          let account = script.account.0 in
-          let p = part_at store script in
-          let b = own_at store script in
-          let taken : TakesBlock account n address store store' script.regions after = subst (λ a. TakesBlock a n address store store' script.regions after) payer takes in
-          let region : Region = record { of = taken.ds; pages = sliced_size n / 4096 } in
-          let charge : account_of (part account store') ≡ charged (account_of p) (sliced_size n) 1
-          = ap (λ (o : Option Account). unwrap_or o (opened 0 0)) taken.charge ∙ ap (λ a. charged a (sliced_size n) 1) (sym (account_of-part account store)) in
-          let fresh : get p.spaces taken.ds ≡ None = part-fresh store account taken.ds taken.fresh in
-          let apart : (q : ℕ) (d : DsId) → get script.caps.caps q ≡ Some (Dataspace d) → d.0 ≢ taken.ds
-          = (λ q d names. apart_from_free p.spaces taken.ds d.0 fresh (is_held p script.caps script.regions (sliced_at store script) sound.own q d names)) in
-          let heap_is : after.heap ≡ insert script.regions.heap taken.start region = ap (λ (r : Regions). r.heap) taken.attached in
-          let alone : SlicesAlone store script store' after heap' = record {
-            has = record { sound = sound'; payer = same ∙ payer; all = taken.stands ∙ ap (λ m. insert m taken.start region) sound.heap.all ∙ sym heap_is };
-            user = ap (λ (r : Regions). r.user) taken.attached;
-            most = ap (λ (r : Regions). r.most) taken.attached;
-            pages = ap (λ (r : Regions). r.pages) taken.attached;
-            others = parts_stay;
-            root = others.root;
-            ram_limit = ap (λ (a : Account). a.ram_limit) charge;
-            caps_limit = ap (λ (a : Account). a.caps_limit) charge;
-            spare = omega (arith, taken.count, sound.own.paid.spare, ap (λ (a : Account). a.caps_used) charge);
-            still = λ q d names. taken.dataspaces d.0 (apart q d names) (no_block q d names);
-            unnamed = λ start q r d there names. elim (after_insert script.regions.heap taken.start region start r (sym (ap (λ m. get m start) heap_is) ∙ there)) [
-              | inl here ↦ λ e. apart q d names (e ∙ ap (λ (x : Region). x.of) here.1)
-              | inr old ↦ sound.own.blocks.unnamed start q r d old.1 names
-            ];
-          } in
-          let fits : sliced_refusal n (account_of p) ≡ None = ap (λ a. sliced_refusal n (account_in store a)) (sym payer) ∙ sym accepted in
-          let gap : own_heap_gap (sliced_size n) b ≡ Some taken.start
-          = ap (λ m. heap_gap largest_machine m (sliced_size n / 4096)) (joined-no_heap (ranges_of_blocks (sliced_at store script)))
-          ∙ subst (λ a. heap_gap largest_machine (ranges_of_blocks (blocks_at a store script.regions)) (sliced_size n / 4096) ≡ heap_gap largest_machine script.regions.heap (sliced_size n / 4096)) payer
-          (gaps_between_blocks script.heap store script.regions sound.heap.sound is_block largest_machine (sliced_size n / 4096)) ∙ taken.lowest in
+      snew_finishes accepted =
+          let fits : sliced_refusal n (account_of (part_at store script)) ≡ None = ap (λ a. sliced_refusal n (account_in store a)) (sym sound.heaps.sliced_pays) ∙ sym accepted in
           let blocks = taken.blocks ∙ ap (λ k. insert (sliced_at store script) k (zeros (sliced_size n - sliced_header))) taken.at in
-          finishes_sliced alone
-          (ap (λ r. unless r b (sliced_in n (own_heap_gap (sliced_size n) b) b)) fits ∙ ap (λ o. sliced_in n o b) gap
-          ∙ (λ i. record { reply = Attached (sym taken.at i); lines = []; next = record b { account = sym charge i; sliced = sym blocks i } }))
+          let value = (heap_beside more_lie more_beside more_keeps more_where).value in
+          finishes_heaps more_changes (λ sessions.
+          let b = own_at sessions store script in
+          ap (λ r. unless r b (sliced_in n (own_heap_gap (sliced_size n) b) b)) fits ∙ ap (λ o. sliced_in n o b) (same_gap sessions (sliced_size n) ∙ taken.lowest)
+          ∙ (λ i. record { reply = Attached (sym taken.at i); lines = []; next = record b { account = sym more_charge i; heap = sym value i; sliced = sym blocks i } }))
 
-      -- ---- sdel
+    -- ---- sdel
 
-      -- a block that the heap gives back is the model's
-      pub sdel_finishes : (address : ℕ) → GivesBlock (payer_of script.heap) address store store' script.regions after →
-          Finishes (Sdel address) Done store script store' (record script { regions = after; heap = heap' })
+    module _ (address : ℕ) (gives : GivesBlock (payer_of script.sliced) address store store' script.regions after) where
+      -- the block was the script's
+      given : GivesBlock script.account.0 address store store' script.regions after
+      given = subst (λ a. GivesBlock a address store store' script.regions after) sound.heaps.sliced_pays gives
+
+      -- its region
+      abbrev less : Region
+      less = record { of = given.ds; pages = block_pages given.payload }
+
+      less_heap : after.heap ≡ remove script.regions.heap given.start
+      less_heap = ap (λ (r : Regions). r.heap) given.detached
+
+      -- it kept a sliced block's number
+      less_tag : get script.regions.tags given.start ≡ Some sliced_tag
+      less_tag =
+          let payload : get (sliced_at store script) (given.start + sliced_header) ≡ Some given.payload = ap (get (sliced_at store script)) (sym given.at) ∙ given.was in
+          let range = sym (same_ranges given.start) ∙ range_at (sliced_at store script) given.start given.payload payload in
+          let one = mapped_some (λ (r : Region). record { of = 0; pages = r.pages }) (get (block_regions (share_at script.account.0 store script.regions)) given.start) _ range in
+          (shown_block script.account.0 store script.regions given.start one.0 one.1).tag
+
+      -- other dataspaces stay, but those of sliced blocks
+      less_keeps : (k : ℕ) → IsNoBlock (share_at script.account.0 store script.regions) k → IsSome (get (part_at store script).spaces k) → get (part script.account.0 store').spaces k ≡ get (part_at store script).spaces k
+      less_keeps k none held = given.dataspaces k none
+
+      -- a heap region was there, and elsewhere
+      less_before : (s : ℕ) (r : Region) → get after.heap s ≡ Some r → get (remove script.regions.heap given.start) s ≡ Some r
+      less_before s r at = sym (ap (λ m. get m s) less_heap) ∙ at
+
+      less_where : (s : ℕ) (r : Region) → get after.heap s ≡ Some r →
+          (get (block_regions (share_at script.account.0 store' after)) s ≡ Some r) ⊎ ((get script.regions.heap s ≡ Some r) × IsSome (block_region (share_at script.account.0 store script.regions) s))
+      less_where s r at =
+          let left = less_before s r at in
+          let there = before_remove script.regions.heap given.start s r left in
+          let apart : s ≢ given.start = λ e. none-some r (sym (get-remove_same script.regions.heap given.start s e) ∙ left) in
+          elim (sound.heaps.all s r there) [
+            | inl one ↦ inl (ap (λ m. get m s) given.left ∙ get-remove_other (block_regions (share_at script.account.0 store script.regions)) given.start s apart ∙ one)
+            | inr one ↦ inr (there, one)
+          ]
+
+      -- the regions still lie apart
+      less_lie : LieApart heap_low (heap_high script.regions.pages) after.heap
+      less_lie = rw less_heap (lie_without script.regions.pages script.regions.heap given.start sound.heaps.heap.window.lie)
+
+      -- chunks and large blocks stand where they stood
+      less_beside : (s : ℕ) → standing after.heap after.tags s ≡ standing script.regions.heap script.regions.tags s
+      less_beside s =
+          (λ i. standing (less_heap i) (ap (λ (r : Regions). r.tags) given.detached i) s)
+          ∙ stands_beside_less script.regions.heap script.regions.tags given.start less given.region less_tag s
+
+      -- the account is credited
+      less_credit : account_of (part script.account.0 store') ≡ credited (account_of (part_at store script)) (block_size given.payload) 1
+      less_credit = ap (λ (o : Option Account). unwrap_or o (opened 0 0)) given.charge ∙ ap (λ a. credited a (block_size given.payload) 1) (sym (account_of-part script.account.0 store))
+
+      -- nothing else of the script changes
+      less_changes : ChangesHeaps store script store' after script.heap sliced'
+      less_changes = record {
+        has = has_both less_lie less_beside less_keeps less_where;
+        held = held_after less_lie less_beside less_keeps less_where;
+        unnamed = λ start q r d there names. sound.own.blocks.unnamed start q r d (before_remove script.regions.heap given.start start r (less_before start r there)) names;
+        still = λ q d names. less_keeps d.0 (no_block q d names) (sound.own.named.there q d names);
+        rest = others.rest;
+        ram_limit = ap (λ (a : Account). a.ram_limit) less_credit;
+        caps_limit = ap (λ (a : Account). a.caps_limit) less_credit;
+        spare = omega (arith, given.count, sound.own.paid.spare, ap (λ (a : Account). a.caps_used) less_credit);
+        others = parts_stay;
+        root = others.root;
+        parents = others.parents;
+        room = others.room;
+      }
+
+      -- a block that the sliced heap gives back is the model's
+      pub sdel_finishes : Finishes (Sdel address) Done store script store' (record script { regions = after; sliced = sliced' })
       unfolding own_of
-      sdel_finishes address gives =
-          let account = script.account.0 in
-          let p = part_at store script in
-          let b = own_at store script in
-          let given : GivesBlock account address store store' script.regions after = subst (λ a. GivesBlock a address store store' script.regions after) payer gives in
-          let credit : account_of (part account store') ≡ credited (account_of p) (block_size given.payload) 1
-          = ap (λ (o : Option Account). unwrap_or o (opened 0 0)) given.charge ∙ ap (λ a. credited a (block_size given.payload) 1) (sym (account_of-part account store)) in
-          let heap_is : after.heap ≡ remove script.regions.heap given.start = ap (λ (r : Regions). r.heap) given.detached in
-          let alone : SlicesAlone store script store' after heap' = record {
-            has = record { sound = sound'; payer = same ∙ payer; all = given.left ∙ ap (λ m. remove m given.start) sound.heap.all ∙ sym heap_is };
-            user = ap (λ (r : Regions). r.user) given.detached;
-            most = ap (λ (r : Regions). r.most) given.detached;
-            pages = ap (λ (r : Regions). r.pages) given.detached;
-            others = parts_stay;
-            root = others.root;
-            ram_limit = ap (λ (a : Account). a.ram_limit) credit;
-            caps_limit = ap (λ (a : Account). a.caps_limit) credit;
-            spare = omega (arith, given.count, sound.own.paid.spare, ap (λ (a : Account). a.caps_used) credit);
-            still = λ q d names. given.dataspaces d.0 (no_block q d names);
-            unnamed = λ start q r d there names.
-                sound.own.blocks.unnamed start q r d (before_remove script.regions.heap given.start start r (sym (ap (λ m. get m start) heap_is) ∙ there)) names;
-          } in
-          finishes_sliced alone
-          (ap (λ o. sliced_freed address o b) given.was
-          ∙ (λ i. record { reply = Done; lines = []; next = record b { account = sym credit i; sliced = sym given.blocks i } }))
+      sdel_finishes =
+          let value = (heap_beside less_lie less_beside less_keeps less_where).value in
+          finishes_heaps less_changes (λ sessions.
+          let b = own_at sessions store script in
+          ap (λ o. sliced_freed address o b) given.was
+          ∙ (λ i. record { reply = Done; lines = []; next = record b { account = sym less_credit i; heap = sym value i; sliced = sym given.blocks i } }))
 
-  -- what the heap refuses, a snew is refused
-  pub snew_refused : (n : ℕ) (refusal : Refusal) → Some refusal ≡ sliced_refusal n (account_in store (payer_of script.heap)) → refused (own_at store script) refusal ≡ script_step (Snew n) (own_at store script)
+  -- what the sliced heap refuses, a snew is refused
+  pub snew_refused : (n : ℕ) (refusal : Refusal) → Some refusal ≡ sliced_refusal n (account_in store (payer_of script.sliced)) → (sessions : Sessions) → refused (own_at sessions store script) refusal ≡ script_step (Snew n) (own_at sessions store script)
   unfolding own_of part
-  snew_refused n refusal is =
-      let b = own_at store script in
-      let lacks : Some refusal ≡ sliced_refusal n b.account = is ∙ ap (λ a. sliced_refusal n (account_in store a)) payer in
+  snew_refused n refusal is sessions =
+      let b = own_at sessions store script in
+      let lacks : Some refusal ≡ sliced_refusal n b.account = is ∙ ap (λ a. sliced_refusal n (account_in store a)) sound.heaps.sliced_pays in
       ap (λ r. unless r b (sliced_in n (own_heap_gap (sliced_size n) b) b)) lacks
 
   -- and so is a sdel
-  pub sdel_refused : (address : ℕ) (refusal : Refusal) → Some refusal ≡ free_refusal (blocks_at (payer_of script.heap) store script.regions) address → refused (own_at store script) refusal ≡ script_step (Sdel address) (own_at store script)
+  pub sdel_refused : (address : ℕ) (refusal : Refusal) → Some refusal ≡ free_refusal (blocks_at (payer_of script.sliced) store script.regions) address → (sessions : Sessions) →
+      refused (own_at sessions store script) refusal ≡ script_step (Sdel address) (own_at sessions store script)
   unfolding own_of
-  sdel_refused address refusal is =
-      none_freed address refusal (own_at store script) (get (sliced_at store script) address) (is ∙ ap (λ a. free_refusal (blocks_at a store script.regions) address) payer)
+  sdel_refused address refusal is sessions =
+      none_freed address refusal (own_at sessions store script) (get (sliced_at store script) address) (is ∙ ap (λ a. free_refusal (blocks_at a store script.regions) address) sound.heaps.sliced_pays)

@@ -1,11 +1,13 @@
 -- An answer as the model sees it.
 use Rattle.std.specs.Prelude.{ℕ, List, [], Result, Ok, Err}
+use Rattle.std.specs.List.{flat_map}
 use Rattle.trade_base.specs.declared.refusal.Refusal.{Refusal}
 use Rattle.own_model.specs.Account.{Account}
 use Rattle.own_model.specs.OwnState.{OwnState}
 use Rattle.own_model.specs.OwnStep.{Outcome}
-use Rattle.own_model.specs.Reply.{Reply as Modelled, LogLine, reply_text}
+use Rattle.own_model.specs.Reply.{Reply as Modelled, reply_text, log_text}
 use Rattle.own_model.specs.Reply.Reply.{Selected as ModelledSelected, Attached as ModelledAttached, Done as ModelledDone, Quotas as ModelledQuotas, Refused as ModelledRefused}
+use Rattle.server_frame.specs.Told.{Told as Written}
 use Rattle.pd_core.specs.declared.answer.Answer.{Answer}
 use Rattle.pd_core.specs.declared.answer.Answer.TheVariants.{Selected, Attached, Done, Quotas}
 use Rattle.pd_core.specs.declared.answer.Quotas.{Quotas as QuotasTold}
@@ -35,16 +37,20 @@ reply_of (Err refusal) = ModelledRefused refusal
 abbrev pub outcome_of : Result Answer Refusal → OwnState → Outcome
 outcome_of result next = record { reply = reply_of result; lines = []; next = next }
 
--- an outcome whose reply is told: the text of the reply, the log lines and the own state
+-- an outcome that is told: the text of the reply, that of the log lines, and the own state
 pub record Told : Type 0 where
   pub text : List ℕ
-  pub lines : List LogLine
+  pub lines : List ℕ
   pub next : OwnState
 
--- the reply of an outcome as its text
+-- the reply and the log lines of an outcome as their texts
 abbrev pub told_of : Outcome → Told
-told_of outcome = record { text = reply_text outcome.reply; lines = outcome.lines; next = outcome.next }
+told_of outcome = record { text = reply_text outcome.reply; lines = flat_map log_text outcome.lines; next = outcome.next }
 
--- a call that tells this text and leaves this own state
-abbrev pub told : List ℕ → OwnState → Told
-told text next = record { text = text; lines = []; next = next }
+-- a call that writes this reply and leaves this own state
+abbrev pub told : Written → OwnState → Told
+told reply next = record { text = reply.text; lines = reply.lines; next = next }
+
+-- a reply of this text, without log lines
+abbrev pub told_alone : List ℕ → Written
+told_alone text = record { lines = []; text = text }

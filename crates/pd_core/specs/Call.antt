@@ -2,10 +2,10 @@
 use Rattle.std.specs.Prelude.{ℕ, List, [], IsSome}
 use Rattle.std.specs.Option.{unwrap_or}
 use Rattle.own_model.specs.Call.{Call as Modelled}
-use Rattle.own_model.specs.Call.Call.{Alloc as ModelledAlloc, Free as ModelledFree, Attach as ModelledAttach, AttachAt as ModelledAttachAt, Detach as ModelledDetach, Peek as ModelledPeek, Poke as ModelledPoke, Capalloc as ModelledCapalloc, Capfree as ModelledCapfree, Snew as ModelledSnew, Sdel as ModelledSdel, Quota as ModelledQuota}
+use Rattle.own_model.specs.Call.Call.{Alloc as ModelledAlloc, Free as ModelledFree, Attach as ModelledAttach, AttachAt as ModelledAttachAt, Detach as ModelledDetach, Peek as ModelledPeek, Poke as ModelledPoke, Capalloc as ModelledCapalloc, Capfree as ModelledCapfree, New as ModelledNew, Del as ModelledDel, Snew as ModelledSnew, Sdel as ModelledSdel, Quota as ModelledQuota}
 use Rattle.own_model.specs.Text.{bytes_of_hex}
 use Rattle.pd_core.specs.declared.call.Call.{Call}
-use Rattle.pd_core.specs.declared.call.Call.TheVariants.{Alloc, Free, Attach, AttachAt, Detach, Peek, Poke, Capalloc, Capfree, Snew, Sdel, Quota}
+use Rattle.pd_core.specs.declared.call.Call.TheVariants.{Alloc, Free, Attach, AttachAt, Detach, Peek, Poke, Capalloc, Capfree, New, Del, Snew, Sdel, Quota}
 
 -- the bytes that a text of hexadecimal digits stands for
 abbrev pub bytes_in : List ℕ → List ℕ
@@ -22,6 +22,8 @@ model_call (Peek address count) = ModelledPeek address count
 model_call (Poke address hex) = ModelledPoke address (bytes_in hex.now)
 model_call Capalloc = ModelledCapalloc
 model_call (Capfree selector) = ModelledCapfree selector
+model_call (New n) = ModelledNew n
+model_call (Del address) = ModelledDel address
 model_call (Snew n) = ModelledSnew n
 model_call (Sdel address) = ModelledSdel address
 model_call Quota = ModelledQuota

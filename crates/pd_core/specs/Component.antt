@@ -1,24 +1,37 @@
 -- A component as the model sees it.
-use Rattle.std.specs.Prelude.{◌≡◌, ◌≢◌, ℕ, Option, Some, None, IsSome}
-use Rattle.std.specs.FinMap.{empty}
+use Rattle.std.specs.Prelude.{◌≡◌, ◌≢◌, ℕ, ◌+◌, ◌*◌, ◌≤◌, Option, Some, None, IsSome, IfSome}
+use Rattle.std.specs.FinMap.{get, empty}
+use Rattle.slab.specs.Slab.{Slab}
+use Rattle.trade_base.specs.declared.id.SessionId.{SessionId}
+use Rattle.own_model.specs.Limits.{caps_limits}
+use Rattle.own_model.specs.NatMap.{NatMap}
+use Rattle.own_model.specs.OwnHeap.{no_heap}
 use Rattle.own_model.specs.OwnState.{OwnState}
 use Rattle.own_model.specs.Routes.{fixed_routes}
 use Rattle.own_model.specs.StartList.{Entry, Kind}
 use Rattle.own_model.specs.StartList.Kind.{Script as AScript, Server as AServer}
 use Rattle.cap_space.specs.Space.{Space}
+use Rattle.cap_space.specs.declared.cap.Cap.{Cap}
 use Rattle.region_map.specs.Regions.{Regions}
-use Rattle.dataspace_core.specs.Store.{Store, part, root_in, ram_limits_in}
-use Rattle.sliced_heap.specs.Heap.{payer_of as heap_payer}
-use Rattle.pd_core.specs.Own.{own_of, own_at}
-use Rattle.pd_core.specs.Sound.{IsNewHeap, IsSoundScript}
+use Rattle.dataspace_core.specs.Store.{Store, part, account_of, root_in, parents_in, room_in, ram_limits_in, caps_limits_in}
+use Rattle.heap_core.specs.Heap.{payer_of as heap_payer}
+use Rattle.sliced_heap.specs.Heap.{payer_of as sliced_payer}
+use Rattle.server_frame.specs.Frame.{Row}
+use Rattle.server_frame.specs.declared.server.Session.{Session as Kept}
+use Rattle.log_service.specs.Session.{LabelledLine}
+use Rattle.pd_core.specs.Own.{Sessions, no_sessions, own_of, own_at}
+use Rattle.pd_core.specs.Sessions.{log_rows, IsLogServer}
+use Rattle.pd_core.specs.Sound.{session_at, IsNewHeap, IsNewSliced, IsSoundScript}
 use Rattle.pd_core.specs.declared.component.Role.{Role}
-use Rattle.pd_core.specs.declared.component.Role.TheVariants.{Script, Server}
+use Rattle.pd_core.specs.declared.component.Role.TheVariants.{Script, Server, Log}
 use Rattle.pd_core.specs.declared.component.Component.{Component}
+use Rattle.pd_core.specs.declared.script.Script.{Script as AnyScript}
 
 -- the key of the account that a role is charged on
 abbrev pub payer_in : Role → ℕ
 payer_in (Script script) = script.account.0
 payer_in (Server account) = account.0
+payer_in (Log account server) = account.0
 
 -- that of a component
 abbrev pub payer_of : Component → ℕ
@@ -27,11 +40,13 @@ payer_of component = payer_in component.role
 abbrev pub kind_of : Role → Kind
 kind_of (Script script) = AScript
 kind_of (Server account) = AServer
+kind_of (Log account server) = AServer
 
 -- a script's capabilities and regions
 abbrev pub tables_in : Role → Option (Space × Regions)
 tables_in (Script script) = Some (script.caps, script.regions)
 tables_in (Server account) = None
+tables_in (Log account server) = None
 
 abbrev pub tables_of : Component → Option (Space × Regions)
 tables_of component = tables_in component.role
@@ -40,34 +55,105 @@ tables_of component = tables_in component.role
 abbrev pub entry_of : Component → Entry
 entry_of component = record { name = component.name.now; kind = kind_of component.role; routes = fixed_routes }
 
--- a script's heap takes blocks for the script's account, and is sound on each map that holds no block of it yet
+-- a script's heaps are new, and take their blocks for the script's account
+pub record HasNewHeaps (script : AnyScript) : Type 0 where
+  pub heap : IsNewHeap script.heap
+  pub sliced : IsNewSliced script.sliced
+  pub heap_pays : heap_payer script.heap ≡ script.account.0
+  pub sliced_pays : sliced_payer script.sliced ≡ script.account.0
+
 abbrev pub HasNewHeap : Role → Type 0
-HasNewHeap (Script script) = (heap_payer script.heap ≡ script.account.0) × IsNewHeap script.heap
+HasNewHeap (Script script) = HasNewHeaps script
 HasNewHeap (Server account) = Unit {0}
+HasNewHeap (Log account server) = Unit {0}
+
+-- ---- sessions
+
+-- a script's capabilities, and none of a server
+abbrev pub caps_in : Role → NatMap Cap
+caps_in (Script script) = script.caps.caps
+caps_in (Server account) = empty
+caps_in (Log account server) = empty
+
+abbrev pub caps_of : Component → NatMap Cap
+caps_of component = caps_in component.role
+
+-- how many capabilities find a place with a script
+abbrev pub places_in : Role → Option ℕ
+places_in (Script script) = Some script.caps.places
+places_in (Server account) = None
+places_in (Log account server) = None
+
+abbrev pub places_of : Component → Option ℕ
+places_of component = places_in component.role
+
+-- the sessions that a component serves, by their keys
+abbrev pub rows_in : Store → Role → NatMap (Row LabelledLine)
+rows_in store (Script script) = empty
+rows_in store (Server account) = empty
+rows_in store (Log account server) = log_rows server.sessions store server.map
+
+abbrev pub rows_of : Store → Component → NatMap (Row LabelledLine)
+rows_of store component = rows_in store component.role
+
+-- a session is there, and its client's account is this one
+pub record IsSessionOf (account : ℕ) (session : Option (Row LabelledLine)) : Type 0 where
+  pub row : Row LabelledLine
+  pub there : session ≡ Some row
+  pub client : row.client ≡ account
+
+-- each session that a selector names is one of the account, and no other selector names it
+pub record NamesItsSessions (rows : ℕ → NatMap (Row LabelledLine)) (account : ℕ) (caps : NatMap Cap) : Type 0 where
+  pub its : (selector server : ℕ) (session : SessionId) → session_at (get caps selector) ≡ Some (server, session) →
+      IsSessionOf account (get (rows server) session.0)
+  pub once : (p q server : ℕ) (a b : SessionId) → session_at (get caps p) ≡ Some (server, a) → session_at (get caps q) ≡ Some (server, b) →
+      a.0 ≡ b.0 → p ≡ q
+
+-- ---- the own state
 
 -- the own state of a role: a server has its account alone
-abbrev pub own_in : Store → Role → OwnState
-own_in store (Script script) = own_at store script
-own_in store (Server account) = own_of (part account.0 store) empty empty empty
+abbrev pub own_in : Sessions → Store → Role → OwnState
+own_in sessions store (Script script) = own_at sessions store script
+own_in sessions store (Server account) = own_of no_sessions (part account.0 store) empty empty no_heap empty
+own_in sessions store (Log account server) = own_of no_sessions (part account.0 store) empty empty no_heap empty
 
 -- the component's own state
-abbrev pub own : Store → Component → OwnState
-own store component = own_in store component.role
+abbrev pub own : Sessions → Store → Component → OwnState
+own sessions store component = own_in sessions store component.role
 
--- a script is sound; a server has an account
+-- there is a place for each capability that a script and its sessions can pay for
+abbrev pub HasPlaces : Sessions → Store → Component → Type 0
+HasPlaces sessions store component = IfSome (places_of component) (λ places. caps_limits (own sessions store component) ≤ places)
+
+-- a log server's account is open, it works on this memory, and it has a place for each two capabilities of the machine
+pub record IsSoundLog (store : Store) (account : ℕ) (sessions : Slab (Kept LabelledLine)) (regions : Regions) : Type 0 where
+  pub is_open : IsSome (part account store).account
+  pub server : IsLogServer sessions store regions
+  pub places : caps_limits_in store ≤ sessions.capacity * 2 + 1
+
+-- a script is sound, and a server has an account
 abbrev pub IsSoundRole : Store → Role → Type 0
 IsSoundRole store (Script script) = IsSoundScript store script
 IsSoundRole store (Server account) = IsSome (part account.0 store).account
+IsSoundRole store (Log account server) = IsSoundLog store account.0 server.sessions server.map
 
 abbrev pub IsSound : Store → Component → Type 0
 IsSound store component = IsSoundRole store component.role
 
--- the component is sound after a call; its entry and account, the root's key, the parts of all other accounts and the
--- sum of all limits of RAM stay
+-- what a call that is none of a session keeps: the component is sound after it; its entry and account, its limit of
+-- capabilities and its places for them, what sessions its selectors name and what it serves, the root's key, who is whose
+-- parent, the places for accounts, the parts of all other accounts and the sum of all limits of RAM stay
 pub record Keeps (old : Store) (before : Component) (new : Store) (after : Component) : Type 0 where
   pub sound : IsSound new after
   pub entry : entry_of after ≡ entry_of before
   pub account : payer_of after ≡ payer_of before
+  pub is_open : IsSome (part (payer_of before) new).account
+  pub caps_limit : (account_of (part (payer_of before) new)).caps_limit ≡ (account_of (part (payer_of before) old)).caps_limit
+  pub places : places_of after ≡ places_of before
+  pub sessions : (selector : ℕ) → session_at (get (caps_of after) selector) ≡ session_at (get (caps_of before) selector)
+  pub rows : rows_of new after ≡ rows_of old before
   pub root : root_in new ≡ root_in old
+  pub parents : parents_in new ≡ parents_in old
+  pub room : room_in new ≡ room_in old
   pub others : (other : ℕ) → other ≢ payer_of before → part other new ≡ part other old
   pub limits : ram_limits_in new ≡ ram_limits_in old

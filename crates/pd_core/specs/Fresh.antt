@@ -1,14 +1,20 @@
 -- The parts of a core before its first call, and the world that starts with them.
-use Rattle.std.specs.Prelude.{◌≡◌, ◌≢◌, ℕ, ◌*◌, ◌≤◌, List, map, IfSome}
+use Rattle.std.specs.Prelude.{◌≡◌, ◌≢◌, ℕ, ◌+◌, ◌*◌, ◌≤◌, List, [], map, IfSome}
 use Rattle.std.specs.List.{All, AllPairs}
 use Rattle.std.specs.FinMap.{empty}
+use Rattle.slab.specs.Slab.{Slab}
+use Rattle.own_model.specs.HeapWindow.{largest_machine}
 use Rattle.own_model.specs.StartList.{StartEntry, start_state}
 use Rattle.own_model.specs.World.{World}
 use Rattle.cap_space.specs.Space.{Space}
 use Rattle.region_map.specs.Regions.{Regions}
-use Rattle.dataspace_core.specs.Store.{Store, part, account_in, root_in, ram_limits_in}
+use Rattle.dataspace_core.specs.Store.{Store, part, account_in, root_in, ram_limits_in, caps_limits_in, IsChildIn}
+use Rattle.server_frame.specs.declared.server.Session.{Session as Kept}
+use Rattle.log_service.specs.Session.{LabelledLine}
 pub use Rattle.dataspace_core.specs.Store.{opened_part}
 use Rattle.pd_core.specs.Component.{entry_of, payer_of, tables_of, HasNewHeap}
+use Rattle.pd_core.specs.declared.component.Role.{Role}
+use Rattle.pd_core.specs.declared.component.Role.TheVariants.{Script, Server, Log}
 use Rattle.pd_core.specs.declared.component.Component.{Component}
 
 -- what a component starts with: its entry, and the limits of its account for its budget
@@ -24,7 +30,7 @@ abbrev pub starts_of : Store → List Component → List StartEntry
 starts_of store components = map (start_of store) components
 
 -- tables of nothing, with a place for each capability of a budget, room for 128 user regions and for as many heap
--- regions as the machine has pages, and the pages of the machine
+-- regions as the machine has pages, and the pages of the machine, which is none too large
 pub record AreEmpty (store : Store) (caps : ℕ) (space : Space) (regions : Regions) : Type 0 where
   pub no_caps : space.caps ≡ empty
   pub places : caps ≤ space.places
@@ -33,13 +39,29 @@ pub record AreEmpty (store : Store) (caps : ℕ) (space : Space) (regions : Regi
   pub no_heap : regions.heap ≡ empty
   pub heap_most : regions.heap_most ≡ regions.pages
   pub pages : regions.pages * 4096 ≡ ram_limits_in store
+  pub few : regions.pages ≤ largest_machine
 
--- a component has an account that isn't init's, all of its budget, and nothing else
+-- a log server has no session, an empty map with the pages of the machine, and a place for each two capabilities of it
+pub record IsNewLog (store : Store) (sessions : Slab (Kept LabelledLine)) (regions : Regions) : Type 0 where
+  pub none : sessions.slots ≡ []
+  pub places : caps_limits_in store ≤ sessions.capacity * 2 + 1
+  pub no_heap : regions.heap ≡ empty
+  pub heap_most : regions.heap_most ≡ regions.pages
+  pub pages : regions.pages * 4096 ≡ ram_limits_in store
+
+abbrev pub IsNewServer : Store → Role → Type 0
+IsNewServer store (Script script) = Unit {0}
+IsNewServer store (Server account) = Unit {0}
+IsNewServer store (Log account server) = IsNewLog store server.sessions server.map
+
+-- a component has an account below init's, all of its budget, and nothing else
 pub record IsFresh (store : Store) (component : Component) : Type 0 where
   pub not_init : payer_of component ≢ root_in store
   pub unused : part (payer_of component) store ≡ opened_part (start_of store component).ram (start_of store component).caps
   pub tables : IfSome (tables_of component) (λ tables. AreEmpty store (start_of store component).caps tables.0 tables.1)
   pub heap : HasNewHeap component.role
+  pub child : IsChildIn store (payer_of component) (root_in store)
+  pub server : IsNewServer store component.role
 
 -- each component is fresh, and no two have one account
 pub record AreFresh (store : Store) (components : List Component) : Type 0 where

@@ -1,8 +1,11 @@
 pub mod Call
 pub mod Answer
 pub mod Own
+pub mod Does
 pub mod Sound
+pub mod Sessions
 pub mod Component
 pub mod CodedWorld
 pub mod Core
+pub mod SessionCore
 pub mod Fresh

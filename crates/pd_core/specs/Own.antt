@@ -1,29 +1,50 @@
--- A script's own state, read out of its account's part of the memory, its capabilities, its regions and its sliced blocks.
-use Rattle.std.specs.Prelude.{◌≡◌, ◌⊎◌, ℕ, ◌==◌, ◌||◌, Bool, false, List, Option, Some, None, Result, Ok, Err, is_some, if◌then◌else◌}
+-- A script's own state, read out of its account's part of the memory, its capabilities, its regions and its heaps.
+use Rattle.std.specs.Prelude.{◌≡◌, ◌⊎◌, ℕ, ◌==◌, ◌||◌, Bool, false, List, Option, Some, None, IsSome, Result, Ok, Err, is_some, if◌then◌else◌}
 use Rattle.std.specs.List.{find}
 use Rattle.std.specs.Option.{option_map, option_or}
 use Rattle.std.specs.FinMap.{get, entries}
 use Rattle.trade_base.specs.declared.id.DsId.{DsId}
+use Rattle.trade_base.specs.declared.id.SessionId.{SessionId}
 use Rattle.trade_base.specs.declared.refusal.Refusal.{Refusal}
 use Rattle.trade_base.specs.declared.refusal.Refusal.TheVariants.{InvalidCap, PageFault}
 use Rattle.own_model.specs.NatMap.{NatMap, picked}
-use Rattle.own_model.specs.OwnHeap.{no_heap}
+use Rattle.own_model.specs.OwnHeap.{OwnHeap}
 use Rattle.own_model.specs.OwnState.{OwnState, Object, pages_in}
-use Rattle.own_model.specs.OwnState.Object.{Dataspace as ADataspace, RpcObject as AnRpcObject}
+use Rattle.own_model.specs.OwnState.Object.{Dataspace as ADataspace, RpcObject as AnRpcObject, OpenSession}
 use Rattle.own_model.specs.OwnStep.{count_refusal}
 use Rattle.own_model.specs.Region.{Region, resolved}
+use Rattle.own_model.specs.Session.{Session as AnOpenSession}
 use Rattle.own_model.specs.Sliced.{block_found}
 use Rattle.cap_space.specs.declared.cap.Cap.{Cap}
 use Rattle.cap_space.specs.declared.cap.Cap.TheVariants.{Dataspace, RpcObject, Session}
 use Rattle.dataspace_core.specs.Store.{Store, Part, part, account_of, bytes_of}
+use Rattle.heap_core.specs.Calls.{HoldsRange as HoldsRangeInBlock}
+use Rattle.heap_core.specs.Heap.{heap_at}
 use Rattle.sliced_heap.specs.Heap.{share_at, blocks_at, HoldsRange}
 use Rattle.pd_core.specs.declared.script.Script.{Script}
 
+-- ---- sessions
+
+-- the open sessions, each by its server's entry and its key there
+abbrev pub Sessions : Type 0
+Sessions = ℕ → ℕ → Option AnOpenSession
+
+-- none
+abbrev pub no_sessions : Sessions
+no_sessions server session = None
+
+-- each session that a selector names is open
+abbrev pub HasSessions : Sessions → NatMap Cap → Type 0
+HasSessions sessions caps =
+    (selector server : ℕ) (session : SessionId) → get caps selector ≡ Some (Session server session) → IsSome (sessions server session.0)
+
+-- ---- the own state
+
 -- what a capability is to a component
-abbrev pub object_of : Part → Cap → Option Object
-object_of part (Dataspace ds) = option_map ADataspace (get part.spaces ds.0)
-object_of part RpcObject = Some AnRpcObject
-object_of part (Session server session) = None
+abbrev pub object_of : Sessions → Part → Cap → Option Object
+object_of sessions part (Dataspace ds) = option_map ADataspace (get part.spaces ds.0)
+object_of sessions part RpcObject = Some AnRpcObject
+object_of sessions part (Session server session) = option_map OpenSession (sessions server session.0)
 
 -- a capability is of the dataspace under this key
 abbrev pub is_of : ℕ → Cap → Bool
@@ -39,13 +60,13 @@ selector_of caps key = option_map (λ e. e.0) (find (λ e. is_of key e.1) (entri
 unfoldable pub regions_of : NatMap Cap → NatMap Region → NatMap Region
 regions_of caps user = picked (λ region. option_map (λ other. record region { of = other }) (selector_of caps region.of)) user
 
--- the own state of a component that has this part, these capabilities, these regions and these sliced blocks
-unfoldable pub own_of : Part → NatMap Cap → NatMap Region → NatMap (List ℕ) → OwnState
-own_of part caps user sliced = record {
+-- the own state of a component that has this part, these capabilities, these regions, this heap and these sliced blocks
+unfoldable pub own_of : Sessions → Part → NatMap Cap → NatMap Region → OwnHeap → NatMap (List ℕ) → OwnState
+own_of sessions part caps user heap sliced = record {
   account = account_of part;
-  selectors = picked (object_of part) caps;
+  selectors = picked (object_of sessions part) caps;
   regions = regions_of caps user;
-  heap = no_heap;
+  heap = heap;
   sliced = sliced;
   gone = false;
 }
@@ -54,13 +75,18 @@ own_of part caps user sliced = record {
 abbrev pub part_at : Store → Script → Part
 part_at store script = part script.account.0 store
 
+-- its heap
+abbrev pub own_heap_at : Store → Script → OwnHeap
+own_heap_at store script = heap_at script.heap store script.regions
+
 -- its sliced blocks
 abbrev pub sliced_at : Store → Script → NatMap (List ℕ)
 sliced_at store script = blocks_at script.account.0 store script.regions
 
 -- its own state
-abbrev pub own_at : Store → Script → OwnState
-own_at store script = own_of (part_at store script) script.caps.caps script.regions.user (sliced_at store script)
+abbrev pub own_at : Sessions → Store → Script → OwnState
+own_at sessions store script =
+    own_of sessions (part_at store script) script.caps.caps script.regions.user (own_heap_at store script) (sliced_at store script)
 
 -- ---- what a script looks up
 
@@ -72,15 +98,29 @@ sized_at part (Some (Session server session)) = Err InvalidCap
 sized_at part None = Err InvalidCap
 
 -- why so many bytes from an address on aren't found
-abbrev pub range_refusal : NatMap Region → NatMap (List ℕ) → ℕ → ℕ → Option Refusal
-range_refusal user sliced address count =
+abbrev pub range_refusal : NatMap Region → NatMap (List ℕ) → OwnHeap → ℕ → ℕ → Option Refusal
+range_refusal user sliced heap address count =
     option_or (count_refusal count)
-    (if is_some (resolved user address count) || is_some (block_found sliced address count) then None else Some PageFault)
+    (if is_some (resolved user address count) || is_some (block_found sliced address count) || is_some (block_found heap.payloads address count) then None
+    else Some PageFault)
 
--- so many bytes from an address on are found so far into a dataspace: a user region of it holds them, or else the
--- payload of the sliced block that it is
+-- so many bytes from an address on lie in one user region, so far into its dataspace
+abbrev pub IsFoundInRegion : Script → ℕ → ℕ → ℕ → ℕ → Type 0
+IsFoundInRegion script address count ds offset = resolved script.regions.user address count ≡ Some (ds, offset)
+
+-- or else in the payload of one sliced block, which is the dataspace
+pub record IsFoundInSliced (store : Store) (script : Script) (address count ds offset : ℕ) : Type 0 where
+  pub no_region : resolved script.regions.user address count ≡ None
+  pub holds : HoldsRange (share_at script.account.0 store script.regions) ds offset address count
+
+-- or else in one payload of the heap
+pub record IsFoundInBlock (store : Store) (script : Script) (address count ds offset : ℕ) : Type 0 where
+  pub no_region : resolved script.regions.user address count ≡ None
+  pub no_sliced : block_found (sliced_at store script) address count ≡ None
+  pub holds : HoldsRangeInBlock script.heap store script.regions ds offset address count
+
+-- so many bytes from an address on are found so far into a dataspace
 abbrev pub IsFound : Store → Script → ℕ → ℕ → ℕ → ℕ → Type 0
 IsFound store script address count ds offset =
-    (resolved script.regions.user address count ≡ Some (ds, offset))
-    ⊎ ((resolved script.regions.user address count ≡ None)
-    × HoldsRange (share_at script.account.0 store script.regions) ds offset address count)
+    IsFoundInRegion script address count ds offset
+    ⊎ (IsFoundInSliced store script address count ds offset ⊎ IsFoundInBlock store script address count ds offset)

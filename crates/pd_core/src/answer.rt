@@ -1,10 +1,10 @@
 //! The answers to calls, and their texts.
 ghost use Rattle.std.specs.Prelude.{◌≡◌, ◌+◌, ◌*◌, ◌≤◌, ◌++◌, length};
 ghost use Rattle.own_model.specs.Reply.{reply_text, share_text};
-ghost use Rattle.pd_core.specs.Answer.{reply_of};
+ghost use Rattle.pd_core.specs.Answer.{reply_of, told_alone};
 
-use crate::reply::Reply;
 use crate::short_text::ShortText;
+use server_frame::Reply;
 use trade_base::{Caps, Ram, Refusal, Selector};
 
 /// What a call that isn't refused is answered.
@@ -29,24 +29,33 @@ pub(crate) struct Quotas {
     pub(crate) caps_limit: Caps,
 }
 
-/// Writes what a call is answered in place of what the reply was.
+/// Writes what a call is answered in place of what the reply was. It finishes no log line.
 pub(crate) fn tell(outcome: Result<Answer, Refusal>, reply: &mut Reply)
-    ensures { reply.new ≡ reply_text (reply_of outcome) }
+    ensures { reply.new ≡ told_alone (reply_text (reply_of outcome)) }
 {
     match outcome {
         Ok(answer) => answer.tell(reply),
-        Err(refusal) => reply.set(refusal.name().as_bytes()),
+        Err(refusal) => tell_text(refusal.name().as_bytes(), reply),
     }
+}
+
+/// Writes a text in place of what the reply was, without log lines.
+pub(crate) fn tell_text(text: &[u8], reply: &mut Reply)
+    requires { length text.now ≤ 2100 }
+    ensures { reply.new ≡ told_alone text.now }
+{
+    reply.clear();
+    reply.add_text(text);
 }
 
 impl Answer {
     ghost use Rattle.std.specs.Prelude.{◌≡◌};
     ghost use Rattle.own_model.specs.Reply.{reply_text};
-    ghost use Rattle.pd_core.specs.Answer.{model_answer};
+    ghost use Rattle.pd_core.specs.Answer.{model_answer, told_alone};
 
     /// Writes the answer in place of what the reply was.
     fn tell(self, reply: &mut Reply)
-        ensures { reply.new ≡ reply_text (model_answer self) }
+        ensures { reply.new ≡ told_alone (reply_text (model_answer self)) }
     {
         let mut text = ShortText::new();
         match self {
@@ -61,7 +70,7 @@ impl Answer {
             Answer::Done => text.put(b"ok"),
             Answer::Quotas(quotas) => quotas.put(&mut text),
         }
-        reply.set(text.as_bytes());
+        tell_text(text.as_bytes(), reply);
     }
 }
 

@@ -3,10 +3,12 @@ ghost use Rattle.std.specs.Prelude.{◌≡◌, ◌+◌, ◌/◌, ◌≤◌, Some
 ghost use Rattle.dataspace_core.specs.Store.{Exists, space_at};
 ghost use Rattle.own_model.specs.Text.{bytes_of_hex};
 ghost use Rattle.own_model.specs.Reply.{hex_text};
+ghost use Rattle.pd_core.specs.Answer.{told_alone};
 ghost use Rattle.pd_core.specs.Call.{bytes_in};
 
-use crate::reply::Reply;
+use crate::answer::tell_text;
 use dataspace_core::Memory;
+use server_frame::Reply;
 use trade_base::DsId;
 
 /// The most bytes of a peek or a poke.
@@ -26,7 +28,8 @@ pub(crate) fn tell_range(reply: &mut Reply, memory: &Memory, space: DsId, offset
     requires exists { Exists memory.now space.0 }
     requires range { offset + count ≤ length (space_at memory.now space.0).bytes }
     requires few { count ≤ MOST_BYTES }
-    ensures { reply.new ≡ codes "data " ++ hex_text (slice_range (space_at memory.now space.0).bytes offset (offset + count)) }
+    ensures { reply.new ≡ told_alone (codes "data "
+        ++ hex_text (slice_range (space_at memory.now space.0).bytes offset (offset + count))) }
 {
     let mut buffer = [0; MOST_BYTES];
     let bytes = &mut buffer[..count];
@@ -38,14 +41,13 @@ pub(crate) fn tell_range(reply: &mut Reply, memory: &Memory, space: DsId, offset
 #[tactic(auto, using(own_model::proofs::HexLemmas::hex_text_is))]
 fn tell_bytes(reply: &mut Reply, bytes: &[u8])
     requires { length bytes.now ≤ MOST_BYTES }
-    ensures { reply.new ≡ codes "data " ++ hex_text bytes.now }
+    ensures { reply.new ≡ told_alone (codes "data " ++ hex_text bytes.now) }
 {
     let mut text = [0; 2 * MOST_BYTES];
     let digits = &mut text[..2 * bytes.len()];
     match hex::encode_to_slice(bytes, digits) {
         Ok(()) => {
-            reply.clear();
-            reply.add_text(b"data ");
+            tell_text(b"data ", reply);
             reply.add_text(digits);
         }
         Err(_) => unreachable!(),

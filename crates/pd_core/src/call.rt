@@ -21,6 +21,10 @@ pub enum Call<'a> {
     Capalloc,
     /// The RPC object that a selector names goes.
     Capfree(u64),
+    /// A block of the heap for so many bytes.
+    New(u64),
+    /// The block of the heap whose payload starts at an address goes.
+    Del(u64),
     /// A sliced block for so many bytes.
     Snew(u64),
     /// The sliced block whose payload starts at an address goes.

@@ -2,11 +2,13 @@
 
 use crate::answer::tell;
 use crate::call::Call;
-use crate::reply::Reply;
 use crate::script::Script;
 use cap_space::CapSpace;
 use dataspace_core::Memory;
+use heap_core::Heap;
+use log_service::LogService;
 use region_map::RegionMap;
+use server_frame::{Reply, Server};
 use sliced_heap::SlicedHeap;
 use trade_base::{AccountId, Refusal};
 
@@ -17,6 +19,8 @@ enum Role {
     Script(Script),
     /// It answers the calls of others, and is charged on the account.
     Server(AccountId),
+    /// The same, with the sessions of the log service.
+    Log(AccountId, Server<LogService>),
 }
 
 /// A component: its name and its role.
@@ -33,9 +37,12 @@ impl Component {
     ghost use Rattle.own_model.specs.StartList.Kind.{Script as AScript, Server as AServer};
     ghost use Rattle.pd_core.specs.Answer.{told, told_of};
     ghost use Rattle.pd_core.specs.Call.{model_call, IsWellFormed};
-    ghost use Rattle.pd_core.specs.Component.{entry_of, payer_of, tables_of, HasNewHeap, own, IsSound, Keeps};
+    ghost use Rattle.dataspace_core.specs.Store.{Store};
+    ghost use Rattle.pd_core.specs.Component.{entry_of, payer_of, tables_of, caps_of, HasNewHeap, own, IsSound, Keeps};
+    ghost use Rattle.pd_core.specs.Fresh.{IsNewLog, IsNewServer};
+    ghost use Rattle.pd_core.specs.Own.{Sessions, HasSessions};
 
-    /// A script that is charged on the account, with these capabilities and regions, and no sliced block.
+    /// A script that is charged on the account, with these capabilities and regions, and with empty heaps.
     pub fn script(
         name: &'static [u8],
         account: AccountId,
@@ -46,6 +53,7 @@ impl Component {
         ensures account { payer_of result ≡ account.0 }
         ensures tables { tables_of result ≡ Some (caps, regions) }
         ensures heap { HasNewHeap result.role }
+        ensures server { (store : Store) → IsNewServer store result.role }
     {
         Component {
             name,
@@ -53,7 +61,8 @@ impl Component {
                 account,
                 caps,
                 regions,
-                heap: SlicedHeap::new(account),
+                heap: Heap::new(account),
+                sliced: SlicedHeap::new(account),
             }),
         }
     }
@@ -64,6 +73,7 @@ impl Component {
         ensures account { payer_of result ≡ account.0 }
         ensures tables { tables_of result ≡ None }
         ensures heap { HasNewHeap result.role }
+        ensures server { (store : Store) → IsNewServer store result.role }
     {
         Component {
             name,
@@ -71,17 +81,32 @@ impl Component {
         }
     }
 
+    /// A server of the log service that is charged on the account.
+    pub fn log(name: &'static [u8], account: AccountId, server: Server<LogService>) -> Component
+        ensures entry { entry_of result ≡ record { name = name.now; kind = AServer; routes = fixed_routes } }
+        ensures account { payer_of result ≡ account.0 }
+        ensures tables { tables_of result ≡ None }
+        ensures heap { HasNewHeap result.role }
+        ensures server { (store : Store) → IsNewLog store server.sessions server.map → IsNewServer store result.role }
+    {
+        Component {
+            name,
+            role: Role::Log(account, server),
+        }
+    }
+
     /// Carries a call of the component out, and writes what it is answered in place of what the reply was.
     pub(crate) fn step(&mut self, memory: &mut Memory, call: Call<'_>, reply: &mut Reply)
         requires sound { IsSound memory.old self.old }
         requires call { IsWellFormed call }
-        ensures outcome { told reply.new (own memory.new self.new)
-            ≡ told_of (own_step (entry_of self.old) (model_call call.entry) (own memory.old self.old)) }
+        ensures outcome { (sessions : Sessions) → HasSessions sessions (caps_of self.old) →
+            told reply.new (own sessions memory.new self.new)
+            ≡ told_of (own_step (entry_of self.old) (model_call call.entry) (own sessions memory.old self.old)) }
         ensures keeps { Keeps memory.old self.old memory.new self.new }
     {
         match &mut self.role {
             Role::Script(script) => script.step(memory, call, reply),
-            Role::Server(_) => tell(Err(Refusal::NotAScript), reply),
+            Role::Server(_) | Role::Log(..) => tell(Err(Refusal::NotAScript), reply),
         }
     }
 }

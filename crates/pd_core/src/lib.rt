@@ -5,12 +5,13 @@ mod answer;
 mod bytes;
 mod call;
 mod component;
+mod label;
 mod machine;
-mod reply;
 mod script;
+mod sessions;
 mod short_text;
 
 pub use call::Call;
 pub use component::Component;
 pub use machine::Core;
-pub use reply::Reply;
+pub use server_frame::Reply;

@@ -3,8 +3,8 @@ ghost use Rattle.std.specs.Prelude.{◌≡◌, ◌<◌, ℕ, length};
 
 use crate::call::Call;
 use crate::component::Component;
-use crate::reply::Reply;
 use dataspace_core::Memory;
+use server_frame::Reply;
 use std::boxed::BoxedSlice;
 use std::marker::Model;
 
@@ -35,15 +35,19 @@ impl Model for Core {
 
 impl Core {
     ghost use Rattle.std.specs.Prelude.{◌≡◌, ◌<◌, ℕ, length};
-    ghost use Rattle.own_model.specs.Reply.{reply_text};
+    ghost use Rattle.std.specs.List.{flat_map};
+    ghost use Rattle.own_model.specs.Reply.{reply_text, log_text};
     ghost use Rattle.own_model.specs.World.{outcome_at, with_state, IsBalanced};
     ghost use Rattle.pd_core.specs.Call.{model_call, IsWellFormed};
+    ghost use Rattle.dataspace_core.specs.Room.{HasRoom};
     ghost use Rattle.pd_core.specs.Fresh.{started_world, AreFresh};
 
     /// The core of fresh parts: a memory, and components that have made no call. Each has an account of its own, of which
-    /// nothing is used, and empty tables; it starts with the account's limits for its budget.
+    /// nothing is used, and empty tables; it starts with the account's limits for its budget. The memory has room for the
+    /// accounts of sessions.
     pub fn from_parts(memory: Memory, components: Vec<Component>) -> Core
         requires fresh { AreFresh memory components.items }
+        requires room { HasRoom memory }
         ensures started { result ≡ started_world memory components.items }
     {
         Core {
@@ -52,12 +56,13 @@ impl Core {
         }
     }
 
-    /// Carries a call out, and writes what it is answered in place of what the reply was. No other component is
-    /// touched.
+    /// Carries a call out, and writes the log lines that it finishes and what it is answered in place of what the
+    /// reply was. No other component is touched.
     pub fn step(&mut self, component: usize, call: Call<'_>, reply: &mut Reply)
         requires component { component < length self.old.entries }
         requires call { IsWellFormed call }
-        ensures answered { reply.new ≡ reply_text (outcome_at self.old component (model_call call.entry)).reply }
+        ensures answered { reply.new.text ≡ reply_text (outcome_at self.old component (model_call call.entry)).reply }
+        ensures lines { reply.new.lines ≡ flat_map log_text (outcome_at self.old component (model_call call.entry)).lines }
         ensures stepped { self.new ≡ with_state self.old component (outcome_at self.old component (model_call call.entry)).next }
         ensures balance { (pages caps : ℕ) → IsBalanced pages caps self.old → IsBalanced pages caps self.new }
     {

@@ -3,20 +3,22 @@
 use crate::answer::{Answer, Quotas, tell};
 use crate::bytes::{MOST_BYTES, decode, tell_range};
 use crate::call::Call;
-use crate::reply::Reply;
 use cap_space::{Cap, CapSpace};
 use dataspace_core::Memory;
+use heap_core::Heap;
 use region_map::RegionMap;
+use server_frame::Reply;
 use sliced_heap::SlicedHeap;
 use trade_base::{AccountId, DsId, PAGE, Refusal};
 
-/// A script: the account that it is charged on, its capabilities, its regions and the heap of its sliced blocks.
+/// A script: the account that it is charged on, its capabilities, its regions, its heap and the heap of its sliced blocks.
 #[derive(Drop)]
 pub(crate) struct Script {
     pub(crate) account: AccountId,
     pub(crate) caps: CapSpace,
     pub(crate) regions: RegionMap,
-    pub(crate) heap: SlicedHeap,
+    pub(crate) heap: Heap,
+    pub(crate) sliced: SlicedHeap,
 }
 
 impl Script {
@@ -26,21 +28,20 @@ impl Script {
     ghost use Rattle.own_model.specs.Call.Call.{Alloc as ModelledAlloc, Free as ModelledFree, Attach as ModelledAttach};
     ghost use Rattle.own_model.specs.Call.Call.{AttachAt as ModelledAttachAt, Detach as ModelledDetach, Peek as ModelledPeek};
     ghost use Rattle.own_model.specs.Call.Call.{Poke as ModelledPoke, Capalloc as ModelledCapalloc, Capfree as ModelledCapfree};
-    ghost use Rattle.own_model.specs.Call.Call.{Snew as ModelledSnew, Sdel as ModelledSdel};
-    ghost use Rattle.own_model.specs.OwnStep.{script_step};
+    ghost use Rattle.own_model.specs.Call.Call.{New as ModelledNew, Del as ModelledDel, Snew as ModelledSnew, Sdel as ModelledSdel};
     ghost use Rattle.own_model.specs.Text.{bytes_of_hex};
     ghost use Rattle.dataspace_core.specs.Store.{account_in};
-    ghost use Rattle.pd_core.specs.Answer.{outcome_of, told, told_of, quotas_account};
+    ghost use Rattle.pd_core.specs.Answer.{quotas_account};
     ghost use Rattle.pd_core.specs.Call.{model_call, bytes_in, IsWellFormed};
-    ghost use Rattle.pd_core.specs.Own.{own_at, part_at, sliced_at, sized_at, range_refusal, IsFound};
+    ghost use Rattle.pd_core.specs.Does.{Does, DoesTold};
+    ghost use Rattle.pd_core.specs.Own.{part_at, own_heap_at, sliced_at, sized_at, range_refusal, IsFound};
     ghost use Rattle.pd_core.specs.Sound.{IsSoundScript, Keeps};
 
     /// Carries a call out, and writes what it is answered in place of what the reply was.
     pub(crate) fn step(&mut self, memory: &mut Memory, call: Call<'_>, reply: &mut Reply)
         requires sound { IsSoundScript memory.old self.old }
         requires call { IsWellFormed call }
-        ensures outcome { told reply.new (own_at memory.new self.new)
-            ≡ told_of (script_step (model_call call.entry) (own_at memory.old self.old)) }
+        ensures outcome { DoesTold (model_call call.entry) reply.new memory.old self.old memory.new self.new }
         ensures keeps { Keeps memory.old self.old memory.new self.new }
     {
         match call {
@@ -55,6 +56,8 @@ impl Script {
             Call::Poke { address, hex } => tell(self.poke(memory, address, hex), reply),
             Call::Capalloc => tell(self.capalloc(memory), reply),
             Call::Capfree(selector) => tell(self.capfree(memory, selector), reply),
+            Call::New(bytes) => tell(self.new_block(memory, bytes), reply),
+            Call::Del(address) => tell(self.del_block(memory, address), reply),
             Call::Snew(bytes) => tell(self.snew(memory, bytes), reply),
             Call::Sdel(address) => tell(self.sdel(memory, address), reply),
             Call::Quota => tell(Ok(Answer::Quotas(self.quota(memory))), reply),
@@ -64,8 +67,7 @@ impl Script {
     /// A dataspace under a new selector, or why not: `InvalidSize`, then `OutOfRam`, then `OutOfCaps`.
     fn alloc(&mut self, memory: &mut Memory, bytes: u64) -> Result<Answer, Refusal>
         requires { IsSoundScript memory.old self.old }
-        ensures outcome { outcome_of result (own_at memory.new self.new)
-            ≡ script_step (ModelledAlloc bytes) (own_at memory.old self.old) }
+        ensures outcome { Does (ModelledAlloc bytes) result memory.old self.old memory.new self.new }
         ensures keeps { Keeps memory.old self.old memory.new self.new }
     {
         let space = memory.alloc(self.account, bytes)?;
@@ -75,8 +77,7 @@ impl Script {
     /// The dataspace that the selector names goes with its regions, or `InvalidCap` where it names none.
     fn free(&mut self, memory: &mut Memory, selector: u64) -> Result<Answer, Refusal>
         requires { IsSoundScript memory.old self.old }
-        ensures outcome { outcome_of result (own_at memory.new self.new)
-            ≡ script_step (ModelledFree selector) (own_at memory.old self.old) }
+        ensures outcome { Does (ModelledFree selector) result memory.old self.old memory.new self.new }
         ensures keeps { Keeps memory.old self.old memory.new self.new }
     {
         let Some(space) = self.caps.take_dataspace(selector) else {
@@ -90,8 +91,7 @@ impl Script {
     /// An RPC object under a new selector, or `OutOfCaps`.
     fn capalloc(&mut self, memory: &mut Memory) -> Result<Answer, Refusal>
         requires { IsSoundScript memory.old self.old }
-        ensures outcome { outcome_of result (own_at memory.new self.new)
-            ≡ script_step ModelledCapalloc (own_at memory.old self.old) }
+        ensures outcome { Does ModelledCapalloc result memory.old self.old memory.new self.new }
         ensures keeps { Keeps memory.old self.old memory.new self.new }
     {
         memory.charge_cap(self.account)?;
@@ -101,8 +101,7 @@ impl Script {
     /// The RPC object that the selector names goes, or `InvalidCap` where it names none.
     fn capfree(&mut self, memory: &mut Memory, selector: u64) -> Result<Answer, Refusal>
         requires { IsSoundScript memory.old self.old }
-        ensures outcome { outcome_of result (own_at memory.new self.new)
-            ≡ script_step (ModelledCapfree selector) (own_at memory.old self.old) }
+        ensures outcome { Does (ModelledCapfree selector) result memory.old self.old memory.new self.new }
         ensures keeps { Keeps memory.old self.old memory.new self.new }
     {
         if !self.caps.take_rpc_object(selector) {
@@ -116,8 +115,7 @@ impl Script {
     /// `TooManyRegions`, then `RegionConflict`.
     fn attach(&mut self, memory: &Memory, selector: u64) -> Result<Answer, Refusal>
         requires { IsSoundScript memory.now self.old }
-        ensures outcome { outcome_of result (own_at memory.now self.new)
-            ≡ script_step (ModelledAttach selector) (own_at memory.now self.old) }
+        ensures outcome { Does (ModelledAttach selector) result memory.now self.old memory.now self.new }
         ensures keeps { Keeps memory.now self.old memory.now self.new }
     {
         let (space, pages) = self.dataspace(memory, selector)?;
@@ -128,8 +126,7 @@ impl Script {
     /// The same at an address.
     fn attach_at(&mut self, memory: &Memory, selector: u64, address: u64) -> Result<Answer, Refusal>
         requires { IsSoundScript memory.now self.old }
-        ensures outcome { outcome_of result (own_at memory.now self.new)
-            ≡ script_step (ModelledAttachAt selector address) (own_at memory.now self.old) }
+        ensures outcome { Does (ModelledAttachAt selector address) result memory.now self.old memory.now self.new }
         ensures keeps { Keeps memory.now self.old memory.now self.new }
     {
         let (space, pages) = self.dataspace(memory, selector)?;
@@ -140,8 +137,7 @@ impl Script {
     /// The region that starts at an address goes, or `PageFault` where none does.
     fn detach(&mut self, memory: &Memory, address: u64) -> Result<Answer, Refusal>
         requires { IsSoundScript memory.now self.old }
-        ensures outcome { outcome_of result (own_at memory.now self.new)
-            ≡ script_step (ModelledDetach address) (own_at memory.now self.old) }
+        ensures outcome { Does (ModelledDetach address) result memory.now self.old memory.now self.new }
         ensures keeps { Keeps memory.now self.old memory.now self.new }
     {
         self.regions.detach(address)?;
@@ -149,11 +145,11 @@ impl Script {
     }
 
     /// So many bytes from an address on are told, or why not: `InvalidSize` where they are none or more than 1,024, then
-    /// `PageFault` where no region and no sliced block's payload holds them all.
-    fn peek(&self, memory: &Memory, address: u64, count: u64, reply: &mut Reply)
-        requires { IsSoundScript memory.now self.now }
-        ensures { told reply.new (own_at memory.now self.now)
-            ≡ told_of (script_step (ModelledPeek address count) (own_at memory.now self.now)) }
+    /// `PageFault` where no region, no sliced block's payload and no payload of the heap holds them all.
+    fn peek(&self, memory: &mut Memory, address: u64, count: u64, reply: &mut Reply)
+        requires { IsSoundScript memory.old self.now }
+        ensures outcome { DoesTold (ModelledPeek address count) reply.new memory.old self.now memory.new self.now }
+        ensures memory { memory.new ≡ memory.old }
     {
         match self.range(memory, address, count) {
             Ok((space, offset)) => tell_range(reply, memory, space, offset, count as usize),
@@ -165,8 +161,7 @@ impl Script {
     fn poke(&self, memory: &mut Memory, address: u64, hex: &[u8]) -> Result<Answer, Refusal>
         requires hex { IsSome (bytes_of_hex hex.now) }
         requires sound { IsSoundScript memory.old self.now }
-        ensures outcome { outcome_of result (own_at memory.new self.now)
-            ≡ script_step (ModelledPoke address (bytes_in hex.now)) (own_at memory.old self.now) }
+        ensures outcome { Does (ModelledPoke address (bytes_in hex.now)) result memory.old self.now memory.new self.now }
         ensures keeps { Keeps memory.old self.now memory.new self.now }
     {
         let count = hex.len() / 2;
@@ -178,25 +173,44 @@ impl Script {
         Ok(Answer::Done)
     }
 
-    /// A sliced block for so many bytes, or why not: `InvalidSize`, then `OutOfRam`, then `OutOfCaps`.
-    fn snew(&mut self, memory: &mut Memory, bytes: u64) -> Result<Answer, Refusal>
+    /// A block of the heap for so many bytes, or why not: `InvalidSize`, then, where the heap has to grow and has no room for
+    /// a chunk more, `TooManyChunks`, then `OutOfRam`, then `OutOfCaps`.
+    fn new_block(&mut self, memory: &mut Memory, bytes: u64) -> Result<Answer, Refusal>
         requires { IsSoundScript memory.old self.old }
-        ensures outcome { outcome_of result (own_at memory.new self.new)
-            ≡ script_step (ModelledSnew bytes) (own_at memory.old self.old) }
+        ensures outcome { Does (ModelledNew bytes) result memory.old self.old memory.new self.new }
         ensures keeps { Keeps memory.old self.old memory.new self.new }
     {
         let address = self.heap.alloc(memory, &mut self.regions, bytes)?;
         Ok(Answer::Attached(address))
     }
 
-    /// The sliced block whose payload starts at an address goes, or `PageFault` where none does.
-    fn sdel(&mut self, memory: &mut Memory, address: u64) -> Result<Answer, Refusal>
+    /// The block of the heap whose payload starts at an address goes, or `PageFault` where none does.
+    fn del_block(&mut self, memory: &mut Memory, address: u64) -> Result<Answer, Refusal>
         requires { IsSoundScript memory.old self.old }
-        ensures outcome { outcome_of result (own_at memory.new self.new)
-            ≡ script_step (ModelledSdel address) (own_at memory.old self.old) }
+        ensures outcome { Does (ModelledDel address) result memory.old self.old memory.new self.new }
         ensures keeps { Keeps memory.old self.old memory.new self.new }
     {
         self.heap.free(memory, &mut self.regions, address)?;
+        Ok(Answer::Done)
+    }
+
+    /// A sliced block for so many bytes, or why not: `InvalidSize`, then `OutOfRam`, then `OutOfCaps`.
+    fn snew(&mut self, memory: &mut Memory, bytes: u64) -> Result<Answer, Refusal>
+        requires { IsSoundScript memory.old self.old }
+        ensures outcome { Does (ModelledSnew bytes) result memory.old self.old memory.new self.new }
+        ensures keeps { Keeps memory.old self.old memory.new self.new }
+    {
+        let address = self.sliced.alloc(memory, &mut self.regions, bytes)?;
+        Ok(Answer::Attached(address))
+    }
+
+    /// The sliced block whose payload starts at an address goes, or `PageFault` where none does.
+    fn sdel(&mut self, memory: &mut Memory, address: u64) -> Result<Answer, Refusal>
+        requires { IsSoundScript memory.old self.old }
+        ensures outcome { Does (ModelledSdel address) result memory.old self.old memory.new self.new }
+        ensures keeps { Keeps memory.old self.old memory.new self.new }
+    {
+        self.sliced.free(memory, &mut self.regions, address)?;
         Ok(Answer::Done)
     }
 
@@ -226,18 +240,22 @@ impl Script {
         }
     }
 
-    /// The dataspace that holds so many bytes from an address on, whole in one of its regions or in one sliced block's
-    /// payload, and the offset in it, or why not: `InvalidSize`, then `PageFault`.
-    fn range(&self, memory: &Memory, address: u64, count: u64) -> Result<(DsId, u64), Refusal>
-        requires { IsSoundScript memory.now self.now }
-        ensures refusal { result_err result
-            ≡ range_refusal self.now.regions.user (sliced_at memory.now self.now) address count }
-        ensures found { IfOk result (λ at. IsFound memory.now self.now address count at.0.0 at.1) }
+    /// The dataspace that holds so many bytes from an address on, whole in one of its regions, in one sliced block's payload
+    /// or in one payload of the heap, and the offset in it, or why not: `InvalidSize`, then `PageFault`.
+    fn range(&self, memory: &mut Memory, address: u64, count: u64) -> Result<(DsId, u64), Refusal>
+        requires { IsSoundScript memory.old self.now }
+        ensures refusal { result_err result ≡ range_refusal
+            self.now.regions.user (sliced_at memory.old self.now) (own_heap_at memory.old self.now) address count }
+        ensures found { IfOk result (λ at. IsFound memory.old self.now address count at.0.0 at.1) }
+        ensures memory { memory.new ≡ memory.old }
     {
         if count == 0 || count > MOST_BYTES as u64 {
             return Err(Refusal::InvalidSize);
         }
         if let Some(found) = self.regions.resolve_user(address, count) {
+            return Ok(found);
+        }
+        if let Some(found) = self.sliced.block_of(memory, &self.regions, address, count) {
             return Ok(found);
         }
         self.heap

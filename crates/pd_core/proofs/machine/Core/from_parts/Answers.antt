@@ -5,7 +5,7 @@ use Rattle.pd_core.proofs.FreshLemmas.{fresh_core, fresh_world}
 use Rattle.pd_core.proofs.machine.Core.from_parts.Goals as goal
 
 pub invariant_of-result : goal.invariant_of-result
-invariant_of-result c = subst (IsCore c.args.memory) (sym c.into_boxed_slice.ensures.items) (fresh_core c.args.memory c.args.components.items c.requires.fresh)
+invariant_of-result c = subst (IsCore c.args.memory) (sym c.into_boxed_slice.ensures.items) (fresh_core c.args.memory c.args.components.items c.requires.fresh c.requires.room)
 
 pub returns : goal.returns
 returns c = record { started = ap (world_of c.args.memory) c.into_boxed_slice.ensures.items ∙ fresh_world c.args.memory c.args.components.items c.requires.fresh }

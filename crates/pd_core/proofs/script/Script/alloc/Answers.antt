@@ -14,18 +14,18 @@ alloc-requires c = open_in_part _ _ c.requires.own.paid.is_open
 
 pub returns-in_err-space-clause-outcome : goal.returns-in_err-space-clause-outcome
 unfolding part
-returns-in_err-space-clause-outcome c =
-    refused_told c.from_residual.result c.from_residual.ensures.1 (ap (λ m. own_at m c.args.self.now) c.in_err-space.ensures.err)
-    ∙ alloc_refused _ _ _ _ c.requires.own c.args.bytes _ c.in_err-space.ensures.refusal
+returns-in_err-space-clause-outcome c sessions ready =
+    refused_told c.from_residual.result c.from_residual.ensures.1 (ap (λ m. own_at sessions m c.args.self.now) c.in_err-space.ensures.err)
+    ∙ alloc_refused _ _ _ _ _ c.requires.own c.args.bytes _ c.in_err-space.ensures.refusal sessions
 
 pub insert-requires : goal.insert-requires
 unfolding part
-insert-requires c = record { room = has_place _ _ _ _ c.requires.own _ (alloc_fits _ _ _ _ c.requires.own c.args.bytes c.in_ok-space.ensures.refusal) }
+insert-requires c = record { room = has_place _ _ _ _ _ c.requires.own _ (alloc_fits _ _ _ _ _ c.requires.own c.args.bytes c.in_ok-space.ensures.refusal) }
 
 pub returns : goal.returns
 unfolding part
 returns c =
     let done = finishes _ _ c.requires c.in_ok-space.ensures.part
     (settled c.in_ok-space.ensures.part.own c.insert.ensures.taken refl
-    (alloc_settles _ _ _ _ c.requires.own c.args.bytes c.in_ok-space.ensures.refusal _ (part-fresh c.args.memory.now _ _ c.in_ok-space.ensures.fresh) _ c.insert.ensures.least)) in
+    (alloc_settles _ _ _ _ _ c.requires.own c.args.bytes c.in_ok-space.ensures.refusal _ (part-fresh c.args.memory.now _ _ c.in_ok-space.ensures.fresh) _ c.insert.ensures.least)) in
     record { outcome = done.outcome; keeps = done.keeps }

@@ -13,18 +13,18 @@ charge_cap-requires c = open_in_part _ _ c.requires.own.paid.is_open
 
 pub returns-in_err-charge_cap-clause-outcome : goal.returns-in_err-charge_cap-clause-outcome
 unfolding part
-returns-in_err-charge_cap-clause-outcome c =
-    refused_told c.from_residual.result c.from_residual.ensures.1 (ap (λ m. own_at m c.args.self.now) c.in_err-charge_cap.ensures.err)
-    ∙ capalloc_refused _ _ _ _ c.requires.own _ c.in_err-charge_cap.ensures.refusal
+returns-in_err-charge_cap-clause-outcome c sessions ready =
+    refused_told c.from_residual.result c.from_residual.ensures.1 (ap (λ m. own_at sessions m c.args.self.now) c.in_err-charge_cap.ensures.err)
+    ∙ capalloc_refused _ _ _ _ _ c.requires.own _ c.in_err-charge_cap.ensures.refusal sessions
 
 pub insert-requires : goal.insert-requires
 unfolding part
-insert-requires c = record { room = has_place _ _ _ _ c.requires.own _ (cap_fits _ _ _ _ c.requires.own c.in_ok-charge_cap.ensures.refusal) }
+insert-requires c = record { room = has_place _ _ _ _ _ c.requires.own _ (cap_fits _ _ _ _ _ c.requires.own c.in_ok-charge_cap.ensures.refusal) }
 
 pub returns : goal.returns
 unfolding part
 returns c =
     let done = finishes _ _ c.requires c.in_ok-charge_cap.ensures.part
     (settled c.in_ok-charge_cap.ensures.part.own c.insert.ensures.taken refl
-    (capalloc_settles _ _ _ _ c.requires.own c.in_ok-charge_cap.ensures.refusal _ c.insert.ensures.least)) in
+    (capalloc_settles _ _ _ _ _ c.requires.own c.in_ok-charge_cap.ensures.refusal _ c.insert.ensures.least)) in
     record { outcome = done.outcome; keeps = done.keeps }

@@ -12,21 +12,21 @@ use Rattle.pd_core.proofs.ScriptLemmas.{finishes}
 use Rattle.pd_core.proofs.script.Script.capfree.Goals as goal
 
 pub returns-then-not-take_rpc_object-clause-outcome : goal.returns-then-not-take_rpc_object-clause-outcome
-returns-then-not-take_rpc_object-clause-outcome c =
-    ap (λ caps. outcome_of (Err InvalidCap) (own_at c.args.memory.now (record c.args.self.now { caps = caps }))) (c.take_rpc_object.ensures.none c.if-not-take_rpc_object.true)
-    ∙ capfree_refused _ _ _ _ c.requires.own _ (sym c.take_rpc_object.ensures.found ∙ c.if-not-take_rpc_object.true)
+returns-then-not-take_rpc_object-clause-outcome c sessions ready =
+    ap (λ caps. outcome_of (Err InvalidCap) (own_at sessions c.args.memory.now (record c.args.self.now { caps = caps }))) (c.take_rpc_object.ensures.none c.if-not-take_rpc_object.true)
+    ∙ capfree_refused _ _ _ _ _ c.requires.own _ (sym c.take_rpc_object.ensures.found ∙ c.if-not-take_rpc_object.true) sessions
 
 pub credit_cap-requires-clause-open : goal.credit_cap-requires-clause-open
 credit_cap-requires-clause-open c = open_in_part _ _ c.requires.own.paid.is_open
 
 pub credit_cap-requires-clause-spare : goal.credit_cap-requires-clause-spare
 unfolding part
-credit_cap-requires-clause-spare c = has_spare _ _ _ _ c.requires.own _ (found_rpc _ (sym c.take_rpc_object.ensures.found ∙ c.if-not-take_rpc_object.false))
+credit_cap-requires-clause-spare c = has_spare _ _ _ _ _ c.requires.own _ (found_rpc _ (sym c.take_rpc_object.ensures.found ∙ c.if-not-take_rpc_object.false))
 
 pub returns : goal.returns
 returns c =
     let taken = c.if-not-take_rpc_object.false in
     let done = finishes _ _ c.requires c.credit_cap.ensures.part
     (settled c.credit_cap.ensures.part.own (c.take_rpc_object.ensures.gone taken) refl
-    (capfree_settles _ _ _ _ c.requires.own _ (found_rpc _ (sym c.take_rpc_object.ensures.found ∙ taken)))) in
+    (capfree_settles _ _ _ _ _ c.requires.own _ (found_rpc _ (sym c.take_rpc_object.ensures.found ∙ taken)))) in
     record { outcome = done.outcome; keeps = done.keeps }

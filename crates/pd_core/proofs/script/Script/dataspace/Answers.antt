@@ -9,10 +9,10 @@ use Rattle.pd_core.proofs.script.Script.dataspace.Goals as goal
 
 pub size-requires : goal.size-requires
 size-requires c =
-    (paid_in_part _ _ _ _ (has_bytes _ _ _ _ c.requires.own _ _ (sym c.in-Some-Dataspace.ensures.found ∙ ap (λ cap. Some cap) c.in-Some-Dataspace.field-0-is))).exists
+    (paid_in_part _ _ _ _ (has_bytes _ _ _ _ _ c.requires.own _ _ (sym c.in-Some-Dataspace.ensures.found ∙ ap (λ cap. Some cap) c.in-Some-Dataspace.field-0-is))).exists
 
 pub returns-in-Some-Dataspace : goal.returns-in-Some-Dataspace
 returns-in-Some-Dataspace c =
     let named = sym c.in-Some-Dataspace.ensures.found ∙ ap (λ cap. Some cap) c.in-Some-Dataspace.field-0-is in
-    let pages = pages_are _ _ _ (has_bytes _ _ _ _ c.requires.own _ _ named) _ c.size.ensures in
+    let pages = pages_are _ _ _ (has_bytes _ _ _ _ _ c.requires.own _ _ named) _ c.size.ensures in
     ap (λ n. Ok (c.in-Some-Dataspace.space, n)) pages ∙ ap (sized_at (part c.args.self.now.account.0 c.args.memory.now)) (sym named)

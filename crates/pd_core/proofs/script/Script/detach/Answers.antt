@@ -8,12 +8,12 @@ use Rattle.pd_core.proofs.ScriptLemmas.{finishes}
 use Rattle.pd_core.proofs.script.Script.detach.Goals as goal
 
 pub returns-in_err-detach-clause-outcome : goal.returns-in_err-detach-clause-outcome
-returns-in_err-detach-clause-outcome c =
-    refused_told c.from_residual.result c.from_residual.ensures.1 (ap (λ r. own_at c.args.memory.now (record c.args.self.now { regions = r })) c.in_err-detach.ensures.err)
-    ∙ detach_refused _ _ _ _ c.requires.own c.args.address _ c.in_err-detach.ensures.refusal
+returns-in_err-detach-clause-outcome c sessions ready =
+    refused_told c.from_residual.result c.from_residual.ensures.1 (ap (λ r. own_at sessions c.args.memory.now (record c.args.self.now { regions = r })) c.in_err-detach.ensures.err)
+    ∙ detach_refused _ _ _ _ _ c.requires.own c.args.address _ c.in_err-detach.ensures.refusal sessions
 
 pub returns : goal.returns
 returns c =
     let done = finishes _ _ c.requires (becomes_same _ c.args.memory.now)
-    (settled refl refl c.in_ok-detach.ensures.ok (detach_settles _ _ _ _ c.requires.own c.args.address c.in_ok-detach.ensures.refusal)) in
+    (settled refl refl c.in_ok-detach.ensures.ok (detach_settles _ _ _ _ _ c.requires.own c.args.address c.in_ok-detach.ensures.refusal)) in
     record { outcome = done.outcome; keeps = done.keeps }

@@ -12,18 +12,18 @@ use Rattle.pd_core.proofs.ScriptLemmas.{finishes}
 use Rattle.pd_core.proofs.script.Script.free.Goals as goal
 
 pub returns-in_default-clause-outcome : goal.returns-in_default-clause-outcome
-returns-in_default-clause-outcome c =
-    ap (λ caps. outcome_of (Err InvalidCap) (own_at c.args.memory.now (record c.args.self.now { caps = caps }))) (c.in_default.ensures.none)
-    ∙ free_refused _ _ _ _ c.requires.own _ (sym c.in_default.ensures.found)
+returns-in_default-clause-outcome c sessions ready =
+    ap (λ caps. outcome_of (Err InvalidCap) (own_at sessions c.args.memory.now (record c.args.self.now { caps = caps }))) (c.in_default.ensures.none)
+    ∙ free_refused _ _ _ _ _ c.requires.own _ (sym c.in_default.ensures.found) sessions
 
 pub free-requires : goal.free-requires
-free-requires c = (paid_in_part _ _ _ _ (has_bytes _ _ _ _ c.requires.own _ _ (taken_dataspace _ _ c.in-Some.ensures.found))).exists
+free-requires c = (paid_in_part _ _ _ _ (has_bytes _ _ _ _ _ c.requires.own _ _ (taken_dataspace _ _ c.in-Some.ensures.found))).exists
 
 pub returns : goal.returns
 returns c =
     let named = taken_dataspace _ _ c.in-Some.ensures.found in
-    let paid = paid_in_part _ _ _ _ (has_bytes _ _ _ _ c.requires.own _ _ named) in
+    let paid = paid_in_part _ _ _ _ (has_bytes _ _ _ _ _ c.requires.own _ _ named) in
     let becomes = for_payer (λ p. part_without_space p c.in-Some.space.0) paid.payer c.free.ensures.part in
     let done = finishes _ _ c.requires becomes
-    (settled becomes.own c.in-Some.ensures.gone c.detach_all.ensures (free_settles _ _ _ _ c.requires.own _ _ named)) in
+    (settled becomes.own c.in-Some.ensures.gone c.detach_all.ensures (free_settles _ _ _ _ _ c.requires.own _ _ named)) in
     record { outcome = done.outcome; keeps = done.keeps }

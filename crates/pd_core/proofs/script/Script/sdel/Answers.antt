@@ -6,10 +6,10 @@ use Rattle.pd_core.proofs.SlicedLemmas.{sdel_refused, sdel_finishes}
 use Rattle.pd_core.proofs.script.Script.sdel.Goals as goal
 
 pub returns-in_err-free-clause-outcome : goal.returns-in_err-free-clause-outcome
-returns-in_err-free-clause-outcome c =
+returns-in_err-free-clause-outcome c sessions ready =
     let was = c.in_err-free.ensures in
-    refused_told c.from_residual.result c.from_residual.ensures.1 (λ i. own_at (was.memory_err i) (record c.args.self.now { regions = was.map_err i; heap = was.err i }))
-    ∙ sdel_refused _ _ c.requires c.args.address _ was.refusal
+    refused_told c.from_residual.result c.from_residual.ensures.1 (λ i. own_at sessions (was.memory_err i) (record c.args.self.now { regions = was.map_err i; sliced = was.err i }))
+    ∙ sdel_refused _ _ c.requires c.args.address _ was.refusal sessions
 
 pub returns : goal.returns
 returns c =

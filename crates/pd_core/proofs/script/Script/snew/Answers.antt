@@ -6,12 +6,12 @@ use Rattle.pd_core.proofs.SlicedLemmas.{snew_refused, snew_finishes}
 use Rattle.pd_core.proofs.script.Script.snew.Goals as goal
 
 pub returns-in_err-address-clause-outcome : goal.returns-in_err-address-clause-outcome
-returns-in_err-address-clause-outcome c =
+returns-in_err-address-clause-outcome c sessions ready =
     let was = c.in_err-address.ensures in
-    refused_told c.from_residual.result c.from_residual.ensures.1 (λ i. own_at (was.memory_err i) (record c.args.self.now { regions = was.map_err i; heap = was.err i }))
-    ∙ snew_refused _ _ c.requires c.args.bytes _ was.refusal
+    refused_told c.from_residual.result c.from_residual.ensures.1 (λ i. own_at sessions (was.memory_err i) (record c.args.self.now { regions = was.map_err i; sliced = was.err i }))
+    ∙ snew_refused _ _ c.requires c.args.bytes _ was.refusal sessions
 
 pub returns : goal.returns
 returns c =
-    let done = snew_finishes _ _ c.requires c.in_ok-address.ensures.sound c.in_ok-address.ensures.payer c.in_ok-address.ensures.others c.args.bytes _ c.in_ok-address.ensures.refusal c.in_ok-address.ensures.taken in
+    let done = snew_finishes _ _ c.requires c.in_ok-address.ensures.sound c.in_ok-address.ensures.payer c.in_ok-address.ensures.others c.args.bytes _ c.in_ok-address.ensures.taken c.in_ok-address.ensures.refusal in
     record { outcome = done.outcome; keeps = done.keeps }

@@ -1,0 +1,160 @@
+-- A session is opened: what the model tells of it, and that its client stays sound.
+use Rattle.std.proofs.Common.{◌≡◌, ◌≢◌, ℕ, ◌≤◌, ◌<◌, List, [], Some, is_some, refl, sym, ap, subst, ◌∙◌, arith, true≢false}
+use Rattle.std.proofs.lemmas.Option.{none-some}
+use Rattle.std.specs.Prelude.{None, Ok}
+use Rattle.std.specs.FinMap.{get, insert, len}
+use Rattle.trade_base.specs.declared.id.SessionId.{SessionId}
+use Rattle.own_model.specs.Account.{Account, Fits, parted_with}
+use Rattle.own_model.specs.Call.Call.{Open}
+use Rattle.own_model.specs.NatMap.{NatMap}
+use Rattle.own_model.specs.OwnState.{OwnState, new_selector}
+use Rattle.own_model.specs.OwnState.Object.{OpenSession}
+use Rattle.own_model.specs.Routes.Service.{Log}
+use Rattle.own_model.proofs.SoundLemmas.{sessions_sound}
+use Rattle.own_model.proofs.UseLemmas.{sessions_use}
+use Rattle.own_model.proofs.LimitLemmas.{sessions_within}
+use Rattle.own_model.specs.OwnStep.{Outcome, entry_step, session_opened}
+use Rattle.own_model.specs.Reply.Reply.{Selected}
+use Rattle.own_model.specs.Session.{Wish, wish, new_session, donation_refusal}
+use Rattle.own_model.specs.StartList.{Entry}
+use Rattle.own_model.proofs.NatMapLemmas.{get-insert_same, get-insert_other}
+use Rattle.own_model.proofs.SessionLemmas.{donation_covered, large_enough}
+use Rattle.own_model.proofs.Totals.{len-insert_new, total-insert_new}
+use Rattle.cap_space.specs.declared.cap.Cap.TheVariants.{Dataspace, Session}
+use Rattle.cap_space.specs.Space.{Space, with_cap}
+use Rattle.dataspace_core.specs.Store.{Store, Part, part, account_of, account_in, ram_limits_in, parted_part}
+use Rattle.dataspace_core.proofs.PartLaws.{account_of-part}
+use Rattle.server_frame.specs.Frame.{Row, OpensSession}
+use Rattle.pd_core.specs.Answer.{model_answer}
+use Rattle.pd_core.specs.declared.answer.Answer.{Answer}
+use Rattle.log_service.specs.Session.{LabelledLine}
+use Rattle.pd_core.specs.Own.{Sessions, HasSessions, own_at, own_of, own_heap_at, sliced_at, part_at}
+use Rattle.pd_core.specs.Sessions.{AgreeBut, NamesOpen, OpensFor}
+use Rattle.pd_core.specs.Sound.{rpc_weight, session_weight, IsLawful, IsSoundScript}
+use Rattle.pd_core.specs.declared.script.Script.{Script}
+use Rattle.pd_core.proofs.OwnLemmas.{same_new_selector}
+use Rattle.pd_core.proofs.SessionOwnLemmas.{AreNoSpaces, AreCounted, lawful_whichever}
+use Rattle.pd_core.proofs.SessionCallLemmas.{ChangesOne, some_sessions, some_are_open, some_same, own_put, opens_own}
+use Rattle.pd_core.proofs.SessionScriptLemmas.{own_still, sound_still}
+use Rattle.pd_core.proofs.SessionDoneLemmas.{limit_within, no_space}
+
+-- an open leaves what is lawful
+lawful_opened : (s : OwnState) (w : Wish) → donation_refusal s.account w.ram w.caps ≡ None → IsLawful s → IsLawful (session_opened w s).next
+lawful_opened s w enough law = record {
+  sound = (sessions_sound s law.sound).opens w enough;
+  uses = (sessions_use s law.uses).opens w enough;
+  within = (sessions_within s law.within).opens w enough;
+}
+
+module _ (store store' : Store) (script : Script) (rows : NatMap (Row LabelledLine)) (server : ℕ) (session : SessionId) (ram caps : ℕ) (sound : IsSoundScript store script) (named : NamesOpen script rows server) (free : get rows session.0 ≡ None)
+    (limits : ram_limits_in store' ≡ ram_limits_in store) (parted : part script.account.0 store' ≡ parted_part (part_at store script) ram caps) (accepted : donation_refusal (account_in store script.account.0) ram caps ≡ None) where
+  -- what the client's account becomes
+  abbrev a : Account
+  a = parted_with (account_of (part_at store script)) ram caps
+
+  covered : Fits (account_of (part_at store script)) ram caps
+  covered = subst (λ x. Fits x ram caps) (sym (account_of-part script.account.0 store)) (donation_covered (account_in store script.account.0) ram caps accepted).0
+
+  least : 2 ≤ caps
+  least = (large_enough ram caps (donation_covered (account_in store script.account.0) ram caps accepted).1).1
+
+  -- there is a place for its selector
+  pub has_place : len script.caps.caps < script.caps.places
+  has_place = let fits = covered.caps_fit in let some = least in omega (arith, fits, some, sound.own.paid.named, sound.own.paid.placed)
+
+  module _ (selector : ℕ) (fresh : get script.caps.caps selector ≡ None) where
+    abbrev opened_space : Space
+    opened_space = with_cap script.caps selector (Session server session)
+
+    names_it : get opened_space.caps selector ≡ Some (Session server session)
+    names_it = get-insert_same script.caps.caps selector (Session server session) selector refl
+
+    opened_others : (q : ℕ) → q ≢ selector → get opened_space.caps q ≡ get script.caps.caps q
+    opened_others q apart = get-insert_other script.caps.caps selector (Session server session) q apart
+
+    opened_spaces : AreNoSpaces script.caps.caps opened_space.caps selector
+    opened_spaces = record { before = λ ds is. none-some (Dataspace ds) (sym fresh ∙ is); after = no_space server session _ names_it }
+
+    -- no selector named it before
+    others_agree : (S S' : Sessions) → AgreeBut S S' server session.0 → (q other : ℕ) (at : SessionId) → q ≢ selector → get script.caps.caps q ≡ Some (Session other at) → S' other at.0 ≡ S other at.0
+    others_agree S S' agree q other at apart is = agree other at.0 (λ e f.
+        let was = named q at (subst (λ k. get script.caps.caps q ≡ Some (Session k at)) e is) in
+        absurd (true≢false (sym was ∙ ap (λ k. is_some (get rows k)) f ∙ ap is_some free)))
+
+    changes : (S S' : Sessions) → AgreeBut S S' server session.0 → ChangesOne S S' (part_at store script) (part script.account.0 store') script.caps.caps opened_space.caps selector
+    changes S S' agree = record { spaces = ap (λ (q : Part). q.spaces) parted; others = opened_others; agrees = others_agree S S' agree; no_spaces = opened_spaces }
+
+    module _ (is_new : selector ≡ new_selector script.caps.caps) where
+      own_opens : (entry : Entry) (S S' : Sessions) (service text : List ℕ) (w : Wish) → HasSessions S script.caps.caps → wish entry.name entry.routes service text ≡ Ok w → w.ram ≡ ram → w.caps ≡ caps → AgreeBut S S' server session.0 →
+          S' server session.0 ≡ Some (new_session w) →
+          entry_step entry (Open service text) (own_at S store script) ≡ record { reply = Selected selector; lines = []; next = own_of S' (part script.account.0 store') opened_space.caps script.regions.user (own_heap_at store script) (sliced_at store script) }
+      own_opens entry S S' service text w ready asks e f agree is =
+          opens_own S S' (part_at store script) (part script.account.0 store') script.caps.caps opened_space.caps selector (changes S S' agree) script.regions.user (own_heap_at store script) (sliced_at store script) sound.own.named.one sound.own.attached
+          entry service text w server session asks
+          ((λ i. donation_refusal (account_of-part script.account.0 store i) (e i) (f i)) ∙ accepted)
+          (is_new ∙ sym (same_new_selector (part_at store script) script.caps script.regions (own_heap_at store script) (sliced_at store script) sound.own S ready))
+          names_it is (ap account_of parted ∙ (λ i. parted_with (account_of (part_at store script)) (sym e i) (sym f i)))
+
+      pub opens_does : (entry : Entry) (S S' : Sessions) (service text : List ℕ) (w : Wish) → HasSessions S script.caps.caps → wish entry.name entry.routes service text ≡ Ok w → w.ram ≡ ram → w.caps ≡ caps → AgreeBut S S' server session.0 →
+          S' server session.0 ≡ Some (new_session w) →
+          entry_step entry (Open service text) (own_at S store script) ≡ record { reply = Selected selector; lines = []; next = own_at S' store' (record script { caps = opened_space }) }
+      opens_does entry S S' service text w ready asks e f agree is =
+          own_opens entry S S' service text w ready asks e f agree is
+          ∙ ap {B = Outcome} (λ s. record { reply = Selected selector; lines = []; next = s }) (sym (own_still store store' script (Some a) sound parted refl limits opened_space S'))
+
+      -- any wish for so much
+      abbrev any_wish : Wish
+      any_wish = record { service = Log; label = []; ram = ram; caps = caps }
+
+      opened_lawful : (any : Sessions) → IsLawful (own_of any (part script.account.0 store') opened_space.caps script.regions.user (own_heap_at store script) (sliced_at store script))
+      unfolding own_of
+      opened_lawful any =
+          let S = some_sessions server session.0 (new_session any_wish) in
+          let ready = some_are_open server session.0 (new_session any_wish) script.caps.caps in
+          let before = own_at S store script in
+          let put = own_put S S (part_at store script) (part script.account.0 store') script.caps.caps opened_space.caps selector (changes S S (λ _ _ _. refl)) script.regions.user (own_heap_at store script) (sliced_at store script)
+          sound.own.named.one sound.own.attached server session (new_session any_wish) a names_it (some_same server session.0 (new_session any_wish)) (ap account_of parted) in
+          let least_one = is_new ∙ sym (same_new_selector (part_at store script) script.caps script.regions (own_heap_at store script) (sliced_at store script) sound.own S ready) in
+          let enough = ap (λ x. donation_refusal x ram caps) (account_of-part script.account.0 store) ∙ accepted in
+          lawful_whichever (part script.account.0 store') opened_space.caps script.regions.user (own_heap_at store script) (sliced_at store script) S any
+          (subst IsLawful (sym (put ∙ ap {B = OwnState} (λ n. record before { account = a; selectors = insert before.selectors n (OpenSession (new_session any_wish)) }) least_one)) (lawful_opened before any_wish enough (sound.own.lawful S ready)))
+
+      counted : AreCounted (part_at store script) (part script.account.0 store') script.caps opened_space script.regions
+      counted =
+          let more = len-insert_new script.caps.caps selector (Session server session) fresh in
+          let sessions = total-insert_new session_weight script.caps.caps selector (Session server session) fresh in
+          let rpcs = total-insert_new rpc_weight script.caps.caps selector (Session server session) fresh in
+          let fits = covered.caps_fit in
+          let some = least in
+          let account = ap account_of parted in
+          let limit = ap (λ (x : Account). x.caps_limit) account in
+          record {
+            open_still = ap (λ (q : Part). is_some q.account) parted;
+            spaces = ap (λ (q : Part). q.spaces) parted;
+            used = ap (λ (x : Account). x.caps_used) account;
+            places = refl;
+            sessions = omega (arith, more, sessions);
+            rpcs = omega (arith, rpcs);
+            placed = omega (arith, sessions, fits, some, limit, sound.own.paid.placed);
+            ram = omega (arith, limit_within script.account.0 store' a (ap (λ (q : Part). q.account) parted), limits, sound.heaps.sliced.maps.pages, ap (λ (x : Account). x.ram_limit) account);
+          }
+
+      pub opens_sound : IsSoundScript store' (record script { caps = opened_space })
+      opens_sound = sound_still store store' script (Some a) sound parted refl limits opened_space selector opened_others opened_spaces counted opened_lawful
+
+      -- what the code's call does
+      pub opens_for : (space' : Space) (answer : Answer) (label : List ℕ) (rows' : NatMap (Row LabelledLine)) → space' ≡ opened_space → model_answer answer ≡ Selected selector →
+          OpensSession script.account.0 ram caps session.0 (record { label = label; partial = [] }) store store' rows rows' →
+          OpensFor answer server label ram caps store store' script (record script { caps = space' }) rows rows'
+      opens_for space' answer label rows' taken told_is opens = record {
+        id = session;
+        selector = selector;
+        told = told_is;
+        opens = opens;
+        free = fresh;
+        script = ap {B = Script} (λ s. record script { caps = s }) taken;
+        sound = subst (λ s. IsSoundScript store' (record script { caps = s })) (sym taken) opens_sound;
+        does = λ entry S S' service text w ready asks e f agree is.
+            subst (λ s. entry_step entry (Open service text) (own_at S store script) ≡ record { reply = Selected selector; lines = []; next = own_at S' store' (record script { caps = s }) }) (sym taken)
+            (opens_does entry S S' service text w ready asks e f agree is);
+      }

@@ -1,0 +1,24 @@
+//! The label of a session.
+ghost use Rattle.std.specs.Prelude.{◌≡◌, ◌≤◌, length};
+ghost use Rattle.own_model.specs.Session.{label_with};
+
+use arrayvec::ArrayVec;
+
+/// The most bytes of a session's label: those of a name, an arrow, and those of the label that its client gave.
+pub(crate) const LONGEST_LABEL: usize = 100;
+
+/// The label of a session: its client's name, and what that gave.
+pub(crate) fn label_of(name: &[u8], given: &[u8]) -> ArrayVec<u8, LONGEST_LABEL>
+    requires name { length name.now ≤ 32 }
+    requires given { length given.now ≤ 64 }
+    ensures label { result.items ≡ label_with name.now given.now }
+    ensures len { length result.items ≤ LONGEST_LABEL }
+{
+    let mut label = ArrayVec::<u8, LONGEST_LABEL>::new();
+    let _ = label.try_extend_from_slice(name);
+    if !given.is_empty() {
+        let _ = label.try_extend_from_slice(b" -> ");
+        let _ = label.try_extend_from_slice(given);
+    }
+    label
+}
