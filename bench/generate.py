@@ -5,7 +5,8 @@ Shapes: quota (quota alone, both scripts in turn), churn (an allocation and its 
 limit (allocations and releases at the account's limit), bytes (pokes and peeks of 1 to 1,024 bytes in turn), short (the
 same of 1 to 16 bytes), regions (attaches and detaches, up to 128 regions), full (detaches, attaches and peeks with 127 or
 128 regions attached), caps (selectors taken and given back, up to 16), sliced (sliced blocks taken and given back, up to
-16), hostile (lines that are refused, of all kinds).
+16), heap (small blocks of the heap taken and given back, up to 64), turns (a block of the heap and its release in turn, one
+at a time), holes (blocks taken and given back among 48 holes), hostile (lines that are refused, of all kinds).
 """
 import random
 import sys
@@ -115,6 +116,98 @@ def sliced(lines, rng):
             yield "alice snew 256"
 
 
+HEAP_HEADER = 16
+LEAST_BLOCK = 48
+FIRST_CHUNK = 4 * PAGE
+
+
+class Chunk:
+    """The first chunk of a heap: its blocks in order, each with its size and whether it is used."""
+
+    def __init__(self):
+        self.blocks = [(FIRST_CHUNK, False)]
+
+    def take(self, count):
+        """The address of the payload of a block for so many bytes, in the best hole, or None where none is large enough."""
+        size = max(LEAST_BLOCK, HEAP_HEADER + (count + 15) // 16 * 16)
+        best, best_size, offset = None, None, 0
+        for place, (have, used) in enumerate(self.blocks):
+            if not used and have >= size and (best is None or have < best_size):
+                best, best_size, at = place, have, offset
+            offset += have
+        if best is None:
+            return None
+        if best_size - size < LEAST_BLOCK:
+            self.blocks[best] = (best_size, True)
+        else:
+            self.blocks[best : best + 1] = [(size, True), (best_size - size, False)]
+        return HEAP_WINDOW + at + HEAP_HEADER
+
+    def give(self, address):
+        """The block of a payload becomes a hole, joined with the holes beside it."""
+        offset, place = HEAP_WINDOW + HEAP_HEADER, 0
+        while offset != address:
+            offset += self.blocks[place][0]
+            place += 1
+        first, last = place, place + 1
+        if last < len(self.blocks) and not self.blocks[last][1]:
+            last += 1
+        if first > 0 and not self.blocks[first - 1][1]:
+            first -= 1
+        self.blocks[first:last] = [(sum(size for size, _ in self.blocks[first:last]), False)]
+
+
+def heap(lines, rng):
+    """Blocks of 1 to 128 bytes, three taken to two given back until 64 are held."""
+    chunk, held = Chunk(), []
+    for _ in range(lines):
+        count = rng.randint(1, 128)
+        address = None if len(held) == 64 or (held and rng.random() < 0.4) else chunk.take(count)
+        if address is None:
+            address = held.pop(rng.randrange(len(held)))
+            chunk.give(address)
+            yield f"alice del {address:#x}"
+        else:
+            held.append(address)
+            yield f"alice new {count}"
+
+
+def turns(lines, rng):
+    """A block of 1 to 128 bytes and its release in turn."""
+    for number in range(lines):
+        if number % 2 == 0:
+            yield f"alice new {rng.randint(1, 128)}"
+        else:
+            yield f"alice del {HEAP_WINDOW + HEAP_HEADER:#x}"
+
+
+LIVE_HOLES = 48
+SPARE_HOLES = 8
+
+
+def holes(lines, rng):
+    """Least blocks side by side, of which every second one is given back; then one is taken and one given back in turn,
+    with 48 or 49 of these holes, and the rest of the chunk as one more."""
+    chunk = Chunk()
+    count = LIVE_HOLES + SPARE_HOLES
+    blocks = []
+    for _ in range(2 * count + 1):
+        blocks.append(chunk.take(1))
+        yield "alice new 1"
+    for address in blocks[1::2]:
+        chunk.give(address)
+        yield f"alice del {address:#x}"
+    held = []
+    for _ in range(lines - 3 * count - 1):
+        if len(held) < SPARE_HOLES:
+            held.append(chunk.take(1))
+            yield "alice new 1"
+        else:
+            address = held.pop(rng.randrange(len(held)))
+            chunk.give(address)
+            yield f"alice del {address:#x}"
+
+
 def hostile(lines, rng):
     bad = [
         "",
@@ -149,6 +242,9 @@ def hostile(lines, rng):
         "alice snew 0",
         "alice snew 65505",
         "alice sdel 0x100000020",
+        "alice new 0",
+        "alice new 65535",
+        "alice del 0x100000010",
     ]
     for _ in range(lines):
         yield rng.choice(bad)
@@ -164,6 +260,9 @@ SHAPES = {
     "full": full,
     "caps": caps,
     "sliced": sliced,
+    "heap": heap,
+    "turns": turns,
+    "holes": holes,
     "hostile": hostile,
 }
 

@@ -4,7 +4,8 @@ use Rattle.own_model.specs.Account.{Account, Fits, parted_with}
 use Rattle.own_model.specs.Routes.{fixed_routes}
 use Rattle.own_model.specs.StartList.{StartEntry}
 use Rattle.own_model.specs.StartList.Kind.{Script, Server}
-use Rattle.dataspace_core.specs.Store.{Store, account_in, root_in, room_in, ram_limits_in}
+use Rattle.dataspace_core.specs.Room.{IsOuter}
+use Rattle.dataspace_core.specs.Store.{Store, account_in, root_in, room_in, ram_limits_in, caps_limits_in, IsOpenIn, IsChildIn}
 use Rattle.pd_core.specs.Fresh.{starts_of, AreFresh}
 use Rattle.pd_core.specs.declared.component.Component.{Component}
 
@@ -24,13 +25,24 @@ init_in store = account_in store (root_in store)
 abbrev pub machine_ram : ℕ
 machine_ram = 262144
 
+-- the capabilities of the machine
+abbrev pub machine_caps : ℕ
+machine_caps = 64
+
+-- each account that was opened is open, and was opened by init
+pub record IsFlat (store : Store) : Type 0 where
+  pub outer : (account : ℕ) → IsOuter store account
+  pub there : (account parent : ℕ) → IsChildIn store account parent → IsOpenIn store account
+
 -- one component more can start: the parts so far are fresh, init covers its budget, there is room for an
--- account, and all limits together are the machine's RAM
+-- account, and all limits together are the machine's
 pub record CanStart (store : Store) (components : List Component) (ram caps : ℕ) : Type 0 where
   pub fresh : AreFresh store components
   pub covered : Fits (init_in store) ram caps
   pub room : 0 < room_in store
   pub machine : ram_limits_in store ≡ machine_ram
+  pub all_caps : caps_limits_in store ≡ machine_caps
+  pub flat : IsFlat store
 
 -- one component more has started after those so far, and init has parted with its budget; all limits together
 -- stay
@@ -41,3 +53,5 @@ pub record HasStarted (store : Store) (components : List Component)
   pub init : init_in after ≡ parted_with (init_in store) start.ram start.caps
   pub room : room_in after + 1 ≡ room_in store
   pub machine : ram_limits_in after ≡ ram_limits_in store
+  pub all_caps : caps_limits_in after ≡ caps_limits_in store
+  pub flat : IsFlat after

@@ -17,8 +17,9 @@ use trade_base::Refusal;
 /// The name before the reply to what is no call.
 const NOBODY: &[u8] = b"?";
 
-/// Answers a line of at most `LONGEST_LINE` bytes: its call is carried out, and the reply gathered with the caller's
-/// name. A fault leaves it answered, and told in part.
+/// Answers a line of at most `LONGEST_LINE` bytes: its call is carried out, and what it is answered is
+/// gathered: the log lines that it finished, and then the reply with the caller's name. A fault leaves it answered, and
+/// told in part.
 pub fn answer_line<K: Sink>(
     core: &mut Core,
     list: &FixedNames,
@@ -42,7 +43,7 @@ pub fn answer_line<K: Sink>(
         return tell_refusal(name, Refusal::UnknownComponent, gathered, sink);
     };
     core.step(component, call, reply);
-    gathered.put_reply(sink, list.name(component), reply.text())
+    gathered.put_answer(sink, reply.lines(), list.name(component), reply.text())
 }
 
 /// Answers a longer line, of which no byte was kept.

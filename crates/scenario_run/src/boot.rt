@@ -5,13 +5,15 @@ ghost use Rattle.own_model.specs.Account.{Fits};
 ghost use Rattle.own_model.specs.StartList.{machine_a};
 ghost use Rattle.own_model.specs.World.{start_world, IsBalanced};
 ghost use Rattle.scenario_run.specs.Boot.{CanStart, HasStarted, init_in, server_start, script_start};
-ghost use Rattle.dataspace_core.specs.Store.{accounts_in, root_in, room_in, IsOpenIn, OpensPart, ram_limits_in};
+ghost use Rattle.dataspace_core.specs.Store.{accounts_in, root_in, room_in, IsOpenIn, OpensPart, ram_limits_in, caps_limits_in};
 
 use crate::names::{ALICE, BOB, FILES, LOG};
 use cap_space::CapSpace;
 use dataspace_core::Memory;
+use log_service::LogService;
 use pd_core::{Component, Core};
 use region_map::RegionMap;
+use server_frame::Server;
 use std::alloc::Global;
 use trade_base::{AccountId, Caps, NoMemory, Ram};
 
@@ -21,8 +23,11 @@ const PAGES: usize = 64;
 /// The capabilities of the machine.
 const CAPS: Caps = Caps(64);
 
-/// Init's account, and one a component.
-const ACCOUNTS: usize = 5;
+/// The most sessions of a server: half as many as the machine has capabilities.
+const SESSIONS: usize = 32;
+
+/// Init's account, one a component and one a session.
+const ACCOUNTS: usize = 5 + SESSIONS;
 
 /// The places of a script's table: as many as the machine has capabilities.
 const PLACES: usize = 64;
@@ -56,7 +61,7 @@ pub fn boot_fixed(alloc: Global) -> Result<Core, NoMemory>
 {
     let mut memory = Memory::boot(alloc, PAGES, CAPS, ACCOUNTS)?;
     let mut components = Vec::new(alloc);
-    start_server(&mut memory, &mut components, LOG)?;
+    start_log(&mut memory, &mut components, LOG, alloc)?;
     start_server(&mut memory, &mut components, FILES)?;
     start_script(&mut memory, &mut components, ALICE, alloc)?;
     start_script(&mut memory, &mut components, BOB, alloc)?;
@@ -71,9 +76,28 @@ fn open_account(memory: &mut Memory, budget: Budget) -> AccountId
     ensures part { OpensPart (root_in memory.old) result.0 budget.ram.0 budget.caps.0 memory.old memory.new }
     ensures root { IsOpenIn memory.old (root_in memory.old) }
     ensures machine { ram_limits_in memory.new ≡ ram_limits_in memory.old }
+    ensures caps { caps_limits_in memory.new ≡ caps_limits_in memory.old }
 {
     let init = memory.root();
     memory.open(init, budget.ram, budget.caps).unwrap()
+}
+
+// Starts the log server as one more, or tells that the host has no room for it.
+fn start_log(
+    memory: &mut Memory,
+    components: &mut Vec<Component>,
+    name: &'static [u8],
+    alloc: Global,
+) -> Result<(), NoMemory>
+    requires ready { CanStart memory.old components.old.items SERVER.ram.0 SERVER.caps.0 }
+    ensures started { OnOk result (HasStarted memory.old components.old.items memory.new components.new.items
+        (server_start name.now SERVER.ram.0 SERVER.caps.0)) }
+{
+    let server = Server::boot(alloc, LogService, SESSIONS, PAGES)?;
+    let account = open_account(memory, SERVER);
+    components
+        .push(Component::log(name, account, server))
+        .map_err(|_| NoMemory)
 }
 
 // Starts one more server, or tells that the host has no room for it.

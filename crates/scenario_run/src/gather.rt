@@ -75,6 +75,23 @@ impl Gather {
         self.put(sink, b"\n")
     }
 
+    /// Gathers finished log lines as they stand, and then a name and its reply. A write fails as in `put`.
+    pub fn put_answer<K: Sink>(
+        &mut self,
+        sink: &mut K,
+        lines: &[u8],
+        name: &[u8],
+        reply: &[u8],
+    ) -> Result<(), DeviceFault>
+        requires { K.has_failed sink.old ≡ false }
+        ensures told { TellsUnless result (K.contents sink.old) self.old (K.contents sink.new) self.new
+            (lines.now ++ line_with name.now reply.now) }
+        ensures failing { K.has_failed sink.new ≡ is_err result }
+    {
+        self.put(sink, lines)?;
+        self.put_reply(sink, name, reply)
+    }
+
     // Gathers bytes for which there is no room yet.
     #[inline(never)]
     fn put_in_pieces<K: Sink>(&mut self, sink: &mut K, bytes: &[u8]) -> Result<(), DeviceFault>

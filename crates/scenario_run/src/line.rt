@@ -1,9 +1,9 @@
 //! The lines that make calls.
 ghost use Rattle.std.specs.Prelude.{◌≡◌, IfSome, None, Some, IfOk, IfErr, OnErr};
-ghost use Rattle.std.specs.Option.{option_copied, option_map};
+ghost use Rattle.std.specs.Option.{option_and_then, option_copied, option_map};
 ghost use Rattle.trade_base.specs.declared.refusal.Refusal.TheVariants.{BadLine};
 ghost use Rattle.own_model.specs.Text.{address_of, number_of};
-ghost use Rattle.own_model.specs.Call.{call_of, call_of_two, form_of, some_bytes_of_hex, spoken, Spoken};
+ghost use Rattle.own_model.specs.Call.{call_of, form_of, of_none, of_two, some_bytes_of_hex, spoken, Spoken};
 ghost use Rattle.own_model.specs.Call.Call.{AttachAt, Peek, Poke};
 ghost use Rattle.pd_core.specs.Call.{model_call, IsWellFormed};
 
@@ -42,69 +42,100 @@ fn read_call(text: &[u8]) -> Option<Call<'_>>
     call_from(form, arguments)
 }
 
-/// The call of a form, with what stands after the form and a space as its arguments.
-fn call_from<'a>(form: &[u8], arguments: Option<&'a [u8]>) -> Option<Call<'a>>
-    ensures call { option_map model_call result ≡ call_of form.now (option_copied arguments.entry) }
+/// The call of a form by its word, with what stands after the word and a space as its arguments.
+fn call_from<'a>(word: &[u8], arguments: Option<&'a [u8]>) -> Option<Call<'a>>
+    ensures call { option_map model_call result ≡ call_of word.now (option_copied arguments.entry) }
     ensures well_formed { IfSome result IsWellFormed }
 {
-    if form == b"alloc".as_slice() {
-        Some(Call::Alloc(read_number(arguments?)?))
-    } else if form == b"free".as_slice() {
-        Some(Call::Free(read_number(arguments?)?))
-    } else if form == b"attach".as_slice() {
-        Some(Call::Attach(read_number(arguments?)?))
-    } else if form == b"attach_at".as_slice() {
-        read_attach_at(arguments?)
-    } else if form == b"detach".as_slice() {
-        Some(Call::Detach(read_address(arguments?)?))
-    } else if form == b"peek".as_slice() {
-        read_peek(arguments?)
-    } else if form == b"poke".as_slice() {
-        read_poke(arguments?)
-    } else if form == b"capalloc".as_slice() && arguments.is_none() {
-        Some(Call::Capalloc)
-    } else if form == b"capfree".as_slice() {
-        Some(Call::Capfree(read_number(arguments?)?))
-    } else if form == b"snew".as_slice() {
-        Some(Call::Snew(read_number(arguments?)?))
-    } else if form == b"sdel".as_slice() {
-        Some(Call::Sdel(read_address(arguments?)?))
-    } else if form == b"quota".as_slice() && arguments.is_none() {
-        Some(Call::Quota)
+    if word == b"alloc".as_slice() {
+        Some(Call::Alloc(number(arguments)?))
+    } else if word == b"free".as_slice() {
+        Some(Call::Free(number(arguments)?))
+    } else if word == b"attach".as_slice() {
+        Some(Call::Attach(number(arguments)?))
+    } else if word == b"attach_at".as_slice() {
+        read_attach_at(arguments)
+    } else if word == b"detach".as_slice() {
+        Some(Call::Detach(address(arguments)?))
+    } else if word == b"peek".as_slice() {
+        read_peek(arguments)
+    } else if word == b"poke".as_slice() {
+        read_poke(arguments)
+    } else if word == b"capalloc".as_slice() {
+        read_none(Call::Capalloc, arguments)
+    } else if word == b"capfree".as_slice() {
+        Some(Call::Capfree(number(arguments)?))
+    } else if word == b"new".as_slice() {
+        Some(Call::New(number(arguments)?))
+    } else if word == b"del".as_slice() {
+        Some(Call::Del(address(arguments)?))
+    } else if word == b"snew".as_slice() {
+        Some(Call::Snew(number(arguments)?))
+    } else if word == b"sdel".as_slice() {
+        Some(Call::Sdel(address(arguments)?))
+    } else if word == b"quota".as_slice() {
+        read_none(Call::Quota, arguments)
+    } else {
+        None
+    }
+}
+
+/// A number as the only argument.
+fn number(arguments: Option<&[u8]>) -> Option<u64>
+    ensures { result ≡ option_and_then number_of (option_copied arguments.entry) }
+{
+    read_number(arguments?)
+}
+
+/// An address as the only argument.
+fn address(arguments: Option<&[u8]>) -> Option<u64>
+    ensures { result ≡ option_and_then address_of (option_copied arguments.entry) }
+{
+    read_address(arguments?)
+}
+
+/// A call without arguments, where there are none.
+fn read_none<'a>(call: Call<'a>, arguments: Option<&[u8]>) -> Option<Call<'a>>
+    requires { IsWellFormed call }
+    ensures call { option_map model_call result ≡ of_none (model_call call.entry) (option_copied arguments.entry) }
+    ensures well_formed { IfSome result IsWellFormed }
+{
+    if arguments.is_none() {
+        Some(call)
     } else {
         None
     }
 }
 
 /// A selector and an address, parted by a space.
-fn read_attach_at(arguments: &[u8]) -> Option<Call<'_>>
-    ensures call { option_map model_call result ≡ call_of_two AttachAt number_of address_of arguments.now }
+fn read_attach_at(arguments: Option<&[u8]>) -> Option<Call<'_>>
+    ensures call { option_map model_call result ≡ of_two AttachAt number_of address_of (option_copied arguments.entry) }
     ensures well_formed { IfSome result IsWellFormed }
 {
-    let (selector, address) = split_first_word(arguments);
+    let (selector, address) = split_first_word(arguments?);
     let selector = read_number(selector)?;
     let address = read_address(address?)?;
     Some(Call::AttachAt { selector, address })
 }
 
 /// An address and a count of bytes, parted by a space.
-fn read_peek(arguments: &[u8]) -> Option<Call<'_>>
-    ensures call { option_map model_call result ≡ call_of_two Peek address_of number_of arguments.now }
+fn read_peek(arguments: Option<&[u8]>) -> Option<Call<'_>>
+    ensures call { option_map model_call result ≡ of_two Peek address_of number_of (option_copied arguments.entry) }
     ensures well_formed { IfSome result IsWellFormed }
 {
-    let (address, count) = split_first_word(arguments);
+    let (address, count) = split_first_word(arguments?);
     let address = read_address(address)?;
     let count = read_number(count?)?;
     Some(Call::Peek { address, count })
 }
 
 /// An address and the hexadecimal digits of one or more bytes, parted by a space.
-fn read_poke(arguments: &[u8]) -> Option<Call<'_>>
+fn read_poke(arguments: Option<&[u8]>) -> Option<Call<'_>>
     ensures call { option_map model_call result
-        ≡ call_of_two Poke address_of some_bytes_of_hex arguments.now }
+        ≡ of_two Poke address_of some_bytes_of_hex (option_copied arguments.entry) }
     ensures well_formed { IfSome result IsWellFormed }
 {
-    let (address, hex) = split_first_word(arguments);
+    let (address, hex) = split_first_word(arguments?);
     let address = read_address(address)?;
     let hex = read_hex(hex?)?;
     Some(Call::Poke { address, hex })
@@ -152,6 +183,7 @@ mod tests {
                 Some(Call::Alloc(u64::MAX))
             )
         );
+        assert!(rt; matches!(call_of_alice(b"alice new 65536"), Some(Call::New(65536))));
         assert!(rt; matches!(call_of_alice(b"alice snew 0256"), Some(Call::Snew(256))));
     }
 
@@ -188,6 +220,12 @@ mod tests {
             matches!(
                 call_of_alice(b"alice detach 0xffffFFFFffffFFFF"),
                 Some(Call::Detach(u64::MAX))
+            )
+        );
+        assert!(rt;
+            matches!(
+                call_of_alice(b"alice del 0x100000010"),
+                Some(Call::Del(0x1_0000_0010))
             )
         );
         assert!(rt;
@@ -236,6 +274,8 @@ mod tests {
         assert!(rt; is_bad(b"abcdefghijklmnopqrstuvwxyz0123456 quota"));
         assert!(rt; is_bad(b"al/ice quota"));
         assert!(rt; is_bad(b"alice capalloc 1"));
+        assert!(rt; is_bad(b"alice new"));
+        assert!(rt; is_bad(b"alice new -1"));
         assert!(rt; is_bad(b"alice snew"));
         assert!(rt; is_bad(b"alice snew 0x10"));
     }
@@ -251,6 +291,8 @@ mod tests {
         assert!(rt; is_bad(b"alice attach_at 1"));
         assert!(rt; is_bad(b"alice attach_at 0x10000000 1"));
         assert!(rt; is_bad(b"alice attach_at 1 0x10000000 "));
+        assert!(rt; is_bad(b"alice del"));
+        assert!(rt; is_bad(b"alice del 4294967312"));
         assert!(rt; is_bad(b"alice sdel 4294967328"));
         assert!(rt; is_bad(b"alice peek 0x0"));
         assert!(rt; is_bad(b"alice peek 0x0  1"));

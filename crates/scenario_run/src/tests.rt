@@ -1,6 +1,7 @@
 //! Worked scenarios on the built-in machine, over readers and writers in memory.
 mod devices;
 mod faults;
+mod heap;
 mod rounds;
 mod rows;
 mod sliced;

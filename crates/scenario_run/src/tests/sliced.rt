@@ -8,11 +8,11 @@ fn sliced_blocks_take_whole_pages(rt: HostRuntime) -> Result<(), Fail> {
     check(
         &rt,
         b"alice snew 0\nalice snew 4064\nalice quota\nalice snew 4065\nalice quota\n\
-          alice sdel 0x100000020\nalice quota\n",
-        7,
+          alice sdel 0x100000020\nalice quota\nalice del 0x100001020\n",
+        8,
         b"alice: Invalid_size\nalice: at 0x100000020\nalice: ram 4096/65536 caps 1/16\n\
           alice: at 0x100001020\nalice: ram 12288/65536 caps 2/16\n\
-          alice: ok\nalice: ram 8192/65536 caps 1/16\n",
+          alice: ok\nalice: ram 8192/65536 caps 1/16\nalice: Page_fault\n",
     )
 }
 

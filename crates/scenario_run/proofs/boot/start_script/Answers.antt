@@ -12,7 +12,7 @@ returns c =
     let opened = c.open_account-account.ensures in
     let tables = subst (λ tables. IfSome tables (λ t. AreEmpty c.open_account-account.new.memory 16 t.0 t.1)) (sym c.script.ensures.tables) (script_empty _ _ _ (opened.machine ∙ c.requires.ready.machine) c.in_ok-caps.ensures c.in_ok-regions.ensures) in
     let start : StartEntry = script_start c.args.name.now 65536 16 in
-    let started = has_started opened.fresh opened.part opened.machine c.script.result opened.root c.script.ensures.account tables c.script.ensures.heap c.args.components.now.items start c.requires.ready.fresh
+    let started = has_started opened.fresh opened.part opened.machine opened.caps c.script.result opened.root c.script.ensures.account tables c.script.ensures.heap (c.script.ensures.server c.open_account-account.new.memory) c.args.components.now.items start c.requires.ready.flat c.requires.ready.fresh
     (λ j. record { entry = c.script.ensures.entry j; ram = 65536; caps = 16 }) in
     record {
       started = on_push (λ items. HasStarted c.args.memory.now c.args.components.now.items c.open_account-account.new.memory items start)

@@ -12,7 +12,7 @@ returns c =
     let opened = c.open_account-account.ensures in
     let tables = subst (λ tables. IfSome tables (λ t. AreEmpty c.open_account-account.new.memory 8 t.0 t.1)) (sym c.server.ensures.tables) tt in
     let start : StartEntry = server_start c.args.name.now 16384 8 in
-    let started = has_started opened.fresh opened.part opened.machine c.server.result opened.root c.server.ensures.account tables c.server.ensures.heap c.args.components.now.items start c.requires.ready.fresh
+    let started = has_started opened.fresh opened.part opened.machine opened.caps c.server.result opened.root c.server.ensures.account tables c.server.ensures.heap (c.server.ensures.server c.open_account-account.new.memory) c.args.components.now.items start c.requires.ready.flat c.requires.ready.fresh
     (λ j. record { entry = c.server.ensures.entry j; ram = 16384; caps = 8 }) in
     record {
       started = on_push (λ items. HasStarted c.args.memory.now c.args.components.now.items c.open_account-account.new.memory items start)
