@@ -22,7 +22,7 @@ use Rattle.own_model.proofs.StepLemmas.{accepted_growth, growth_fits, valid_some
 use Rattle.own_model.specs.Account.{Account, alloc_refusal}
 use Rattle.own_model.specs.BestFit.{Spot, block_size, chunk_of, taken_in, given_in}
 use Rattle.own_model.specs.Growth.{Growth, most_chunks, least_large, is_large, hole_for, growth_of, growth_refusal, new_hole}
-use Rattle.own_model.specs.Heap.{Block, Hole, AreBlocks, bytes_in, header}
+use Rattle.own_model.specs.Heap.{Block, Hole, AreBlocks, ArePages, IsChunk, bytes_in, header}
 use Rattle.own_model.specs.HeapStep.{with_block, without_block, with_chunk, with_large, without_large, with_poked}
 use Rattle.own_model.specs.HeapWindow.{heap_low, heap_high, largest_machine}
 use Rattle.own_model.specs.NatMap.{NatMap, joined}
@@ -31,7 +31,7 @@ use Rattle.own_model.specs.OwnState.{OwnState, zeros, heap_ranges}
 use Rattle.own_model.specs.OwnStep.{block_taken, chunk_added, grown_at, large_at, given_back, block_poked, own_heap_gap}
 use Rattle.own_model.specs.Region.{IsPlace}
 use Rattle.own_model.specs.Sliced.{ranges_of_blocks}
-use Rattle.own_model.specs.Sound.{ArePages, IsChunk, KeysApart, IsHeap, LieApart, IsSound}
+use Rattle.own_model.specs.Sound.{KeysApart, IsHeap, LieApart, IsSound}
 
 -- what has nothing under a key has nothing there once it has less
 still_none : {X : Type 0} (all some : NatMap X) (q : ℕ) → ((k : ℕ) (x : X) → get some k ≡ Some x → get all k ≡ Some x) → get all q ≡ None → get some q ≡ None

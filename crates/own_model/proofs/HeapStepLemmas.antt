@@ -21,7 +21,7 @@ use Rattle.own_model.proofs.OwnHeapLemmas.{range_of_bytes, large_range, chunk_ma
 use Rattle.own_model.specs.BestFit.{Spot, block_size, chunk_of, used_at, taken_in, given_in}
 use Rattle.own_model.specs.Entries.{KeysDiffer}
 use Rattle.own_model.specs.Growth.{most_chunks, least_large}
-use Rattle.own_model.specs.Heap.{Heap, Block, Hole, bytes_in}
+use Rattle.own_model.specs.Heap.{Heap, Block, Hole, ArePages, IsChunk, bytes_in}
 use Rattle.own_model.specs.HeapStep.{payload_size, size_taken, with_block, without_block, without_large, with_poked}
 use Rattle.own_model.specs.HeapWindow.{heap_low, heap_high, largest_machine}
 use Rattle.own_model.specs.NatMap.{NatMap}
@@ -30,7 +30,7 @@ use Rattle.own_model.specs.OwnState.{OwnState, zeros, with_part, heap_ranges}
 use Rattle.own_model.specs.Sliced.{ranges_of_blocks}
 use Rattle.own_model.proofs.ApartLemmas.{LieApart-fewer}
 use Rattle.own_model.specs.Region.{Region, overlap}
-use Rattle.own_model.specs.Sound.{LieApart, IsChunk, IsHeap, IsLarge, ArePages, KeysApart, IsSound}
+use Rattle.own_model.specs.Sound.{LieApart, IsHeap, IsLarge, KeysApart, IsSound}
 
 -- so many bytes lie within the range that starts at an address
 pub record IsWithin (heap : OwnHeap) (start address size : ℕ) : Type 0 where

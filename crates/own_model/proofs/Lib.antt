@@ -36,8 +36,17 @@ pub mod ReadBackLemmas
 pub mod HexLemmas
 pub mod SessionArgsLemmas
 pub mod LogLemmas
+pub mod FileListLemmas
+pub mod FileShapeLemmas
+pub mod FileRequestLemmas
+pub mod FileChargeLemmas
+pub mod FileServiceLemmas
+pub mod FileErrorLemmas
+pub mod FilePlaceLemmas
+pub mod FileReadLemmas
 pub mod SessionLemmas
 pub mod DonationLemmas
 pub mod SessionSoundLemmas
 pub mod RouteLemmas
 pub mod AloneLemmas
+pub mod ListedLemmas

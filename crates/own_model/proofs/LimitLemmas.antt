@@ -2,6 +2,7 @@
 use Rattle.std.proofs.Common.{◌∙◌, sym, false, ◌≡◌, ℕ, lit≤, inl, inr, length, Option, Some, None, sum_by, List, [], ◌∷◌, refl, arith, set, get_or}
 use Rattle.std.proofs.lemmas.Bool.{cases_lt}
 use Rattle.std.proofs.lemmas.Option.{none-some}
+use Rattle.own_model.proofs.FileChargeLemmas as charge
 use Rattle.own_model.proofs.NatMapLemmas.{get-empty}
 use Rattle.std.proofs.lemmas.List.{set_past}
 use Rattle.std.proofs.lemmas.List.Sums.{sum_by-set}
@@ -27,7 +28,7 @@ use Rattle.own_model.specs.OwnState.{Object, EachSession, new_selector, zeros, o
 use Rattle.own_model.specs.OwnState.Object.{Dataspace, RpcObject, OpenSession}
 use Rattle.own_model.specs.Routes.{Rule}
 use Rattle.own_model.specs.Session.{Session, ServiceState, new_session, upgraded, served, served_by}
-use Rattle.own_model.specs.Session.ServiceState.{Logging}
+use Rattle.own_model.specs.Session.ServiceState.{Logging, Filing}
 use Rattle.own_model.specs.StartList.{Entry}
 use Rattle.own_model.specs.StartList.Kind.{Server}
 use Rattle.own_model.specs.Transcript.{Heard, heard, entry_at, state_at, nothing}
@@ -92,9 +93,10 @@ step_within entry call s within = step_keeps (λ t. WithinLimits t.account) s wi
 abbrev IsWithin : Session → Type 0
 IsWithin session = WithinLimits session.account
 
--- a session that serves keeps its account
+-- a session that serves stays within its limits
 serve_within : (state : ServiceState) (x : Session) (request : List ℕ) → IsWithin x → IsWithin (served_by state x request).session
 serve_within (Logging partial) x request within = within
+serve_within (Filing files) x request within = charge.within_stays files x.account request within
 
 -- no calls do
 pub run_within : (entry : Entry) (calls : List Call) (s : OwnState) → WithinLimits s.account → WithinLimits (own_run entry calls s).account
@@ -209,6 +211,7 @@ effects_in_all s = record {
 pub serve_keeps : (state : ServiceState) (x : Session) (request : List ℕ) →
     ((served_by state x request).session.account.ram_limit ≡ x.account.ram_limit) × ((served_by state x request).session.account.caps_limit ≡ x.account.caps_limit)
 serve_keeps (Logging partial) x request = (refl, refl)
+serve_keeps (Filing files) x request = charge.limits_stay files x.account request
 
 -- calls of sessions move limits
 sessions_move : (s : OwnState) → KeptBySessions (SameInAll s) s

@@ -11,11 +11,11 @@ use Rattle.own_model.proofs.JoinedLemmas.{joined-empty, joined-insert_first, joi
 use Rattle.own_model.proofs.NatMapLemmas.{picked-empty, picked-insert_some, before_remove, get-picked, get-picked_at, get-empty, each_after_insert, and_then_from}
 use Rattle.own_model.proofs.Totals.{total-empty, total-picked, total_times_le}
 use Rattle.own_model.specs.BestFit.{chunk_of}
-use Rattle.own_model.specs.Heap.{Heap, Block, bytes_in}
+use Rattle.own_model.specs.Heap.{Heap, Block, IsChunk, bytes_in}
 use Rattle.own_model.specs.NatMap.{NatMap, joined, total}
 use Rattle.own_model.specs.OwnHeap.{OwnHeap, no_heap, chunk_ranges, range_pages, ranges_of_large, ranges_of_heap}
 use Rattle.own_model.specs.Region.{Region}
-use Rattle.own_model.specs.Sound.{IsChunk, IsHeap, KeysApart}
+use Rattle.own_model.specs.Sound.{IsHeap, KeysApart}
 use Rattle.std.specs.List.{AllByRecursion}
 use Rattle.own_model.specs.Use.{heap_size}
 

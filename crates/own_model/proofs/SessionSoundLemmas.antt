@@ -1,6 +1,8 @@
 -- What is charged to sessions, and what servers keep for them, before and after calls.
-use Rattle.std.proofs.Common.{ℕ, List, Some, None, Option, arith}
+use Rattle.std.proofs.Common.{◌≡◌, ℕ, List, Some, None, Option, ◌+◌, refl, ap, arith}
 use Rattle.std.proofs.lemmas.List.Elements.{All-nil}
+use Rattle.own_model.proofs.FileChargeLemmas.{charges_stay}
+use Rattle.own_model.proofs.FileServiceLemmas.{files_stay, no_files_are}
 use Rattle.own_model.proofs.LogLemmas.{writes_lines}
 use Rattle.own_model.proofs.SessionLemmas.{effects_each, sessions_each}
 use Rattle.own_model.proofs.TableLemmas.{run_keeps}
@@ -8,24 +10,33 @@ use Rattle.own_model.specs.LogService.{IsUnbroken, IsPartial, log_served_bytes}
 use Rattle.own_model.specs.LogText.{log_request}
 use Rattle.own_model.specs.OwnState.{EachSession}
 use Rattle.own_model.specs.Routes.{Service}
-use Rattle.own_model.specs.Routes.Service.{Log}
-use Rattle.own_model.specs.Session.{Session, ServiceState, IsKept, state_at_first, served_by}
-use Rattle.own_model.specs.Session.ServiceState.{Logging}
+use Rattle.own_model.specs.Session.{Session, ServiceState, IsKept, session_ram, session_caps, state_at_first, served_by}
+use Rattle.own_model.specs.Session.ServiceState.{Logging, Filing}
 use Rattle.own_model.specs.SessionLaws.{RunKeepsCharges, RunKeepsKept}
-use Rattle.own_model.specs.Use.{UsesItsCharge}
+use Rattle.own_model.specs.Use.{UsesItsCharge, state_ram, state_caps}
 
--- a session that serves uses what it did
-serve_charges : (state : ServiceState) (x : Session) (request : List ℕ) → UsesItsCharge x → UsesItsCharge (served_by state x request).session
-serve_charges (Logging partial) x request h = record { ram = h.ram; caps = h.caps }
+-- nothing is charged for what a server keeps at first
+nothing_at_first : (service : Service) → (state_ram (state_at_first service) ≡ 0) × (state_caps (state_at_first service) ≡ 0)
+nothing_at_first Service.Log = (refl, refl)
+nothing_at_first Service.Files = (refl, refl)
+
+-- a session that has served uses what it is charged for
+serve_charges : (state : ServiceState) (x : Session) (request : List ℕ) → x.state ≡ state → UsesItsCharge x → UsesItsCharge (served_by state x request).session
+serve_charges (Logging partial) x request is h = record { ram = omega (arith, h.ram, ap state_ram is); caps = omega (arith, h.caps, ap state_caps is) }
+serve_charges (Filing files) x request is h =
+    let ram : x.account.ram_used ≡ session_ram + state_ram (Filing files) = omega (arith, h.ram, ap state_ram is) in
+    let caps : x.account.caps_used ≡ session_caps + state_caps (Filing files) = omega (arith, h.caps, ap state_caps is) in
+    let after = charges_stay session_ram session_caps files x.account request (record { ram = ram; caps = caps }) in
+    record { ram = after.ram; caps = after.caps }
 
 -- calls leave each session using what it is charged for
 pub run_charges : RunKeepsCharges
 run_charges =
     run_keeps (EachSession UsesItsCharge) (effects_each UsesItsCharge)
     (sessions_each UsesItsCharge
-    (λ wish enough. record { ram = omega arith; caps = omega arith })
+    (λ wish enough. let none = nothing_at_first wish.service in record { ram = omega (arith, none.0); caps = omega (arith, none.1) })
     (λ x ram caps h. record { ram = h.ram; caps = h.caps })
-    (λ x request h. serve_charges x.state x request h))
+    (λ x request h. serve_charges x.state x request refl h))
 
 -- what is kept for a session is as it should be
 abbrev Keeps : Session → Type 0
@@ -33,7 +44,8 @@ Keeps x = IsKept x.state
 
 -- at first
 kept_at_first : (service : Service) → IsKept (state_at_first service)
-kept_at_first Log = record { short = omega arith; whole = All-nil IsUnbroken }
+kept_at_first Service.Log = record { short = omega arith; whole = All-nil IsUnbroken }
+kept_at_first Service.Files = no_files_are
 
 -- after a request that has bytes or none
 partial_after : (partial : List ℕ) (bytes : Option (List ℕ)) → IsPartial partial → IsPartial (log_served_bytes partial bytes).partial
@@ -42,6 +54,7 @@ partial_after partial (Some bytes) h = (writes_lines partial bytes h).1
 
 kept_after : (state : ServiceState) (x : Session) (request : List ℕ) → IsKept state → Keeps (served_by state x request).session
 kept_after (Logging partial) x request h = partial_after partial (log_request request) h
+kept_after (Filing files) x request h = files_stay files x.account request h
 
 -- and after calls
 pub run_kept : RunKeepsKept

@@ -11,7 +11,6 @@ use Rattle.own_model.specs.OwnState.{EachSession}
 use Rattle.own_model.specs.OwnState.Object.{OpenSession}
 use Rattle.own_model.specs.StartList.{machine_a, StartEntry, StartList, Boots, AllCovered, start_state, machine_account, init_keeps}
 use Rattle.own_model.specs.World.{IsBalanced, start_world}
-use Rattle.std.proofs.lemmas.Bool.Decides.{nat_tests}
 
 -- nobody starts with a session
 pub start_alone : (start : StartEntry) → EachSession (λ session. ⊥) (start_state start)

@@ -1,6 +1,6 @@
 -- The calls of a component, and the lines that make them.
 use Rattle.std.specs.Prelude.{ℕ, Bool, true, false, List, [], ◌∷◌, length, nat_lt, if◌then◌else◌, Option, Some, None, is_none, codes}
-use Rattle.std.specs.Option.{option_map, option_and_then}
+use Rattle.std.specs.Option.{option_map, option_and_then, unwrap_or}
 use Rattle.std.specs.Str.{bytes_eq}
 use Rattle.own_model.specs.Text.{first_word, is_name, number_of, address_of, bytes_of_hex}
 
@@ -42,6 +42,10 @@ pub record Spoken : Type 0 where
 abbrev pub some_bytes_of_hex : List ℕ → Option (List ℕ)
 some_bytes_of_hex text = if nat_lt 0 (length text) then bytes_of_hex text else None
 
+-- a name as it stands
+abbrev pub name_of : List ℕ → Option (List ℕ)
+name_of text = if is_name text then Some text else None
+
 -- a form: its word, and the call that it makes of its arguments, which are what stands after the word and a space
 pub record Form : Type 0 where
   pub word : List ℕ
@@ -61,6 +65,11 @@ of_two call first second None = None
 of_two call first second (Some arguments) =
     option_and_then (λ x. option_map (call x) (option_and_then second (first_word arguments).rest)) (first (first_word arguments).word)
 
+-- of one, and then a space and a text: any bytes, or none, and the same without the space
+abbrev pub of_text : {X : Type 0} → (X → List ℕ → Call) → (List ℕ → Option X) → Option (List ℕ) → Option Call
+of_text call first None = None
+of_text call first (Some arguments) = option_map (λ x. call x (unwrap_or (first_word arguments).rest [])) (first (first_word arguments).word)
+
 -- the forms
 abbrev pub forms : List Form
 forms =
@@ -77,6 +86,10 @@ forms =
     ∷ record { word = codes "del"; call = of_one Del address_of }
     ∷ record { word = codes "snew"; call = of_one Snew number_of }
     ∷ record { word = codes "sdel"; call = of_one Sdel address_of }
+    ∷ record { word = codes "open"; call = of_text Open name_of }
+    ∷ record { word = codes "upgrade"; call = of_text Upgrade number_of }
+    ∷ record { word = codes "call"; call = of_text CallSession number_of }
+    ∷ record { word = codes "close"; call = of_one Close number_of }
     ∷ record { word = codes "quota"; call = of_none Quota }
     ∷ []
 

@@ -1,22 +1,27 @@
 -- How routes and sessions are stored as parts of a model's value.
-use Rattle.std.specs.Prelude.{◌≡◌, ℕ, List, Option}
-use Rattle.std.proofs.Common.{refl}
-use Rattle.std.specs.Coded.{Coded, code_by, coded×, coded_ℕ, coded_list, coded_option}
+use Rattle.std.specs.Prelude.{◌≡◌, ◌⊎◌, ℕ, List, Option}
+use Rattle.std.proofs.Common.{zero, suc, refl, inl, inr}
+use Rattle.std.specs.Coded.{Coded, code_by, coded×, coded⊎, coded_ℕ, coded_list, coded_option}
 use Rattle.own_model.specs.Account.{Account, coded_account}
+use Rattle.own_model.specs.FileService.{File, Files}
+use Rattle.own_model.specs.Growth.{Shape}
+use Rattle.own_model.specs.OwnHeap.{coded_shape}
 use Rattle.own_model.specs.Routes.{Rule, Service}
-use Rattle.own_model.specs.Routes.Service.{Log}
 use Rattle.own_model.specs.Session.{Session, ServiceState}
-use Rattle.own_model.specs.Session.ServiceState.{Logging}
+use Rattle.own_model.specs.Session.ServiceState.{Logging, Filing}
 
 -- a kind of server is stored as a number
 abbrev pub service_number : Service → ℕ
-service_number Log = 0
+service_number Service.Log = 0
+service_number Service.Files = 1
 
 abbrev pub service_from : ℕ → Service
-service_from n = Log
+service_from zero = Service.Log
+service_from (suc n) = Service.Files
 
 abbrev pub service_back : (s : Service) → service_from (service_number s) ≡ s
-service_back Log = refl
+service_back Service.Log = refl
+service_back Service.Files = refl
 
 abbrev pub coded_service : Coded Service
 coded_service = code_by ℕ coded_ℕ service_number service_from service_back
@@ -34,15 +39,40 @@ coded_rule =
     (λ p. record { service = p.0; label = p.1.0; label_prefix = p.1.1.0; label_suffix = p.1.1.1.0; to = p.1.1.1.1 })
     (λ _. refl)
 
--- what a server keeps is stored as the line that isn't finished yet
-abbrev pub line_kept : ServiceState → List ℕ
-line_kept (Logging partial) = partial
+-- a file, and files with the heap of their nodes, are stored as the tuples of their fields
+abbrev pub coded_file : Coded File
+coded_file =
+    code_by
+    (List ℕ × (List ℕ × (ℕ × ℕ)))
+    (coded× (coded_list coded_ℕ) (coded× (coded_list coded_ℕ) (coded× coded_ℕ coded_ℕ)))
+    (λ f. (f.name, (f.bytes, (f.chunk, f.offset))))
+    (λ p. record { name = p.0; bytes = p.1.0; chunk = p.1.1.0; offset = p.1.1.1 })
+    (λ _. refl)
 
-abbrev pub kept_back : (s : ServiceState) → Logging (line_kept s) ≡ s
-kept_back (Logging partial) = refl
+abbrev pub coded_files : Coded Files
+coded_files =
+    code_by
+    (List File × Shape)
+    (coded× (coded_list coded_file) coded_shape)
+    (λ f. (f.files, f.shape))
+    (λ p. record { files = p.0; shape = p.1 })
+    (λ _. refl)
+
+-- what a server keeps is stored as the line that isn't finished yet, or as the files
+abbrev pub state_parts : ServiceState → List ℕ ⊎ Files
+state_parts (Logging partial) = inl partial
+state_parts (Filing files) = inr files
+
+abbrev pub state_from : List ℕ ⊎ Files → ServiceState
+state_from (inl partial) = Logging partial
+state_from (inr files) = Filing files
+
+abbrev pub state_back : (s : ServiceState) → state_from (state_parts s) ≡ s
+state_back (Logging partial) = refl
+state_back (Filing files) = refl
 
 abbrev pub coded_state : Coded ServiceState
-coded_state = code_by (List ℕ) (coded_list coded_ℕ) line_kept Logging kept_back
+coded_state = code_by (List ℕ ⊎ Files) (coded⊎ (coded_list coded_ℕ) coded_files) state_parts state_from state_back
 
 abbrev pub coded_session : Coded Session
 coded_session =

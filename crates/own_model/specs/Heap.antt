@@ -1,5 +1,5 @@
 -- A heap: chunks of blocks. Addresses and payload bytes are no part of it: a script's heap has them beside it.
-use Rattle.std.specs.Prelude.{◌≡◌, ℕ, ◌+◌, ◌%◌, ◌≤◌, List, [], ◌∷◌}
+use Rattle.std.specs.Prelude.{◌≡◌, ℕ, ◌+◌, ◌*◌, ◌%◌, ◌/◌, ◌≤◌, List, [], ◌∷◌}
 
 -- a block of so many bytes, its header among them: used, or a hole
 pub data Block : Type 0 where
@@ -36,6 +36,16 @@ AreBlocks (Used n ∷ rest) = IsBlockSize n × AreBlocks rest
 AreBlocks (Hole n ∷ []) = IsBlockSize n
 AreBlocks (Hole n ∷ Used m ∷ rest) = IsBlockSize n × AreBlocks (Used m ∷ rest)
 AreBlocks (Hole n ∷ Hole m ∷ rest) = ⊥
+
+-- so many bytes are whole pages, and at least one
+pub record ArePages (bytes : ℕ) : Type 0 where
+  pub some : 1 ≤ bytes / 4096
+  pub whole : bytes ≡ bytes / 4096 * 4096
+
+-- a chunk's blocks are blocks, and fill whole pages
+pub record IsChunk (blocks : List Block) : Type 0 where
+  pub sizes : AreBlocks blocks
+  pub pages : ArePages (bytes_in blocks)
 
 -- a heap: its chunks in the order of their numbers
 abbrev pub Heap : Type 0

@@ -34,8 +34,12 @@ pub mod SessionArgs
 pub mod LogText
 pub mod FileText
 pub mod LogService
+pub mod FileService
+pub mod FileRows
 pub mod Routes
 pub mod Session
 pub mod Donated
+pub mod FileLaws
 pub mod SessionLaws
 pub mod CodedSession
+pub mod Listed

@@ -3,7 +3,7 @@ use Rattle.std.specs.Prelude.{ℕ, ◌+◌, ◌-◌, ◌/◌, ◌&&◌, List, []
 use Rattle.std.specs.FinMap.{get, insert, remove}
 use Rattle.trade_base.specs.declared.refusal.Refusal.{Refusal}
 use Rattle.trade_base.specs.declared.refusal.Refusal.TheVariants.{NotAScript, Gone, BadArgs, InvalidSize, InvalidCap, InvalidSession, OutOfRam, PageFault}
-use Rattle.trade_base.specs.Page.{page_of, is_valid_size}
+use Rattle.trade_base.specs.Page.{page_of}
 use Rattle.own_model.specs.Account.{shortage, charged, credited, parted_with, alloc_refusal}
 use Rattle.own_model.specs.Call.{Call}
 use Rattle.own_model.specs.Call.Call.{Alloc, Free, Attach, AttachAt, Detach, Peek, Poke, Capalloc, Capfree, New, Del, Snew, Sdel, Quota, Open, Upgrade, CallSession, Close}

@@ -6,6 +6,7 @@ use Rattle.std.specs.Str.{bytes_eq}
 -- the kinds of servers, each of one service
 pub data Service : Type 0 where
   Log : Service
+  Files : Service
 
 -- a rule: what it asks of the service's name and of the label that the client gave, as far as it asks, and the kind of
 -- server that it leads to, if it leads to one
@@ -33,6 +34,10 @@ abbrev pub provider : List Rule → List ℕ → List ℕ → Option Service
 provider [] service label = None
 provider (rule ∷ rules) service label = if matches rule service label then rule.to else provider rules service label
 
+-- a rule that asks for nothing but the service
+abbrev pub rule_for : List ℕ → Service → Rule
+rule_for service to = record { service = Some service; label = None; label_prefix = None; label_suffix = None; to = Some to }
+
 -- the routes until start lists can be read: the log service leads to the log server, and every other service to none
 abbrev pub fixed_routes : List Rule
-fixed_routes = record { service = Some (codes "LOG"); label = None; label_prefix = None; label_suffix = None; to = Some Service.Log } ∷ []
+fixed_routes = rule_for (codes "LOG") Service.Log ∷ []

@@ -5,15 +5,17 @@ use Rattle.trade_base.specs.declared.refusal.Refusal.{Refusal}
 use Rattle.trade_base.specs.declared.refusal.Refusal.TheVariants.{BadArgs, ServiceDenied, InsufficientRamQuota, InsufficientCapQuota}
 use Rattle.own_model.specs.Account.{Account, shortage, charged, opened}
 use Rattle.own_model.specs.Donation.{raised}
+use Rattle.own_model.specs.FileService.{Files, FileServed, AreFiles, no_files, file_served}
 use Rattle.own_model.specs.LogService.{LogServed, IsPartial, labelled, log_served}
 use Rattle.own_model.specs.Reply.{LogLine}
 use Rattle.own_model.specs.Routes.{Rule, Service, provider}
 use Rattle.own_model.specs.SessionArgs.{Arguments, arguments_of}
 use Rattle.own_model.specs.Sliced.{sliced_size}
 
--- what a server keeps for a session: the log server the line that isn't finished yet
+-- what a server keeps for a session: the log server the line that isn't finished yet, the file server the files
 pub data ServiceState : Type 0 where
   Logging : List ℕ → ServiceState
+  Filing : Files → ServiceState
 
 -- a session: its label, its account, of which all is what its client donated, and what its server keeps for it
 pub record Session : Type 0 where
@@ -21,17 +23,20 @@ pub record Session : Type 0 where
   pub account : Account
   pub state : ServiceState
 
--- what is true of it: a line that isn't finished yet is shorter than the longest, and has no newline
+-- what is true of it: a line that isn't finished yet is shorter than the longest, and has no newline; files are as files are
 abbrev pub IsKept : ServiceState → Type 0
 IsKept (Logging partial) = IsPartial partial
+IsKept (Filing files) = AreFiles files
 
 -- the kind of server that keeps this
 abbrev pub service_of : ServiceState → Service
 service_of (Logging partial) = Service.Log
+service_of (Filing files) = Service.Files
 
 -- what a server keeps at first
 abbrev pub state_at_first : Service → ServiceState
 state_at_first Service.Log = Logging []
+state_at_first Service.Files = Filing no_files
 
 -- ---- donations
 
@@ -122,8 +127,32 @@ logged_by session o = record {
   session = record session { state = Logging o.partial };
 }
 
+-- a request of files changes the session's account, and finishes no lines
+abbrev pub filed_by : Session → FileServed → Served
+filed_by session o = record {
+  reply = o.reply;
+  lines = [];
+  session = record session { account = o.account; state = Filing o.files };
+}
+
 abbrev pub served_by : ServiceState → Session → List ℕ → Served
 served_by (Logging partial) session request = logged_by session (log_served partial request)
+served_by (Filing files) session request = filed_by session (file_served files session.account request)
 
 abbrev pub served : Session → List ℕ → Served
 served session request = served_by session.state session request
+
+-- ---- as a server keeps it: the account stands elsewhere
+
+-- what a server keeps, with the session's label
+pub record Labelled : Type 0 where
+  pub label : List ℕ
+  pub state : ServiceState
+
+-- what it keeps of a session
+abbrev pub kept_of : Session → Labelled
+kept_of session = record { label = session.label; state = session.state }
+
+-- the session with an account
+abbrev pub session_with : Account → Labelled → Session
+session_with account kept = record { label = kept.label; account = account; state = kept.state }

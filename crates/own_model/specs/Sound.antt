@@ -1,11 +1,11 @@
 -- What is true of every own state: of its dataspaces, of its regions and of what stands in the heap window.
-use Rattle.std.specs.Prelude.{◌≡◌, ◌≢◌, ℕ, ◌+◌, ◌*◌, ◌%◌, ◌/◌, ◌≤◌, false, List, length, Some, None, IsSome}
+use Rattle.std.specs.Prelude.{◌≡◌, ◌≢◌, ℕ, ◌+◌, ◌*◌, ◌%◌, ◌≤◌, false, List, length, Some, None, IsSome}
 use Rattle.std.specs.FinMap.{get, len, from_entries}
 use Rattle.std.specs.List.{AllByRecursion}
 use Rattle.own_model.specs.HeapWindow.{heap_low, heap_high, largest_machine}
 use Rattle.own_model.specs.Growth.{most_chunks, least_large}
 use Rattle.own_model.specs.Entries.{KeysDiffer}
-use Rattle.own_model.specs.Heap.{Block, bytes_in, AreBlocks}
+use Rattle.own_model.specs.Heap.{ArePages, IsChunk}
 use Rattle.own_model.specs.HeapStep.{payload_size}
 use Rattle.std.specs.Option.{option_map}
 use Rattle.own_model.specs.NatMap.{NatMap}
@@ -43,11 +43,6 @@ pub record IsBlock (address : ℕ) (payload : List ℕ) : Type 0 where
   pub header : sliced_header ≤ address
   pub whole : block_size payload ≡ block_pages payload * 4096
 
--- so many bytes are whole pages, and at least one
-pub record ArePages (bytes : ℕ) : Type 0 where
-  pub some : 1 ≤ bytes / 4096
-  pub whole : bytes ≡ bytes / 4096 * 4096
-
 -- a large block of so many bytes has whole pages, and isn't too small for one
 pub record IsLarge (bytes : ℕ) : Type 0 where
   pub pages : ArePages bytes
@@ -56,11 +51,6 @@ pub record IsLarge (bytes : ℕ) : Type 0 where
 -- no key is in both maps
 abbrev pub KeysApart : {X Y : Type 0} → NatMap X → NatMap Y → Type 0
 KeysApart m n = (q : ℕ) → IsSome (get m q) → get n q ≡ None
-
--- a chunk's blocks are blocks, and fill whole pages
-pub record IsChunk (blocks : List Block) : Type 0 where
-  pub sizes : AreBlocks blocks
-  pub pages : ArePages (bytes_in blocks)
 
 -- each chunk is one and has a start of its own, they are no more than the most, each large block is one and starts with no
 -- chunk, and the payloads are those of the used blocks and the large ones, with as many bytes as these have

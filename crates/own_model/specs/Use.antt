@@ -5,7 +5,9 @@ use Rattle.own_model.specs.Heap.{bytes_in}
 use Rattle.own_model.specs.NatMap.{total}
 use Rattle.own_model.specs.OwnHeap.{OwnHeap}
 use Rattle.own_model.specs.OwnState.{OwnState, Object}
-use Rattle.own_model.specs.Session.{Session, session_ram, session_caps}
+use Rattle.own_model.specs.FileService.{files_ram, files_caps}
+use Rattle.own_model.specs.Session.{Session, ServiceState, session_ram, session_caps}
+use Rattle.own_model.specs.Session.ServiceState.{Logging, Filing}
 use Rattle.own_model.specs.Sliced.{block_size}
 use Rattle.own_model.specs.OwnState.Object.{Dataspace, RpcObject, OpenSession}
 
@@ -21,10 +23,19 @@ object_caps (Dataspace bytes) = 1
 object_caps RpcObject = 1
 object_caps (OpenSession session) = 0
 
--- a session's account uses what a session is charged for
+-- what a server charges to a session for what it keeps: for files, and for no line
+abbrev pub state_ram : ServiceState → ℕ
+state_ram (Logging partial) = 0
+state_ram (Filing files) = files_ram files
+
+abbrev pub state_caps : ServiceState → ℕ
+state_caps (Logging partial) = 0
+state_caps (Filing files) = files_caps files
+
+-- a session's account uses what a session is charged for: itself, and what its server keeps
 pub record UsesItsCharge (session : Session) : Type 0 where
-  pub ram : session.account.ram_used ≡ session_ram
-  pub caps : session.account.caps_used ≡ session_caps
+  pub ram : session.account.ram_used ≡ session_ram + state_ram session.state
+  pub caps : session.account.caps_used ≡ session_caps + state_caps session.state
 
 -- the bytes of a heap's chunks and large blocks, and how many of them there are
 abbrev pub heap_size : OwnHeap → ℕ

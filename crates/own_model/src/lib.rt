@@ -5,9 +5,11 @@
 
 mod answers;
 mod calls;
+mod file_service;
 mod heap;
 mod heap_window;
 mod limits;
+mod listed;
 mod log_service;
 mod regions;
 mod rows;
@@ -25,6 +27,10 @@ pub use calls::{
     addresses_are_read_back, calls_are_refused_in_order, hex_is_read_back,
     new_selector_is_least_unused,
 };
+pub use file_service::{
+    file_errors_come_in_order, file_requests_are_served, files_are_charged, files_stay_files,
+    written_files_are_read,
+};
 pub use heap::{
     covered_heap_blocks_are_given, heap_payloads_are_found, heap_payloads_lie_apart,
     heap_takes_and_gives, new_heap_blocks_are_zero,
@@ -34,13 +40,14 @@ pub use limits::{
     calls_keep_balance, calls_keep_limits, capalloc_lacks_caps_alone, servers_stay,
     use_is_what_is_held,
 };
+pub use listed::routes_lead_to_providers;
 pub use log_service::writes_are_lines;
 pub use regions::{
     found_ranges_fit, freed_has_no_regions, full_maps_refuse, pokes_are_read, regions_stay_sound,
 };
 pub use rows::{
     arguments_are_read, empty_budget_is_told, lines_and_names_are_refused, lines_end_and_overflow,
-    long_lines_are_no_calls, longest_line_is_read,
+    long_lines_are_no_calls, longest_line_is_read, session_calls_are_read,
 };
 pub use runs::{own_part_over_append, own_run_over_append};
 pub use session_args::arguments_are_read_back;
@@ -48,4 +55,4 @@ pub use sessions::{closes_return_donations, sessions_stand_alone, sessions_stay_
 pub use sliced::{
     gaps_fit_the_machine, new_blocks_are_zero, payloads_are_found, payloads_lie_apart,
 };
-pub use start::{boots_balanced, machine_a_boots};
+pub use start::{boots_balanced, machine_a_boots, services_are_routed};

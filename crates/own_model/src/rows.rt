@@ -1,7 +1,7 @@
 //! Worked inputs of machine A that compute: what is told of each, to the byte.
 ghost use Rattle.std.specs.Prelude.{◌≡◌, ◌++◌, [], ◌∷◌, codes, replicate, Some};
 ghost use Rattle.own_model.specs.Call.{form_of};
-ghost use Rattle.own_model.specs.Call.Call.{AttachAt, Detach, Peek, Poke, New, Del, Snew, Sdel};
+ghost use Rattle.own_model.specs.Call.Call.{AttachAt, Detach, Peek, Poke, New, Del, Snew, Sdel, Open, Upgrade, CallSession, Close};
 ghost use Rattle.own_model.specs.Rows.{told_by_a};
 ghost use Rattle.own_model.specs.Laws.{LongLinesAreNoCalls};
 
@@ -39,6 +39,24 @@ pub fn arguments_are_read()
         ≡ codes "?: Bad_line\n?: Bad_line\n?: Bad_line\n?: Bad_line\n" }
     ensures spaces { told_by_a (codes "alice peek 0x0  1\nalice peek 0x0 1 \nalice peek 0x0\nalice capalloc \nalice attach\n")
         ≡ codes "?: Bad_line\n?: Bad_line\n?: Bad_line\n?: Bad_line\n?: Bad_line\n" }
+{}
+
+/// A session is asked for by a service's name, and else named by a selector; what stands after a space then is a text, and
+/// may be empty or left out.
+pub fn session_calls_are_read()
+    ensures arguments { form_of (codes "open LOG ram_quota=4K, cap_quota=2") ≡ Some (Open (codes "LOG") (codes "ram_quota=4K, cap_quota=2")) }
+    ensures spaces { form_of (codes "open LOG  x ") ≡ Some (Open (codes "LOG") (codes " x ")) }
+    ensures nothing { form_of (codes "open Nic") ≡ Some (Open (codes "Nic") []) }
+    ensures empty { form_of (codes "open Nic ") ≡ Some (Open (codes "Nic") []) }
+    ensures more { form_of (codes "upgrade 007 x") ≡ Some (Upgrade 7 (codes "x")) }
+    ensures no_more { form_of (codes "upgrade 7") ≡ Some (Upgrade 7 []) }
+    ensures request { form_of (codes "call 1 WRITE 6869") ≡ Some (CallSession 1 (codes "WRITE 6869")) }
+    ensures no_request { form_of (codes "call 4294967297 ") ≡ Some (CallSession 4294967297 []) }
+    ensures close { form_of (codes "close 0") ≡ Some (Close 0) }
+    ensures services { told_by_a (codes "alice open\nalice open \nalice open a/b\nalice open  LOG\n")
+        ≡ codes "?: Bad_line\n?: Bad_line\n?: Bad_line\n?: Bad_line\n" }
+    ensures selectors { told_by_a (codes "alice upgrade\nalice upgrade x\nalice call \nalice call -1 WRITE\nalice close\nalice close 1 \n")
+        ≡ codes "?: Bad_line\n?: Bad_line\n?: Bad_line\n?: Bad_line\n?: Bad_line\n?: Bad_line\n" }
 {}
 
 /// A name that no entry has, a server, forms and numbers outside the grammar, and sizes that no budget covers are refused.

@@ -1,7 +1,8 @@
 //! Laws of the start: what boots is balanced, and machine A boots.
-ghost use Rattle.std.specs.Prelude.{◌≡◌};
+ghost use Rattle.std.specs.Prelude.{◌≡◌, codes, Some, None};
 ghost use Rattle.own_model.specs.Account.{opened};
 ghost use Rattle.own_model.specs.Laws.{BootsBalanced};
+ghost use Rattle.own_model.specs.Routes.{Service, fixed_routes, provider};
 ghost use Rattle.own_model.specs.StartList.{Boots, machine_a};
 ghost use Rattle.own_model.specs.World.{IsBalanced, start_world};
 
@@ -15,4 +16,11 @@ pub fn machine_a_boots()
     ensures covered { Boots machine_a }
     ensures balanced { IsBalanced 64 64 (start_world machine_a) }
     ensures kept { (start_world machine_a).init ≡ opened 98304 16 }
+{}
+
+/// Machine A's routes lead the log service to its server, whatever the label, and no other service anywhere.
+pub fn services_are_routed()
+    ensures log { provider fixed_routes (codes "LOG") (codes "main") ≡ Some Service.Log }
+    ensures files { provider fixed_routes (codes "File_system") (codes "main") ≡ None }
+    ensures others { provider fixed_routes (codes "Nic") (codes "main") ≡ None }
 {}
