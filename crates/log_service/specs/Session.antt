@@ -2,10 +2,10 @@
 use Rattle.std.specs.Prelude.{ℕ, List}
 use Rattle.std.specs.List.{flat_map}
 use Rattle.std.specs.Option.{unwrap_or}
-use Rattle.own_model.specs.Account.{Account}
-use Rattle.own_model.specs.LogService.{labelled, log_served}
+use Rattle.own_model.specs.LogService.{labelled}
 use Rattle.own_model.specs.Reply.{log_text}
-use Rattle.server_frame.specs.Session.{Served}
+use Rattle.own_model.specs.Session.{Labelled}
+use Rattle.own_model.specs.Session.ServiceState.{Logging}
 use Rattle.own_model.specs.Text.{hex_digit_of}
 
 -- its label, and its line that isn't finished yet
@@ -17,11 +17,9 @@ pub record LabelledLine : Type 0 where
 abbrev pub lines_text : List ℕ → List (List ℕ) → List ℕ
 lines_text label lines = flat_map log_text (labelled label lines)
 
--- what a request does: the account stays
-abbrev pub log_step : List ℕ → Account → LabelledLine → Served LabelledLine
-log_step request account line =
-    let o = log_served line.partial request in
-    record { text = o.reply; lines = lines_text line.label o.lines; account = account; value = record line { partial = o.partial } }
+-- what that is to its client
+abbrev pub as_kept : LabelledLine → Labelled
+as_kept line = record { label = line.label; state = Logging line.partial }
 
 -- the value of a hex digit
 abbrev pub digit_value : ℕ → ℕ

@@ -2,8 +2,10 @@
 ghost use Rattle.std.specs.Prelude.{◌≡◌, []};
 ghost use Rattle.own_model.specs.LogService.{log_served};
 ghost use Rattle.session_proto.specs.LogReply.{log_reply_text};
-ghost use Rattle.log_service.specs.Session.{LabelledLine, lines_text, log_step};
-ghost use Rattle.server_frame.specs.Session.{HasBlocksAlone};
+ghost use Rattle.own_model.specs.Session.{Labelled};
+ghost use Rattle.own_model.specs.Session.ServiceState.{Logging};
+ghost use Rattle.log_service.specs.Session.{lines_text, as_kept};
+ghost use Rattle.server_frame.specs.Session.{HasBlocksAlone, service_step};
 ghost use Rattle.server_frame.specs.Told.{nothing_told};
 
 use crate::session::LogSession;
@@ -44,15 +46,15 @@ impl LogService {
 impl Service for LogService {
     type State = LogSession;
 
-    ghost Value = { LabelledLine };
+    ghost Value = { Labelled };
 
-    ghost value = { λ session share. session };
+    ghost value = { λ session share. as_kept session };
 
     ghost IsKept = { λ session share. HasBlocksAlone share };
 
-    ghost first = { λ label. record { label = label; partial = [] } };
+    ghost first = { λ label. record { label = label; state = Logging [] } };
 
-    ghost step = { log_step };
+    ghost step = { service_step };
 
     fn open(&self, _account: AccountId, label: &[u8]) -> LogSession {
         LogSession::open(label)

@@ -1,7 +1,10 @@
 -- What a service is asked for, and what it may rely on.
 use Rattle.std.specs.Prelude.{◌≡◌, ℕ, ◌+◌, List, None}
 use Rattle.std.specs.FinMap.{len}
+use Rattle.std.specs.List.{flat_map}
 use Rattle.own_model.specs.Account.{Account}
+use Rattle.own_model.specs.Reply.{log_text}
+use Rattle.own_model.specs.Session.{Labelled, served, session_with, kept_of}
 use Rattle.region_map.specs.Regions.{Regions}
 use Rattle.dataspace_core.specs.Store.{Store, part, account_in}
 use Rattle.dataspace_core.specs.Share.{Share}
@@ -15,6 +18,13 @@ pub record Served (Value : Type 0) : Type 0 where
   pub lines : List ℕ
   pub account : Account
   pub value : Value
+
+-- the step of a service that keeps a session as the one-client model does: what is kept and the account are a session, which
+-- serves the request
+abbrev pub service_step : List ℕ → Account → Labelled → Served Labelled
+service_step request account kept =
+    let o = served (session_with account kept) request in
+    record { text = o.reply; lines = flat_map log_text o.lines; account = o.session.account; value = kept_of o.session }
 
 -- what an account has of the memory and of the map, whatever its limits and its use are
 abbrev pub holding : Share → Share

@@ -70,9 +70,20 @@ impl Buffer {
         ensures added { self.new ≡ record self.old { text = self.old.text ++ map printed more.now } }
         ensures len { length self.new.text ≡ length self.old.text + length more.now }
     {
-        for byte in more {
-            self.add(&[printed(*byte)]);
-        }
+        let end = self.len + more.len();
+        print_over(&mut self.bytes[self.len..end], more);
+        self.len = end;
+    }
+}
+
+/// Puts bytes as the log prints them over others, of which there are as many.
+fn print_over(others: &mut [u8], bytes: &[u8])
+    requires { length others.old ≡ length bytes.now }
+    ensures { others.new ≡ map printed bytes.now }
+{
+    others.copy_from_slice(bytes);
+    for byte in others.iter_mut() {
+        *byte = printed(*byte);
     }
 }
 

@@ -2,7 +2,8 @@
 use Rattle.std.proofs.Common.{rules, ap}
 use Rattle.slab.specs.Slab as slab
 use Rattle.dataspace_core.specs.Share.{Share}
-use Rattle.log_service.specs.Session.{LabelledLine}
+use Rattle.own_model.specs.Session.{Labelled}
+use Rattle.log_service.specs.Session.{LabelledLine, as_kept}
 use Rattle.server_frame.specs.Session.{HasBlocksAlone}
 use Rattle.server_frame.proofs.RowLaws.{row_at, admits_upgraded}
 use Rattle.log_service.proofs.tests.machine.Machine.upgrade.Goals as goal
@@ -11,7 +12,7 @@ pub invariant_of-self : goal.invariant_of-self
 invariant_of-self g c =
     let was = c.self.inside in
     let present : slab.ContainsKey was.server.sessions c.args.id.0 = search rules in
-    let value : LabelledLine → Share → LabelledLine = λ session share. session in
+    let value : LabelledLine → Share → Labelled = λ session share. as_kept session in
     let row = row_at value was.server.sessions was.memory was.server.map c.args.id.0 present in
     admits_upgraded (λ session share. HasBlocksAlone share) value was.server.sessions c.upgrade.new.self.sessions was.client.0 2049 was.memory c.upgrade.new.memory was.server.map c.upgrade.new.self.map
     c.self.invariant c.upgrade.ensures.server (ap (λ server. server.sessions.capacity) c.upgrade.ensures.same) c.args.id.0 row.0 row.1 c.args.ram c.args.caps c.upgrade.result (ap (λ server. server.sessions) c.upgrade.ensures.same)
