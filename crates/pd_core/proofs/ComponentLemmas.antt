@@ -1,5 +1,5 @@
 -- A component that is a script, and one that makes no call; and what another's call leaves of it.
-use Rattle.std.proofs.Common.{◌≡◌, ◌≢◌, ℕ, ◌∙◌, false, Some, IsSome, unwrap_or, refl, sym, ap, subst, is_some, arith}
+use Rattle.std.proofs.Common.{◌≡◌, ◌≢◌, ℕ, ◌∙◌, Some, IsSome, unwrap_or, refl, sym, ap, subst, is_some, arith}
 use Rattle.std.specs.Prelude.{Option, None}
 use Rattle.std.specs.Option.{option_map}
 use Rattle.std.specs.FinMap.{empty}
@@ -24,18 +24,16 @@ use Rattle.server_frame.proofs.FrameLaws.{server_stays, stays_of_others}
 use Rattle.server_frame.proofs.RowLaws.{IsNoRows, no_session_by_rows}
 use Rattle.log_service.specs.Session.{LabelledLine}
 use Rattle.own_model.proofs.RouteLemmas.{routes_alike}
-use Rattle.own_model.specs.Call.{is_of_session}
 use Rattle.own_model.specs.Routes.{fixed_routes}
-use Rattle.pd_core.specs.Call.{model_call}
+use Rattle.pd_core.specs.Call.{model_call, IsPlain}
 use Rattle.pd_core.specs.declared.call.Call.{Call}
-use Rattle.pd_core.specs.declared.call.Call.TheVariants.{Alloc, Free, Attach, AttachAt, Detach, Peek, Poke, Capalloc, Capfree, New, Del, Snew, Sdel, Quota}
 use Rattle.own_model.specs.OwnStep.{own_step, script_step}
 use Rattle.dataspace_core.specs.Store.{Store, Part, part, account_of, account_in, accounts_in, ram_limits_in, caps_limits_in, IsOpenIn, PartBecomes}
 use Rattle.pd_core.specs.declared.script.Script.{Script}
 use Rattle.own_model.specs.OwnHeap.{no_heap}
 use Rattle.trade_base.specs.declared.id.AccountId.{AccountId}
 use Rattle.pd_core.specs.Own.{Sessions, no_sessions, own_of, own_at}
-use Rattle.pd_core.specs.Sessions.{log_rows, IsLogServer}
+use Rattle.pd_core.specs.Sessions.{log_value, log_rows, IsLogServer}
 use Rattle.pd_core.specs.Sound.{Keeps as ScriptKeeps}
 use Rattle.pd_core.specs.Component.{entry_of, kind_of, payer_in, payer_of, rows_in, rows_of, own_in, own, IsSoundRole, IsSound, Keeps}
 use Rattle.pd_core.specs.declared.component.Role.{Role}
@@ -43,30 +41,13 @@ use Rattle.pd_core.specs.declared.component.Role.TheVariants.{Script as AScript,
 use Rattle.pd_core.specs.declared.component.Component.{Component}
 use Rattle.pd_core.proofs.ScriptLemmas.{stays_elsewhere}
 
--- no call of the core is one of a session
-plain : (call : Call) → is_of_session (model_call call) ≡ false
-plain (Alloc n) = refl
-plain (Free selector) = refl
-plain (Attach selector) = refl
-plain (AttachAt selector address) = refl
-plain (Detach address) = refl
-plain (Peek address count) = refl
-plain (Poke address hex) = refl
-plain Capalloc = refl
-plain (Capfree selector) = refl
-plain (New n) = refl
-plain (Del address) = refl
-plain (Snew n) = refl
-plain (Sdel address) = refl
-plain Quota = refl
-
 -- its own step is the script's
-pub script_outcome : (sessions : Sessions) (store : Store) (component : Component) (script : Script) (call : Call) → component.role ≡ AScript script →
+pub script_outcome : (sessions : Sessions) (store : Store) (component : Component) (script : Script) (call : Call) → component.role ≡ AScript script → IsPlain call →
     own_step (entry_of component) (model_call call) (own sessions store component) ≡ script_step (model_call call) (own_at sessions store script)
 unfolding own_of
-script_outcome sessions store component script call is =
+script_outcome sessions store component script call is plain =
     ap (λ role. own_step (record { name = component.name.now; kind = kind_of role; routes = fixed_routes }) (model_call call) (own_in sessions store role)) is
-    ∙ routes_alike (entry_of component) (model_call call) (own_at sessions store script) (plain call)
+    ∙ routes_alike (entry_of component) (model_call call) (own_at sessions store script) plain
 
 -- what the script keeps, the component does
 pub script_keeps : {store store' : Store} (component : Component) (script script' : Script) → component.role ≡ AScript script → ScriptKeeps store script store' script' →
@@ -75,6 +56,7 @@ script_keeps {store} {store'} component script script' is keeps =
     subst (λ role. Keeps store (record component { role = role }) store' (record component { role = AScript script' })) (sym is) (record {
       sound = keeps.sound;
       entry = refl;
+      service = refl;
       account = ap (λ (a : AccountId). a.0) keeps.account;
       is_open = subst (λ (a : AccountId). IsSome (part a.0 store').account) keeps.account keeps.sound.own.paid.is_open;
       caps_limit = ap (λ (a : AccountId). (account_of (part a.0 store')).caps_limit) (sym keeps.account) ∙ keeps.caps_limit;
@@ -98,24 +80,6 @@ role_open store (ALog account server) sound = sound.is_open
 
 pub component_open : (store : Store) (component : Component) → IsSound store component → IsSome (part (payer_of component) store).account
 component_open store component sound = role_open store component.role sound
-
--- where nothing changes, all is kept
-pub keeps_all : (store : Store) (component : Component) → IsSound store component → Keeps store component store component
-keeps_all store component sound = record {
-  sound = sound;
-  entry = refl;
-  account = refl;
-  is_open = component_open store component sound;
-  caps_limit = refl;
-  places = refl;
-  sessions = λ _. refl;
-  rows = refl;
-  root = refl;
-  parents = refl;
-  room = refl;
-  others = λ _ _. refl;
-  limits = refl;
-}
 
 -- ---- another's call
 
@@ -147,12 +111,12 @@ module _ (store store' : Store) (caller : ℕ) (becomes : PartBecomes caller (pa
     session_stays : (id : ℕ) (session : Kept LabelledLine) → slab.get sessions id ≡ Some session → Stays session.account.0 store store' regions regions
     session_stays id session there =
         stays_of_others caller session.account.0 (part caller store') store store' regions becomes
-        (no_session_by_rows (λ line share. line) sessions store regions caller none id session there)
+        (no_session_by_rows log_value sessions store regions caller none id session there)
 
     log_rows_stay : log_rows sessions store' regions ≡ log_rows sessions store regions
     log_rows_stay =
-        map_of_alike (row_of (λ line share. line) store regions) (row_of (λ line share. line) store' regions) sessions
-        (λ id session there. row_stays store store' regions regions session (λ line share. line) (session_stays id session there))
+        map_of_alike (row_of log_value store regions) (row_of log_value store' regions) sessions
+        (λ id session there. row_stays store store' regions regions session log_value (session_stays id session there))
 
     log_stays : IsLogServer sessions store regions → IsLogServer sessions store' regions
     log_stays server = server_stays (λ line share. HasBlocksAlone share) sessions store store' regions server limits session_stays

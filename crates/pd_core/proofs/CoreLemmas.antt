@@ -1,6 +1,6 @@
 -- The world when one component's call has changed the memory and the component.
 use Rattle.std.proofs.Common.{◌≡◌, ℕ, ◌<◌, ◌≤◌, ◌≢◌, List, Some, is_some, length, map, get_or, set, subst, sym, ap, ◌∙◌, inl, inr, arith, length-set, get_or-set_other}
-use Rattle.std.specs.List.{All, AllPairs}
+use Rattle.std.specs.List.{All, AllPairs, flat_map}
 use Rattle.std.specs.FinMap.{get, empty}
 use Rattle.std.specs.Option.{option_map}
 use Rattle.std.specs.Prelude.{IfSome}
@@ -13,20 +13,24 @@ use Rattle.own_model.specs.Limits.{caps_limits}
 use Rattle.own_model.specs.NatMap.{NatMap}
 use Rattle.own_model.specs.OwnState.{OwnState}
 use Rattle.own_model.specs.OwnStep.{own_step}
+use Rattle.own_model.specs.Reply.{reply_text, log_text}
 use Rattle.own_model.proofs.LimitLemmas.{limits_move}
+use Rattle.own_model.specs.Session.{Labelled}
 use Rattle.cap_space.specs.declared.cap.Cap.{Cap}
 use Rattle.own_model.specs.Transcript.{nobody, nothing, entry_at, state_at}
 use Rattle.own_model.specs.World.{World, with_state, outcome_at}
-use Rattle.dataspace_core.specs.Store.{Store, root_in, account_in, account_of, IsChildIn}
-use Rattle.dataspace_core.proofs.PartLaws.{account_of-part}
+use Rattle.dataspace_core.specs.Store.{Store, Part, root_in, account_in, account_of, IsOpenIn, IsChildIn}
+use Rattle.dataspace_core.proofs.PartLaws.{account_of-part, open_in_part, part_open}
 use Rattle.server_frame.specs.Frame.{Row}
+use Rattle.server_frame.specs.Told.{Told as Written}
 use Rattle.server_frame.proofs.RowLaws.{IsNoRows}
-use Rattle.log_service.specs.Session.{LabelledLine}
+use Rattle.pd_core.specs.Answer.{Told, told, told_of}
 use Rattle.pd_core.specs.Own.{Sessions, HasSessions}
 use Rattle.pd_core.specs.Sound.{session_at}
-use Rattle.pd_core.specs.Sessions.{log_session}
+use Rattle.pd_core.specs.Sessions.{row_session}
 use Rattle.pd_core.specs.Component.{entry_of, payer_of, caps_of, places_of, rows_of, own, NamesItsSessions, HasPlaces, IsSound, Keeps}
 use Rattle.pd_core.specs.Core.{rows_at, sessions_in, world_of, IsSession, AreSessions, IsCore}
+use Rattle.pd_core.specs.SessionCalls.{Answers}
 use Rattle.pd_core.specs.declared.component.Component.{Component}
 use Rattle.pd_core.proofs.ComponentLemmas.{StaysAs, component_stays, part_becomes, same_caps, same_room}
 
@@ -66,7 +70,7 @@ module _ {X : Type 0} (f g : Component → X) (d : X) (components : List Compone
   read_after = map-set g components i after ∙ ext_get_or d _ _ (many g ∙ sym (many f)) (λ k h. read_at k (omega (arith, h, many g)))
 
 -- sessions that a script names are told alike where its selectors do
-named_alike : (rows : ℕ → NatMap (Row LabelledLine)) (account : ℕ) (caps caps' : NatMap Cap) → ((q : ℕ) → session_at (get caps' q) ≡ session_at (get caps q)) →
+named_alike : (rows : ℕ → NatMap (Row Labelled)) (account : ℕ) (caps caps' : NatMap Cap) → ((q : ℕ) → session_at (get caps' q) ≡ session_at (get caps q)) →
     NamesItsSessions rows account caps → NamesItsSessions rows account caps'
 named_alike rows account caps caps' alike named = record {
   its = λ q server session there. named.its q server session (sym (alike q) ∙ there);
@@ -92,7 +96,7 @@ module _ (store : Store) (components : List Component) (i : ℕ) (caller : Compo
   entry_is = get_or-map entry_of components i caller nobody here ∙ ap entry_of (sym (caller_is caller))
 
   -- so does its own state
-  state_is : state_at (map (own sessions store) components) i ≡ own sessions store caller
+  pub state_is : state_at (map (own sessions store) components) i ≡ own sessions store caller
   state_is = get_or-map (own sessions store) components i caller nothing here ∙ ap (own sessions store) (sym (caller_is caller))
 
   -- the outcome of its call in the world is that of its own step
@@ -110,7 +114,7 @@ module _ (store : Store) (components : List Component) (i : ℕ) (caller : Compo
     caller_ready q server session there =
         let named = at_caller (λ c. NamesItsSessions (rows_at store components) (payer_of c) (caps_of c)) core.named in
         let its = named.its q server session (ap session_at there) in
-        ap is_some (ap (option_map log_session) its.there)
+        ap is_some (ap (option_map row_session) its.there)
 
     module _ (store' : Store) (after : Component) (keeps : Keeps store caller store' after) where
       -- the entries stay
@@ -127,10 +131,15 @@ module _ (store : Store) (components : List Component) (i : ℕ) (caller : Compo
           ap (account_in store') keeps.root ∙ sym (account_of-part (root_in store) store')
           ∙ ap account_of (keeps.others (root_in store) init_apart) ∙ account_of-part (root_in store) store
 
+      init_open : IsOpenIn store' (root_in store')
+      init_open =
+          subst (IsOpenIn store') (sym keeps.root) (open_in_part (root_in store) store'
+          (ap (λ (p : Part). is_some p.account) (keeps.others (root_in store) init_apart) ∙ part_open (root_in store) store core.init))
+
       -- no session is on the caller's account
       no_rows : (k : ℕ) (d : Component) → k < length components → IsNoRows (rows_of store (get_or components k d)) (payer_of caller)
       no_rows k d within id row there e =
-          let at = ap (λ (m : NatMap (Row LabelledLine)). get m id) (get_or-map (rows_of store) components k d empty within) ∙ there in
+          let at = ap (λ (m : NatMap (Row Labelled)). get m id) (get_or-map (rows_of store) components k d empty within) ∙ there in
           at_caller (λ c. payer_of c ≢ row.key) (core.sessions.each k id row at).others (sym e)
 
       -- so the others stay as they are
@@ -153,7 +162,7 @@ module _ (store : Store) (components : List Component) (i : ℕ) (caller : Compo
 
       -- and so do all sessions
       same_sessions : sessions_in store' (set components i after) ≡ sessions
-      same_sessions = λ j server session. option_map log_session (get (same_rows j server) session)
+      same_sessions = λ j server session. option_map row_session (get (same_rows j server) session)
 
       -- the own states are those from before, with the new one at the caller's place
       same_states : map (own (sessions_in store' (set components i after)) store') (set components i after) ≡ set (map (own sessions store) components) i (own sessions store' after)
@@ -185,7 +194,7 @@ module _ (store : Store) (components : List Component) (i : ℕ) (caller : Compo
       payers_after P all k d within = subst P (sym (payer_stays k d)) (all k d (omega (arith, within, as_many)))
 
       -- a session is still one
-      session_after : (row : Row LabelledLine) → IsSession (root_in store) components row → IsSession (root_in store') (set components i after) row
+      session_after : (row : Row Labelled) → IsSession (root_in store) components row → IsSession (root_in store') (set components i after) row
       session_after row its = record {
         client = λ e. its.client (e ∙ keeps.root);
         not_init = λ e. its.not_init (e ∙ keeps.root);
@@ -209,6 +218,7 @@ module _ (store : Store) (components : List Component) (i : ℕ) (caller : Compo
         -- the core stays sound
         pub core_after : IsCore store' (set components i after)
         core_after = record {
+          init = init_open;
           sound = all_after (IsSound store') keeps.sound (λ k d within differs. (other_stays k d within differs).sound);
           not_init = payers_after (λ p. p ≢ root_in store') (λ k d within e. core.not_init k d within (e ∙ keeps.root));
           children = payers_after (λ p. IsChildIn store' p (root_in store')) (λ k d within.
@@ -230,31 +240,23 @@ module _ (store : Store) (components : List Component) (i : ℕ) (caller : Compo
           room = same_room store caller store' after caller_sound keeps core.room;
         }
 
--- the same where the world is told by another name, as the model's value is
-module _ (store : Store) (components : List Component) (world : World) (is : world_of store components ≡ world) (i : ℕ) (caller : Component)
-    (inside : i < length world.entries) (read : caller ≡ get_or components i caller) (core : IsCore store components) where
-  -- the caller is one of the components
-  pub caller_within : i < length components
-  caller_within = omega (arith, inside, ap (λ w. length w.entries) is, length-map components entry_of)
+      -- a plain call is answered as the model's
+      pub plain_answers : (call : Call) (reply : Written) → told reply (own sessions store' after) ≡ told_of (own_step (entry_of caller) call (own sessions store caller)) →
+          Answers call i reply store components store' (set components i after)
+      plain_answers call reply is =
+          let outcome = outcome_is call in
+          record {
+            answered = ap (λ (t : Told). t.text) is ∙ ap (λ o. reply_text o.reply) (sym outcome);
+            lines = ap (λ (t : Told). t.lines) is ∙ ap (λ o. flat_map log_text o.lines) (sym outcome);
+            stepped = world_after call (ap (λ (t : Told). t.next) is);
+          }
 
-  -- it is sound
-  pub told_sound : IsSound store caller
-  told_sound = caller_sound store components i caller caller_within read core
+      -- and leaves a sound core
+      pub plain_keeps : (call : Call) (reply : Written) → told reply (own sessions store' after) ≡ told_of (own_step (entry_of caller) call (own sessions store caller)) → IsCore store' (set components i after)
+      plain_keeps call reply is = core_after call (ap (λ (t : Told). t.next) is)
 
-  -- and each session that it names is open
-  pub told_ready : HasSessions (sessions_in store components) (caps_of caller)
-  told_ready = caller_ready store components i caller caller_within read core
-
-  -- its own step has the outcome of its call in that world
-  pub told_outcome : (call : Call) → own_step (entry_of caller) call (own (sessions_in store components) store caller) ≡ outcome_at world i call
-  told_outcome call = sym (outcome_is store components i caller caller_within read call) ∙ ap (λ w. outcome_at w i call) is
-
-  module _ (store' : Store) (after : Component) (keeps : Keeps store caller store' after) (call : Call)
-      (next : own (sessions_in store components) store' after ≡ (own_step (entry_of caller) call (own (sessions_in store components) store caller)).next) where
-    -- the world after the call is that world, with the caller's new own state
-    pub told_world : world_of store' (set components i after) ≡ with_state world i (outcome_at world i call).next
-    told_world = world_after store components i caller caller_within read core store' after keeps call next ∙ ap (λ w. with_state w i (outcome_at w i call).next) is
-
-    -- the core stays sound
-    pub told_core : IsCore store' (set components i after)
-    told_core = core_after store components i caller caller_within read core store' after keeps call next
+-- a call leaves as many components
+pub same_many : {store : Store} {components : List Component} {i : ℕ} {call : Call} {reply : Written} {store' : Store} {after : List Component} → Answers call i reply store components store' after →
+    length after ≡ length components
+same_many {components = components} {after = after} answers =
+    sym (length-map after entry_of) ∙ ap (λ (w : World). length w.entries) answers.stepped ∙ length-map components entry_of

@@ -22,11 +22,11 @@ use Rattle.own_model.proofs.UseLemmas.{start_uses}
 use Rattle.own_model.proofs.Totals.{total-empty, total_at_le}
 use Rattle.quota_core.proofs.SlabMap.{map_of-empty}
 use Rattle.trade_base.specs.declared.id.AccountId.{AccountId}
+use Rattle.own_model.specs.Session.{Labelled}
 use Rattle.dataspace_core.specs.Room.{HasRoom}
 use Rattle.server_frame.specs.Frame.{Row, row_of}
 use Rattle.server_frame.specs.Session.{HasBlocksAlone}
 use Rattle.server_frame.proofs.FrameLaws.{server_at_first}
-use Rattle.log_service.specs.Session.{LabelledLine}
 use Rattle.cap_space.specs.declared.cap.Cap.{Cap}
 use Rattle.dataspace_core.specs.Store.{Store, Part, part, root_in, account_in, accounts_in, account_of, IsOpenIn, ram_limits_in, caps_limits_in}
 use Rattle.dataspace_core.specs.Share.{Share}
@@ -37,6 +37,7 @@ use Rattle.heap_core.specs.Laws.{IsMapOf}
 use Rattle.heap_core.proofs.StayLemmas.{empty_map as empty_heap_map}
 use Rattle.sliced_heap.specs.Heap.{payer_of as sliced_payer, share_at, MapsMemory, HasNoBlocks}
 use Rattle.sliced_heap.specs.Sliced.{block_regions, payload_of, sliced_of}
+use Rattle.pd_core.specs.Sessions.{log_value}
 use Rattle.pd_core.specs.declared.component.Component.{Component}
 use Rattle.pd_core.specs.declared.component.Role.{Role}
 use Rattle.own_model.specs.OwnHeap.{no_heap}
@@ -169,7 +170,7 @@ module _ (store : Store) (ram caps : ℕ) where
     sound = record { is_open = subst (λ (p : Part). IsSome p.account) (sym unused) refl; server = server_at_first (λ line share. HasBlocksAlone share) server.sessions store server.map new.none new.no_heap new.pages new.heap_most; places = new.places };
     state = λ sessions. server_state account unused;
     no_caps = refl;
-    no_rows = map_of-empty (row_of (λ line share. line) store server.map) server.sessions new.none;
+    no_rows = map_of-empty (row_of log_value store server.map) server.sessions new.none;
     places = tt;
   }
 
@@ -184,7 +185,7 @@ module _ (store : Store) (component : Component) (fresh : IsFresh store componen
   fresh_state = role.state
 
   -- it names no session
-  fresh_named : (rows : ℕ → NatMap (Row LabelledLine)) → NamesItsSessions rows (payer_of component) (caps_of component)
+  fresh_named : (rows : ℕ → NatMap (Row Labelled)) → NamesItsSessions rows (payer_of component) (caps_of component)
   fresh_named rows =
       let none : (q : ℕ) → session_at (get (caps_of component) q) ≡ None = λ q. ap session_at (ap (λ (m : NatMap Cap). get m q) role.no_caps ∙ get-empty q) in
       record {
@@ -221,11 +222,12 @@ module _ (store : Store) (components : List Component) (fresh : AreFresh store c
   -- no session is open
   none_open : (server session : ℕ) → get (rows_at store components server) session ≡ None
   none_open server session =
-      ap (λ (m : NatMap (Row LabelledLine)). get m session) (no_rows_at store components (λ k d h. (role store _ (fresh.each k d h)).no_rows) server) ∙ get-empty session
+      ap (λ (m : NatMap (Row Labelled)). get m session) (no_rows_at store components (λ k d h. (role store _ (fresh.each k d h)).no_rows) server) ∙ get-empty session
 
   -- fresh components are a sound core
   pub fresh_core : HasRoom store → IsCore store components
   fresh_core room = record {
+    init = fresh.init;
     sound = λ k d h. (role store _ (fresh.each k d h)).sound;
     not_init = λ k d h. (fresh.each k d h).not_init;
     children = λ k d h. (fresh.each k d h).child;

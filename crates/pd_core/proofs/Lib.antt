@@ -17,9 +17,17 @@ pub mod BytesLemmas
 pub mod PlaceLemmas
 pub mod ComponentLemmas
 pub mod CoreLemmas
+pub mod RouterLemmas
 pub mod SessionBesideLemmas
+pub mod SessionCore
 pub mod SessionCoreLemmas
+pub mod SessionClosedLemmas
+pub mod SessionCallsLemmas
 pub mod SessionChangesLemmas
+pub mod SessionWorldLemmas
+pub mod SessionNamedLemmas
+pub mod SessionOpenedLemmas
+pub mod SessionLedLemmas
 pub mod FreshLemmas
 pub mod WindowLemmas
 pub mod HeapCallLemmas

@@ -1,17 +1,15 @@
 -- What a call of a session leaves of the components beside its caller and its server.
-use Rattle.std.proofs.Common.{◌≡◌, ◌≢◌, ℕ, ◌+◌, ◌*◌, ◌≤◌, Some, IsSome, is_some, refl, sym, ap, ◌∙◌, arith, inl, inr}
+use Rattle.std.proofs.Common.{◌≡◌, ◌≢◌, ℕ, Some, is_some, refl, sym, ap, ◌∙◌, arith, inl, inr}
 use Rattle.std.proofs.lemmas.Bool.{cases_eq}
 use Rattle.std.specs.FinMap.{get, empty}
 use Rattle.slab.specs.Slab.{Slab}
 use Rattle.slab.specs.Slab as slab
-use Rattle.trade_base.specs.declared.id.AccountId.{AccountId}
 use Rattle.trade_base.specs.declared.id.SessionId.{SessionId}
-use Rattle.own_model.specs.NatMap.{NatMap}
 use Rattle.own_model.specs.OwnHeap.{no_heap}
 use Rattle.region_map.specs.Regions.{Regions}
 use Rattle.dataspace_core.specs.Store.{Store, Part, part, parents_in, ram_limits_in, caps_limits_in, IsLeafIn}
 use Rattle.dataspace_core.specs.Share.{share_in}
-use Rattle.server_frame.specs.Frame.{Row, row_of}
+use Rattle.server_frame.specs.Frame.{row_of}
 use Rattle.server_frame.specs.Session.{HasBlocksAlone, holding}
 use Rattle.server_frame.specs.declared.server.Session.{Session as Kept}
 use Rattle.server_frame.proofs.FrameLemmas.{Stays, row_stays}
@@ -19,7 +17,7 @@ use Rattle.server_frame.proofs.FrameLaws.{server_stays}
 use Rattle.server_frame.proofs.RowLaws.{IsNoRows, no_session_by_rows}
 use Rattle.log_service.specs.Session.{LabelledLine}
 use Rattle.pd_core.specs.Own.{Sessions, no_sessions, own_of}
-use Rattle.pd_core.specs.Sessions.{log_rows, IsLogServer}
+use Rattle.pd_core.specs.Sessions.{log_value, log_rows, IsLogServer}
 use Rattle.pd_core.specs.Sound.{session_at}
 use Rattle.pd_core.specs.Component.{payer_in, caps_in, rows_in, own_in, IsSoundRole}
 use Rattle.pd_core.specs.declared.component.Role.{Role}
@@ -53,13 +51,13 @@ module _ (store store' : Store) (payer account : ℕ) (others : (other : ℕ) �
     kept_still : (id : ℕ) (session : Kept LabelledLine) → slab.get sessions id ≡ Some session → Stays session.account.0 store store' regions regions
     kept_still id session there =
         session_still regions session.account.0
-        (no_session_by_rows (λ line share. line) sessions store regions payer none id session there)
-        (no_session_by_rows (λ line share. line) sessions store regions account none_there id session there)
+        (no_session_by_rows log_value sessions store regions payer none id session there)
+        (no_session_by_rows log_value sessions store regions account none_there id session there)
 
     log_rows_still : log_rows sessions store' regions ≡ log_rows sessions store regions
     log_rows_still =
-        map_of_alike (row_of (λ line share. line) store regions) (row_of (λ line share. line) store' regions) sessions
-        (λ id session there. row_stays store store' regions regions session (λ line share. line) (kept_still id session there))
+        map_of_alike (row_of log_value store regions) (row_of log_value store' regions) sessions
+        (λ id session there. row_stays store store' regions regions session log_value (kept_still id session there))
 
     log_still : IsLogServer sessions store regions → IsLogServer sessions store' regions
     log_still server = server_stays (λ line share. HasBlocksAlone share) sessions store store' regions server limits kept_still

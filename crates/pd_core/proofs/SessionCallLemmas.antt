@@ -1,11 +1,11 @@
 -- What each call of a session is to the model, in the own state of the script that makes it.
 use Rattle.std.proofs.Common.{◌≡◌, ◌≢◌, ℕ, ◌&&◌, true, false, cond, eqb, List, [], Some, is_some, refl, sym, ap, subst, ◌∙◌, arith}
 use Rattle.std.proofs.lemmas.Bool.Decides.{nat_tests}
-use Rattle.std.specs.Prelude.{None, Ok}
+use Rattle.std.specs.Prelude.{None, Ok, ◌==◌, if◌then◌else◌}
 use Rattle.std.specs.Option.{option_map}
 use Rattle.std.specs.FinMap.{get, insert, remove}
 use Rattle.trade_base.specs.declared.id.SessionId.{SessionId}
-use Rattle.own_model.specs.Account.{Account, opened, parted_with, shortage}
+use Rattle.own_model.specs.Account.{Account, parted_with, shortage}
 use Rattle.own_model.specs.Call.{Call}
 use Rattle.own_model.specs.Call.Call.{Open, Upgrade, CallSession, Close}
 use Rattle.own_model.specs.Donation.{raised}
@@ -26,11 +26,15 @@ use Rattle.cap_space.specs.declared.cap.Cap.{Cap}
 use Rattle.cap_space.specs.declared.cap.Cap.TheVariants.{Session}
 use Rattle.dataspace_core.specs.Store.{Part, account_of}
 use Rattle.pd_core.specs.Own.{Sessions, HasSessions, object_of, own_of}
-use Rattle.pd_core.specs.Sessions.{with_session}
 use Rattle.pd_core.specs.Sound.{IsOne, AreNamed, IsLawful}
 use Rattle.pd_core.proofs.SessionOwnLemmas.{AreNoSpaces, selectors_put, selectors_gone, regions_still, lawful_step, lawful_whichever}
 
 -- ---- sessions with another one
+
+-- sessions with another one under a server's entry and a key there
+abbrev pub with_session : Sessions → ℕ → ℕ → AnOpenSession → Sessions
+with_session sessions server key session other_server other =
+    if other_server == server && other == key then Some session else sessions other_server other
 
 -- it is the other one under its key
 pub with_session_same : (S : Sessions) (server key : ℕ) (x : AnOpenSession) → with_session S server key x server key ≡ Some x
@@ -120,29 +124,29 @@ module _ (S S' : Sessions) (p p' : Part) (caps caps' : NatMap Cap) (selector : �
         get caps' selector ≡ Some (Session server session) → S' server session.0 ≡ Some (upgraded x more.ram more.caps) → account_of p' ≡ parted_with (account_of p) more.ram more.caps →
         entry_step entry (Upgrade selector text) before ≡ record { reply = Done; lines = []; next = after }
     unfolding own_of
-    upgrades_own text more reads enough names then account =
+    upgrades_own text more reads enough names put account =
         (λ i. upgraded_by selector (named_before i) (reads i) before)
         ∙ ap (λ o. unless o before (session_upgraded selector x more before)) enough
-        ∙ ap {B = Outcome} (λ s. record { reply = Done; lines = []; next = s }) (sym (own_put server session (upgraded x more.ram more.caps) _ names then account))
+        ∙ ap {B = Outcome} (λ s. record { reply = Done; lines = []; next = s }) (sym (own_put server session (upgraded x more.ram more.caps) _ names put account))
 
     -- it serves a request
     pub serves_own : (request : List ℕ) → get caps' selector ≡ Some (Session server session) → S' server session.0 ≡ Some (served x request).session → account_of p' ≡ account_of p →
         entry_step entry (CallSession selector request) before ≡ record { reply = Told (served x request).reply; lines = (served x request).lines; next = after }
     unfolding own_of
-    serves_own request names then account =
+    serves_own request names put account =
         ap (λ o. session_called selector o request before) named_before
-        ∙ ap {B = Outcome} (λ s. record { reply = Told (served x request).reply; lines = (served x request).lines; next = s }) (sym (own_put server session (served x request).session _ names then account))
+        ∙ ap {B = Outcome} (λ s. record { reply = Told (served x request).reply; lines = (served x request).lines; next = s }) (sym (own_put server session (served x request).session _ names put account))
 
   -- a session is opened
   pub opens_own : (entry : Entry) (service text : List ℕ) (w : Wish) (server : ℕ) (session : SessionId) → wish entry.name entry.routes service text ≡ Ok w → donation_refusal (account_of p) w.ram w.caps ≡ None →
       selector ≡ new_selector before.selectors → get caps' selector ≡ Some (Session server session) → S' server session.0 ≡ Some (new_session w) → account_of p' ≡ parted_with (account_of p) w.ram w.caps →
       entry_step entry (Open service text) before ≡ record { reply = Selected selector; lines = []; next = after }
   unfolding own_of
-  opens_own entry service text w server session asks enough least names then account =
+  opens_own entry service text w server session asks enough least names put account =
       ap (λ r. opened_by r before) asks
       ∙ ap (λ o. unless o before (session_opened w before)) enough
       ∙ ap {B = Outcome} (λ n. record { reply = Selected n; lines = []; next = record before { account = parted_with (account_of p) w.ram w.caps; selectors = insert before.selectors n (OpenSession (new_session w)) } }) (sym least)
-      ∙ ap {B = Outcome} (λ s. record { reply = Selected selector; lines = []; next = s }) (sym (own_put server session (new_session w) _ names then account))
+      ∙ ap {B = Outcome} (λ s. record { reply = Selected selector; lines = []; next = s }) (sym (own_put server session (new_session w) _ names put account))
 
   -- ---- what is lawful stays so
 

@@ -7,26 +7,26 @@ use Rattle.std.specs.Option.{option_map}
 use Rattle.std.proofs.lemmas.Bool.{cases_eq, cases_lt}
 use Rattle.std.proofs.lemmas.Bool.Decides.{nat_tests}
 use Rattle.std.proofs.lemmas.Option.{none-some, same_Some}
-use Rattle.std.proofs.lemmas.List.{get_or-map, get_or_read, get_or_past, length-map}
+use Rattle.std.proofs.lemmas.List.{get_or-map, get_or_past, length-map}
 use Rattle.trade_base.specs.declared.id.AccountId.{AccountId}
 use Rattle.trade_base.specs.declared.id.SessionId.{SessionId}
 use Rattle.own_model.specs.Account.{Account, Fits, opened, parted_with}
 use Rattle.own_model.specs.Donation.{raised}
 use Rattle.own_model.specs.Limits.{caps_limits, caps_with}
-use Rattle.own_model.specs.NatMap.{NatMap, total, picked}
+use Rattle.own_model.specs.NatMap.{NatMap, total}
 use Rattle.own_model.specs.OwnState.Object.{OpenSession}
 use Rattle.own_model.proofs.NatMapLemmas.{apart_from_free, some_of, value_at, get-empty, get-insert_same, get-insert_other, get-remove_same, get-remove_other, before_remove}
 use Rattle.own_model.proofs.Totals.{total-remove, total_le, total-picked, total-insert_same}
 use Rattle.cap_space.specs.Space.{without_cap, with_cap}
 use Rattle.cap_space.specs.declared.cap.Cap.{Cap}
 use Rattle.cap_space.specs.declared.cap.Cap.TheVariants.{Dataspace, RpcObject, Session}
-use Rattle.dataspace_core.specs.Room.{HasRoom, IsOuter}
+use Rattle.dataspace_core.specs.Room.{IsOuter}
 use Rattle.dataspace_core.specs.Store.{Store, Part, part, root_in, account_in, account_of, accounts_in, parents_in, room_in, ram_limits_in, IsChildIn, IsOpenIn, PartBecomes, RaisesPart, ClosesPart}
 use Rattle.dataspace_core.proofs.LimitLaws.{accounts_after}
 use Rattle.dataspace_core.proofs.PartLaws.{account_of-part, open_in_part, part_open}
 use Rattle.dataspace_core.proofs.RoomLaws.{limits_moved, limits_opened, room_for_one_more, room_is_taken, room_is_raised, room_stays, room_is_given_back}
 use Rattle.slab.specs.Slab.{slab_len}
-use Rattle.own_model.specs.Session.{session_account, donation_refusal}
+use Rattle.own_model.specs.Session.{session_account, donation_refusal, Labelled}
 use Rattle.own_model.proofs.SessionLemmas.{donation_covered, large_enough}
 use Rattle.quota_core.proofs.SlabMap.{get-map_of_at}
 use Rattle.server_frame.specs.Laws.{HasClients}
@@ -34,20 +34,21 @@ use Rattle.server_frame.specs.Session.{HasBlocksAlone}
 use Rattle.server_frame.proofs.PlaceLaws.{table_has_place, opens_an_account}
 use Rattle.server_frame.proofs.RowLaws.{no_session_by_rows}
 use Rattle.pd_core.proofs.ComponentLemmas.{component_open}
-use Rattle.server_frame.specs.Frame.{row_of, IsNoSession, OpensSession, Row, ServesSession}
+use Rattle.server_frame.specs.Frame.{row_of, IsNoSession, OpensSession, Row}
 use Rattle.server_frame.specs.declared.server.Server.{Server}
 use Rattle.log_service.specs.declared.service.LogService.{LogService}
-use Rattle.log_service.specs.Session.{LabelledLine, log_step}
-use Rattle.pd_core.specs.Own.{Sessions, object_of, own_of, own_at, part_at}
+use Rattle.log_service.specs.Session.{LabelledLine}
+use Rattle.pd_core.specs.Own.{object_of, own_of, part_at}
 use Rattle.pd_core.specs.Sound.{session_at, session_weight, IsSoundScript}
-use Rattle.pd_core.specs.Sessions.{log_rows, log_session, IsLogServer, NamesSession, NamesOpen}
-use Rattle.pd_core.specs.Component.{payer_in, payer_of, caps_in, caps_of, places_in, rows_in, rows_of, own_in, IsSessionOf, NamesItsSessions, IsSoundRole}
+use Rattle.pd_core.specs.Sessions.{log_value, log_rows, row_session, IsLogServer, NamesSession}
+use Rattle.pd_core.specs.Component.{payer_in, payer_of, caps_in, places_in, rows_in, rows_of, own_in, IsSessionOf, NamesItsSessions, IsSoundRole}
 use Rattle.pd_core.specs.Core.{rows_at, sessions_in, IsCore}
-use Rattle.pd_core.specs.SessionCore.{IsRowOf, IsAccountOf, ChangesSession, rows_with}
+use Rattle.pd_core.proofs.SessionCore.{IsRowOf, IsAccountOf, ChangesSession, rows_with}
 use Rattle.pd_core.specs.declared.component.Role.{Role}
 use Rattle.pd_core.specs.declared.component.Role.TheVariants.{Script as AScript, Server as AServer, Log as ALog}
 use Rattle.pd_core.specs.declared.component.Component.{Component}
 use Rattle.pd_core.specs.declared.script.Script.{Script}
+use Rattle.pd_core.proofs.SessionOpenLemmas.{NamesOpen}
 use Rattle.pd_core.proofs.SessionDoneLemmas.{row_is, row_account, client_apart}
 
 -- what is so of all components' roles is so of one that is read
@@ -55,23 +56,23 @@ role_at : (P : Role → Type 0) (components : List Component) (k : ℕ) (c : Com
 role_at P components k c role within read is all = subst P (ap (λ (d : Component). d.role) (sym read) ∙ is) (all k c within)
 
 -- the account of a row is another's child and open, and has two capabilities
-record IsPaidRow (store : Store) (row : Row LabelledLine) : Type 0 where
+record IsPaidRow (store : Store) (row : Row Labelled) : Type 0 where
   child : IsChildIn store row.key row.client
   account : account_in store row.key ≡ row.account
 
-row_child : (store : Store) (role : Role) → IsSoundRole store role → (id : ℕ) (row : Row LabelledLine) → get (rows_in store role) id ≡ Some row → IsPaidRow store row
+row_child : (store : Store) (role : Role) → IsSoundRole store role → (id : ℕ) (row : Row Labelled) → get (rows_in store role) id ≡ Some row → IsPaidRow store row
 row_child store (AScript script) sound id row there = absurd (none-some row (sym (get-empty id) ∙ there))
 row_child store (AServer pays) sound id row there = absurd (none-some row (sym (get-empty id) ∙ there))
 row_child store (ALog pays server) sound id row there =
     let its = row_is server.sessions store server.map id row there in
     record {
-      child = subst (λ (r : Row LabelledLine). IsChildIn store r.key r.client) its.is (sound.server.each id its.session its.there).child;
+      child = subst (λ (r : Row Labelled). IsChildIn store r.key r.client) its.is (sound.server.each id its.session its.there).child;
       account = row_account server.sessions store server.map id row there;
     }
 
 -- ---- selectors
 
-module _ (rows : ℕ → NatMap (Row LabelledLine)) (s key : ℕ) (rows' : NatMap (Row LabelledLine)) (stay : (other : ℕ) → other ≢ key → get rows' other ≡ get (rows s) other) where
+module _ (rows : ℕ → NatMap (Row Labelled)) (s key : ℕ) (rows' : NatMap (Row Labelled)) (stay : (other : ℕ) → other ≢ key → get rows' other ≡ get (rows s) other) where
   with_here : (at : ℕ) → at ≡ s → rows_with rows s rows' at ≡ rows'
   with_here at e = grind (arith, nat_tests, e)
 
@@ -80,8 +81,8 @@ module _ (rows : ℕ → NatMap (Row LabelledLine)) (s key : ℕ) (rows' : NatMa
 
   with_other : (at id : ℕ) → ((at ≡ s) → (id ≡ key) → ⊥) → get (rows at) id ≡ get (rows_with rows s rows' at) id
   with_other at id apart = elim (cases_eq at s) [
-    | inl e ↦ ap (λ k. get (rows k) id) e ∙ sym (stay id (apart e)) ∙ ap (λ (m : NatMap (Row LabelledLine)). get m id) (sym (with_here at e))
-    | inr e ↦ ap (λ (m : NatMap (Row LabelledLine)). get m id) (sym (with_elsewhere at e))
+    | inl e ↦ ap (λ k. get (rows k) id) e ∙ sym (stay id (apart e)) ∙ ap (λ (m : NatMap (Row Labelled)). get m id) (sym (with_here at e))
+    | inr e ↦ ap (λ (m : NatMap (Row Labelled)). get m id) (sym (with_elsewhere at e))
   ]
 
   -- selectors that name sessions as before, or the one that changed
@@ -91,7 +92,7 @@ module _ (rows : ℕ → NatMap (Row LabelledLine)) (s key : ℕ) (rows' : NatMa
   names_by payer caps its this once = record {
     its = λ q at session names. elim (cases_eq at s) [
       | inl e ↦ elim (cases_eq session.0 key) [
-        | inl f ↦ subst (IsSessionOf payer) (ap (get rows') (sym f) ∙ ap (λ (m : NatMap (Row LabelledLine)). get m session.0) (sym (with_here at e))) (this q session (names ∙ ap (λ k. Some (k, session)) e) f)
+        | inl f ↦ subst (IsSessionOf payer) (ap (get rows') (sym f) ∙ ap (λ (m : NatMap (Row Labelled)). get m session.0) (sym (with_here at e))) (this q session (names ∙ ap (λ k. Some (k, session)) e) f)
         | inr f ↦ subst (IsSessionOf payer) (with_other at session.0 (λ _ g. f g)) (its q at session names (λ _ g. f g))
       ]
       | inr e ↦ subst (IsSessionOf payer) (with_other at session.0 (λ g _. e g)) (its q at session names (λ g _. e g))
@@ -106,10 +107,10 @@ module _ (store : Store) (components : List Component) (i s : ℕ) (caller host 
   abbrev payer : ℕ
   payer = script.account.0
 
-  abbrev rows : ℕ → NatMap (Row LabelledLine)
+  abbrev rows : ℕ → NatMap (Row Labelled)
   rows = rows_at store components
 
-  abbrev server_rows : NatMap (Row LabelledLine)
+  abbrev server_rows : NatMap (Row Labelled)
   server_rows = log_rows server.sessions store server.map
 
   at_script : (P : Role → Type 0) → All (λ d. P d.role) components → P (AScript script)
@@ -123,18 +124,18 @@ module _ (store : Store) (components : List Component) (i s : ℕ) (caller host 
   rows_are = get_or-map (rows_of store) components s host empty there ∙ ap (rows_of store) (sym host_read) ∙ ap (rows_in store) is_log
 
   -- each row's account is its client's child
-  paid_row : (at id : ℕ) (row : Row LabelledLine) → get (rows at) id ≡ Some row → IsPaidRow store row
+  paid_row : (at id : ℕ) (row : Row Labelled) → get (rows at) id ≡ Some row → IsPaidRow store row
   paid_row at id row is = elim (cases_lt at (length components)) [
     | inl within ↦
         row_child store (get_or components at caller).role (core.sound at caller within) id row
-        (ap (λ (m : NatMap (Row LabelledLine)). get m id) (sym (get_or-map (rows_of store) components at caller empty within)) ∙ is)
+        (ap (λ (m : NatMap (Row Labelled)). get m id) (sym (get_or-map (rows_of store) components at caller empty within)) ∙ is)
     | inr past ↦
         absurd (none-some row (sym (get-empty id)
-        ∙ ap (λ (m : NatMap (Row LabelledLine)). get m id) (sym (get_or_past (map (rows_of store) components) at empty (omega (arith, past, length-map components (rows_of store))))) ∙ is))
+        ∙ ap (λ (m : NatMap (Row Labelled)). get m id) (sym (get_or_past (map (rows_of store) components) at empty (omega (arith, past, length-map components (rows_of store))))) ∙ is))
   ]
 
   -- so it has two capabilities
-  row_covers : (at id : ℕ) (row : Row LabelledLine) → get (rows at) id ≡ Some row → 2 ≤ row.account.caps_limit
+  row_covers : (at id : ℕ) (row : Row Labelled) → get (rows at) id ≡ Some row → 2 ≤ row.account.caps_limit
   row_covers at id row is =
       let paid = paid_row at id row is in
       subst (λ (a : Account). 2 ≤ a.caps_limit) paid.account (core.room.paid row.key row.client paid.child (core.sessions.each at id row is).client)
@@ -143,18 +144,18 @@ module _ (store : Store) (components : List Component) (i s : ℕ) (caller host 
   named = at_script (λ r. NamesItsSessions rows (payer_in r) (caps_in r)) core.named
 
   -- an account of an open session
-  pub account_of_row : (key : ℕ) (row : Row LabelledLine) → get (rows s) key ≡ Some row → IsAccountOf (root_in store) components rows s key row.key
+  pub account_of_row : (key : ℕ) (row : Row Labelled) → get (rows s) key ≡ Some row → IsAccountOf (root_in store) components rows s key row.key
   account_of_row key row is = record {
     not_init = (core.sessions.each s key row is).not_init;
     others = (core.sessions.each s key row is).others;
     its = λ other id next at e.
         let same = core.sessions.apart other s id key next row at is e in
         let log = at_server (IsSoundRole store) core.sound in
-        let one = row_is server.sessions store server.map id next (ap (λ (m : NatMap (Row LabelledLine)). get m id) (sym (ap rows same ∙ rows_are)) ∙ at) in
-        let two = row_is server.sessions store server.map key row (ap (λ (m : NatMap (Row LabelledLine)). get m key) (sym rows_are) ∙ is) in (
+        let one = row_is server.sessions store server.map id next (ap (λ (m : NatMap (Row Labelled)). get m id) (sym (ap rows same ∙ rows_are)) ∙ at) in
+        let two = row_is server.sessions store server.map key row (ap (λ (m : NatMap (Row Labelled)). get m key) (sym rows_are) ∙ is) in (
           same,
           log.server.apart id key one.session two.session one.there two.there
-              (ap (λ (r : Row LabelledLine). r.key) one.is ∙ e ∙ sym (ap (λ (r : Row LabelledLine). r.key) two.is)),
+              (ap (λ (r : Row Labelled). r.key) one.is ∙ e ∙ sym (ap (λ (r : Row Labelled). r.key) two.is)),
         );
   }
 
@@ -164,7 +165,7 @@ module _ (store : Store) (components : List Component) (i s : ℕ) (caller host 
     pub its : IsSessionOf payer (get (rows s) session.0)
     its = named.its q s session (ap session_at names)
 
-    abbrev row : Row LabelledLine
+    abbrev row : Row Labelled
     row = its.row
 
     -- what a capability stands for has a capability where it is a session
@@ -177,7 +178,7 @@ module _ (store : Store) (components : List Component) (i s : ℕ) (caller host 
     cost_covers k (Session at other) is =
         let one = named.its k at other (ap session_at is) in
         let least = row_covers at other.0 one.row one.there in
-        let found = ap (λ o. unwrap_or (option_map caps_with (option_map OpenSession (option_map log_session o))) 0) one.there in
+        let found = ap (λ o. unwrap_or (option_map caps_with (option_map OpenSession (option_map row_session o))) 0) one.there in
         omega (arith, least, found)
 
     -- there is a place for each selector that the account could pay for with the session's limits
@@ -188,7 +189,7 @@ module _ (store : Store) (components : List Component) (i s : ℕ) (caller host 
         let selectors = total-picked caps_with (object_of (sessions_in store components) (part_at store script)) script.caps.caps in
         let weights = total-remove session_weight script.caps.caps q (Session s session) names in
         let costs = total-remove cost script.caps.caps q (Session s session) names in
-        let found = ap (λ o. unwrap_or (option_map caps_with (option_map OpenSession (option_map log_session o))) 0) its.there in
+        let found = ap (λ o. unwrap_or (option_map caps_with (option_map OpenSession (option_map row_session o))) 0) its.there in
         let rest = total_le session_weight cost (remove script.caps.caps q) (λ k cap is. cost_covers k cap (before_remove script.caps.caps q k cap is)) in
         let account = ap (λ (a : Account). a.caps_limit) (account_of-part payer store) in
         omega (arith, all, selectors, weights, costs, found, rest, account)
@@ -196,7 +197,7 @@ module _ (store : Store) (components : List Component) (i s : ℕ) (caller host 
     pub names_session : NamesSession script store server_rows q s session
     names_session = record {
       row = row;
-      there = ap (λ (m : NatMap (Row LabelledLine)). get m session.0) (sym rows_are) ∙ its.there;
+      there = ap (λ (m : NatMap (Row Labelled)). get m session.0) (sym rows_are) ∙ its.there;
       client = its.client;
       named = names;
       once = λ p other is e. named.once p q s other session (ap session_at is) (ap session_at names) e;
@@ -206,8 +207,8 @@ module _ (store : Store) (components : List Component) (i s : ℕ) (caller host 
     -- ---- what the calls change
 
     -- the row as the server keeps it
-    kept : get server_rows session.0 ≡ Some row
-    kept = ap (λ (m : NatMap (Row LabelledLine)). get m session.0) (sym rows_are) ∙ its.there
+    pub kept : get server_rows session.0 ≡ Some row
+    kept = ap (λ (m : NatMap (Row Labelled)). get m session.0) (sym rows_are) ∙ its.there
 
     log_server : IsLogServer server.sessions store server.map
     log_server = (at_server (IsSoundRole store) core.sound).server
@@ -227,24 +228,24 @@ module _ (store : Store) (components : List Component) (i s : ℕ) (caller host 
         same_Some _ _ (sym is ∙ ap (λ k. get store.books.parents k) its.client ∙ below)
 
     -- the row before is this one
-    was_row : (other : Row LabelledLine) → get (rows s) session.0 ≡ Some other → IsRowOf payer row.key other
+    was_row : (other : Row Labelled) → get (rows s) session.0 ≡ Some other → IsRowOf payer row.key other
     was_row other is =
         let same : row ≡ other = same_Some _ _ (sym its.there ∙ is) in
-        record { client = ap (λ (r : Row LabelledLine). r.client) (sym same) ∙ its.client; key = ap (λ (r : Row LabelledLine). r.key) (sym same) }
+        record { client = ap (λ (r : Row Labelled). r.client) (sym same) ∙ its.client; key = ap (λ (r : Row Labelled). r.key) (sym same) }
 
-    module _ (store' : Store) (next : Row LabelledLine) (next_client : next.client ≡ row.client) (next_key : next.key ≡ row.key) (rows' : NatMap (Row LabelledLine)) (written : rows' ≡ insert server_rows session.0 next) where
+    module _ (store' : Store) (next : Row Labelled) (next_client : next.client ≡ row.client) (next_key : next.key ≡ row.key) (rows' : NatMap (Row Labelled)) (written : rows' ≡ insert server_rows session.0 next) where
       written_here : get rows' session.0 ≡ Some next
-      written_here = ap (λ (m : NatMap (Row LabelledLine)). get m session.0) written ∙ get-insert_same server_rows session.0 next session.0 refl
+      written_here = ap (λ (m : NatMap (Row Labelled)). get m session.0) written ∙ get-insert_same server_rows session.0 next session.0 refl
 
       written_elsewhere : (other : ℕ) → other ≢ session.0 → get rows' other ≡ get (rows s) other
       written_elsewhere other apart =
-          ap (λ (m : NatMap (Row LabelledLine)). get m other) written ∙ get-insert_other server_rows session.0 next other apart
-          ∙ ap (λ (m : NatMap (Row LabelledLine)). get m other) (sym rows_are)
+          ap (λ (m : NatMap (Row Labelled)). get m other) written ∙ get-insert_other server_rows session.0 next other apart
+          ∙ ap (λ (m : NatMap (Row Labelled)). get m other) (sym rows_are)
 
-      written_row : (other : Row LabelledLine) → get rows' session.0 ≡ Some other → IsRowOf payer row.key other
+      written_row : (other : Row Labelled) → get rows' session.0 ≡ Some other → IsRowOf payer row.key other
       written_row other is =
           let same : next ≡ other = same_Some _ _ (sym written_here ∙ is) in
-          record { client = ap (λ (r : Row LabelledLine). r.client) (sym same) ∙ next_client ∙ its.client; key = ap (λ (r : Row LabelledLine). r.key) (sym same) ∙ next_key }
+          record { client = ap (λ (r : Row Labelled). r.client) (sym same) ∙ next_client ∙ its.client; key = ap (λ (r : Row Labelled). r.key) (sym same) ∙ next_key }
 
       written_named : NamesItsSessions (rows_with rows s rows') payer script.caps.caps
       written_named =
@@ -278,7 +279,7 @@ module _ (store : Store) (components : List Component) (i s : ℕ) (caller host 
 
       -- a request is served on it
       module _ (others : (other : ℕ) → other ≢ row.key → part other store' ≡ part other store) (root : root_in store' ≡ root_in store) (parents : parents_in store' ≡ parents_in store) (room : room_in store' ≡ room_in store)
-          (opens : IsOpenIn store' row.key) (same_account : account_in store' row.key ≡ row.account) where
+          (opens : IsOpenIn store' row.key) (same_limit : (account_in store' row.key).caps_limit ≡ row.account.caps_limit) where
         becomes : PartBecomes row.key (part row.key store') store store'
         becomes = record { own = refl; others = others; root = root; parents = parents; room = room }
 
@@ -294,7 +295,8 @@ module _ (store : Store) (components : List Component) (i s : ℕ) (caller host 
         limit_stays : has.0.caps_limit ≡ (account_in store row.key).caps_limit
         limit_stays =
             ap (λ (o : Option Account). (unwrap_or o (opened 0 0)).caps_limit) (sym has.1)
-            ∙ ap (λ (a : Account). a.caps_limit) (account_of-part row.key store' ∙ same_account ∙ sym (paid_row s session.0 row its.there).account)
+            ∙ ap (λ (a : Account). a.caps_limit) (account_of-part row.key store') ∙ same_limit
+            ∙ ap (λ (a : Account). a.caps_limit) (sym (paid_row s session.0 row its.there).account)
 
         pub changes_served : IsSoundScript store' script → ram_limits_in store' ≡ ram_limits_in store → ChangesSession s session.0 row.key store store' script script rows rows'
         changes_served sound limits = record {
@@ -317,17 +319,17 @@ module _ (store : Store) (components : List Component) (i s : ℕ) (caller host 
         }
 
     -- it is closed
-    module _ (store' : Store) (rows' : NatMap (Row LabelledLine)) (written : rows' ≡ remove server_rows session.0) where
+    module _ (store' : Store) (rows' : NatMap (Row Labelled)) (written : rows' ≡ remove server_rows session.0) where
       abbrev closed_script : Script
       closed_script = record script { caps = without_cap script.caps q }
 
       row_gone : get rows' session.0 ≡ None
-      row_gone = ap (λ (m : NatMap (Row LabelledLine)). get m session.0) written ∙ get-remove_same server_rows session.0 session.0 refl
+      row_gone = ap (λ (m : NatMap (Row Labelled)). get m session.0) written ∙ get-remove_same server_rows session.0 session.0 refl
 
       row_elsewhere : (other : ℕ) → other ≢ session.0 → get rows' other ≡ get (rows s) other
       row_elsewhere other apart =
-          ap (λ (m : NatMap (Row LabelledLine)). get m other) written ∙ get-remove_other server_rows session.0 other apart
-          ∙ ap (λ (m : NatMap (Row LabelledLine)). get m other) (sym rows_are)
+          ap (λ (m : NatMap (Row Labelled)). get m other) written ∙ get-remove_other server_rows session.0 other apart
+          ∙ ap (λ (m : NatMap (Row Labelled)). get m other) (sym rows_are)
 
       -- another selector named what it names
       not_closed : (p at : ℕ) (other : SessionId) → session_at (get closed_script.caps.caps p) ≡ Some (at, other) → p ≢ q
@@ -394,23 +396,23 @@ module _ (store : Store) (components : List Component) (i s : ℕ) (caller host 
   server_sound : IsLogServer server.sessions store server.map
   server_sound = (at_server (IsSoundRole store) core.sound).server
 
-  row_here : (id : ℕ) (r : Row LabelledLine) → get server_rows id ≡ Some r → get (rows s) id ≡ Some r
-  row_here id r is = ap (λ (m : NatMap (Row LabelledLine)). get m id) rows_are ∙ is
+  row_here : (id : ℕ) (r : Row Labelled) → get server_rows id ≡ Some r → get (rows s) id ≡ Some r
+  row_here id r is = ap (λ (m : NatMap (Row Labelled)). get m id) rows_are ∙ is
 
   -- no session is on the script's account
   pub no_session : IsNoSession server.sessions payer
   no_session =
-      no_session_by_rows (λ line share. line) server.sessions store server.map payer
+      no_session_by_rows log_value server.sessions store server.map payer
       (λ id row is e. at_script (λ r. payer_in r ≢ row.key) (core.sessions.each s id row (row_here id row is)).others (sym e))
 
   -- each session that it names is open
   pub names_open : NamesOpen script server_rows s
-  names_open q session is = ap is_some (ap (λ (m : NatMap (Row LabelledLine)). get m session.0) (sym rows_are) ∙ (named.its q s session (ap session_at is)).there)
+  names_open q session is = ap is_some (ap (λ (m : NatMap (Row Labelled)). get m session.0) (sym rows_are) ∙ (named.its q s session (ap session_at is)).there)
 
   clients : HasClients server.sessions store
   clients id session is =
-      (core.sessions.each s id (row_of (λ line share. line) store server.map session)
-      (row_here id _ (get-map_of_at (row_of (λ line share. line) store server.map) server.sessions id session is))).client
+      (core.sessions.each s id (row_of log_value store server.map session)
+      (row_here id _ (get-map_of_at (row_of log_value store server.map) server.sessions id session is))).client
 
   module _ (ram caps : ℕ) (accepted : donation_refusal (account_in store payer) ram caps ≡ None) where
     fits : Fits (account_in store payer) ram caps
@@ -428,31 +430,31 @@ module _ (store : Store) (components : List Component) (i s : ℕ) (caller host 
     pub has_room : 0 < room_in store
     has_room = room_for_one_more store payer ram caps core.room payer_outer fits least
 
-    module _ (store' : Store) (session : SessionId) (first : LabelledLine) (rows' : NatMap (Row LabelledLine)) (opens : OpensSession payer ram caps session.0 first store store' server_rows rows') where
+    module _ (store' : Store) (session : SessionId) (first : Labelled) (rows' : NatMap (Row Labelled)) (opens : OpensSession payer ram caps session.0 first store store' server_rows rows') where
       -- an account that is open is another
       not_new : (other : ℕ) → IsOpenIn store other → other ≢ opens.key
       not_new other is_open = apart_from_free (accounts_in store) opens.key other opens.fresh is_open
 
-      pub account_of_new : IsOpenIn store (root_in store) → IsAccountOf (root_in store) components rows s session.0 opens.key
-      account_of_new root_open = record {
-        not_init = λ e. not_new (root_in store) root_open (sym e);
+      pub account_of_new : IsAccountOf (root_in store) components rows s session.0 opens.key
+      account_of_new = record {
+        not_init = λ e. not_new (root_in store) core.init (sym e);
         others = λ k d within. not_new (payer_of (get_or components k d)) (open_in_part (payer_of (get_or components k d)) store (component_open store (get_or components k d) (core.sound k d within)));
         its = λ other id row is e. absurd (not_new row.key (core.room.there row.key row.client (paid_row other id row is).child) e);
       }
 
-      abbrev new_row : Row LabelledLine
+      abbrev new_row : Row Labelled
       new_row = record { client = payer; key = opens.key; account = session_account ram caps; value = first }
 
       new_here : get rows' session.0 ≡ Some new_row
-      new_here = ap (λ (m : NatMap (Row LabelledLine)). get m session.0) opens.sessions ∙ get-insert_same server_rows session.0 new_row session.0 refl
+      new_here = ap (λ (m : NatMap (Row Labelled)). get m session.0) opens.sessions ∙ get-insert_same server_rows session.0 new_row session.0 refl
 
       new_elsewhere : (other : ℕ) → other ≢ session.0 → get rows' other ≡ get (rows s) other
       new_elsewhere other apart =
-          ap (λ (m : NatMap (Row LabelledLine)). get m other) opens.sessions ∙ get-insert_other server_rows session.0 new_row other apart
-          ∙ ap (λ (m : NatMap (Row LabelledLine)). get m other) (sym rows_are)
+          ap (λ (m : NatMap (Row Labelled)). get m other) opens.sessions ∙ get-insert_other server_rows session.0 new_row other apart
+          ∙ ap (λ (m : NatMap (Row Labelled)). get m other) (sym rows_are)
 
-      was_free : (row : Row LabelledLine) → get (rows s) session.0 ≢ Some row
-      was_free row is = none-some row (sym (ap (λ (m : NatMap (Row LabelledLine)). get m session.0) rows_are ∙ opens.free) ∙ is)
+      was_free : (row : Row Labelled) → get (rows s) session.0 ≢ Some row
+      was_free row is = none-some row (sym (ap (λ (m : NatMap (Row Labelled)). get m session.0) rows_are ∙ opens.free) ∙ is)
 
       module _ (selector : ℕ) (free : get script.caps.caps selector ≡ None) where
         abbrev opened_script : Script
@@ -504,11 +506,11 @@ module _ (store : Store) (components : List Component) (i s : ℕ) (caller host 
           caps = limits_opened (λ x. x.caps_limit) payer opens.key (parted_with (account_in store payer) ram caps) (session_account ram caps) store store'
               (ap (λ (p : Part). p.account) opens.parted ∙ ap (λ a. Some (parted_with a ram caps)) (account_of-part payer store))
               opens.charge opens.others opens.fresh payer_open (let fit = fits.caps_fit in omega arith);
-          room = room_is_taken payer opens.key ram caps (session_account ram caps) store store' (opens_an_account LabelledLine payer ram caps session.0 first store store' server_rows rows' opens)
+          room = room_is_taken payer opens.key ram caps (session_account ram caps) store store' (opens_an_account Labelled payer ram caps session.0 first store store' server_rows rows' opens)
               payer_open payer_outer (at_script (λ r. payer_in r ≢ root_in store) core.not_init) fits least core.room;
           rows_stay = new_elsewhere;
           was = λ row is. absurd (was_free row is);
           is = λ row is.
               let same : new_row ≡ row = same_Some _ _ (sym new_here ∙ is) in
-              record { client = ap (λ (r : Row LabelledLine). r.client) (sym same); key = ap (λ (r : Row LabelledLine). r.key) (sym same) };
+              record { client = ap (λ (r : Row Labelled). r.client) (sym same); key = ap (λ (r : Row Labelled). r.key) (sym same) };
         }

@@ -1,6 +1,6 @@
 -- The world when a call of a session has changed the memory, its caller and its server.
 use Rattle.std.proofs.Common.{◌≡◌, ◌≢◌, ℕ, ◌<◌, ◌≤◌, List, length, get_or, set, map, Some, is_some, refl, sym, ap, subst, ◌∙◌, inl, inr, arith, length-set, get_or-set_other}
-use Rattle.std.specs.List.{All, AllPairs}
+use Rattle.std.specs.List.{All, flat_map}
 use Rattle.std.specs.FinMap.{get, empty}
 use Rattle.std.specs.Prelude.{Option, ◌⊎◌, IfSome, None}
 use Rattle.std.proofs.lemmas.Bool.{cases_eq}
@@ -19,11 +19,11 @@ use Rattle.own_model.specs.OwnStep.{own_step}
 use Rattle.own_model.specs.Routes.{fixed_routes}
 use Rattle.own_model.specs.StartList.{Entry}
 use Rattle.own_model.specs.Transcript.{nobody, nothing}
-use Rattle.own_model.specs.World.{World, with_state, outcome_at}
+use Rattle.own_model.specs.World.{with_state, outcome_at}
 use Rattle.own_model.proofs.LimitLemmas.{limits_move}
 use Rattle.own_model.proofs.NatMapLemmas.{get-empty}
-use Rattle.dataspace_core.specs.Store.{Store, Part, part, root_in, account_in, account_of, parents_in, IsChildIn}
-use Rattle.dataspace_core.proofs.PartLaws.{account_of-part}
+use Rattle.dataspace_core.specs.Store.{Store, Part, part, root_in, account_in, account_of, IsOpenIn, IsChildIn}
+use Rattle.dataspace_core.proofs.PartLaws.{account_of-part, open_in_part, part_open}
 use Rattle.server_frame.specs.Frame.{Row}
 use Rattle.server_frame.specs.declared.server.Server.{Server}
 use Rattle.server_frame.proofs.RowLaws.{IsNoRows}
@@ -34,13 +34,15 @@ use Rattle.own_model.specs.OwnHeap.{no_heap}
 use Rattle.cap_space.specs.declared.cap.Cap.{Cap}
 use Rattle.pd_core.specs.Own.{Sessions, no_sessions, own_of, own_at}
 use Rattle.pd_core.specs.Sound.{session_at}
-use Rattle.pd_core.specs.Sessions.{log_rows, log_session, IsLogServer, AgreeBut, DoesSession}
+use Rattle.pd_core.specs.Sessions.{log_rows, row_session, IsLogServer, AgreeBut, DoesSession}
 use Rattle.pd_core.proofs.SessionOwnLemmas.{is_step}
-use Rattle.own_model.specs.Reply.{Reply, LogLine}
-use Rattle.own_model.specs.Session.{Session as AnOpenSession}
+use Rattle.own_model.specs.Reply.{Reply, LogLine, reply_text, log_text}
+use Rattle.own_model.specs.Session.{Session as AnOpenSession, Labelled}
 use Rattle.std.specs.Option.{option_map}
 use Rattle.pd_core.specs.Core.{rows_at, sessions_in, world_of, IsSession, AreSessions, IsCore}
-use Rattle.pd_core.specs.SessionCore.{ReplacesTwo, IsRowOf, IsAccountOf, ChangesSession, rows_with}
+use Rattle.server_frame.specs.Told.{Told}
+use Rattle.pd_core.specs.SessionCalls.{Answers}
+use Rattle.pd_core.proofs.SessionCore.{ReplacesTwo, IsRowOf, IsAccountOf, ChangesSession, rows_with}
 use Rattle.pd_core.specs.declared.component.Role.{Role}
 use Rattle.pd_core.specs.declared.component.Role.TheVariants.{Script as AScript, Log as ALog}
 use Rattle.pd_core.specs.declared.component.Component.{Component}
@@ -83,11 +85,11 @@ replaces_by_set components i s caller host here there apart =
     }
 
 -- a row is another's as before, or the one that changed
-module _ (rows rows' : ℕ → NatMap (Row LabelledLine)) (s key payer account : ℕ) (elsewhere : (server : ℕ) → server ≢ s → rows' server ≡ rows server)
-    (stay : (id : ℕ) → id ≢ key → get (rows' s) id ≡ get (rows s) id) (is : (row : Row LabelledLine) → get (rows' s) key ≡ Some row → IsRowOf payer account row) where
-  old_or_new : (server id : ℕ) (row : Row LabelledLine) → get (rows' server) id ≡ Some row → (get (rows server) id ≡ Some row) ⊎ ((server ≡ s) × IsRowOf payer account row)
+module _ (rows rows' : ℕ → NatMap (Row Labelled)) (s key payer account : ℕ) (elsewhere : (server : ℕ) → server ≢ s → rows' server ≡ rows server)
+    (stay : (id : ℕ) → id ≢ key → get (rows' s) id ≡ get (rows s) id) (is : (row : Row Labelled) → get (rows' s) key ≡ Some row → IsRowOf payer account row) where
+  old_or_new : (server id : ℕ) (row : Row Labelled) → get (rows' server) id ≡ Some row → (get (rows server) id ≡ Some row) ⊎ ((server ≡ s) × IsRowOf payer account row)
   old_or_new server id row there = elim (cases_eq server s) [
-    | inr other ↦ inl (ap (λ (m : NatMap (Row LabelledLine)). get m id) (sym (elsewhere server other)) ∙ there)
+    | inr other ↦ inl (ap (λ (m : NatMap (Row Labelled)). get m id) (sym (elsewhere server other)) ∙ there)
     | inl here ↦ elim (cases_eq id key) [
       | inr other ↦ inl (ap (λ k. get (rows k) id) here ∙ sym (stay id other) ∙ ap (λ k. get (rows' k) id) (sym here) ∙ there)
       | inl its ↦ inr (here, is row (sym (λ j. get (rows' (here j)) (its j)) ∙ there))
@@ -115,7 +117,7 @@ module _ (store : Store) (components : List Component) (i s : ℕ) (caller host 
   abbrev payer : ℕ
   payer = script.account.0
 
-  abbrev rows : ℕ → NatMap (Row LabelledLine)
+  abbrev rows : ℕ → NatMap (Row Labelled)
   rows = rows_at store components
 
   payer_is : payer_of caller ≡ payer
@@ -136,7 +138,7 @@ module _ (store : Store) (components : List Component) (i s : ℕ) (caller host 
   -- no session is on the caller's account
   no_rows : (k : ℕ) (d : Component) → k < length components → IsNoRows (rows_of store (get_or components k d)) payer
   no_rows k d within id row is e =
-      let at = ap (λ (m : NatMap (Row LabelledLine)). get m id) (get_or-map (rows_of store) components k d empty within) ∙ is in
+      let at = ap (λ (m : NatMap (Row Labelled)). get m id) (get_or-map (rows_of store) components k d empty within) ∙ is in
       at_role (λ r. payer_in r ≢ row.key) (core.sessions.each k id row at).others (sym e)
 
   -- a call of a session changes them
@@ -151,16 +153,16 @@ module _ (store : Store) (components : List Component) (i s : ℕ) (caller host 
     abbrev host_after : Component
     host_after = record host { role = ALog pays server' }
 
-    abbrev rows' : ℕ → NatMap (Row LabelledLine)
+    abbrev rows' : ℕ → NatMap (Row Labelled)
     rows' = rows_at store' components'
 
-    abbrev put_rows : NatMap (Row LabelledLine)
+    abbrev put_rows : NatMap (Row Labelled)
     put_rows = log_rows server'.sessions store' server'.map
 
     -- no other server has a session on the session's account
     none_there : (k : ℕ) (d : Component) → k < length components → k ≢ s → IsNoRows (rows_of store (get_or components k d)) account
     none_there k d within differs id row is e =
-        let at = ap (λ (m : NatMap (Row LabelledLine)). get m id) (get_or-map (rows_of store) components k d empty within) ∙ is in
+        let at = ap (λ (m : NatMap (Row Labelled)). get m id) (get_or-map (rows_of store) components k d empty within) ∙ is in
         differs (apart.its k id row at e).0
 
     -- ---- the rows
@@ -182,7 +184,7 @@ module _ (store : Store) (components : List Component) (i s : ℕ) (caller host 
     rows_elsewhere : (k : ℕ) → k ≢ s → rows' k ≡ rows k
     rows_elsewhere k differs = ap (λ l. get_or l k empty) all_rows ∙ get_or-set_other (map (rows_of store) components) s k put_rows empty differs
 
-    rows_here : (k : ℕ) → k ≡ s → rows' k ≡ put_rows
+    pub rows_here : (k : ℕ) → k ≡ s → rows' k ≡ put_rows
     rows_here k at = ap (λ l. get_or l k empty) all_rows ∙ get_or-set_at (map (rows_of store) components) s k put_rows empty at (omega (arith, there, length-map components (rows_of store)))
 
     same_rows : (k : ℕ) → rows_with rows s put_rows k ≡ rows' k
@@ -192,10 +194,10 @@ module _ (store : Store) (components : List Component) (i s : ℕ) (caller host 
     ]
 
     stay : (id : ℕ) → id ≢ key → get (rows' s) id ≡ get (rows s) id
-    stay id differs = ap (λ (m : NatMap (Row LabelledLine)). get m id) (rows_here s refl) ∙ changes.rows_stay id differs
+    stay id differs = ap (λ (m : NatMap (Row Labelled)). get m id) (rows_here s refl) ∙ changes.rows_stay id differs
 
-    is_row : (row : Row LabelledLine) → get (rows' s) key ≡ Some row → IsRowOf payer account row
-    is_row row at = changes.is row (ap (λ (m : NatMap (Row LabelledLine)). get m key) (sym (rows_here s refl)) ∙ at)
+    is_row : (row : Row Labelled) → get (rows' s) key ≡ Some row → IsRowOf payer account row
+    is_row row at = changes.is row (ap (λ (m : NatMap (Row Labelled)). get m key) (sym (rows_here s refl)) ∙ at)
 
     -- ---- the sessions
 
@@ -294,6 +296,12 @@ module _ (store : Store) (components : List Component) (i s : ℕ) (caller host 
         ∙ ap account_of (changes.others (root_in store) (λ e. payer_not_init (sym e)) (λ e. apart.not_init (sym e)))
         ∙ account_of-part (root_in store) store
 
+    init_open : IsOpenIn store' (root_in store')
+    init_open =
+        subst (IsOpenIn store') (sym changes.root) (open_in_part (root_in store) store'
+        (ap (λ (p : Part). is_some p.account) (changes.others (root_in store) (λ e. payer_not_init (sym e)) (λ e. apart.not_init (sym e)))
+        ∙ part_open (root_in store) store core.init))
+
     -- what is so of the two, and of each other, is so of all
     each_after : (P : Component → Type 0) → P after → P host_after → ((k : ℕ) (d : Component) → k < length components → k ≢ i → k ≢ s → P (get_or components k d)) → All P components'
     each_after P one two others k d within = elim (cases_eq k i) [
@@ -322,21 +330,21 @@ module _ (store : Store) (components : List Component) (i s : ℕ) (caller host 
     payers_after P all k d within = subst P (sym (payer_stays k d)) (all k d (omega (arith, within, replaced.many)))
 
     -- a session is still one, and so is the one that changed
-    session_after : (row : Row LabelledLine) → IsSession (root_in store) components row → IsSession (root_in store') components' row
+    session_after : (row : Row Labelled) → IsSession (root_in store) components row → IsSession (root_in store') components' row
     session_after row its = record {
       client = λ e. its.client (e ∙ changes.root);
       not_init = λ e. its.not_init (e ∙ changes.root);
       others = payers_after (λ p. p ≢ row.key) its.others;
     }
 
-    session_new : (row : Row LabelledLine) → IsRowOf payer account row → IsSession (root_in store') components' row
+    session_new : (row : Row Labelled) → IsRowOf payer account row → IsSession (root_in store') components' row
     session_new row its = session_after row (record {
       client = λ e. payer_not_init (sym its.client ∙ e);
       not_init = λ e. apart.not_init (sym its.key ∙ e);
       others = λ k d within e. apart.others k d within (e ∙ its.key);
     })
 
-    row_before : (at id : ℕ) (row : Row LabelledLine) → get (rows' at) id ≡ Some row → (get (rows at) id ≡ Some row) ⊎ ((at ≡ s) × IsRowOf payer account row)
+    row_before : (at id : ℕ) (row : Row Labelled) → get (rows' at) id ≡ Some row → (get (rows at) id ≡ Some row) ⊎ ((at ≡ s) × IsRowOf payer account row)
     row_before = old_or_new rows rows' s key payer account rows_elsewhere stay is_row
 
     sessions_after : AreSessions (root_in store') components' rows'
@@ -362,7 +370,7 @@ module _ (store : Store) (components : List Component) (i s : ℕ) (caller host 
     same_row at id differs = elim (cases_eq at s) [
       | inl e ↦
           ap (λ j. get (rows' j) id) e ∙ stay id (differs e) ∙ ap (λ j. get (rows j) id) (sym e)
-      | inr other ↦ ap (λ (m : NatMap (Row LabelledLine)). get m id) (rows_elsewhere at other)
+      | inr other ↦ ap (λ (m : NatMap (Row Labelled)). get m id) (rows_elsewhere at other)
     ]
 
     names_none : NamesItsSessions rows' pays.0 empty
@@ -390,14 +398,14 @@ module _ (store : Store) (components : List Component) (i s : ℕ) (caller host 
 
     -- what the model tells of its caller's own state is the outcome of its step
     pub session_outcome : (call : Call) (reply : Reply) (lines : List LogLine) (was is : Option AnOpenSession) → DoesSession call reply lines s key was is store script store' script' →
-        option_map log_session (get (rows s) key) ≡ was → option_map log_session (get put_rows key) ≡ is →
+        option_map row_session (get (rows s) key) ≡ was → option_map row_session (get put_rows key) ≡ is →
         own_step (entry_of caller) call (own S store caller) ≡ record { reply = reply; lines = lines; next = own S' store' after }
     unfolding own_of
     session_outcome call reply lines was is does before now =
         let kind = ap kind_of is_script in
         ap (own_step (entry_of caller) call) (ap (own_in S store) is_script)
         ∙ is_step (entry_of caller) call (own_at S store script) kind refl
-        ∙ does (entry_of caller) S S' kind sessions_agree before (ap (λ (m : NatMap (Row LabelledLine)). option_map log_session (get m key)) (rows_here s refl) ∙ now)
+        ∙ does (entry_of caller) S S' kind sessions_agree before (ap (λ (m : NatMap (Row Labelled)). option_map row_session (get m key)) (rows_here s refl) ∙ now)
 
     module _ (call : Call) (next : own (sessions_in store' components') store' (record caller { role = AScript script' }) ≡ (own_step (entry_of caller) call (own (sessions_in store components) store caller)).next) where
       -- the world is as it was but for the caller's own state
@@ -417,6 +425,7 @@ module _ (store : Store) (components : List Component) (i s : ℕ) (caller host 
       -- the core stays sound
       pub session_core : IsCore store' components'
       session_core = record {
+        init = init_open;
         sound = each_after (IsSound store') changes.sound host_sound beside;
         not_init = payers_after (λ p. p ≢ root_in store') (λ k d within e. core.not_init k d within (e ∙ changes.root));
         children = payers_after (λ p. IsChildIn store' p (root_in store')) (λ k d within.
@@ -428,3 +437,18 @@ module _ (store : Store) (components : List Component) (i s : ℕ) (caller host 
         sessions = sessions_after;
         room = changes.room;
       }
+
+    -- a call of this outcome is answered as the model's, and leaves the model's world and a sound core
+    module _ (call : Call) (reply : Reply) (lines : List LogLine) (outcome : own_step (entry_of caller) call (own (sessions_in store components) store caller)
+        ≡ record { reply = reply; lines = lines; next = own (sessions_in store' components') store' (record caller { role = AScript script' }) }) where
+      pub session_answers : (told : Told) → told.text ≡ reply_text reply → told.lines ≡ flat_map log_text lines → Answers call i told store components store' components'
+      session_answers told text finished =
+          let at = outcome_is store components i caller here caller_read call ∙ outcome in
+          record {
+            answered = text ∙ ap (λ o. reply_text o.reply) (sym at);
+            lines = finished ∙ ap (λ o. flat_map log_text o.lines) (sym at);
+            stepped = session_world call (ap (λ o. o.next) (sym outcome));
+          }
+
+      pub session_keeps : IsCore store' components'
+      session_keeps = session_core call (ap (λ o. o.next) (sym outcome))

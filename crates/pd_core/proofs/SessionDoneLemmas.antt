@@ -22,7 +22,7 @@ use Rattle.own_model.specs.OwnState.Object.{OpenSession}
 use Rattle.own_model.specs.OwnStep.{Outcome, unrouted, unless, upgraded_by, session_upgraded}
 use Rattle.own_model.specs.Reply.{Reply, LogLine, log_text}
 use Rattle.own_model.specs.Reply.Reply.{Done, Told, Refused}
-use Rattle.own_model.specs.Session.{Session as AnOpenSession, upgraded, served}
+use Rattle.own_model.specs.Session.{Session as AnOpenSession, upgraded, served, Labelled}
 use Rattle.own_model.specs.SessionArgs.{Arguments, arguments_of}
 use Rattle.own_model.proofs.NatMapLemmas.{some_of, get-picked_at, get-insert_same, get-remove_same, get-remove_other}
 use Rattle.own_model.proofs.Totals.{len-remove_at, total-remove, total_at_le}
@@ -35,45 +35,46 @@ use Rattle.dataspace_core.specs.Store.{Store, Part, part, account_of, account_in
 use Rattle.dataspace_core.proofs.PartLaws.{account_of-part}
 use Rattle.dataspace_core.proofs.RoomLaws.{account_in_part}
 use Rattle.server_frame.specs.Frame.{Row, row_of, ServesSession}
+use Rattle.server_frame.specs.Session.{service_step}
 use Rattle.server_frame.specs.Told.{Told as Written}
 use Rattle.pd_core.specs.Answer.{reply_of}
 use Rattle.pd_core.specs.declared.answer.Answer.{Answer}
 use Rattle.server_frame.specs.declared.server.Session.{Session as Kept}
-use Rattle.log_service.specs.Session.{LabelledLine, log_step}
+use Rattle.log_service.specs.Session.{LabelledLine}
 use Rattle.pd_core.specs.Own.{Sessions, object_of, own_at, own_of, own_heap_at, sliced_at, part_at}
-use Rattle.pd_core.specs.Sessions.{log_rows, log_session, with_session, IsLogServer, AgreeBut, NamesSession, DoesSession, Moves, Serves}
+use Rattle.pd_core.specs.Sessions.{log_value, log_rows, row_session, IsLogServer, AgreeBut, NamesSession, DoesSession, Moves, Serves}
 use Rattle.pd_core.specs.Sound.{rpc_weight, session_weight, IsSoundScript}
 use Rattle.pd_core.specs.declared.script.Script.{Script}
 use Rattle.pd_core.proofs.SessionOwnLemmas.{AreNoSpaces, AreCounted}
-use Rattle.pd_core.proofs.SessionCallLemmas.{ChangesOne, some_sessions, some_are_open, some_same, with_session_same, with_session_other, closes_own, upgrades_own, serves_own, lawful_after}
+use Rattle.pd_core.proofs.SessionCallLemmas.{ChangesOne, some_sessions, some_are_open, some_same, with_session, with_session_same, with_session_other, closes_own, upgrades_own, serves_own, lawful_after}
 use Rattle.pd_core.proofs.SessionScriptLemmas.{own_still, sound_still}
 
 -- ---- rows
 
 -- a row that is there is an open session's
-pub record IsRow (sessions : Slab (Kept LabelledLine)) (store : Store) (regions : Regions) (id : ℕ) (row : Row LabelledLine) : Type 0 where
+pub record IsRow (sessions : Slab (Kept LabelledLine)) (store : Store) (regions : Regions) (id : ℕ) (row : Row Labelled) : Type 0 where
   pub session : Kept LabelledLine
   pub there : slab.get sessions id ≡ Some session
-  pub is : row_of (λ line share. line) store regions session ≡ row
+  pub is : row_of log_value store regions session ≡ row
 
-pub row_is : (sessions : Slab (Kept LabelledLine)) (store : Store) (regions : Regions) (id : ℕ) (row : Row LabelledLine) → get (log_rows sessions store regions) id ≡ Some row → IsRow sessions store regions id row
+pub row_is : (sessions : Slab (Kept LabelledLine)) (store : Store) (regions : Regions) (id : ℕ) (row : Row Labelled) → get (log_rows sessions store regions) id ≡ Some row → IsRow sessions store regions id row
 row_is sessions store regions id row there = elim (slab.get sessions id) as (λ o. slab.get sessions id ≡ o → IsRow sessions store regions id row) [
-  | None ↦ λ e. absurd (none-some row (sym (get-map_of (row_of (λ line share. line) store regions) sessions id ∙ ap (option_map (row_of (λ line share. line) store regions)) e) ∙ there))
+  | None ↦ λ e. absurd (none-some row (sym (get-map_of (row_of log_value store regions) sessions id ∙ ap (option_map (row_of log_value store regions)) e) ∙ there))
   | Some session ↦ λ e. record {
     session = session;
     there = e;
-    is = same_Some _ _ (sym (get-map_of (row_of (λ line share. line) store regions) sessions id ∙ ap (option_map (row_of (λ line share. line) store regions)) e) ∙ there);
+    is = same_Some _ _ (sym (get-map_of (row_of log_value store regions) sessions id ∙ ap (option_map (row_of log_value store regions)) e) ∙ there);
   }
 ] refl
 
 -- its account is the one under its key
-pub row_account : (sessions : Slab (Kept LabelledLine)) (store : Store) (regions : Regions) (id : ℕ) (row : Row LabelledLine) → get (log_rows sessions store regions) id ≡ Some row → account_in store row.key ≡ row.account
+pub row_account : (sessions : Slab (Kept LabelledLine)) (store : Store) (regions : Regions) (id : ℕ) (row : Row Labelled) → get (log_rows sessions store regions) id ≡ Some row → account_in store row.key ≡ row.account
 row_account sessions store regions id row there =
     let its = row_is sessions store regions id row there in
-    sym (ap (λ (r : Row LabelledLine). account_in store r.key) its.is) ∙ ap (λ (r : Row LabelledLine). r.account) its.is
+    sym (ap (λ (r : Row Labelled). account_in store r.key) its.is) ∙ ap (λ (r : Row Labelled). r.account) its.is
 
-pub row_open : (sessions : Slab (Kept LabelledLine)) (store : Store) (regions : Regions) (id : ℕ) (row : Row LabelledLine) → get (log_rows sessions store regions) id ≡ Some row → ContainsKey sessions id
-row_open sessions store regions id row there = ContainsKey-map_of (row_of (λ line share. line) store regions) sessions id (ap is_some there)
+pub row_open : (sessions : Slab (Kept LabelledLine)) (store : Store) (regions : Regions) (id : ℕ) (row : Row Labelled) → get (log_rows sessions store regions) id ≡ Some row → ContainsKey sessions id
+row_open sessions store regions id row there = ContainsKey-map_of (row_of log_value store regions) sessions id (ap is_some there)
 
 -- a session is no dataspace
 pub no_space : (server : ℕ) (session : SessionId) (o : Option Cap) → o ≡ Some (Session server session) → (ds : DsId) → o ≢ Some (Dataspace ds)
@@ -85,7 +86,7 @@ limit_within account store a is = total_at_le (λ (x : Account). x.ram_limit) (a
 
 -- ---- a call of a session that is named
 
-module _ (store store' : Store) (script : Script) (rows : NatMap (Row LabelledLine)) (selector server : ℕ) (session : SessionId) (sound : IsSoundScript store script) (names : NamesSession script store rows selector server session)
+module _ (store store' : Store) (script : Script) (rows : NatMap (Row Labelled)) (selector server : ℕ) (session : SessionId) (sound : IsSoundScript store script) (names : NamesSession script store rows selector server session)
     (limits : ram_limits_in store' ≡ ram_limits_in store) (a : Account) (own : part script.account.0 store' ≡ record (part_at store script) { account = Some a }) where
   -- before and after
   abbrev p : Part
@@ -120,10 +121,10 @@ module _ (store store' : Store) (script : Script) (rows : NatMap (Row LabelledLi
     closed_changes : (S S' : Sessions) → AgreeBut S S' server session.0 → ChangesOne S S' p p' script.caps.caps closed_space.caps selector
     closed_changes S S' agree = record { spaces = ap (λ (q : Part). q.spaces) own; others = closed_others; agrees = others_agree S S' agree; no_spaces = closed_spaces }
 
-    pub closes_does : DoesSession (Close selector) Done [] server session.0 (Some (log_session names.row)) None store script store' (record script { caps = closed_space })
+    pub closes_does : DoesSession (Close selector) Done [] server session.0 (Some (row_session names.row)) None store script store' (record script { caps = closed_space })
     closes_does entry S S' kind agree was is =
         closes_own S S' p p' script.caps.caps closed_space.caps selector (closed_changes S S' agree) script.regions.user (own_heap_at store script) (sliced_at store script) sound.own.named.one sound.own.attached
-        entry server session (log_session names.row) names.named was closed_none (account_is ∙ closed)
+        entry server session (row_session names.row) names.named was closed_none (account_is ∙ closed)
         ∙ ap {B = Outcome} (λ s. record { reply = Done; lines = []; next = s }) (sym (own_still store store' script (Some a) sound own refl limits closed_space S'))
 
     closed_counted : AreCounted p p' script.caps closed_space script.regions
@@ -147,13 +148,13 @@ module _ (store store' : Store) (script : Script) (rows : NatMap (Row LabelledLi
 
     pub closes_sound : IsSoundScript store' (record script { caps = closed_space })
     closes_sound =
-        let S = some_sessions server session.0 (log_session names.row) in
+        let S = some_sessions server session.0 (row_session names.row) in
         sound_still store store' script (Some a) sound own refl limits closed_space selector closed_others closed_spaces closed_counted
         (lawful_after S S p p' script.caps.caps closed_space.caps selector (closed_changes S S (λ _ _ _. refl)) script.regions.user (own_heap_at store script) (sliced_at store script) sound.own.named.one sound.own.attached
         unrouted (Close selector) Done [] refl
         (closes_own S S p p' script.caps.caps closed_space.caps selector (closed_changes S S (λ _ _ _. refl)) script.regions.user (own_heap_at store script) (sliced_at store script) sound.own.named.one sound.own.attached
-        unrouted server session (log_session names.row) names.named (some_same server session.0 (log_session names.row)) closed_none (account_is ∙ closed))
-        (sound.own.lawful S (some_are_open server session.0 (log_session names.row) script.caps.caps)))
+        unrouted server session (row_session names.row) names.named (some_same server session.0 (row_session names.row)) closed_none (account_is ∙ closed))
+        (sound.own.lawful S (some_are_open server session.0 (row_session names.row) script.caps.caps)))
 
   -- ---- it is given more, or serves a request
 
@@ -169,25 +170,25 @@ module _ (store store' : Store) (script : Script) (rows : NatMap (Row LabelledLi
   put_still S = own_still store store' script (Some a) sound own refl limits script.caps S
 
   pub upgrades_does : (text : List ℕ) (more : Arguments) → arguments_of text ≡ Some more → shortage (account_of p) more.ram more.caps ≡ None → a ≡ parted_with (account_of p) more.ram more.caps →
-      DoesSession (Upgrade selector text) Done [] server session.0 (Some (log_session names.row)) (Some (upgraded (log_session names.row) more.ram more.caps)) store script store' script
+      DoesSession (Upgrade selector text) Done [] server session.0 (Some (row_session names.row)) (Some (upgraded (row_session names.row) more.ram more.caps)) store script store' script
   upgrades_does text more reads enough parted entry S S' kind agree was is =
       upgrades_own S S' p p' script.caps.caps script.caps.caps selector (put_changes S S' agree) script.regions.user (own_heap_at store script) (sliced_at store script) sound.own.named.one sound.own.attached
-      entry server session (log_session names.row) names.named was text more reads enough names.named is (account_is ∙ parted)
+      entry server session (row_session names.row) names.named was text more reads enough names.named is (account_is ∙ parted)
       ∙ ap {B = Outcome} (λ s. record { reply = Done; lines = []; next = s }) (sym (put_still S'))
 
   pub serves_does : (request : List ℕ) → a ≡ account_of p →
-      DoesSession (CallSession selector request) (Told (served (log_session names.row) request).reply) (served (log_session names.row) request).lines server session.0 (Some (log_session names.row))
-      (Some (served (log_session names.row) request).session) store script store' script
+      DoesSession (CallSession selector request) (Told (served (row_session names.row) request).reply) (served (row_session names.row) request).lines server session.0 (Some (row_session names.row))
+      (Some (served (row_session names.row) request).session) store script store' script
   serves_does request same_one entry S S' kind agree was is =
       serves_own S S' p p' script.caps.caps script.caps.caps selector (put_changes S S' agree) script.regions.user (own_heap_at store script) (sliced_at store script) sound.own.named.one sound.own.attached
-      entry server session (log_session names.row) names.named was request names.named is (account_is ∙ same_one)
-      ∙ ap {B = Outcome} (λ s. record { reply = Told (served (log_session names.row) request).reply; lines = (served (log_session names.row) request).lines; next = s }) (sym (put_still S'))
+      entry server session (row_session names.row) names.named was request names.named is (account_is ∙ same_one)
+      ∙ ap {B = Outcome} (λ s. record { reply = Told (served (row_session names.row) request).reply; lines = (served (row_session names.row) request).lines; next = s }) (sym (put_still S'))
 
   -- where the model tells of it, and it uses what it did of no higher limits, the script is sound
-  pub put_sound : (call : Call) (reply : Reply) (lines : List LogLine) (x : AnOpenSession) → DoesSession call reply lines server session.0 (Some (log_session names.row)) (Some x) store script store' script →
+  pub put_sound : (call : Call) (reply : Reply) (lines : List LogLine) (x : AnOpenSession) → DoesSession call reply lines server session.0 (Some (row_session names.row)) (Some x) store script store' script →
       a.caps_used ≡ (account_of p).caps_used → a.caps_limit ≤ (account_of p).caps_limit → IsSoundScript store' script
   put_sound call reply lines x does used least =
-      let S = some_sessions server session.0 (log_session names.row) in
+      let S = some_sessions server session.0 (row_session names.row) in
       let S' = with_session S server session.0 x in
       let agree : AgreeBut S S' server session.0 = λ other at apart. with_session_other S server session.0 other at x apart in
       let account = account_is in
@@ -204,8 +205,8 @@ module _ (store store' : Store) (script : Script) (rows : NatMap (Row LabelledLi
       })
       (lawful_after S S' p p' script.caps.caps script.caps.caps selector (put_changes S S' agree) script.regions.user (own_heap_at store script) (sliced_at store script) sound.own.named.one sound.own.attached
       unrouted call reply lines refl
-      (does unrouted S S' refl agree (some_same server session.0 (log_session names.row)) (with_session_same S server session.0 x) ∙ ap {B = Outcome} (λ s. record { reply = reply; lines = lines; next = s }) (put_still S'))
-      (sound.own.lawful S (some_are_open server session.0 (log_session names.row) script.caps.caps)))
+      (does unrouted S S' refl agree (some_same server session.0 (row_session names.row)) (with_session_same S server session.0 x) ∙ ap {B = Outcome} (λ s. record { reply = reply; lines = lines; next = s }) (put_still S'))
+      (sound.own.lawful S (some_are_open server session.0 (row_session names.row) script.caps.caps)))
 
 -- ---- a call that is refused
 
@@ -222,26 +223,26 @@ each_same S S' server key agree here a b = elim (cases_eq a server) [
 pub sessions_same : (S S' : Sessions) (server key : ℕ) → AgreeBut S S' server key → S' server key ≡ S server key → S' ≡ S
 sessions_same S S' server key agree here i a b = each_same S S' server key agree here a b i
 
-module _ (store : Store) (script : Script) (rows : NatMap (Row LabelledLine)) (selector server : ℕ) (session : SessionId) (names : NamesSession script store rows selector server session) where
+module _ (store : Store) (script : Script) (rows : NatMap (Row Labelled)) (selector server : ℕ) (session : SessionId) (names : NamesSession script store rows selector server session) where
   -- the selector names the session in the own state
-  named_at : (S : Sessions) → S server session.0 ≡ Some (log_session names.row) → session_named (get (own_at S store script).selectors selector) ≡ Some (log_session names.row)
+  named_at : (S : Sessions) → S server session.0 ≡ Some (row_session names.row) → session_named (get (own_at S store script).selectors selector) ≡ Some (row_session names.row)
   unfolding own_of
   named_at S was = ap session_named (get-picked_at (object_of S (part_at store script)) script.caps.caps selector (Session server session) names.named ∙ ap (option_map OpenSession) was)
 
   -- arguments that can't be read
   pub upgrade_unread : (text : List ℕ) → arguments_of text ≡ None →
-      DoesSession (Upgrade selector text) (Refused BadArgs) [] server session.0 (Some (log_session names.row)) (Some (log_session names.row)) store script store script
+      DoesSession (Upgrade selector text) (Refused BadArgs) [] server session.0 (Some (row_session names.row)) (Some (row_session names.row)) store script store script
   upgrade_unread text none entry S S' kind agree was is =
       (λ i. upgraded_by selector (named_at S was i) (none i) (own_at S store script))
       ∙ ap {B = Outcome} (λ T. record { reply = Refused BadArgs; lines = []; next = own_at T store script }) (sym (sessions_same S S' server session.0 agree (is ∙ sym was)))
 
   -- more than its client covers
   pub upgrade_refused : (text : List ℕ) (more : Arguments) (refusal : Refusal) → arguments_of text ≡ Some more → shortage (account_of (part_at store script)) more.ram more.caps ≡ Some refusal →
-      DoesSession (Upgrade selector text) (Refused refusal) [] server session.0 (Some (log_session names.row)) (Some (log_session names.row)) store script store script
+      DoesSession (Upgrade selector text) (Refused refusal) [] server session.0 (Some (row_session names.row)) (Some (row_session names.row)) store script store script
   unfolding own_of
   upgrade_refused text more refusal reads short entry S S' kind agree was is =
       (λ i. upgraded_by selector (named_at S was i) (reads i) (own_at S store script))
-      ∙ ap (λ o. unless o (own_at S store script) (session_upgraded selector (log_session names.row) more (own_at S store script))) short
+      ∙ ap (λ o. unless o (own_at S store script) (session_upgraded selector (row_session names.row) more (own_at S store script))) short
       ∙ ap {B = Outcome} (λ T. record { reply = Refused refusal; lines = []; next = own_at T store script }) (sym (sessions_same S S' server session.0 agree (is ∙ sym was)))
 
 -- what is taken out is gone, where something was
@@ -266,11 +267,11 @@ module _ (store store' : Store) (script : Script) (sessions : Slab (Kept Labelle
   space_is : space' ≡ without_cap script.caps selector
   space_is = taken _ server session result _ names.named found gone
 
-  pub closes_call_does : (row : Row LabelledLine) → get (log_rows sessions store regions) session.0 ≡ Some row →
-      DoesSession (Close selector) Done [] server session.0 (Some (log_session row)) None store script store' (record script { caps = space' })
+  pub closes_call_does : (row : Row Labelled) → get (log_rows sessions store regions) session.0 ≡ Some row →
+      DoesSession (Close selector) Done [] server session.0 (Some (row_session row)) None store script store' (record script { caps = space' })
   closes_call_does row is =
-      subst (λ r. DoesSession (Close selector) Done [] server session.0 (Some (log_session r)) None store script store' (record script { caps = space' })) (same_Some _ _ (sym names.there ∙ is))
-      (subst (λ s. DoesSession (Close selector) Done [] server session.0 (Some (log_session names.row)) None store script store' (record script { caps = s })) (sym space_is)
+      subst (λ r. DoesSession (Close selector) Done [] server session.0 (Some (row_session r)) None store script store' (record script { caps = space' })) (same_Some _ _ (sym names.there ∙ is))
+      (subst (λ s. DoesSession (Close selector) Done [] server session.0 (Some (row_session names.row)) None store script store' (record script { caps = s })) (sym space_is)
       (closes_does store store' script (log_rows sessions store regions) selector server session sound names limits raised_account client_raised refl))
 
   pub closes_call_sound : IsSoundScript store' (record script { caps = space' })
@@ -285,22 +286,22 @@ pub refused_reply : (r : Result Answer Refusal) (refusal : Refusal) → IsErrAnd
 refused_reply (Ok answer) refusal h = absurd h
 refused_reply (Err e) refusal h = ap Refused h
 
-module _ (store store' : Store) (script : Script) (rows rows' : NatMap (Row LabelledLine)) (selector server : ℕ) (session : SessionId) (sound : IsSoundScript store script) (names : NamesSession script store rows selector server session) (reply : Reply) where
-  row_named : (row : Row LabelledLine) → get rows session.0 ≡ Some row → names.row ≡ row
+module _ (store store' : Store) (script : Script) (rows rows' : NatMap (Row Labelled)) (selector server : ℕ) (session : SessionId) (sound : IsSoundScript store script) (names : NamesSession script store rows selector server session) (reply : Reply) where
+  row_named : (row : Row Labelled) → get rows session.0 ≡ Some row → names.row ≡ row
   row_named row at = same_Some _ _ (sym names.there ∙ at)
 
   -- nothing has changed
   pub moves_refused : (call : Call) (refusal : Refusal) → reply ≡ Refused refusal → store' ≡ store → rows' ≡ rows →
-      DoesSession call (Refused refusal) [] server session.0 (Some (log_session names.row)) (Some (log_session names.row)) store script store script →
+      DoesSession call (Refused refusal) [] server session.0 (Some (row_session names.row)) (Some (row_session names.row)) store script store script →
       Moves call reply server session.0 store store' script rows rows'
   moves_refused call refusal told_is same_store same_rows does = record {
     sound = subst (λ s. IsSoundScript s script) (sym same_store) sound;
     does = λ row next at now.
-        let next_is : names.row ≡ next = same_Some _ _ (sym names.there ∙ ap (λ (m : NatMap (Row LabelledLine)). get m session.0) (sym same_rows) ∙ now) in
-        subst (λ s. DoesSession call reply [] server session.0 (Some (log_session row)) (Some (log_session next)) store script s script) (sym same_store)
-        (subst (λ r. DoesSession call r [] server session.0 (Some (log_session row)) (Some (log_session next)) store script store script) (sym told_is)
-        (subst (λ n. DoesSession call (Refused refusal) [] server session.0 (Some (log_session row)) (Some (log_session n)) store script store script) next_is
-        (subst (λ w. DoesSession call (Refused refusal) [] server session.0 (Some (log_session w)) (Some (log_session names.row)) store script store script) (row_named row at) does)));
+        let next_is : names.row ≡ next = same_Some _ _ (sym names.there ∙ ap (λ (m : NatMap (Row Labelled)). get m session.0) (sym same_rows) ∙ now) in
+        subst (λ s. DoesSession call reply [] server session.0 (Some (row_session row)) (Some (row_session next)) store script s script) (sym same_store)
+        (subst (λ r. DoesSession call r [] server session.0 (Some (row_session row)) (Some (row_session next)) store script store script) (sym told_is)
+        (subst (λ n. DoesSession call (Refused refusal) [] server session.0 (Some (row_session row)) (Some (row_session n)) store script store script) next_is
+        (subst (λ w. DoesSession call (Refused refusal) [] server session.0 (Some (row_session w)) (Some (row_session names.row)) store script store script) (row_named row at) does)));
   }
 
   -- what its client's account covers
@@ -317,13 +318,13 @@ module _ (store store' : Store) (script : Script) (rows rows' : NatMap (Row Labe
       let covered : shortage (account_of (part_at store script)) more.ram more.caps ≡ None = subst (λ x. shortage x more.ram more.caps ≡ None) client_account enough in
       let does = upgrades_does store store' script rows selector server session sound names limits a own text more reads covered refl in
       record {
-        sound = put_sound store store' script rows selector server session sound names limits a own (Upgrade selector text) Done [] (upgraded (log_session names.row) more.ram more.caps) does refl (omega arith);
+        sound = put_sound store store' script rows selector server session sound names limits a own (Upgrade selector text) Done [] (upgraded (row_session names.row) more.ram more.caps) does refl (omega arith);
         does = λ row next at now.
-            let next_is : ◌≡◌ {A = Row LabelledLine} (record names.row { account = raised names.row.account more.ram more.caps }) next =
-            same_Some _ _ (sym (get-insert_same rows session.0 (record names.row { account = raised names.row.account more.ram more.caps }) session.0 refl) ∙ ap (λ (m : NatMap (Row LabelledLine)). get m session.0) (sym after) ∙ now) in
-            subst (λ r. DoesSession (Upgrade selector text) r [] server session.0 (Some (log_session row)) (Some (log_session next)) store script store' script) (sym told_is)
-            (subst (λ n. DoesSession (Upgrade selector text) Done [] server session.0 (Some (log_session row)) (Some (log_session n)) store script store' script) next_is
-            (subst (λ w. DoesSession (Upgrade selector text) Done [] server session.0 (Some (log_session w)) (Some (upgraded (log_session names.row) more.ram more.caps)) store script store' script) (row_named row at) does));
+            let next_is : ◌≡◌ {A = Row Labelled} (record names.row { account = raised names.row.account more.ram more.caps }) next =
+            same_Some _ _ (sym (get-insert_same rows session.0 (record names.row { account = raised names.row.account more.ram more.caps }) session.0 refl) ∙ ap (λ (m : NatMap (Row Labelled)). get m session.0) (sym after) ∙ now) in
+            subst (λ r. DoesSession (Upgrade selector text) r [] server session.0 (Some (row_session row)) (Some (row_session next)) store script store' script) (sym told_is)
+            (subst (λ n. DoesSession (Upgrade selector text) Done [] server session.0 (Some (row_session row)) (Some (row_session n)) store script store' script) next_is
+            (subst (λ w. DoesSession (Upgrade selector text) Done [] server session.0 (Some (row_session w)) (Some (upgraded (row_session names.row) more.ram more.caps)) store script store' script) (row_named row at) does));
       }
 
   -- the same of the numbers that the code reads
@@ -347,8 +348,8 @@ module _ (store store' : Store) (script : Script) (rows rows' : NatMap (Row Labe
 
   -- a request is served, on the session's account
   pub serves_told : (request : List ℕ) (answered : Written) → ram_limits_in store' ≡ ram_limits_in store → names.row.client ≢ names.row.key →
-      ServesSession names.row session.0 (log_step request names.row.account names.row.value) store store' rows rows' →
-      answered.text ≡ (log_step request names.row.account names.row.value).text → answered.lines ≡ (log_step request names.row.account names.row.value).lines →
+      ServesSession names.row session.0 (service_step request names.row.account names.row.value) store store' rows rows' →
+      answered.text ≡ (service_step request names.row.account names.row.value).text → answered.lines ≡ (service_step request names.row.account names.row.value).lines →
       Serves selector request answered server session.0 store store' script rows
   serves_told request answered limits apart serves text lines =
       let there = some_of (part_at store script).account sound.own.paid.is_open in
@@ -357,17 +358,17 @@ module _ (store store' : Store) (script : Script) (rows rows' : NatMap (Row Labe
       let same_account : there.0 ≡ account_of (part_at store script) = sym (ap (λ (o : Option Account). unwrap_or o (opened 0 0)) there.1) in
       let does = serves_does store store' script rows selector server session sound names limits there.0 own request same_account in
       record {
-        sound = put_sound store store' script rows selector server session sound names limits there.0 own (CallSession selector request) (Told (served (log_session names.row) request).reply)
-            (served (log_session names.row) request).lines (served (log_session names.row) request).session does (ap (λ (x : Account). x.caps_used) same_account) (omega (arith, ap (λ (x : Account). x.caps_limit) same_account));
+        sound = put_sound store store' script rows selector server session sound names limits there.0 own (CallSession selector request) (Told (served (row_session names.row) request).reply)
+            (served (row_session names.row) request).lines (served (row_session names.row) request).session does (ap (λ (x : Account). x.caps_used) same_account) (omega (arith, ap (λ (x : Account). x.caps_limit) same_account));
         does = λ row at.
-            subst (λ w. DoesSession (CallSession selector request) (Told answered.text) (served (log_session w) request).lines server session.0 (Some (log_session w)) (Some (served (log_session w) request).session) store script store' script) (row_named row at)
-            (subst (λ t. DoesSession (CallSession selector request) (Told t) (served (log_session names.row) request).lines server session.0 (Some (log_session names.row)) (Some (served (log_session names.row) request).session) store script store' script) (sym text) does);
-        lines = λ row at. subst (λ w. answered.lines ≡ flat_map log_text (served (log_session w) request).lines) (row_named row at) lines;
+            subst (λ w. DoesSession (CallSession selector request) (Told answered.text) (served (row_session w) request).lines server session.0 (Some (row_session w)) (Some (served (row_session w) request).session) store script store' script) (row_named row at)
+            (subst (λ t. DoesSession (CallSession selector request) (Told t) (served (row_session names.row) request).lines server session.0 (Some (row_session names.row)) (Some (served (row_session names.row) request).session) store script store' script) (sym text) does);
+        lines = λ row at. subst (λ w. answered.lines ≡ flat_map log_text (served (row_session w) request).lines) (row_named row at) lines;
       }
 
 -- a session's account isn't its client's
-pub client_apart : (sessions : Slab (Kept LabelledLine)) (store : Store) (regions : Regions) → IsLogServer sessions store regions → (id : ℕ) (row : Row LabelledLine) → get (log_rows sessions store regions) id ≡ Some row → row.client ≢ row.key
+pub client_apart : (sessions : Slab (Kept LabelledLine)) (store : Store) (regions : Regions) → IsLogServer sessions store regions → (id : ℕ) (row : Row Labelled) → get (log_rows sessions store regions) id ≡ Some row → row.client ≢ row.key
 client_apart sessions store regions server id row there =
     let its = row_is sessions store regions id row there in
     let holds = server.each id its.session its.there in
-    subst (λ (r : Row LabelledLine). r.client ≢ r.key) its.is (λ e. holds.leaf its.session.account.0 (holds.child ∙ ap Some e))
+    subst (λ (r : Row Labelled). r.client ≢ r.key) its.is (λ e. holds.leaf its.session.account.0 (holds.child ∙ ap Some e))

@@ -1,7 +1,7 @@
 -- A session is opened: what the model tells of it, and that its client stays sound.
 use Rattle.std.proofs.Common.{◌≡◌, ◌≢◌, ℕ, ◌≤◌, ◌<◌, List, [], Some, is_some, refl, sym, ap, subst, ◌∙◌, arith, true≢false}
 use Rattle.std.proofs.lemmas.Option.{none-some}
-use Rattle.std.specs.Prelude.{None, Ok}
+use Rattle.std.specs.Prelude.{None, Ok, IsSome}
 use Rattle.std.specs.FinMap.{get, insert, len}
 use Rattle.trade_base.specs.declared.id.SessionId.{SessionId}
 use Rattle.own_model.specs.Account.{Account, Fits, parted_with}
@@ -15,11 +15,12 @@ use Rattle.own_model.proofs.UseLemmas.{sessions_use}
 use Rattle.own_model.proofs.LimitLemmas.{sessions_within}
 use Rattle.own_model.specs.OwnStep.{Outcome, entry_step, session_opened}
 use Rattle.own_model.specs.Reply.Reply.{Selected}
-use Rattle.own_model.specs.Session.{Wish, wish, new_session, donation_refusal}
+use Rattle.own_model.specs.Session.{Wish, wish, new_session, donation_refusal, Labelled}
 use Rattle.own_model.specs.StartList.{Entry}
 use Rattle.own_model.proofs.NatMapLemmas.{get-insert_same, get-insert_other}
 use Rattle.own_model.proofs.SessionLemmas.{donation_covered, large_enough}
 use Rattle.own_model.proofs.Totals.{len-insert_new, total-insert_new}
+use Rattle.own_model.specs.Session.ServiceState.{Logging}
 use Rattle.cap_space.specs.declared.cap.Cap.TheVariants.{Dataspace, Session}
 use Rattle.cap_space.specs.Space.{Space, with_cap}
 use Rattle.dataspace_core.specs.Store.{Store, Part, part, account_of, account_in, ram_limits_in, parted_part}
@@ -27,9 +28,8 @@ use Rattle.dataspace_core.proofs.PartLaws.{account_of-part}
 use Rattle.server_frame.specs.Frame.{Row, OpensSession}
 use Rattle.pd_core.specs.Answer.{model_answer}
 use Rattle.pd_core.specs.declared.answer.Answer.{Answer}
-use Rattle.log_service.specs.Session.{LabelledLine}
 use Rattle.pd_core.specs.Own.{Sessions, HasSessions, own_at, own_of, own_heap_at, sliced_at, part_at}
-use Rattle.pd_core.specs.Sessions.{AgreeBut, NamesOpen, OpensFor}
+use Rattle.pd_core.specs.Sessions.{AgreeBut}
 use Rattle.pd_core.specs.Sound.{rpc_weight, session_weight, IsLawful, IsSoundScript}
 use Rattle.pd_core.specs.declared.script.Script.{Script}
 use Rattle.pd_core.proofs.OwnLemmas.{same_new_selector}
@@ -37,6 +37,25 @@ use Rattle.pd_core.proofs.SessionOwnLemmas.{AreNoSpaces, AreCounted, lawful_whic
 use Rattle.pd_core.proofs.SessionCallLemmas.{ChangesOne, some_sessions, some_are_open, some_same, own_put, opens_own}
 use Rattle.pd_core.proofs.SessionScriptLemmas.{own_still, sound_still}
 use Rattle.pd_core.proofs.SessionDoneLemmas.{limit_within, no_space}
+
+-- each selector that names a session of the server under this entry names an open one
+abbrev pub NamesOpen : Script → NatMap (Row Labelled) → ℕ → Type 0
+NamesOpen script rows server =
+    (selector : ℕ) (session : SessionId) → get script.caps.caps selector ≡ Some (Session server session) → IsSome (get rows session.0)
+
+-- a session with this label and donation is opened for a script, under a new selector: what the model tells of it, where all
+-- other sessions are the same before and after, and that the script is sound
+pub record OpensFor (answer : Answer) (server : ℕ) (label : List ℕ) (ram caps : ℕ) (old new : Store) (before after : Script) (rows rows' : NatMap (Row Labelled)) : Type 0 where
+  pub id : SessionId
+  pub selector : ℕ
+  pub told : model_answer answer ≡ Selected selector
+  pub opens : OpensSession before.account.0 ram caps id.0 (record { label = label; state = Logging [] }) old new rows rows'
+  pub free : get before.caps.caps selector ≡ None
+  pub script : after ≡ record before { caps = with_cap before.caps selector (Session server id) }
+  pub sound : IsSoundScript new after
+  pub does : (entry : Entry) (S S' : Sessions) (service text : List ℕ) (w : Wish) → HasSessions S before.caps.caps → wish entry.name entry.routes service text ≡ Ok w →
+      w.ram ≡ ram → w.caps ≡ caps → AgreeBut S S' server id.0 → S' server id.0 ≡ Some (new_session w) →
+      entry_step entry (Open service text) (own_at S old before) ≡ record { reply = Selected selector; lines = []; next = own_at S' new after }
 
 -- an open leaves what is lawful
 lawful_opened : (s : OwnState) (w : Wish) → donation_refusal s.account w.ram w.caps ≡ None → IsLawful s → IsLawful (session_opened w s).next
@@ -46,7 +65,7 @@ lawful_opened s w enough law = record {
   within = (sessions_within s law.within).opens w enough;
 }
 
-module _ (store store' : Store) (script : Script) (rows : NatMap (Row LabelledLine)) (server : ℕ) (session : SessionId) (ram caps : ℕ) (sound : IsSoundScript store script) (named : NamesOpen script rows server) (free : get rows session.0 ≡ None)
+module _ (store store' : Store) (script : Script) (rows : NatMap (Row Labelled)) (server : ℕ) (session : SessionId) (ram caps : ℕ) (sound : IsSoundScript store script) (named : NamesOpen script rows server) (free : get rows session.0 ≡ None)
     (limits : ram_limits_in store' ≡ ram_limits_in store) (parted : part script.account.0 store' ≡ parted_part (part_at store script) ram caps) (accepted : donation_refusal (account_in store script.account.0) ram caps ≡ None) where
   -- what the client's account becomes
   abbrev a : Account
@@ -143,8 +162,8 @@ module _ (store store' : Store) (script : Script) (rows : NatMap (Row LabelledLi
       opens_sound = sound_still store store' script (Some a) sound parted refl limits opened_space selector opened_others opened_spaces counted opened_lawful
 
       -- what the code's call does
-      pub opens_for : (space' : Space) (answer : Answer) (label : List ℕ) (rows' : NatMap (Row LabelledLine)) → space' ≡ opened_space → model_answer answer ≡ Selected selector →
-          OpensSession script.account.0 ram caps session.0 (record { label = label; partial = [] }) store store' rows rows' →
+      pub opens_for : (space' : Space) (answer : Answer) (label : List ℕ) (rows' : NatMap (Row Labelled)) → space' ≡ opened_space → model_answer answer ≡ Selected selector →
+          OpensSession script.account.0 ram caps session.0 (record { label = label; state = Logging [] }) store store' rows rows' →
           OpensFor answer server label ram caps store store' script (record script { caps = space' }) rows rows'
       opens_for space' answer label rows' taken told_is opens = record {
         id = session;

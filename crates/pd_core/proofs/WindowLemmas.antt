@@ -11,7 +11,7 @@ use Rattle.own_model.specs.Region.{Region}
 use Rattle.own_model.proofs.NatMapLemmas.{same, get-picked, get-insert_same, get-insert_other, get-remove_same, get-remove_other, some_of}
 use Rattle.region_map.specs.Regions.{Regions, heap_attached, heap_detached}
 use Rattle.dataspace_core.specs.Store.{Store, Part, part, part_with_bytes, PartBecomes}
-use Rattle.dataspace_core.specs.Share.{Share, share_in, shown, IsWindowOf}
+use Rattle.dataspace_core.specs.Share.{Share, share_in, shown}
 use Rattle.dataspace_core.proofs.PokedLaws.{poked_length, poked_other}
 use Rattle.dataspace_core.proofs.ShareLaws.{get-tags_of}
 use Rattle.sliced_heap.specs.Heap.{share_at}

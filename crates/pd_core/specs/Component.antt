@@ -7,9 +7,11 @@ use Rattle.own_model.specs.Limits.{caps_limits}
 use Rattle.own_model.specs.NatMap.{NatMap}
 use Rattle.own_model.specs.OwnHeap.{no_heap}
 use Rattle.own_model.specs.OwnState.{OwnState}
-use Rattle.own_model.specs.Routes.{fixed_routes}
+use Rattle.own_model.specs.Routes.{Service, fixed_routes}
+use Rattle.own_model.specs.Routes.Service.{Log as LogKind}
 use Rattle.own_model.specs.StartList.{Entry, Kind}
 use Rattle.own_model.specs.StartList.Kind.{Script as AScript, Server as AServer}
+use Rattle.own_model.specs.Session.{Labelled}
 use Rattle.cap_space.specs.Space.{Space}
 use Rattle.cap_space.specs.declared.cap.Cap.{Cap}
 use Rattle.region_map.specs.Regions.{Regions}
@@ -55,6 +57,15 @@ tables_of component = tables_in component.role
 abbrev pub entry_of : Component → Entry
 entry_of component = record { name = component.name.now; kind = kind_of component.role; routes = fixed_routes }
 
+-- the service that a role serves to others
+abbrev pub served_by : Role → Option Service
+served_by (Script script) = None
+served_by (Server account) = None
+served_by (Log account server) = Some LogKind
+
+abbrev pub service_of : Component → Option Service
+service_of component = served_by component.role
+
 -- a script's heaps are new, and take their blocks for the script's account
 pub record HasNewHeaps (script : AnyScript) : Type 0 where
   pub heap : IsNewHeap script.heap
@@ -88,22 +99,22 @@ abbrev pub places_of : Component → Option ℕ
 places_of component = places_in component.role
 
 -- the sessions that a component serves, by their keys
-abbrev pub rows_in : Store → Role → NatMap (Row LabelledLine)
+abbrev pub rows_in : Store → Role → NatMap (Row Labelled)
 rows_in store (Script script) = empty
 rows_in store (Server account) = empty
 rows_in store (Log account server) = log_rows server.sessions store server.map
 
-abbrev pub rows_of : Store → Component → NatMap (Row LabelledLine)
+abbrev pub rows_of : Store → Component → NatMap (Row Labelled)
 rows_of store component = rows_in store component.role
 
 -- a session is there, and its client's account is this one
-pub record IsSessionOf (account : ℕ) (session : Option (Row LabelledLine)) : Type 0 where
-  pub row : Row LabelledLine
+pub record IsSessionOf (account : ℕ) (session : Option (Row Labelled)) : Type 0 where
+  pub row : Row Labelled
   pub there : session ≡ Some row
   pub client : row.client ≡ account
 
 -- each session that a selector names is one of the account, and no other selector names it
-pub record NamesItsSessions (rows : ℕ → NatMap (Row LabelledLine)) (account : ℕ) (caps : NatMap Cap) : Type 0 where
+pub record NamesItsSessions (rows : ℕ → NatMap (Row Labelled)) (account : ℕ) (caps : NatMap Cap) : Type 0 where
   pub its : (selector server : ℕ) (session : SessionId) → session_at (get caps selector) ≡ Some (server, session) →
       IsSessionOf account (get (rows server) session.0)
   pub once : (p q server : ℕ) (a b : SessionId) → session_at (get caps p) ≡ Some (server, a) → session_at (get caps q) ≡ Some (server, b) →
@@ -140,12 +151,13 @@ IsSoundRole store (Log account server) = IsSoundLog store account.0 server.sessi
 abbrev pub IsSound : Store → Component → Type 0
 IsSound store component = IsSoundRole store component.role
 
--- what a call that is none of a session keeps: the component is sound after it; its entry and account, its limit of
+-- what a call that is none of a session keeps: the component is sound after it; its entry, service and account, its limit of
 -- capabilities and its places for them, what sessions its selectors name and what it serves, the root's key, who is whose
 -- parent, the places for accounts, the parts of all other accounts and the sum of all limits of RAM stay
 pub record Keeps (old : Store) (before : Component) (new : Store) (after : Component) : Type 0 where
   pub sound : IsSound new after
   pub entry : entry_of after ≡ entry_of before
+  pub service : service_of after ≡ service_of before
   pub account : payer_of after ≡ payer_of before
   pub is_open : IsSome (part (payer_of before) new).account
   pub caps_limit : (account_of (part (payer_of before) new)).caps_limit ≡ (account_of (part (payer_of before) old)).caps_limit

@@ -5,22 +5,22 @@ use Rattle.std.specs.List.{All, AllPairs}
 use Rattle.std.specs.Option.{option_map}
 use Rattle.own_model.specs.NatMap.{NatMap}
 use Rattle.own_model.specs.World.{World}
+use Rattle.own_model.specs.Session.{Labelled}
 use Rattle.dataspace_core.specs.Room.{HasRoom}
-use Rattle.dataspace_core.specs.Store.{Store, account_in, root_in, IsChildIn}
+use Rattle.dataspace_core.specs.Store.{Store, account_in, root_in, IsOpenIn, IsChildIn}
 use Rattle.server_frame.specs.Frame.{Row}
-use Rattle.log_service.specs.Session.{LabelledLine}
 use Rattle.pd_core.specs.Own.{Sessions}
-use Rattle.pd_core.specs.Sessions.{log_session}
+use Rattle.pd_core.specs.Sessions.{row_session}
 use Rattle.pd_core.specs.Component.{entry_of, payer_of, caps_of, rows_of, own, NamesItsSessions, HasPlaces, IsSound}
 use Rattle.pd_core.specs.declared.component.Component.{Component}
 
 -- the sessions of the server at an entry, by their keys
-abbrev pub rows_at : Store → List Component → ℕ → NatMap (Row LabelledLine)
+abbrev pub rows_at : Store → List Component → ℕ → NatMap (Row Labelled)
 rows_at store components server = get_or (map (rows_of store) components) server empty
 
 -- the open sessions, each by its server's entry and its key there
 abbrev pub sessions_in : Store → List Component → Sessions
-sessions_in store components server session = option_map log_session (get (rows_at store components server) session)
+sessions_in store components server session = option_map row_session (get (rows_at store components server) session)
 
 -- the entries and own states of the components, and the root's account, which is init's
 abbrev pub world_of : Store → List Component → World
@@ -31,20 +31,22 @@ world_of store components = record {
 }
 
 -- a session: its client isn't the root, and its account is neither the root nor a component's
-pub record IsSession (root : ℕ) (components : List Component) (row : Row LabelledLine) : Type 0 where
+pub record IsSession (root : ℕ) (components : List Component) (row : Row Labelled) : Type 0 where
   pub client : row.client ≢ root
   pub not_init : row.key ≢ root
   pub others : All (λ c. payer_of c ≢ row.key) components
 
 -- each is one, and no two servers have a session on one account
-pub record AreSessions (root : ℕ) (components : List Component) (rows : ℕ → NatMap (Row LabelledLine)) : Type 0 where
-  pub each : (server session : ℕ) (row : Row LabelledLine) → get (rows server) session ≡ Some row → IsSession root components row
-  pub apart : (server other a b : ℕ) (row next : Row LabelledLine) → get (rows server) a ≡ Some row → get (rows other) b ≡ Some next →
+pub record AreSessions (root : ℕ) (components : List Component) (rows : ℕ → NatMap (Row Labelled)) : Type 0 where
+  pub each : (server session : ℕ) (row : Row Labelled) → get (rows server) session ≡ Some row → IsSession root components row
+  pub apart : (server other a b : ℕ) (row next : Row Labelled) → get (rows server) a ≡ Some row → get (rows other) b ≡ Some next →
       row.key ≡ next.key → server ≡ other
 
--- each component is sound and has an account of its own below init's, each session that it names is its own, and its
--- capabilities find places; sessions have accounts of their own; and the memory has room for those still to be opened
+-- init's account is open; each component is sound and has an account of its own below it, each session that it names is its
+-- own, and its capabilities find places; sessions have accounts of their own; and the memory has room for those still to be
+-- opened
 pub record IsCore (store : Store) (components : List Component) : Type 0 where
+  pub init : IsOpenIn store (root_in store)
   pub sound : All (IsSound store) components
   pub not_init : All (λ c. payer_of c ≢ root_in store) components
   pub children : All (λ c. IsChildIn store (payer_of c) (root_in store)) components

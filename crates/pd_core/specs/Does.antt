@@ -1,5 +1,5 @@
 -- What a script's call does, as the model tells it, whatever the open sessions are.
-use Rattle.std.specs.Prelude.{◌≡◌, ℕ, List, Result}
+use Rattle.std.specs.Prelude.{◌≡◌, Result}
 use Rattle.trade_base.specs.declared.refusal.Refusal.{Refusal}
 use Rattle.own_model.specs.Call.{Call}
 use Rattle.own_model.specs.OwnStep.{script_step}

@@ -8,7 +8,7 @@ use Rattle.own_model.specs.StartList.{StartEntry, start_state}
 use Rattle.own_model.specs.World.{World}
 use Rattle.cap_space.specs.Space.{Space}
 use Rattle.region_map.specs.Regions.{Regions}
-use Rattle.dataspace_core.specs.Store.{Store, part, account_in, root_in, ram_limits_in, caps_limits_in, IsChildIn}
+use Rattle.dataspace_core.specs.Store.{Store, part, account_in, root_in, ram_limits_in, caps_limits_in, IsOpenIn, IsChildIn}
 use Rattle.server_frame.specs.declared.server.Session.{Session as Kept}
 use Rattle.log_service.specs.Session.{LabelledLine}
 pub use Rattle.dataspace_core.specs.Store.{opened_part}
@@ -63,8 +63,9 @@ pub record IsFresh (store : Store) (component : Component) : Type 0 where
   pub child : IsChildIn store (payer_of component) (root_in store)
   pub server : IsNewServer store component.role
 
--- each component is fresh, and no two have one account
+-- init's account is open, each component is fresh, and no two have one account
 pub record AreFresh (store : Store) (components : List Component) : Type 0 where
+  pub init : IsOpenIn store (root_in store)
   pub each : All (IsFresh store) components
   pub apart : AllPairs (λ c d. payer_of c ≢ payer_of d) components
 

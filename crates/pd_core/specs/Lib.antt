@@ -7,5 +7,5 @@ pub mod Sessions
 pub mod Component
 pub mod CodedWorld
 pub mod Core
-pub mod SessionCore
 pub mod Fresh
+pub mod SessionCalls

@@ -31,4 +31,12 @@ pub enum Call<'a> {
     Sdel(u64),
     /// The use and the limits of the caller's account are told.
     Quota,
+    /// A session of the service, with these arguments.
+    Open { service: &'a [u8], args: &'a [u8] },
+    /// More is donated for the session that a selector names.
+    Upgrade { selector: u64, args: &'a [u8] },
+    /// A request of the session that a selector names.
+    CallSession { selector: u64, request: &'a [u8] },
+    /// The session that a selector names goes.
+    Close(u64),
 }

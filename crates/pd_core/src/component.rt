@@ -3,18 +3,18 @@
 use crate::answer::tell;
 use crate::call::Call;
 use crate::script::Script;
-use cap_space::CapSpace;
+use cap_space::{Cap, CapSpace};
 use dataspace_core::Memory;
 use heap_core::Heap;
 use log_service::LogService;
 use region_map::RegionMap;
 use server_frame::{Reply, Server};
 use sliced_heap::SlicedHeap;
-use trade_base::{AccountId, Refusal};
+use trade_base::{AccountId, Refusal, SessionId};
 
 /// What a component is for.
 #[derive(Drop)]
-enum Role {
+pub(crate) enum Role {
     /// It makes calls.
     Script(Script),
     /// It answers the calls of others, and is charged on the account.
@@ -26,21 +26,23 @@ enum Role {
 /// A component: its name and its role.
 #[derive(Drop)]
 pub struct Component {
-    name: &'static [u8],
-    role: Role,
+    pub(crate) name: &'static [u8],
+    pub(crate) role: Role,
 }
 
 impl Component {
-    ghost use Rattle.std.specs.Prelude.{◌≡◌, Some, None};
+    ghost use Rattle.std.specs.Prelude.{◌≡◌, Some, None, IfOk, OnErr};
     ghost use Rattle.own_model.specs.OwnStep.{own_step};
     ghost use Rattle.own_model.specs.Routes.{fixed_routes};
+    ghost use Rattle.own_model.specs.Routes.Service.{Log as LogKind};
     ghost use Rattle.own_model.specs.StartList.Kind.{Script as AScript, Server as AServer};
     ghost use Rattle.pd_core.specs.Answer.{told, told_of};
-    ghost use Rattle.pd_core.specs.Call.{model_call, IsWellFormed};
+    ghost use Rattle.pd_core.specs.Call.{model_call, IsPlain, IsWellFormed};
     ghost use Rattle.dataspace_core.specs.Store.{Store};
-    ghost use Rattle.pd_core.specs.Component.{entry_of, payer_of, tables_of, caps_of, HasNewHeap, own, IsSound, Keeps};
+    ghost use Rattle.pd_core.specs.Component.{entry_of, payer_of, service_of, tables_of, caps_of, HasNewHeap, own, IsSound, Keeps};
     ghost use Rattle.pd_core.specs.Fresh.{IsNewLog, IsNewServer};
     ghost use Rattle.pd_core.specs.Own.{Sessions, HasSessions};
+    ghost use Rattle.pd_core.specs.SessionCalls.{named_in, without_selector};
 
     /// A script that is charged on the account, with these capabilities and regions, and with empty heaps.
     pub fn script(
@@ -54,6 +56,7 @@ impl Component {
         ensures tables { tables_of result ≡ Some (caps, regions) }
         ensures heap { HasNewHeap result.role }
         ensures server { (store : Store) → IsNewServer store result.role }
+        ensures service { service_of result ≡ None }
     {
         Component {
             name,
@@ -74,6 +77,7 @@ impl Component {
         ensures tables { tables_of result ≡ None }
         ensures heap { HasNewHeap result.role }
         ensures server { (store : Store) → IsNewServer store result.role }
+        ensures service { service_of result ≡ None }
     {
         Component {
             name,
@@ -88,6 +92,7 @@ impl Component {
         ensures tables { tables_of result ≡ None }
         ensures heap { HasNewHeap result.role }
         ensures server { (store : Store) → IsNewLog store server.sessions server.map → IsNewServer store result.role }
+        ensures service { service_of result ≡ Some LogKind }
     {
         Component {
             name,
@@ -95,10 +100,41 @@ impl Component {
         }
     }
 
-    /// Carries a call of the component out, and writes what it is answered in place of what the reply was.
+    /// The session that a selector names, or why not: `NotAScript`, then `InvalidSession`.
+    pub(crate) fn session(&self, selector: u64) -> Result<(usize, SessionId), Refusal>
+        ensures { result ≡ named_in self.now.role selector }
+    {
+        match &self.role {
+            Role::Script(script) => match script.caps.get(selector) {
+                Some(Cap::Session { server, session }) => Ok((server, session)),
+                _ => Err(Refusal::InvalidSession),
+            },
+            Role::Server(_) | Role::Log(..) => Err(Refusal::NotAScript),
+        }
+    }
+
+    /// Takes the session that a selector names out, which frees the selector, or tells why not: `NotAScript`, then
+    /// `InvalidSession`.
+    pub(crate) fn take_session(&mut self, selector: u64) -> Result<(usize, SessionId), Refusal>
+        ensures named { result ≡ named_in self.old.role selector }
+        ensures gone { IfOk result (λ _. self.new ≡ record self.old { role = without_selector self.old.role selector }) }
+        ensures err { OnErr result (self.new ≡ self.old) }
+    {
+        match &mut self.role {
+            Role::Script(script) => script
+                .caps
+                .take_session(selector)
+                .ok_or(Refusal::InvalidSession),
+            Role::Server(_) | Role::Log(..) => Err(Refusal::NotAScript),
+        }
+    }
+
+    /// Carries a call of the component out that is none of a session, and writes what it is answered in place of what the
+    /// reply was.
     pub(crate) fn step(&mut self, memory: &mut Memory, call: Call<'_>, reply: &mut Reply)
         requires sound { IsSound memory.old self.old }
         requires call { IsWellFormed call }
+        requires plain { IsPlain call }
         ensures outcome { (sessions : Sessions) → HasSessions sessions (caps_of self.old) →
             told reply.new (own sessions memory.new self.new)
             ≡ told_of (own_step (entry_of self.old) (model_call call.entry) (own sessions memory.old self.old)) }

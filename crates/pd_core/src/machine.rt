@@ -1,8 +1,14 @@
 //! The core: the memory, and the components whose calls it carries out.
 ghost use Rattle.std.specs.Prelude.{◌≡◌, ◌<◌, ℕ, length};
+ghost use Rattle.pd_core.specs.Call.{model_call, IsWellFormed};
+ghost use Rattle.pd_core.specs.Core.{IsCore};
+ghost use Rattle.pd_core.specs.SessionCalls.{Agrees, Answers, Leads};
 
+use crate::answer::tell;
 use crate::call::Call;
 use crate::component::Component;
+use crate::router::Router;
+use crate::session_calls::{self, close, open, upgrade};
 use dataspace_core::Memory;
 use server_frame::Reply;
 use std::boxed::BoxedSlice;
@@ -11,13 +17,15 @@ use std::marker::Model;
 /// The machine's memory with its components. Contracts see the entries of the start list, what init keeps, and each
 /// component's own state.
 #[derive(Drop)]
-pub struct Core {
+pub struct Core<R: Router + Drop> {
     memory: Memory,
     /// A boxed slice, so that no call makes it longer.
     components: BoxedSlice<Component>,
+    /// It agrees with the components' routes.
+    routes: R,
 }
 
-impl Model for Core {
+impl<R: Router + Drop> Model for Core<R> {
     ghost use Rattle.own_model.specs.World.{World};
     ghost use Rattle.pd_core.specs.CodedWorld.{coded_world};
 
@@ -26,14 +34,16 @@ impl Model for Core {
     ghost coded = { coded_world };
 
     ghost use Rattle.pd_core.specs.Core.{world_of, IsCore};
+    ghost use Rattle.pd_core.specs.SessionCalls.{Agrees};
     ghost use Rattle.std.specs.Box.{boxed_slice_items};
 
     ghost view = { λ core. world_of core.memory (boxed_slice_items core.components) };
 
-    ghost invariant = { λ core. IsCore core.memory (boxed_slice_items core.components) };
+    ghost invariant = { λ core. IsCore core.memory (boxed_slice_items core.components)
+        × Agrees (R.leads core.routes) (boxed_slice_items core.components) };
 }
 
-impl Core {
+impl<R: Router + Drop> Core<R> {
     ghost use Rattle.std.specs.Prelude.{◌≡◌, ◌<◌, ℕ, length};
     ghost use Rattle.std.specs.List.{flat_map};
     ghost use Rattle.own_model.specs.Reply.{reply_text, log_text};
@@ -41,23 +51,26 @@ impl Core {
     ghost use Rattle.pd_core.specs.Call.{model_call, IsWellFormed};
     ghost use Rattle.dataspace_core.specs.Room.{HasRoom};
     ghost use Rattle.pd_core.specs.Fresh.{started_world, AreFresh};
+    ghost use Rattle.pd_core.specs.SessionCalls.{Agrees};
 
     /// The core of fresh parts: a memory, and components that have made no call. Each has an account of its own, of which
     /// nothing is used, and empty tables; it starts with the account's limits for its budget. The memory has room for the
-    /// accounts of sessions.
-    pub fn from_parts(memory: Memory, components: Vec<Component>) -> Core
+    /// accounts of sessions. The router leads where the components' routes do.
+    pub fn from_parts(memory: Memory, components: Vec<Component>, routes: R) -> Core<R>
         requires fresh { AreFresh memory components.items }
         requires room { HasRoom memory }
+        requires leads { Agrees (R.leads routes) components.items }
         ensures started { result ≡ started_world memory components.items }
     {
         Core {
             memory,
             components: components.into_boxed_slice(),
+            routes,
         }
     }
 
     /// Carries a call out, and writes the log lines that it finishes and what it is answered in place of what the
-    /// reply was. No other component is touched.
+    /// reply was. Every other component's own state stays.
     pub fn step(&mut self, component: usize, call: Call<'_>, reply: &mut Reply)
         requires component { component < length self.old.entries }
         requires call { IsWellFormed call }
@@ -66,7 +79,51 @@ impl Core {
         ensures stepped { self.new ≡ with_state self.old component (outcome_at self.old component (model_call call.entry)).next }
         ensures balance { (pages caps : ℕ) → IsBalanced pages caps self.old → IsBalanced pages caps self.new }
     {
-        let caller = &mut self.components[component];
-        caller.step(&mut self.memory, call, reply);
+        carry_out(
+            &mut self.memory,
+            self.components.as_mut_slice(),
+            &self.routes,
+            component,
+            call,
+            reply,
+        );
+    }
+}
+
+// Carries a call of the component at a place out, and writes the log lines that it finishes and what it is answered in
+// place of what the reply was.
+fn carry_out<R: Router>(
+    memory: &mut Memory,
+    components: &mut [Component],
+    routes: &R,
+    caller: usize,
+    call: Call<'_>,
+    reply: &mut Reply,
+)
+    requires core { IsCore memory.old components.old }
+    requires routes { Agrees (R.leads routes.now) components.old }
+    requires caller { caller < length components.old }
+    requires call { IsWellFormed call }
+    ensures does { Answers (model_call call.entry) caller reply.new memory.old components.old memory.new components.new }
+    ensures core { IsCore memory.new components.new }
+    ensures leads { (leads : Leads) → Agrees leads components.old → Agrees leads components.new }
+{
+    match call {
+        Call::Open { service, args } => {
+            let opened = open(memory, components, routes, caller, service, args);
+            tell(opened, reply);
+        }
+        Call::Upgrade { selector, args } => {
+            let upgraded = upgrade(memory, components, caller, selector, args);
+            tell(upgraded, reply);
+        }
+        Call::CallSession { selector, request } => {
+            session_calls::call(memory, components, caller, selector, request, reply);
+        }
+        Call::Close(selector) => {
+            let closed = close(memory, components, caller, selector);
+            tell(closed, reply);
+        }
+        _ => components[caller].step(memory, call, reply),
     }
 }

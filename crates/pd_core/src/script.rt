@@ -32,15 +32,16 @@ impl Script {
     ghost use Rattle.own_model.specs.Text.{bytes_of_hex};
     ghost use Rattle.dataspace_core.specs.Store.{account_in};
     ghost use Rattle.pd_core.specs.Answer.{quotas_account};
-    ghost use Rattle.pd_core.specs.Call.{model_call, bytes_in, IsWellFormed};
+    ghost use Rattle.pd_core.specs.Call.{model_call, bytes_in, IsPlain, IsWellFormed};
     ghost use Rattle.pd_core.specs.Does.{Does, DoesTold};
     ghost use Rattle.pd_core.specs.Own.{part_at, own_heap_at, sliced_at, sized_at, range_refusal, IsFound};
     ghost use Rattle.pd_core.specs.Sound.{IsSoundScript, Keeps};
 
-    /// Carries a call out, and writes what it is answered in place of what the reply was.
+    /// Carries a call out that is none of a session, and writes what it is answered in place of what the reply was.
     pub(crate) fn step(&mut self, memory: &mut Memory, call: Call<'_>, reply: &mut Reply)
         requires sound { IsSoundScript memory.old self.old }
         requires call { IsWellFormed call }
+        requires plain { IsPlain call }
         ensures outcome { DoesTold (model_call call.entry) reply.new memory.old self.old memory.new self.new }
         ensures keeps { Keeps memory.old self.old memory.new self.new }
     {
@@ -61,6 +62,8 @@ impl Script {
             Call::Snew(bytes) => tell(self.snew(memory, bytes), reply),
             Call::Sdel(address) => tell(self.sdel(memory, address), reply),
             Call::Quota => tell(Ok(Answer::Quotas(self.quota(memory))), reply),
+            Call::Open { .. } | Call::Upgrade { .. } | Call::CallSession { .. } | Call::Close(_) =>
+                { unreachable!() }
         }
     }
 

@@ -1,41 +1,40 @@
--- The caller's own state is changed in the world, and nothing else.
-use Rattle.std.proofs.Common.{subst, sym, ap, ◌∙◌}
-use Rattle.std.specs.List.{flat_map}
-use Rattle.own_model.specs.OwnStep.{Outcome}
-use Rattle.own_model.specs.Reply.{reply_text, log_text}
-use Rattle.own_model.specs.World.{IsBalanced}
+-- What is carried out over the components is done to the core.
+use Rattle.std.proofs.Common.{◌≡◌, List, length, subst, sym, ap, ◌∙◌}
+use Rattle.std.proofs.lemmas.List.{with_items_is}
+use Rattle.std.specs.Global.{Vec}
+use Rattle.std.specs.Vec.{with_items}
+use Rattle.own_model.specs.World.{IsBalanced, outcome_at, with_state}
 use Rattle.own_model.proofs.LimitLemmas.{step_balanced}
-use Rattle.pd_core.specs.Answer.{Told}
 use Rattle.pd_core.specs.Call.{model_call}
-use Rattle.pd_core.proofs.CoreLemmas.{told_ready, told_outcome, told_world, told_core}
+use Rattle.pd_core.specs.Core.{IsCore, world_of}
+use Rattle.pd_core.specs.SessionCalls.{Agrees}
+use Rattle.pd_core.specs.declared.component.Component.{Component}
+use Rattle.pd_core.proofs.CoreLemmas.{same_many}
 use Rattle.pd_core.proofs.machine.Core.step.Goals as goal
 
+-- components that are lent come back as they are then, where they are as many
+written : (v : Vec Component) (lent after : List Component) → lent ≡ v.items → length after ≡ length lent → (with_items v after).items ≡ after
+written v lent after is many = with_items_is v after (many ∙ ap length is ∙ sym v.ok.0)
+
 pub invariant_of-self : goal.invariant_of-self
-invariant_of-self c =
-    let ready = told_ready _ _ _ c.self.view_is _ _ c.requires.component c.index_mut-caller.ensures.value c.self.invariant in
-    told_core _ _ _ c.self.view_is _ _ c.requires.component c.index_mut-caller.ensures.value c.self.invariant _ _ c.step.ensures.keeps
-    (model_call c.args.call) (ap (λ (t : Told). t.next) (c.step.ensures.outcome _ ready))
-
-pub returns-clause-answered : goal.returns-clause-answered
-returns-clause-answered c =
-    let ready = told_ready _ _ _ c.self.view_is _ _ c.requires.component c.index_mut-caller.ensures.value c.self.invariant in
-    ap (λ (t : Told). t.text) (c.step.ensures.outcome _ ready)
-    ∙ ap (λ (o : Outcome). reply_text o.reply)
-    (told_outcome _ _ _ c.self.view_is _ _ c.requires.component c.index_mut-caller.ensures.value c.self.invariant (model_call c.args.call))
-
-pub returns-clause-lines : goal.returns-clause-lines
-returns-clause-lines c =
-    let ready = told_ready _ _ _ c.self.view_is _ _ c.requires.component c.index_mut-caller.ensures.value c.self.invariant in
-    ap (λ (t : Told). t.lines) (c.step.ensures.outcome _ ready)
-    ∙ ap (λ (o : Outcome). flat_map log_text o.lines)
-    (told_outcome _ _ _ c.self.view_is _ _ c.requires.component c.index_mut-caller.ensures.value c.self.invariant (model_call c.args.call))
+invariant_of-self g c =
+    let lent = c.as_mut_slice in
+    let done = c.carry_out in
+    let leads = g.R.Router.leads c.self.inside.routes in
+    subst (λ items. IsCore done.new.memory items × Agrees leads items)
+    (sym (written c.self.inside.components.items lent.result.now done.new.components lent.ensures.value (same_many done.ensures.does)))
+    (done.ensures.core, done.ensures.leads leads (subst (Agrees leads) (sym lent.ensures.value) c.self.invariant.1))
 
 pub returns-clause-stepped : goal.returns-clause-stepped
-returns-clause-stepped c =
-    let ready = told_ready _ _ _ c.self.view_is _ _ c.requires.component c.index_mut-caller.ensures.value c.self.invariant in
-    told_world _ _ _ c.self.view_is _ _ c.requires.component c.index_mut-caller.ensures.value c.self.invariant _ _ c.step.ensures.keeps
-    (model_call c.args.call) (ap (λ (t : Told). t.next) (c.step.ensures.outcome _ ready))
+returns-clause-stepped g c =
+    let lent = c.as_mut_slice in
+    let done = c.carry_out in
+    let i = c.args.component in
+    let call = model_call c.args.call in
+    ap (world_of done.new.memory) (written c.self.inside.components.items lent.result.now done.new.components lent.ensures.value (same_many done.ensures.does))
+    ∙ done.ensures.does.stepped
+    ∙ ap (λ w. with_state w i (outcome_at w i call).next) (ap (world_of c.self.inside.memory) lent.ensures.value ∙ c.self.view_is)
 
 pub returns-clause-balance : goal.returns-clause-balance
-returns-clause-balance c = λ pages caps balanced.
-    subst (IsBalanced pages caps) (sym (returns-clause-stepped c)) (step_balanced pages caps c.args.self.now c.args.component (model_call c.args.call) balanced)
+returns-clause-balance g c = λ pages caps balanced.
+    subst (IsBalanced pages caps) (sym (returns-clause-stepped g c)) (step_balanced pages caps c.args.self.now c.args.component (model_call c.args.call) balanced)

@@ -1,0 +1,60 @@
+-- A call of a session in the core: what it requires of the components, and what it does to the world.
+use Rattle.std.specs.Prelude.{◌≡◌, ℕ, ◌<◌, ◌≤◌, List, length, map, get_or, Option, Some, None, Result, Err}
+use Rattle.std.specs.FinMap.{get}
+use Rattle.std.specs.List.{All, flat_map}
+use Rattle.std.specs.Option.{ok_or, option_map}
+use Rattle.trade_base.specs.declared.id.SessionId.{SessionId}
+use Rattle.trade_base.specs.declared.refusal.Refusal.{Refusal}
+use Rattle.trade_base.specs.declared.refusal.Refusal.TheVariants.{InvalidSession, NotAScript}
+use Rattle.own_model.specs.Call.{Call}
+use Rattle.own_model.specs.Reply.{reply_text, log_text}
+use Rattle.own_model.specs.Routes.{Service, provider}
+use Rattle.own_model.specs.Routes.Service.{Log as LogKind}
+use Rattle.own_model.specs.World.{outcome_at, with_state}
+use Rattle.cap_space.specs.Space.{without_cap}
+use Rattle.dataspace_core.specs.Store.{Store}
+use Rattle.server_frame.specs.Told.{Told}
+use Rattle.pd_core.specs.Component.{entry_of, served_by, service_of}
+use Rattle.pd_core.specs.Core.{world_of}
+use Rattle.pd_core.specs.Sound.{session_at}
+use Rattle.pd_core.specs.declared.component.Role.{Role}
+use Rattle.pd_core.specs.declared.component.Role.TheVariants.{Script, Server, Log}
+use Rattle.pd_core.specs.declared.component.Component.{Component}
+
+-- a role is the log server's
+abbrev pub IsLog : Role → Type 0
+IsLog role = served_by role ≡ Some LogKind
+
+-- the place of the component that serves what the component at a place asks for: a service by its name, with a given label
+abbrev pub Leads : Type 0
+Leads = ℕ → List ℕ → List ℕ → Option ℕ
+
+-- the service that the component at a place serves
+abbrev pub service_at : List Component → ℕ → Option Service
+service_at components place = get_or (map service_of components) place None
+
+-- what a component asks for leads to one that serves what its routes say, and to none where they lead to none; and a label
+-- has room for the name of each component
+pub record Agrees (leads : Leads) (components : List Component) : Type 0 where
+  pub names : All (λ c. length c.name.now ≤ 32) components
+  pub each : (i : ℕ) (d : Component) (service label : List ℕ) → i < length components →
+      option_map (service_at components) (leads i service label)
+      ≡ option_map Some (provider (entry_of (get_or components i d)).routes service label)
+
+-- the session that a selector of a script names, by its server's entry and its key there, or why there is none
+abbrev pub named_in : Role → ℕ → Result (ℕ × SessionId) Refusal
+named_in (Script script) selector = ok_or (session_at (get script.caps.caps selector)) InvalidSession
+named_in (Server account) selector = Err NotAScript
+named_in (Log account server) selector = Err NotAScript
+
+-- a role without a selector's capability
+abbrev pub without_selector : Role → ℕ → Role
+without_selector (Script script) selector = Script (record script { caps = without_cap script.caps selector })
+without_selector (Server account) selector = Server account
+without_selector (Log account server) selector = Log account server
+
+-- a call of the component at a place is answered as the model's, and leaves the world that the model's leaves
+pub record Answers (call : Call) (i : ℕ) (reply : Told) (old : Store) (before : List Component) (new : Store) (after : List Component) : Type 0 where
+  pub answered : reply.text ≡ reply_text (outcome_at (world_of old before) i call).reply
+  pub lines : reply.lines ≡ flat_map log_text (outcome_at (world_of old before) i call).lines
+  pub stepped : world_of new after ≡ with_state (world_of old before) i (outcome_at (world_of old before) i call).next

@@ -1,0 +1,130 @@
+//! The calls of sessions in the core: each finds the component that makes it and the one that serves it.
+ghost use Rattle.std.specs.Prelude.{◌≡◌, ◌<◌, ℕ, length};
+ghost use Rattle.own_model.specs.Call.Call.{Open as ModelledOpen, Upgrade as ModelledUpgrade};
+ghost use Rattle.own_model.specs.Call.Call.{CallSession as ModelledCallSession, Close as ModelledClose};
+ghost use Rattle.own_model.specs.Reply.{reply_text};
+ghost use Rattle.pd_core.specs.Answer.{reply_of, told_alone};
+ghost use Rattle.pd_core.specs.Core.{IsCore};
+ghost use Rattle.pd_core.specs.SessionCalls.{Agrees, Answers, Leads};
+
+use crate::answer::{Answer, tell};
+use crate::component::{Component, Role};
+use crate::label::label_of;
+use crate::router::Router;
+use crate::sessions;
+use dataspace_core::Memory;
+use server_frame::Reply;
+use session_proto::SessionArgs;
+use trade_base::Refusal;
+
+/// The session that a selector of the component at a place names goes, or why not: `NotAScript`, then `InvalidSession`.
+pub(crate) fn close(
+    memory: &mut Memory,
+    components: &mut [Component],
+    caller: usize,
+    selector: u64,
+) -> Result<Answer, Refusal>
+    requires core { IsCore memory.old components.old }
+    requires caller { caller < length components.old }
+    ensures does { Answers (ModelledClose selector) caller (told_alone (reply_text (reply_of result)))
+        memory.old components.old memory.new components.new }
+    ensures core { IsCore memory.new components.new }
+    ensures leads { (leads : Leads) → Agrees leads components.old → Agrees leads components.new }
+{
+    let (entry, session) = components[caller].take_session(selector)?;
+    let Role::Log(_, server) = &mut components[entry].role else {
+        unreachable!()
+    };
+    server.close(memory, session);
+    Ok(Answer::Done)
+}
+
+/// More is donated for the session that a selector of the component at a place names, or why not: `NotAScript`, then
+/// `InvalidSession`, then `BadArgs`, then `OutOfRam`, then `OutOfCaps`.
+pub(crate) fn upgrade(
+    memory: &mut Memory,
+    components: &mut [Component],
+    caller: usize,
+    selector: u64,
+    text: &[u8],
+) -> Result<Answer, Refusal>
+    requires core { IsCore memory.old components.old }
+    requires caller { caller < length components.old }
+    ensures does { Answers (ModelledUpgrade selector text.now) caller (told_alone (reply_text (reply_of result)))
+        memory.old components.old memory.new components.new }
+    ensures core { IsCore memory.new components.new }
+    ensures leads { (leads : Leads) → Agrees leads components.old → Agrees leads components.new }
+{
+    let named = components[caller].session(selector)?;
+    let Role::Log(_, server) = &mut components[named.0].role else {
+        unreachable!()
+    };
+    sessions::upgrade(server, memory, named.1, text)
+}
+
+/// A request of the session that a selector of the component at a place names is answered, and the lines that it finishes
+/// are told before the answer. It is refused with `NotAScript` or else `InvalidSession`.
+pub(crate) fn call(
+    memory: &mut Memory,
+    components: &mut [Component],
+    caller: usize,
+    selector: u64,
+    request: &[u8],
+    reply: &mut Reply,
+)
+    requires core { IsCore memory.old components.old }
+    requires caller { caller < length components.old }
+    ensures does { Answers (ModelledCallSession selector request.now) caller reply.new
+        memory.old components.old memory.new components.new }
+    ensures core { IsCore memory.new components.new }
+    ensures leads { (leads : Leads) → Agrees leads components.old → Agrees leads components.new }
+{
+    let named = match components[caller].session(selector) {
+        Ok(named) => named,
+        Err(refusal) => return tell(Err(refusal), reply),
+    };
+    let Role::Log(_, server) = &mut components[named.0].role else {
+        unreachable!()
+    };
+    reply.clear();
+    sessions::call(server, memory, named.1, request, reply);
+}
+
+/// A session of the service is opened for the component at a place, by the text of arguments, or why not: `NotAScript`, then
+/// `BadArgs`, then `ServiceDenied`, then `OutOfRam`, then `OutOfCaps`, then `InsufficientRamQuota`, then
+/// `InsufficientCapQuota`.
+pub(crate) fn open<R: Router>(
+    memory: &mut Memory,
+    components: &mut [Component],
+    routes: &R,
+    caller: usize,
+    service: &[u8],
+    text: &[u8],
+) -> Result<Answer, Refusal>
+    requires core { IsCore memory.old components.old }
+    requires routes { Agrees (R.leads routes.now) components.old }
+    requires caller { caller < length components.old }
+    ensures does { Answers (ModelledOpen service.now text.now) caller (told_alone (reply_text (reply_of result)))
+        memory.old components.old memory.new components.new }
+    ensures core { IsCore memory.new components.new }
+    ensures leads { (leads : Leads) → Agrees leads components.old → Agrees leads components.new }
+{
+    let client = &components[caller];
+    let Role::Script(script) = &client.role else {
+        return Err(Refusal::NotAScript);
+    };
+    let account = script.account;
+    let args = SessionArgs::read(text)?;
+    let Some(entry) = routes.provider(caller, service, args.label()) else {
+        return Err(Refusal::ServiceDenied);
+    };
+    let label = label_of(client.name, args.label());
+    let Role::Log(_, server) = &mut components[entry].role else {
+        unreachable!()
+    };
+    let session = server.open(memory, account, label.as_slice(), args.ram(), args.caps())?;
+    let Role::Script(script) = &mut components[caller].role else {
+        unreachable!()
+    };
+    Ok(Answer::Selected(sessions::keep(script, entry, session)))
+}
