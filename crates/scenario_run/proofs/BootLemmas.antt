@@ -131,6 +131,7 @@ module _ {store store' : Store} {child ram caps : ℕ} (free : get (accounts_in 
     has_started components start flat fresh is =
         subst (HasStarted store components store' (components ++ after ∷ [])) is (record {
           fresh = record {
+            init = subst (IsOpenIn store') (sym opens.root) (open_in_part (root_in store) store' (ap (λ (p : Part). is_some p.account) opens.parted_one));
             each = All-push (IsFresh store') components after (All-weaker (IsFresh store) (IsFresh store') fresh_stays components fresh.each) fresh_after;
             apart = all_pairs_push (λ c d. payer_of c ≢ payer_of d) components after fresh.apart
                 (λ k d h e. let c = get_or components k d in apart (payer_of c) (fresh_open store c (fresh.each k d h)) (e ∙ payer));

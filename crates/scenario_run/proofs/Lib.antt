@@ -1,5 +1,7 @@
 pub mod BootLemmas
+pub mod ConfigLemmas
 pub mod MachineLemmas
+pub mod LogFirstLemmas
 pub mod BlockLemmas
 pub mod LineLemmas
 pub mod GatheredLemmas

@@ -1,5 +1,5 @@
 -- The built-in machine as it starts, one component after another.
-use Rattle.std.proofs.Common.{◌≡◌, ℕ, ◌-◌, ◌<◌, ◌≤◌, List, [], ◌∷◌, ◌++◌, map, subst, refl, sym, ap, ◌∙◌, arith}
+use Rattle.std.proofs.Common.{◌≡◌, ℕ, ◌-◌, ◌<◌, ◌≤◌, List, [], ◌∷◌, ◌++◌, map, is_some, subst, refl, sym, ap, ◌∙◌, arith}
 use Rattle.std.specs.Option.{unwrap_or}
 use Rattle.std.specs.FinMap.{get, empty}
 use Rattle.std.specs.Prelude.{None}
@@ -10,7 +10,7 @@ use Rattle.own_model.specs.World.{start_world}
 use Rattle.own_model.proofs.NatMapLemmas.{get-empty, get-insert_same}
 use Rattle.own_model.proofs.Totals.{total-insert_new, total-empty}
 use Rattle.dataspace_core.specs.Room.{HasRoom}
-use Rattle.dataspace_core.specs.Store.{Store, fresh_store, root_in, parents_in, room_in, ram_limits_in, caps_limits_in}
+use Rattle.dataspace_core.specs.Store.{Store, fresh_store, root_in, accounts_in, IsOpenIn, parents_in, room_in, ram_limits_in, caps_limits_in}
 use Rattle.dataspace_core.proofs.RoomLaws.{room_at_first}
 use Rattle.pd_core.specs.Fresh.{starts_of, started_world, AreFresh}
 use Rattle.pd_core.specs.declared.component.Component.{Component}
@@ -36,23 +36,26 @@ pub record SoFar (store : Store) (components : List Component) (list : List Star
 -- nothing has started in a memory that has just booted
 pub nothing_yet : {store : Store} {accounts places : ℕ} {components : List Component} → store ≡ fresh_store (root_in store) 64 64 accounts places → 37 ≤ accounts →
     components ≡ [] → SoFar store components [] 262144 64 36
-nothing_yet {store = store} {accounts = accounts} booted enough none = record {
-  fresh = subst (AreFresh store) (sym none) (record { each = λ k d h. absurd (omega (arith, h)); apart = λ j k d before h. absurd (omega (arith, h)) });
-  starts = ap (starts_of store) none;
-  init =
-      ap (λ s. init_in s) booted
-      ∙ ap (λ o. unwrap_or o (opened 0 0)) (get-insert_same empty (root_in store) (opened 262144 64) (root_in store) refl);
-  room = omega (arith, ap room_in booted, enough);
-  machine =
-      let alone = total-insert_new (λ (a : Account). a.ram_limit) empty (root_in store) (opened 262144 64) (get-empty (root_in store)) in
-      ap ram_limits_in booted ∙ omega (arith, alone, total-empty (λ (a : Account). a.ram_limit));
-  all_caps =
-      let alone = total-insert_new (λ (a : Account). a.caps_limit) empty (root_in store) (opened 262144 64) (get-empty (root_in store)) in
-      ap caps_limits_in booted ∙ omega (arith, alone, total-empty (λ (a : Account). a.caps_limit));
-  flat =
-      let nobody : (k : ℕ) → get (parents_in store) k ≡ None = λ k. ap (λ s. get (parents_in s) k) booted ∙ get-empty k in
-      record { outer = λ k p is. absurd (none-some p (sym (nobody k) ∙ is)); there = λ k p is. absurd (none-some p (sym (nobody k) ∙ is)) };
-}
+nothing_yet {store = store} {accounts = accounts} booted enough none =
+    let root_open : IsOpenIn store (root_in store) =
+    ap (λ s. is_some (get (accounts_in s) (root_in store))) booted ∙ ap is_some (get-insert_same empty (root_in store) (opened 262144 64) (root_in store) refl) in
+    record {
+      fresh = subst (AreFresh store) (sym none) (record { init = root_open; each = λ k d h. absurd (omega (arith, h)); apart = λ j k d before h. absurd (omega (arith, h)) });
+      starts = ap (starts_of store) none;
+      init =
+          ap (λ s. init_in s) booted
+          ∙ ap (λ o. unwrap_or o (opened 0 0)) (get-insert_same empty (root_in store) (opened 262144 64) (root_in store) refl);
+      room = omega (arith, ap room_in booted, enough);
+      machine =
+          let alone = total-insert_new (λ (a : Account). a.ram_limit) empty (root_in store) (opened 262144 64) (get-empty (root_in store)) in
+          ap ram_limits_in booted ∙ omega (arith, alone, total-empty (λ (a : Account). a.ram_limit));
+      all_caps =
+          let alone = total-insert_new (λ (a : Account). a.caps_limit) empty (root_in store) (opened 262144 64) (get-empty (root_in store)) in
+          ap caps_limits_in booted ∙ omega (arith, alone, total-empty (λ (a : Account). a.caps_limit));
+      flat =
+          let nobody : (k : ℕ) → get (parents_in store) k ≡ None = λ k. ap (λ s. get (parents_in s) k) booted ∙ get-empty k in
+          record { outer = λ k p is. absurd (none-some p (sym (nobody k) ∙ is)); there = λ k p is. absurd (none-some p (sym (nobody k) ∙ is)) };
+    }
 
 module _ {store : Store} {components : List Component} {list : List StartEntry} {ram_left caps_left places : ℕ} where
   -- a component more can start where init covers it

@@ -1,12 +1,14 @@
 -- What a start does to the parts of the machine.
-use Rattle.std.specs.Prelude.{◌≡◌, ℕ, ◌+◌, ◌<◌, List, [], ◌∷◌, ◌++◌}
+use Rattle.std.specs.Prelude.{◌≡◌, ℕ, ◌+◌, ◌<◌, List, [], ◌∷◌, ◌++◌, Some}
 use Rattle.own_model.specs.Account.{Account, Fits, parted_with}
-use Rattle.own_model.specs.Routes.{fixed_routes}
+use Rattle.own_model.specs.Routes.{Service, fixed_routes}
+use Rattle.own_model.specs.Routes.Service.{Log, Files}
 use Rattle.own_model.specs.StartList.{StartEntry}
 use Rattle.own_model.specs.StartList.Kind.{Script, Server}
 use Rattle.dataspace_core.specs.Room.{IsOuter}
 use Rattle.dataspace_core.specs.Store.{Store, account_in, root_in, room_in, ram_limits_in, caps_limits_in, IsOpenIn, IsChildIn}
 use Rattle.pd_core.specs.Fresh.{starts_of, AreFresh}
+use Rattle.pd_core.specs.SessionCalls.{service_at}
 use Rattle.pd_core.specs.declared.component.Component.{Component}
 
 -- a server with a budget
@@ -55,3 +57,12 @@ pub record HasStarted (store : Store) (components : List Component)
   pub machine : ram_limits_in after ≡ ram_limits_in store
   pub all_caps : caps_limits_in after ≡ caps_limits_in store
   pub flat : IsFlat after
+
+-- the first component is the log server
+abbrev pub HasLogFirst : List Component → Type 0
+HasLogFirst components = service_at components 0 ≡ Some Log
+
+-- the place of the server of a service
+abbrev pub place_of : Service → ℕ
+place_of Log = 0
+place_of Files = 1

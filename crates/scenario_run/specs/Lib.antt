@@ -1,4 +1,5 @@
 pub mod Boot
+pub mod Config
 pub mod Device
 pub mod Gathered
 pub mod Lines

@@ -11,17 +11,17 @@ use crate::device::{DeviceFault, Sink};
 use crate::gather::Gather;
 use crate::line::read_line;
 use crate::names::FixedNames;
+use crate::routes::FixedRoutes;
 use pd_core::{Core, Reply};
 use trade_base::Refusal;
 
 /// The name before the reply to what is no call.
 const NOBODY: &[u8] = b"?";
 
-/// Answers a line of at most `LONGEST_LINE` bytes: its call is carried out, and what it is answered is
-/// gathered: the log lines that it finished, and then the reply with the caller's name. A fault leaves it answered, and
-/// told in part.
+/// Answers a line of at most `LONGEST_LINE` bytes: its call is carried out, and what it is answered is gathered: the log
+/// lines that it finished, and then the reply with the caller's name. A fault leaves it answered, and told in part.
 pub fn answer_line<K: Sink>(
-    core: &mut Core,
+    core: &mut Core<FixedRoutes>,
     list: &FixedNames,
     line: &[u8],
     reply: &mut Reply,

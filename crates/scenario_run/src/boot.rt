@@ -1,13 +1,14 @@
 //! How the built-in machine starts: init opens an account for each component, and keeps what is left.
-ghost use Rattle.std.specs.Prelude.{◌≡◌, ◌<◌, OnOk, IfOk, None};
+ghost use Rattle.std.specs.Prelude.{◌≡◌, ◌<◌, [], OnOk, IfOk, None};
 ghost use Rattle.std.specs.FinMap.{get};
 ghost use Rattle.own_model.specs.Account.{Fits};
 ghost use Rattle.own_model.specs.StartList.{machine_a};
 ghost use Rattle.own_model.specs.World.{start_world, IsBalanced};
-ghost use Rattle.scenario_run.specs.Boot.{CanStart, HasStarted, init_in, server_start, script_start};
+ghost use Rattle.scenario_run.specs.Boot.{CanStart, HasStarted, HasLogFirst, init_in, server_start, script_start};
 ghost use Rattle.dataspace_core.specs.Store.{accounts_in, root_in, room_in, IsOpenIn, OpensPart, ram_limits_in, caps_limits_in};
 
 use crate::names::{ALICE, BOB, FILES, LOG};
+use crate::routes::FixedRoutes;
 use cap_space::CapSpace;
 use dataspace_core::Memory;
 use log_service::LogService;
@@ -55,7 +56,7 @@ const SCRIPT: Budget = Budget {
 };
 
 /// The built-in machine as it starts, or `NoMemory` where the host has no room for it.
-pub fn boot_fixed(alloc: Global) -> Result<Core, NoMemory>
+pub fn boot_fixed(alloc: Global) -> Result<Core<FixedRoutes>, NoMemory>
     ensures started { IfOk result (λ core. core ≡ start_world machine_a) }
     ensures balanced { IfOk result (λ core. IsBalanced 64 64 core) }
 {
@@ -65,7 +66,7 @@ pub fn boot_fixed(alloc: Global) -> Result<Core, NoMemory>
     start_server(&mut memory, &mut components, FILES)?;
     start_script(&mut memory, &mut components, ALICE, alloc)?;
     start_script(&mut memory, &mut components, BOB, alloc)?;
-    Ok(Core::from_parts(memory, components))
+    Ok(Core::from_parts(memory, components, FixedRoutes))
 }
 
 // Opens a component's account with a part of init's limits.
@@ -92,6 +93,7 @@ fn start_log(
     requires ready { CanStart memory.old components.old.items SERVER.ram.0 SERVER.caps.0 }
     ensures started { OnOk result (HasStarted memory.old components.old.items memory.new components.new.items
         (server_start name.now SERVER.ram.0 SERVER.caps.0)) }
+    ensures first { OnOk result (components.old.items ≡ [] → HasLogFirst components.new.items) }
 {
     let server = Server::boot(alloc, LogService, SESSIONS, PAGES)?;
     let account = open_account(memory, SERVER);
@@ -109,6 +111,7 @@ fn start_server(
     requires ready { CanStart memory.old components.old.items SERVER.ram.0 SERVER.caps.0 }
     ensures started { OnOk result (HasStarted memory.old components.old.items memory.new components.new.items
         (server_start name.now SERVER.ram.0 SERVER.caps.0)) }
+    ensures first { OnOk result (HasLogFirst components.old.items → HasLogFirst components.new.items) }
 {
     let account = open_account(memory, SERVER);
     components
@@ -126,6 +129,7 @@ fn start_script(
     requires ready { CanStart memory.old components.old.items SCRIPT.ram.0 SCRIPT.caps.0 }
     ensures started { OnOk result (HasStarted memory.old components.old.items memory.new components.new.items
         (script_start name.now SCRIPT.ram.0 SCRIPT.caps.0)) }
+    ensures first { OnOk result (HasLogFirst components.old.items → HasLogFirst components.new.items) }
 {
     let caps = CapSpace::boot(alloc, PLACES)?;
     let regions = RegionMap::boot(alloc, REGIONS, PAGES, PAGES)?;

@@ -1,10 +1,10 @@
 //! The lines that make calls.
-ghost use Rattle.std.specs.Prelude.{◌≡◌, IfSome, None, Some, IfOk, IfErr, OnErr};
-ghost use Rattle.std.specs.Option.{option_and_then, option_copied, option_map};
+ghost use Rattle.std.specs.Prelude.{◌≡◌, IfSome, None, Some, [], IfOk, IfErr, OnErr};
+ghost use Rattle.std.specs.Option.{option_and_then, option_copied, option_map, unwrap_or};
 ghost use Rattle.trade_base.specs.declared.refusal.Refusal.TheVariants.{BadLine};
 ghost use Rattle.own_model.specs.Text.{address_of, number_of};
-ghost use Rattle.own_model.specs.Call.{call_of, form_of, of_none, of_two, some_bytes_of_hex, spoken, Spoken};
-ghost use Rattle.own_model.specs.Call.Call.{AttachAt, Peek, Poke};
+ghost use Rattle.own_model.specs.Call.{call_of, form_of, name_of, of_none, of_text, of_two, some_bytes_of_hex, spoken, Spoken};
+ghost use Rattle.own_model.specs.Call.Call.{AttachAt, Peek, Poke, Open, Upgrade, CallSession};
 ghost use Rattle.pd_core.specs.Call.{model_call, IsWellFormed};
 
 use pd_core::Call;
@@ -48,36 +48,60 @@ fn call_from<'a>(word: &[u8], arguments: Option<&'a [u8]>) -> Option<Call<'a>>
     ensures well_formed { IfSome result IsWellFormed }
 {
     if word == b"alloc".as_slice() {
-        Some(Call::Alloc(number(arguments)?))
-    } else if word == b"free".as_slice() {
-        Some(Call::Free(number(arguments)?))
-    } else if word == b"attach".as_slice() {
-        Some(Call::Attach(number(arguments)?))
-    } else if word == b"attach_at".as_slice() {
-        read_attach_at(arguments)
-    } else if word == b"detach".as_slice() {
-        Some(Call::Detach(address(arguments)?))
-    } else if word == b"peek".as_slice() {
-        read_peek(arguments)
-    } else if word == b"poke".as_slice() {
-        read_poke(arguments)
-    } else if word == b"capalloc".as_slice() {
-        read_none(Call::Capalloc, arguments)
-    } else if word == b"capfree".as_slice() {
-        Some(Call::Capfree(number(arguments)?))
-    } else if word == b"new".as_slice() {
-        Some(Call::New(number(arguments)?))
-    } else if word == b"del".as_slice() {
-        Some(Call::Del(address(arguments)?))
-    } else if word == b"snew".as_slice() {
-        Some(Call::Snew(number(arguments)?))
-    } else if word == b"sdel".as_slice() {
-        Some(Call::Sdel(address(arguments)?))
-    } else if word == b"quota".as_slice() {
-        read_none(Call::Quota, arguments)
-    } else {
-        None
+        return Some(Call::Alloc(number(arguments)?));
     }
+    if word == b"free".as_slice() {
+        return Some(Call::Free(number(arguments)?));
+    }
+    if word == b"attach".as_slice() {
+        return Some(Call::Attach(number(arguments)?));
+    }
+    if word == b"attach_at".as_slice() {
+        return read_attach_at(arguments);
+    }
+    if word == b"detach".as_slice() {
+        return Some(Call::Detach(address(arguments)?));
+    }
+    if word == b"peek".as_slice() {
+        return read_peek(arguments);
+    }
+    if word == b"poke".as_slice() {
+        return read_poke(arguments);
+    }
+    if word == b"capalloc".as_slice() {
+        return read_none(Call::Capalloc, arguments);
+    }
+    if word == b"capfree".as_slice() {
+        return Some(Call::Capfree(number(arguments)?));
+    }
+    if word == b"new".as_slice() {
+        return Some(Call::New(number(arguments)?));
+    }
+    if word == b"del".as_slice() {
+        return Some(Call::Del(address(arguments)?));
+    }
+    if word == b"snew".as_slice() {
+        return Some(Call::Snew(number(arguments)?));
+    }
+    if word == b"sdel".as_slice() {
+        return Some(Call::Sdel(address(arguments)?));
+    }
+    if word == b"open".as_slice() {
+        return read_open(arguments);
+    }
+    if word == b"upgrade".as_slice() {
+        return read_upgrade(arguments);
+    }
+    if word == b"call".as_slice() {
+        return read_session_call(arguments);
+    }
+    if word == b"close".as_slice() {
+        return Some(Call::Close(number(arguments)?));
+    }
+    if word == b"quota".as_slice() {
+        return read_none(Call::Quota, arguments);
+    }
+    None
 }
 
 /// A number as the only argument.
@@ -139,6 +163,48 @@ fn read_poke(arguments: Option<&[u8]>) -> Option<Call<'_>>
     let address = read_address(address)?;
     let hex = read_hex(hex?)?;
     Some(Call::Poke { address, hex })
+}
+
+/// A service's name, and the arguments of a session after a space, if there are any.
+fn read_open(arguments: Option<&[u8]>) -> Option<Call<'_>>
+    ensures call { option_map model_call result ≡ of_text Open name_of (option_copied arguments.entry) }
+    ensures well_formed { IfSome result IsWellFormed }
+{
+    let (service, args) = split_first_word(arguments?);
+    if !is_name(service) {
+        return None;
+    }
+    let args = text_or_none(args);
+    Some(Call::Open { service, args })
+}
+
+/// A selector, and the arguments of a session after a space, if there are any.
+fn read_upgrade(arguments: Option<&[u8]>) -> Option<Call<'_>>
+    ensures call { option_map model_call result ≡ of_text Upgrade number_of (option_copied arguments.entry) }
+    ensures well_formed { IfSome result IsWellFormed }
+{
+    let (selector, args) = split_first_word(arguments?);
+    let selector = read_number(selector)?;
+    let args = text_or_none(args);
+    Some(Call::Upgrade { selector, args })
+}
+
+/// A selector, and a request after a space, if there is one.
+fn read_session_call(arguments: Option<&[u8]>) -> Option<Call<'_>>
+    ensures call { option_map model_call result ≡ of_text CallSession number_of (option_copied arguments.entry) }
+    ensures well_formed { IfSome result IsWellFormed }
+{
+    let (selector, request) = split_first_word(arguments?);
+    let selector = read_number(selector)?;
+    let request = text_or_none(request);
+    Some(Call::CallSession { selector, request })
+}
+
+/// A text, which is empty where it is left out.
+fn text_or_none(text: Option<&[u8]>) -> &[u8]
+    ensures { result.now ≡ unwrap_or (option_copied text.entry) [] }
+{
+    text.unwrap_or(b"")
 }
 
 #[cfg(test)]
@@ -246,6 +312,49 @@ mod tests {
     }
 
     #[test]
+    fn session_calls_are_read(rt: HostRuntime) {
+        assert!(rt;
+            matches!(
+                call_of_alice(b"alice open LOG  ram_quota=4K"),
+                Some(Call::Open {
+                    service: b"LOG",
+                    args: b" ram_quota=4K"
+                })
+            )
+        );
+        for line in [b"alice open LOG".as_slice(), b"alice open LOG "] {
+            assert!(rt;
+                matches!(
+                    call_of_alice(line),
+                    Some(Call::Open {
+                        service: b"LOG",
+                        args: b""
+                    })
+                )
+            );
+        }
+        assert!(rt;
+            matches!(
+                call_of_alice(b"alice upgrade 7 x y "),
+                Some(Call::Upgrade {
+                    selector: 7,
+                    args: b"x y "
+                })
+            )
+        );
+        assert!(rt;
+            matches!(
+                call_of_alice(b"alice call 4294967297"),
+                Some(Call::CallSession {
+                    selector: 4294967297,
+                    request: b""
+                })
+            )
+        );
+        assert!(rt; matches!(call_of_alice(b"alice close 0"), Some(Call::Close(0))));
+    }
+
+    #[test]
     fn pokes_are_read(rt: HostRuntime) {
         assert!(rt;
             matches!(
@@ -278,6 +387,24 @@ mod tests {
         assert!(rt; is_bad(b"alice new -1"));
         assert!(rt; is_bad(b"alice snew"));
         assert!(rt; is_bad(b"alice snew 0x10"));
+    }
+
+    #[test]
+    fn other_session_calls_are_bad(rt: HostRuntime) {
+        for line in [
+            b"alice open".as_slice(),
+            b"alice open ",
+            b"alice open  LOG",
+            b"alice open a/b",
+            b"alice upgrade",
+            b"alice upgrade x",
+            b"alice call ",
+            b"alice call -1 WRITE",
+            b"alice close",
+            b"alice close 1 ",
+        ] {
+            assert!(rt; is_bad(line));
+        }
     }
 
     #[test]

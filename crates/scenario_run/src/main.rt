@@ -5,6 +5,7 @@ mod answering;
 mod block;
 mod boot;
 mod bytes;
+mod config;
 mod device;
 mod gather;
 mod input;
@@ -13,17 +14,20 @@ mod lines;
 mod names;
 mod output;
 mod program;
+mod routes;
 mod running;
 #[cfg(test)]
 mod tests;
 
 pub use boot::boot_fixed;
+pub use config::{ConfigFault, LONGEST_CONFIG_READ, read_config, read_config_at};
 pub use device::{DeviceFault, Sink, Source};
 pub use input::Input;
 pub use line::read_line;
 pub use names::FixedNames;
 pub use output::Output;
 pub use program::{Failure, MAX_LINES, Stopped, boot_and_run, exit_status, run_bytes};
+pub use routes::FixedRoutes;
 pub use running::{RunFault, Summary, run};
 use std::process::ExitCode;
 

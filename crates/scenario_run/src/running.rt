@@ -19,6 +19,7 @@ use crate::block::LONGEST_LINE;
 use crate::device::{DeviceFault, Sink, Source};
 use crate::lines::{Buffers, LineFault, Next};
 use crate::names::FixedNames;
+use crate::routes::FixedRoutes;
 use pd_core::{Core, Reply};
 use thiserror::Error;
 
@@ -63,7 +64,7 @@ impl From<LineFault> for RunFault {
 /// write that failed, a part of their transcript is written.
 #[tactic(auto, using(crate::proofs::Ending::endings))]
 pub fn run<S: Source, K: Sink>(
-    core: &mut Core,
+    core: &mut Core<FixedRoutes>,
     list: &FixedNames,
     reply: &mut Reply,
     reader: &mut S,
@@ -111,7 +112,7 @@ pub fn run<S: Source, K: Sink>(
 
 // Answers line after line, and tells how many there were.
 fn answer_all<S: Source, K: Sink>(
-    core: &mut Core,
+    core: &mut Core<FixedRoutes>,
     list: &FixedNames,
     reply: &mut Reply,
     reader: &mut S,
@@ -141,7 +142,7 @@ fn answer_all<S: Source, K: Sink>(
 
 // Answers the next line, or tells that there is none.
 fn answer_next<S: Source, K: Sink>(
-    core: &mut Core,
+    core: &mut Core<FixedRoutes>,
     list: &FixedNames,
     reply: &mut Reply,
     buffers: &mut Buffers,
@@ -168,7 +169,7 @@ fn answer_next<S: Source, K: Sink>(
 
 // Answers the line of so many bytes with which the bytes ahead begin, and passes it with its newline.
 fn answer_ahead<K: Sink>(
-    core: &mut Core,
+    core: &mut Core<FixedRoutes>,
     list: &FixedNames,
     reply: &mut Reply,
     buffers: &mut Buffers,

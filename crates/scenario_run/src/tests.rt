@@ -1,9 +1,11 @@
 //! Worked scenarios on the built-in machine, over readers and writers in memory.
+mod configs;
 mod devices;
 mod faults;
 mod heap;
 mod rounds;
 mod rows;
+mod sessions;
 mod sliced;
 
 use crate::{

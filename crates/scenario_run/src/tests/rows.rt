@@ -94,7 +94,16 @@ fn lines_end_and_overflow(rt: HostRuntime) -> Result<(), Fail> {
         &input,
         4,
         b"alice: ram 0/65536 caps 0/16\n?: Bad_line\n?: Bad_line\nbob: ram 0/65536 caps 0/16\n",
-    )
+    )?;
+    for (length, transcript) in [
+        (8192, b"alice: Invalid_session\n".as_slice()),
+        (8193, b"?: Bad_line\n"),
+    ] {
+        let mut input = Vec::from_slice(rt.alloc(), b"alice call 1 ")?;
+        input.resize(length, b'x')?;
+        check(&rt, &input, 1, transcript)?;
+    }
+    Ok(())
 }
 
 #[test]
@@ -102,10 +111,11 @@ fn lines_and_names_refused(rt: HostRuntime) -> Result<(), Fail> {
     check(
         &rt,
         b"carol quota\nlog quota\nalice frob\nalice quota \nalice alloc 18446744073709551616\n\
-          alice alloc 18446744073709551615\nalice alloc 18446744073709547520\n",
-        7,
+          alice alloc 18446744073709551615\nalice alloc 18446744073709547520\n\
+          alice open Nic ram_quota=4K, cap_quota=2\n",
+        8,
         b"carol: Unknown_component\nlog: Not_a_script\n?: Bad_line\n?: Bad_line\n?: Bad_line\n\
-          alice: Invalid_size\nalice: Out_of_ram\n",
+          alice: Invalid_size\nalice: Out_of_ram\nalice: Service_denied\n",
     )
 }
 
@@ -310,7 +320,7 @@ const OTHERS_ANSWERED: [&[u8]; 5] = [
 ];
 
 // Adds a line to a text.
-fn say(text: &mut Vec<u8>, line: &[u8]) -> Result<(), AllocError> {
+pub(super) fn say(text: &mut Vec<u8>, line: &[u8]) -> Result<(), AllocError> {
     text.extend_from_slice(line)?;
     text.push(b'\n')?;
     Ok(())

@@ -1,9 +1,10 @@
 -- The log server's account opens, and the server comes last.
-use Rattle.std.proofs.Common.{subst, sym, ◌∙◌}
+use Rattle.std.proofs.Common.{◌≡◌, [], subst, sym, ◌∙◌}
 use Rattle.std.specs.Prelude.{IfSome}
 use Rattle.own_model.specs.StartList.{StartEntry}
 use Rattle.pd_core.specs.Fresh.{AreEmpty}
-use Rattle.scenario_run.specs.Boot.{HasStarted, server_start}
+use Rattle.scenario_run.specs.Boot.{HasStarted, HasLogFirst, server_start}
+use Rattle.scenario_run.proofs.LogFirstLemmas.{first_alone}
 use Rattle.scenario_run.proofs.BootLemmas.{has_started, on_push, log_new}
 use Rattle.scenario_run.proofs.boot.start_log.Goals as goal
 
@@ -19,4 +20,6 @@ returns c =
     record {
       started = on_push (λ items. HasStarted c.args.memory.now c.args.components.now.items c.open_account-account.new.memory items start)
           c.push.result c.map_err.result c.push.new.self.items _ _ c.map_err.ensures.variant c.push.ensures.items started;
+      first = on_push (λ items. c.args.components.now.items ≡ [] → HasLogFirst items) c.push.result c.map_err.result c.push.new.self.items _ _ c.map_err.ensures.variant c.push.ensures.items
+          (first_alone c.args.components.now.items c.log.result c.log.ensures.service);
     }

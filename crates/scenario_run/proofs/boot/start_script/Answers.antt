@@ -3,7 +3,8 @@ use Rattle.std.proofs.Common.{subst, sym, ◌∙◌}
 use Rattle.std.specs.Prelude.{IfSome}
 use Rattle.own_model.specs.StartList.{StartEntry}
 use Rattle.pd_core.specs.Fresh.{AreEmpty}
-use Rattle.scenario_run.specs.Boot.{HasStarted, script_start}
+use Rattle.scenario_run.specs.Boot.{HasStarted, HasLogFirst, script_start}
+use Rattle.scenario_run.proofs.LogFirstLemmas.{first_stays}
 use Rattle.scenario_run.proofs.BootLemmas.{has_started, on_push, script_empty}
 use Rattle.scenario_run.proofs.boot.start_script.Goals as goal
 
@@ -17,4 +18,6 @@ returns c =
     record {
       started = on_push (λ items. HasStarted c.args.memory.now c.args.components.now.items c.open_account-account.new.memory items start)
           c.push.result c.map_err.result c.push.new.self.items _ _ c.map_err.ensures.variant c.push.ensures.items started;
+      first = on_push (λ items. HasLogFirst c.args.components.now.items → HasLogFirst items) c.push.result c.map_err.result c.push.new.self.items _ _ c.map_err.ensures.variant c.push.ensures.items
+          (first_stays c.args.components.now.items c.script.result);
     }
