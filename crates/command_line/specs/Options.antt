@@ -1,0 +1,26 @@
+-- The command line as `clap` has it.
+use Rattle.std.specs.Prelude.{Bool, false, List, Option, Some, codes}
+use Rattle.std.specs.Option.{option_map_or}
+use Rattle.std.specs.Str.{bytes_eq}
+use Rattle.clap.specs.Words.{App, Row, Rule, Text, new_app, new_rule, one_of, with_rule}
+use Rattle.clap.specs.declared.builder.ArgAction.TheVariants.{SetTrue}
+
+-- the flag `--check`
+abbrev pub check_rule : Rule
+check_rule = record (new_rule (codes "check")) { long = Some (codes "check"); action = Some SetTrue }
+
+-- the path of a start list
+abbrev pub config_rule : Rule
+config_rule = record (new_rule (codes "config")) { value_names = 1 }
+
+-- the command itself
+abbrev pub program : App
+program = with_rule (with_rule (new_app (codes "scenario_run")) check_rule) config_rule
+
+-- a text says that a flag was used
+abbrev pub is_true : Option Text → Bool
+is_true text = option_map_or (λ t. bytes_eq t (codes "true")) text false
+
+-- the flag of this id was used
+abbrev pub is_set : Text → List Row → Bool
+is_set id rows = is_true (one_of id rows)

@@ -1,0 +1,3 @@
+pub mod MemberLemmas
+pub mod EntryLemmas
+pub mod JsonLemmas

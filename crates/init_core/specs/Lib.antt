@@ -1,0 +1,6 @@
+pub mod Members
+pub mod Rules
+pub mod Entries
+pub mod StartText
+pub mod View
+pub mod Range

@@ -1,0 +1,270 @@
+//! Entries of a start list.
+ghost use Rattle.std.specs.Prelude.{◌≡◌, ◌≢◌, [], length, map, vec_len, IfOk, IfErr};
+ghost use Rattle.std.specs.Option.{option_map};
+ghost use Rattle.std.specs.Result.{result_map_both};
+ghost use Rattle.own_model.specs.Listed.{offers, serves};
+ghost use Rattle.serde_json.specs.View.{view};
+ghost use Rattle.init_core.specs.Entries.{binary_of, binary_told, entries_after, entry_of, is_service_of, is_taken, new_name, no_binary, own_route, provided, provided_in};
+ghost use Rattle.init_core.specs.Members.{name_in};
+ghost use Rattle.init_core.specs.View.{model_binary};
+ghost use Rattle.init_core.specs.declared.fault.BootFault.TheVariants.{NoMemory, BadConfig};
+
+use crate::fault::{BootFault, Field};
+use crate::member::{amount_at, name_at, whole_at};
+use crate::name::Name;
+use crate::rule::{Rule, read_rules};
+use serde_json::Value;
+use std::alloc::Global;
+use std::marker::Model;
+
+/// What a component runs.
+#[derive(Clone, Copy, Debug, PartialEq, Eq)]
+pub enum Binary {
+    /// A script makes the calls of a scenario.
+    Script,
+    /// The log server.
+    Log,
+    /// The file server.
+    Files,
+}
+
+impl Binary {
+    /// The binary of a text, if it is one's.
+    fn read(text: &str) -> Result<Binary, BootFault>
+        ensures { result_map_both model_binary (λ fault. fault) result ≡ binary_of text.now }
+    {
+        let bytes = text.as_bytes();
+        if bytes == b"script".as_slice() {
+            Ok(Binary::Script)
+        } else if bytes == b"log".as_slice() {
+            Ok(Binary::Log)
+        } else if bytes == b"files".as_slice() {
+            Ok(Binary::Files)
+        } else {
+            Err(no_binary(text))
+        }
+    }
+
+    /// Whether a service is this binary's.
+    fn serves(self, service: &[u8]) -> bool
+        ensures { result ≡ serves (model_binary self) service.now }
+    {
+        match self {
+            Binary::Script => false,
+            Binary::Log => service == b"LOG".as_slice(),
+            Binary::Files => service == b"File_system".as_slice(),
+        }
+    }
+}
+
+/// A component of the machine: its budget, whether it provides the service of its binary, and its own route, if it has
+/// one.
+#[derive(Debug, Drop)]
+pub struct Entry {
+    name: Name,
+    binary: Binary,
+    ram: u64,
+    caps: u32,
+    provides: bool,
+    route: Option<Vec<Rule>>,
+}
+
+impl Model for Entry {
+    ghost use Rattle.std.specs.Option.{option_map};
+    ghost use Rattle.own_model.specs.Listed.{ListedEntry};
+
+    ghost Value = { ListedEntry };
+
+    ghost use Rattle.init_core.specs.View.{model_binary};
+
+    ghost view = { λ entry. record {
+      name = entry.name;
+      binary = model_binary entry.binary;
+      ram = entry.ram;
+      caps = entry.caps;
+      provides = entry.provides;
+      route = option_map (λ rules. rules.items) entry.route;
+    } };
+}
+
+impl Entry {
+    /// The entry that a value is, after those before it.
+    pub(crate) fn read(alloc: Global, before: &[Entry], value: &Value) -> Result<Entry, BootFault>
+        ensures ok { IfOk result (λ entry. entry_of before.now (view value.now) ≡ Ok entry) }
+        ensures err { IfErr result (λ fault. fault ≢ NoMemory → entry_of before.now (view value.now) ≡ Err fault) }
+    {
+        if !value.is_object() {
+            return Err(BootFault::BadConfig(Field::Start));
+        }
+        let name = name_at(value, "name").ok_or(BootFault::BadConfig(Field::Name))?;
+        let name = new_name(before, name)?;
+        let binary = read_binary(&name, value.get("binary"))?;
+        let ram = amount_at(value, "quantum").ok_or(BootFault::BadConfig(Field::Quantum))?;
+        let caps = whole_at(value, "caps", 0, u32::MAX).ok_or(BootFault::BadConfig(Field::Caps))?;
+        let provides = provided(binary, value.get("provides")).ok_or(BootFault::BadConfig(
+            Field::Provides,
+        ))?;
+        let route = read_route(alloc, value.get("route"))?;
+        Ok(Entry {
+            name,
+            binary,
+            ram,
+            caps,
+            provides,
+            route,
+        })
+    }
+
+    /// The component's name.
+    pub fn name(&self) -> &[u8]
+        ensures { result.now ≡ self.now.name }
+    {
+        self.name.as_bytes()
+    }
+
+    /// What it runs.
+    pub fn binary(&self) -> Binary
+        ensures { model_binary result ≡ self.now.binary }
+    {
+        self.binary
+    }
+
+    /// Its RAM in bytes.
+    pub fn ram(&self) -> u64
+        ensures { result ≡ self.now.ram }
+    {
+        self.ram
+    }
+
+    /// Its capabilities.
+    pub fn caps(&self) -> u32
+        ensures { result ≡ self.now.caps }
+    {
+        self.caps
+    }
+
+    /// Its own route, if it has one.
+    pub fn route(&self) -> Option<&[Rule]>
+        ensures { option_map (λ rules. rules.now) result ≡ self.now.route }
+    {
+        match &self.route {
+            Some(rules) => Some(rules.as_slice()),
+            None => None,
+        }
+    }
+
+    /// Whether it provides a service.
+    pub fn offers(&self, service: &[u8]) -> bool
+        ensures { result ≡ offers service.now self.now }
+    {
+        self.provides && self.binary.serves(service)
+    }
+}
+
+/// The name, unless an earlier entry has it.
+fn new_name(before: &[Entry], name: Name) -> Result<Name, BootFault>
+    ensures { result ≡ new_name before.now name }
+{
+    if is_taken(before, name.as_bytes()) {
+        Err(BootFault::DuplicateName(name))
+    } else {
+        Ok(name)
+    }
+}
+
+/// Whether an earlier entry has a name.
+fn is_taken(before: &[Entry], name: &[u8]) -> bool
+    ensures { result ≡ is_taken before.now name.now }
+{
+    before.iter().any(|entry| entry.name() == name)
+}
+
+/// What an entry runs: without the member it is what has the entry's name.
+fn read_binary(name: &Name, member: Option<&Value>) -> Result<Binary, BootFault>
+    ensures { result_map_both model_binary (λ fault. fault) result
+        ≡ binary_told name.now (option_map (λ value. view value.now) member.entry) }
+{
+    match member {
+        Some(value) => Binary::read(value.as_str().ok_or(BootFault::BadConfig(Field::Binary))?),
+        None => Binary::read(name.as_str()),
+    }
+}
+
+/// The fault of a text that is no binary's.
+fn no_binary(text: &str) -> BootFault
+    ensures { result ≡ no_binary (name_in text.now) }
+{
+    match Name::read(text) {
+        Some(name) => BootFault::UnknownBinary(name),
+        None => BootFault::BadConfig(Field::Binary),
+    }
+}
+
+/// Whether an entry provides the service of its binary: without the member it doesn't. It is `None` where the member is
+/// another value than a list of at most that service.
+#[tactic(auto, using(crate::proofs::MemberLemmas::elements_of_items))]
+fn provided(binary: Binary, member: Option<&Value>) -> Option<bool>
+    ensures { result ≡ provided (model_binary binary) (option_map (λ value. view value.now) member.entry) }
+{
+    let Some(value) = member else {
+        return Some(false);
+    };
+    provided_in(binary, value.as_array()?.as_slice())
+}
+
+/// The same of a list.
+#[tactic(auto, using(crate::proofs::EntryLemmas::provides_too_many))]
+fn provided_in(binary: Binary, services: &[Value]) -> Option<bool>
+    ensures { result ≡ provided_in (model_binary binary) (map view services.now) }
+{
+    match services {
+        [] => Some(false),
+        [service] => if is_service_of(binary, service) {
+            Some(true)
+        } else {
+            None
+        },
+        _ => None,
+    }
+}
+
+/// Whether a value is the text of a binary's service.
+fn is_service_of(binary: Binary, value: &Value) -> bool
+    ensures { result ≡ is_service_of (model_binary binary) (view value.now) }
+{
+    match value.as_str() {
+        Some(service) => binary.serves(service.as_bytes()),
+        None => false,
+    }
+}
+
+/// An entry's own route, if it has one.
+fn read_route(alloc: Global, member: Option<&Value>) -> Result<Option<Vec<Rule>>, BootFault>
+    ensures ok { IfOk result (λ route. own_route (option_map (λ value. view value.now) member.entry)
+        ≡ Some (option_map (λ rules. rules.items) route)) }
+    ensures refused { IfErr result (λ fault. fault ≢ NoMemory → fault ≡ BadConfig Field.Route) }
+    ensures none { IfErr result (λ fault. fault ≢ NoMemory
+        → own_route (option_map (λ value. view value.now) member.entry) ≡ None) }
+{
+    match member {
+        Some(value) => match read_rules(alloc, value)? {
+            Some(rules) => Ok(Some(rules)),
+            None => Err(BootFault::BadConfig(Field::Route)),
+        },
+        None => Ok(None),
+    }
+}
+
+/// The entries that a list of values is.
+pub(crate) fn read_entries(alloc: Global, values: &[Value]) -> Result<Vec<Entry>, BootFault>
+    ensures ok { IfOk result (λ entries. entries_after [] (map view values.now) ≡ Ok entries.items) }
+    ensures err { IfErr result (λ fault. fault ≢ NoMemory → entries_after [] (map view values.now) ≡ Err fault) }
+    ensures len { IfOk result (λ entries. vec_len entries ≡ length values.now) }
+{
+    let mut entries = Vec::new(alloc);
+    for value in values {
+        let entry = Entry::read(alloc, entries.as_slice(), value)?;
+        entries.push(entry)?;
+    }
+    Ok(entries)
+}

@@ -1,0 +1,60 @@
+//! Names, which hold their own bytes.
+ghost use Rattle.std.specs.Prelude.{◌≡◌};
+ghost use Rattle.init_core.specs.Members.{name_in};
+
+use arrayvec::ArrayString;
+use std::fmt;
+use std::marker::Model;
+use text_read::is_name;
+
+/// The most bytes of a name.
+const LONGEST_NAME: usize = 32;
+
+/// A name: 1 to 32 letters, digits, `_`, `-` and `.`.
+#[derive(Debug, Drop)]
+pub struct Name {
+    text: ArrayString<LONGEST_NAME>,
+}
+
+impl Model for Name {
+    ghost use Rattle.std.specs.Prelude.{List, ℕ};
+
+    ghost Value = { List ℕ };
+
+    ghost view = { λ name. name.text.bytes };
+}
+
+impl Name {
+    ghost use Rattle.std.specs.Option.{option_map};
+
+    /// The name that a text is, if it is one.
+    pub fn read(text: &str) -> Option<Name>
+        ensures { result ≡ name_in text.now }
+    {
+        if !is_name(text.as_bytes()) {
+            return None;
+        }
+        let text = ArrayString::from(text).ok()?;
+        Some(Name { text })
+    }
+
+    /// The name as a text.
+    pub fn as_str(&self) -> &str
+        ensures { result.now ≡ self.now }
+    {
+        self.text.as_str()
+    }
+
+    /// The name's bytes.
+    pub fn as_bytes(&self) -> &[u8]
+        ensures { result.now ≡ self.now }
+    {
+        self.as_str().as_bytes()
+    }
+}
+
+impl fmt::Display for Name {
+    fn fmt<W: fmt::Write>(&self, f: &mut fmt::Formatter<W>) -> fmt::Result {
+        f.write_str(self.text.as_str())
+    }
+}
