@@ -6,7 +6,8 @@ limit (allocations and releases at the account's limit), bytes (pokes and peeks 
 same of 1 to 16 bytes), regions (attaches and detaches, up to 128 regions), full (detaches, attaches and peeks with 127 or
 128 regions attached), caps (selectors taken and given back, up to 16), sliced (sliced blocks taken and given back, up to
 16), heap (small blocks of the heap taken and given back, up to 64), turns (a block of the heap and its release in turn, one
-at a time), holes (blocks taken and given back among 48 holes), hostile (lines that are refused, of all kinds).
+at a time), holes (blocks taken and given back among 48 holes), sessions (sessions of the log service opened, written to and
+closed, up to 8), log (log lines of 1 to 200 bytes), hostile (lines that are refused, of all kinds).
 """
 import random
 import sys
@@ -208,6 +209,37 @@ def holes(lines, rng):
             yield f"alice del {address:#x}"
 
 
+MOST_SESSIONS = 8
+
+
+def text_in_hex(rng, most):
+    """Up to so many letters and a newline, in hexadecimal digits."""
+    return "".join(f"{rng.randrange(0x61, 0x7B):02x}" for _ in range(rng.randint(1, most))) + "0a"
+
+
+def sessions(lines, rng):
+    """Of ten lines two open a session, two close one and the others write, with 1 to 8 sessions open."""
+    held = []
+    for _ in range(lines):
+        chance = rng.random()
+        if not held or (chance < 0.2 and len(held) < MOST_SESSIONS):
+            selector = next(s for s in range(1, MOST_SESSIONS + 1) if s not in held)
+            held.append(selector)
+            yield f'alice open LOG ram_quota=4K, cap_quota=2, label="session {selector}"'
+        elif chance < 0.4:
+            yield f"alice close {held.pop(rng.randrange(len(held)))}"
+        else:
+            yield f"alice call {rng.choice(held)} WRITE {text_in_hex(rng, 20)}"
+
+
+def log(lines, rng):
+    """Lines of a session of each script in turn, one a request."""
+    yield 'alice open LOG ram_quota=4K, cap_quota=2, label="main"'
+    yield "bob open LOG ram_quota=4K, cap_quota=2"
+    for number in range(lines - 2):
+        yield f"{'alice' if number % 2 == 0 else 'bob'} call 1 WRITE {text_in_hex(rng, 199)}"
+
+
 def hostile(lines, rng):
     bad = [
         "",
@@ -245,6 +277,13 @@ def hostile(lines, rng):
         "alice new 0",
         "alice new 65535",
         "alice del 0x100000010",
+        "alice open Nic ram_quota=4K, cap_quota=2",
+        "alice open LOG ram_quota=4KK, cap_quota=2",
+        "alice open LOG ram_quota=4K, cap_quota=17",
+        "alice open LOG",
+        "alice upgrade 1 ram_quota=4K",
+        "alice call 4294967297 WRITE 61",
+        "alice close 1",
     ]
     for _ in range(lines):
         yield rng.choice(bad)
@@ -263,6 +302,8 @@ SHAPES = {
     "heap": heap,
     "turns": turns,
     "holes": holes,
+    "sessions": sessions,
+    "log": log,
     "hostile": hostile,
 }
 
