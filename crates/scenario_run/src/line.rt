@@ -47,6 +47,7 @@ fn call_from<'a>(word: &[u8], arguments: Option<&'a [u8]>) -> Option<Call<'a>>
     ensures call { option_map model_call result ≡ call_of word.now (option_copied arguments.entry) }
     ensures well_formed { IfSome result IsWellFormed }
 {
+    // Each form returns where it is found: along a chain of `else if` its call would be copied at each form.
     if word == b"alloc".as_slice() {
         return Some(Call::Alloc(number(arguments)?));
     }
