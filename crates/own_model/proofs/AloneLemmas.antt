@@ -9,10 +9,10 @@ use Rattle.trade_base.specs.declared.refusal.Refusal.{Refusal}
 use Rattle.own_model.proofs.NatMapLemmas.{get-insert_same, get-insert_other, get-remove_other}
 use Rattle.own_model.proofs.NewSelector.{new_selector_free}
 use Rattle.own_model.proofs.StepLemmas.{KeptByEffects}
-use Rattle.own_model.proofs.TableLemmas.{others_keep}
+use Rattle.own_model.proofs.TableLemmas.{others_go_on}
 use Rattle.own_model.specs.Account.{shortage}
-use Rattle.own_model.specs.Call.{Call, is_of_session}
-use Rattle.own_model.specs.Call.Call.{Alloc, Free, Attach, AttachAt, Detach, Peek, Poke, Capalloc, Capfree, New, Del, Snew, Sdel, Quota, Open, Upgrade, CallSession, Close}
+use Rattle.own_model.specs.Call.{Call, is_of_session, is_exit}
+use Rattle.own_model.specs.Call.Call.{Alloc, Free, Attach, AttachAt, Detach, Peek, Poke, Capalloc, Capfree, New, Del, Snew, Sdel, Quota, Open, Upgrade, CallSession, Close, Exit}
 use Rattle.own_model.specs.OwnState.{OwnState, Object, new_selector, zeros, object_with, session_named}
 use Rattle.own_model.specs.OwnState.Object.{Dataspace, RpcObject, OpenSession}
 use Rattle.own_model.specs.OwnStep.{Outcome, own_step, unless, turned_away, opened_by, session_opened, upgraded_by, session_upgraded, session_called, session_closed}
@@ -131,11 +131,17 @@ module _ (selector : ℕ) (session : Session) where
   stays_by entry (Snew n) s there is other = absurd (true≢false (sym is))
   stays_by entry (Sdel address) s there is other = absurd (true≢false (sym is))
   stays_by entry Quota s there is other = absurd (true≢false (sym is))
+  stays_by entry Exit s there is other = absurd (true≢false (sym is))
+
+  -- what is of no session goes on
+  no_exit : (call : Call) → is_of selector call ≡ false → is_exit call ≡ false
+  no_exit Exit other = absurd (true≢false other)
+  no_exit call other = refl
 
   -- and so do all others
   stays : (of_session : Bool) (entry : Entry) (call : Call) (s : OwnState) → IsThere s → is_of_session call ≡ of_session → is_of selector call ≡ false → IsThere (own_step entry call s).next
   stays true entry call s there is other = stays_by entry call s there is other
-  stays false entry call s there is other = others_keep IsThere s there (effects_leave s there) entry call is
+  stays false entry call s there is other = others_go_on IsThere s there (effects_leave s there) entry call is (no_exit call other)
 
 pub stand_alone : SessionsStandAlone
 stand_alone entry call s selector session there other = stays selector session (is_of_session call) entry call s there refl other

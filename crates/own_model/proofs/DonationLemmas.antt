@@ -6,13 +6,13 @@ use Rattle.std.specs.Prelude.{Option, None}
 use Rattle.std.specs.FinMap.{get, insert}
 use Rattle.own_model.proofs.LimitLemmas.{serve_keeps}
 use Rattle.own_model.proofs.NatMapLemmas.{get-insert_same, get-insert_other, before_remove}
-use Rattle.own_model.proofs.SessionLemmas.{EachNamed, effects_named, named_there}
+use Rattle.own_model.proofs.SessionLemmas.{EachNamed, effects_named, named_there, gone_named}
 use Rattle.own_model.proofs.TableLemmas.{others_keep}
 use Rattle.trade_base.specs.declared.refusal.Refusal.{Refusal}
 use Rattle.trade_base.specs.declared.refusal.Refusal.TheVariants.{InvalidSession}
 use Rattle.own_model.specs.Account.{Account, shortage, parted_with}
 use Rattle.own_model.specs.Call.{Call, is_of_session}
-use Rattle.own_model.specs.Call.Call.{Alloc, Free, Attach, AttachAt, Detach, Peek, Poke, Capalloc, Capfree, New, Del, Snew, Sdel, Quota, Open, Upgrade, CallSession, Close}
+use Rattle.own_model.specs.Call.Call.{Alloc, Free, Attach, AttachAt, Detach, Peek, Poke, Capalloc, Capfree, New, Del, Snew, Sdel, Quota, Open, Upgrade, CallSession, Close, Exit}
 use Rattle.own_model.specs.Donated.{Donation, donation_in, more_of, counted, donated_after, donated}
 use Rattle.own_model.specs.Donation.{raised}
 use Rattle.own_model.specs.OwnState.{OwnState, new_selector, session_named}
@@ -145,6 +145,7 @@ module _ (selector : ℕ) where
   of_session entry (Snew n) sum s h is = absurd (true≢false (sym is))
   of_session entry (Sdel address) sum s h is = absurd (true≢false (sym is))
   of_session entry Quota sum s h is = absurd (true≢false (sym is))
+  of_session entry Exit sum s h is = absurd (true≢false (sym is))
 
   -- others count nothing
   others_count : (call : Call) (reply : Reply) (sum : Donation) → is_of_session call ≡ false → counted selector call reply sum ≡ sum
@@ -162,6 +163,7 @@ module _ (selector : ℕ) where
   others_count (Snew n) reply sum other = refl
   others_count (Sdel address) reply sum other = refl
   others_count Quota reply sum other = refl
+  others_count Exit reply sum other = refl
   others_count (Open service text) reply sum other = absurd (true≢false other)
   others_count (Upgrade of text) reply sum other = absurd (true≢false other)
   others_count (CallSession of request) reply sum other = absurd (true≢false other)
@@ -172,7 +174,7 @@ module _ (selector : ℕ) where
   step true entry call sum s h is = of_session entry call sum s h is
   step false entry call sum s h is =
       subst (λ d. AreCounted d (own_step entry call s).next) (sym (others_count call (own_step entry call s).reply sum is))
-      (others_keep (AreCounted sum) s h (effects_named (HasLimits sum) s h) entry call is)
+      (others_keep (AreCounted sum) s h (effects_named (HasLimits sum) s h) (gone_named (HasLimits sum)) entry call is)
 
   -- and calls
   run : (entry : Entry) (calls : List Call) (sum : Donation) (s : OwnState) → AreCounted sum s → AreCounted (donated_after entry selector calls s sum) (own_run entry calls s)

@@ -28,9 +28,12 @@ pub mod HeapPayloadLemmas
 pub mod MachineLemmas
 pub mod HeapNewLemmas
 pub mod TableLemmas
+pub mod ExitLemmas
 pub mod CallLemmas
 pub mod ByteLemmas
 pub mod LimitLemmas
+pub mod BalanceLemmas
+pub mod ShortageLemmas
 pub mod StartLemmas
 pub mod ReadBackLemmas
 pub mod HexLemmas
@@ -44,6 +47,7 @@ pub mod FileServiceLemmas
 pub mod FileErrorLemmas
 pub mod FilePlaceLemmas
 pub mod FileReadLemmas
+pub mod FileTextLemmas
 pub mod SessionLemmas
 pub mod DonationLemmas
 pub mod SessionSoundLemmas

@@ -1,11 +1,6 @@
 -- What a call leaves of limits.
-use Rattle.std.proofs.Common.{◌∙◌, sym, false, ◌≡◌, ℕ, lit≤, inl, inr, length, Option, Some, None, sum_by, List, [], ◌∷◌, refl, arith, set, get_or}
-use Rattle.std.proofs.lemmas.Bool.{cases_lt}
-use Rattle.std.proofs.lemmas.Option.{none-some}
+use Rattle.std.proofs.Common.{◌≡◌, ℕ, ◌+◌, ◌-◌, false, cond, lit≤, Option, Some, None, List, [], ◌∷◌, refl, arith}
 use Rattle.own_model.proofs.FileChargeLemmas as charge
-use Rattle.own_model.proofs.NatMapLemmas.{get-empty}
-use Rattle.std.proofs.lemmas.List.{set_past}
-use Rattle.std.proofs.lemmas.List.Sums.{sum_by-set}
 use Rattle.std.specs.FinMap.{insert}
 use Rattle.trade_base.specs.Page.{page_of}
 use Rattle.trade_base.specs.declared.refusal.Refusal.{Refusal}
@@ -13,16 +8,18 @@ use Rattle.trade_base.specs.declared.refusal.Refusal.TheVariants.{OutOfCaps}
 use Rattle.own_model.proofs.StepLemmas.{KeptBySessions, KeptByEffects, covers, short_of_caps, accepted_size, accepted_block, accepted_growth}
 use Rattle.own_model.specs.Growth.{growth_of}
 use Rattle.own_model.specs.Sliced.{sliced_size}
-use Rattle.own_model.specs.Account.{WithinLimits, shortage}
-use Rattle.own_model.specs.Call.{Call, is_of_session}
+use Rattle.own_model.specs.Account.{Account, WithinLimits, shortage}
+use Rattle.own_model.specs.Call.{Call, is_exit}
 use Rattle.own_model.specs.Call.Call.{Capalloc}
 use Rattle.own_model.specs.OwnState.{OwnState}
-use Rattle.own_model.specs.OwnStep.{own_step, own_run, script_step, unless, cap_allocated}
+use Rattle.own_model.specs.OwnStep.{gone_state, own_step, own_run, script_step, unless, cap_allocated}
+use Rattle.own_model.specs.Laws.{StepKeepsLimits, OthersKeepOwnLimits, ExitsReturnLimits}
+use Rattle.own_model.specs.Donation.{raised}
 use Rattle.own_model.specs.Reply.Reply.{Refused}
 use Rattle.own_model.proofs.NewSelector.{new_selector_free}
-use Rattle.own_model.proofs.SessionLemmas.{donation_covered, large_enough, effects_each, sessions_each}
-use Rattle.own_model.proofs.Totals.{total-insert_new, total-insert_same, total-insert_at, total-remove}
-use Rattle.own_model.specs.Limits.{ram_with, caps_with, ram_limits, caps_limits, AreWithinLimits}
+use Rattle.own_model.proofs.SessionLemmas.{donation_covered, large_enough, effects_each, sessions_each, gone_each}
+use Rattle.own_model.proofs.Totals.{total-empty, total-insert_new, total-insert_same, total-insert_at, total-remove}
+use Rattle.own_model.specs.Limits.{ram_with, caps_with, ram_limits, caps_limits, init_after, AreWithinLimits}
 use Rattle.own_model.specs.NatMap.{total}
 use Rattle.own_model.specs.OwnState.{Object, EachSession, new_selector, zeros, object_with}
 use Rattle.own_model.specs.OwnState.Object.{Dataspace, RpcObject, OpenSession}
@@ -31,12 +28,8 @@ use Rattle.own_model.specs.Session.{Session, ServiceState, new_session, upgraded
 use Rattle.own_model.specs.Session.ServiceState.{Logging, Filing}
 use Rattle.own_model.specs.StartList.{Entry}
 use Rattle.own_model.specs.StartList.Kind.{Server}
-use Rattle.own_model.specs.Transcript.{Heard, heard, entry_at, state_at, nothing}
-use Rattle.own_model.specs.Running.{states_after_heard, states_running}
-use Rattle.own_model.specs.Transcript.Heard.{NoCall, Stranger, Caller}
-use Rattle.own_model.specs.World.{World, IsBalanced, with_state, outcome_at}
-use Rattle.own_model.proofs.ListLemmas.{all_set, all_at}
-use Rattle.own_model.proofs.TableLemmas.{step_keeps, others_keep}
+use Rattle.own_model.proofs.TableLemmas.{step_keeps, others_go_on, goes_on}
+use Rattle.own_model.proofs.ExitLemmas.{by_exit}
 
 -- every call leaves a server
 pub server_stays : (name : List ℕ) (routes : List Rule) (calls : List Call) (s : OwnState) → own_run (record { name = name; kind = Server; routes = routes }) calls s ≡ s
@@ -85,9 +78,13 @@ sessions_within s within = record {
   closes = λ selector session there. record { ram = omega (arith, within.ram); caps = omega (arith, within.caps) };
 }
 
+-- who has exited has nothing to overdraw
+gone_within : WithinLimits gone_state.account
+gone_within = record { ram = lit≤ tt; caps = lit≤ tt }
+
 -- no call overdraws an account
 pub step_within : (entry : Entry) (call : Call) (s : OwnState) → WithinLimits s.account → WithinLimits (own_step entry call s).next.account
-step_within entry call s within = step_keeps (λ t. WithinLimits t.account) s within (effects_within s within) (sessions_within s within) entry call
+step_within entry call s within = step_keeps (λ t. WithinLimits t.account) s within (effects_within s within) (sessions_within s within) gone_within entry call
 
 -- an account of a session is within its limits
 abbrev IsWithin : Session → Type 0
@@ -114,15 +111,12 @@ sessions_each_within = sessions_each IsWithin
 pub step_all_within : (entry : Entry) (call : Call) (s : OwnState) → AreWithinLimits s → AreWithinLimits (own_step entry call s).next
 step_all_within entry call s h = record {
   own = step_within entry call s h.own;
-  sessions = step_keeps (EachSession IsWithin) s h.sessions (effects_each IsWithin s h.sessions) (sessions_each_within s h.sessions) entry call;
+  sessions = step_keeps (EachSession IsWithin) s h.sessions (effects_each IsWithin s h.sessions) (sessions_each_within s h.sessions) (gone_each IsWithin) entry call;
 }
 
--- a sum stays when an element gives way to one that counts as much
-sum_changed : {X : Type 0} (f : X → ℕ) (xs : List X) (i : ℕ) (y d : X) → f y ≡ f (get_or xs i d) → sum_by f (set xs i y) ≡ sum_by f xs
-sum_changed f xs i y d same = elim (cases_lt i (length xs)) [
-  | inl within ↦ omega (arith, sum_by-set f xs i y d within)
-  | inr beyond ↦ rw (set_past xs i y beyond)
-]
+-- nor are those of who has nothing
+pub gone_within_all : AreWithinLimits gone_state
+gone_within_all = record { own = gone_within; sessions = gone_each IsWithin }
 
 -- a state with the limits of another
 abbrev SameLimits : OwnState → OwnState → Type 0
@@ -150,9 +144,10 @@ effects_stay s = record {
 }
 
 -- the limits after a call that is of no session
-pub limits_stay : (entry : Entry) (call : Call) (s : OwnState) → is_of_session call ≡ false →
-    ((own_step entry call s).next.account.ram_limit ≡ s.account.ram_limit) × ((own_step entry call s).next.account.caps_limit ≡ s.account.caps_limit)
-limits_stay entry call s other = others_keep (SameLimits s) s (refl, refl) (effects_stay s) entry call other
+pub limits_stay : OthersKeepOwnLimits
+limits_stay entry call s other =
+    by_exit (λ ends t. (t.account.ram_limit ≡ cond ends 0 s.account.ram_limit) × (t.account.caps_limit ≡ cond ends 0 s.account.caps_limit)) entry call s
+    (others_go_on (SameLimits s) s (refl, refl) (effects_stay s) entry call other) (refl, refl) (refl, refl)
 
 -- ---- limits with those of sessions
 
@@ -237,49 +232,37 @@ sessions_move s = record {
   closes = λ selector x there. (omega (arith, total-remove ram_with s.selectors selector (OpenSession x) there), omega (arith, total-remove caps_with s.selectors selector (OpenSession x) there));
 }
 
--- a call changes no limits, or moves some
-pub limits_move : (entry : Entry) (call : Call) (s : OwnState) → SameInAll s (own_step entry call s).next
-limits_move entry call s = step_keeps (SameInAll s) s (refl, refl) (effects_in_all s) (sessions_move s) entry call
+-- a call that isn't an exit changes no limits, or moves some
+pub limits_move : (entry : Entry) (call : Call) (s : OwnState) → is_exit call ≡ false → SameInAll s (own_step entry call s).next
+limits_move entry call s on = goes_on (SameInAll s) s (refl, refl) (effects_in_all s) (sessions_move s) entry call on
 
--- who has nothing overdraws nothing
-nothing_within : AreWithinLimits nothing
-nothing_within = record {
-  own = record { ram = lit≤ tt; caps = lit≤ tt };
-  sessions = λ selector session is. absurd (none-some (OpenSession session) (sym (get-empty selector) ∙ is));
-}
+-- who has exited has none
+pub none_left : (ram_limits gone_state ≡ 0) × (caps_limits gone_state ≡ 0)
+none_left = (omega (arith, total-empty ram_with), omega (arith, total-empty caps_with))
 
--- a component's call leaves a balanced world balanced
-pub step_balanced : (pages caps : ℕ) (world : World) (component : ℕ) (call : Call) →
-    IsBalanced pages caps world → IsBalanced pages caps (with_state world component (outcome_at world component call).next)
-step_balanced pages caps world component call h =
-    let entry : Entry = entry_at world.entries component in
-    let before : OwnState = state_at world.states component in
-    let after : OwnState = (own_step entry call before).next in
-    let limits = limits_move entry call before in
-    let ram : sum_by ram_limits (set world.states component after) ≡ sum_by ram_limits world.states
-    = sum_changed ram_limits world.states component after nothing limits.0 in
-    let caps_sum : sum_by caps_limits (set world.states component after) ≡ sum_by caps_limits world.states
-    = sum_changed caps_limits world.states component after nothing limits.1 in
-    record {
-      within = all_set AreWithinLimits world.states component after h.within
-          (step_all_within entry call before (all_at AreWithinLimits world.states component nothing h.within nothing_within));
-      init_ram = h.init_ram;
-      init_caps = h.init_caps;
-      ram_adds_up = omega (arith, ram, h.ram_adds_up);
-      caps_add_up = omega (arith, caps_sum, h.caps_add_up);
-    }
+-- so each call leaves the limits, but for an exit that is done
+pub limits_left : StepKeepsLimits
+limits_left entry call s =
+    by_exit (λ ends t. (ram_limits t ≡ cond ends 0 (ram_limits s)) × (caps_limits t ≡ cond ends 0 (caps_limits s))) entry call s
+    (limits_move entry call s) none_left (refl, refl)
 
--- what was heard leaves it balanced
-heard_balanced : (pages caps : ℕ) (world : World) (what : Heard) →
-    IsBalanced pages caps world → IsBalanced pages caps (record world { states = states_after_heard world.entries world.states what })
-heard_balanced pages caps world NoCall h = h
-heard_balanced pages caps world (Stranger name) h = h
-heard_balanced pages caps world (Caller made) h = step_balanced pages caps world made.component made.call h
+-- ---- what init is given
 
--- lines leave it balanced
-pub lines_balanced : (pages caps : ℕ) (world : World) (lines : List (List ℕ)) →
-    IsBalanced pages caps world → IsBalanced pages caps (record world { states = states_running world.entries world.states lines })
-lines_balanced pages caps world [] h = h
-lines_balanced pages caps world (line ∷ lines) h =
-    lines_balanced pages caps (record world { states = states_after_heard world.entries world.states (heard world.entries line) }) lines
-    (heard_balanced pages caps world (heard world.entries line) h)
+-- nothing, where the limits are the same in all
+pub init_stays : (init : Account) (s t : OwnState) → SameInAll s t → init_after init s t ≡ init
+init_stays init s t same =
+    let ram : init.ram_limit + (ram_limits s - ram_limits t) ≡ init.ram_limit = omega (arith, same.0) in
+    let caps : init.caps_limit + (caps_limits s - caps_limits t) ≡ init.caps_limit = omega (arith, same.1) in
+    λ i. record init { ram_limit = ram i; caps_limit = caps i }
+
+-- and all, where none are left
+pub init_gains : (init : Account) (s : OwnState) → init_after init s gone_state ≡ raised init (ram_limits s) (caps_limits s)
+init_gains init s =
+    let ram : init.ram_limit + (ram_limits s - ram_limits gone_state) ≡ init.ram_limit + ram_limits s = omega (arith, none_left.0) in
+    let caps : init.caps_limit + (caps_limits s - caps_limits gone_state) ≡ init.caps_limit + caps_limits s = omega (arith, none_left.1) in
+    λ i. record init { ram_limit = ram i; caps_limit = caps i }
+
+pub limits_returned : ExitsReturnLimits
+limits_returned entry call init s =
+    by_exit (λ ends t. init_after init s t ≡ cond ends (raised init (ram_limits s) (caps_limits s)) init) entry call s
+    (λ on. init_stays init s (own_step entry call s).next (limits_move entry call s on)) (init_gains init s) (init_stays init s s (refl, refl))

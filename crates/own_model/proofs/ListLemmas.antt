@@ -1,5 +1,5 @@
 -- What holds of each element of a list.
-use Rattle.std.proofs.Common.{zero, suc, ℕ, ◌<◌, ◌++◌, List, [], ◌∷◌, length, arith, set, get_or}
+use Rattle.std.proofs.Common.{zero, suc, ℕ, ◌<◌, ◌++◌, List, [], ◌∷◌, length, arith, set, get_or, map}
 use Rattle.std.specs.List.{AllByRecursion}
 
 -- what holds of each element holds of one
@@ -29,3 +29,8 @@ all_append P (x ∷ xs) ys each other = (each.0, all_append P xs ys each.1 other
 pub all_then : {X : Type 0} (P Q : X → Type 0) (xs : List X) → ((x : X) → P x → Q x) → AllByRecursion P xs → AllByRecursion Q xs
 all_then P Q [] then each = tt
 all_then P Q (x ∷ xs) then each = (then x each.0, all_then P Q xs then each.1)
+
+-- what holds of all that a function gives holds of each of a list of it
+pub all_map : {A X : Type 0} (P : X → Type 0) (f : A → X) (xs : List A) → ((a : A) → P (f a)) → AllByRecursion P (map f xs)
+all_map P f [] each = tt
+all_map P f (x ∷ xs) each = (each x, all_map P f xs each)

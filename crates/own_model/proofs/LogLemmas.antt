@@ -287,7 +287,7 @@ rest_by true b bs rest more later is = let same : length bs ≡ length rest = ap
 rest_by false b bs rest more later is = let shorter = later is in omega arith
 
 -- what follows a first word is shorter than the whole
-rest_shorter : (text rest : List ℕ) → (first_word text).rest ≡ Some rest → length rest < length text
+pub rest_shorter : (text rest : List ℕ) → (first_word text).rest ≡ Some rest → length rest < length text
 rest_shorter [] rest is = absurd (none-some rest is)
 rest_shorter (b ∷ bs) rest is = rest_by (b == 32) b bs rest (first_word bs) (rest_shorter bs rest) is
 
@@ -316,7 +316,7 @@ let_through true o bytes is = (refl, is)
 let_through false o bytes is = absurd (none-some bytes is)
 
 -- the bytes of what follows a first word, if there is any
-hex_shorter : (text : List ℕ) (rest : Option (List ℕ)) (bytes : List ℕ) → (first_word text).rest ≡ rest → hex_or_nothing rest ≡ Some bytes → length bytes * 2 ≤ length text
+pub hex_shorter : (text : List ℕ) (rest : Option (List ℕ)) (bytes : List ℕ) → (first_word text).rest ≡ rest → hex_or_nothing rest ≡ Some bytes → length bytes * 2 ≤ length text
 hex_shorter text None bytes e is = let same : 0 ≡ length bytes = ap length (same_Some [] bytes is) in omega arith
 hex_shorter text (Some hex) bytes e is =
     let shorter = rest_shorter text hex e in

@@ -1,79 +1,24 @@
 -- The running states are own runs, so what is told from them is what is told from the history.
-use Rattle.std.proofs.Common.{◌≡◌, ◌≢◌, ℕ, ◌≤◌, ◌++◌, ◌==◌, Bool, true, false, List, [], ◌∷◌, Some, None, length, refl, ap, sym, ◌∙◌, cond, subst, inl, inr, arith, append_assoc, slice_set, nat_cmp}
+use Rattle.std.proofs.Common.{◌≡◌, ◌≢◌, ℕ, ◌≤◌, ◌++◌, ◌==◌, Bool, true, false, List, [], ◌∷◌, length, refl, ap, sym, ◌∙◌, cond, subst, inl, inr, arith, append_assoc, slice_set}
 use Rattle.std.proofs.lemmas.List.{get_or-set_same, get_or-set_other, get_or_past, length-set, set_past, append-nil}
 use Rattle.std.proofs.lemmas.Bool.{cases_lt}
 use Rattle.std.proofs.lemmas.Bool.Decides.{nat_tests}
-use Rattle.std.proofs.lemmas.Option.{none-some}
-use Rattle.std.specs.FinMap.{get, empty}
-use Rattle.trade_base.specs.Page.{page_of}
-use Rattle.own_model.proofs.NatMapLemmas.{get-empty, remove_free}
 use Rattle.own_model.proofs.RunLemmas.{own_run-append, own_part-append}
-use Rattle.own_model.proofs.StepLemmas.{KeptByEffects, KeptBySessions, covers, accepted_size, accepted_block, accepted_growth}
-use Rattle.own_model.specs.Growth.{no_chunks, growth_of}
-use Rattle.own_model.proofs.TableLemmas.{step_keeps}
-use Rattle.own_model.proofs.SessionLemmas.{donation_covered, large_enough}
-use Rattle.own_model.specs.Account.{opened, shortage}
-use Rattle.own_model.specs.Session.{donation_refusal}
+use Rattle.own_model.proofs.ExitLemmas.{gone_left}
+use Rattle.own_model.specs.Laws.{InitOverLast}
 use Rattle.own_model.specs.Call.{Call}
 use Rattle.own_model.specs.OwnState.{OwnState}
-use Rattle.own_model.specs.OwnState.Object.{Dataspace, RpcObject, OpenSession}
 use Rattle.own_model.specs.OwnStep.{own_run, own_step}
-use Rattle.own_model.specs.Running.{running_step, states_after_call, states_after_heard, told_now, states_running, told_running}
-use Rattle.own_model.specs.Sliced.{sliced_size}
+use Rattle.own_model.specs.Running.{running_step, states_after_call, states_after_heard, told_now, states_running, init_after_heard, told_running}
 use Rattle.own_model.specs.StartList.{Entry}
 use Rattle.own_model.specs.Text.{lines_of}
 use Rattle.own_model.specs.Transcript.{Made, Heard, own_part, nothing, entry_at, state_at, state_after, heard, calls_in, calls_of, told, told_after, transcript}
 use Rattle.own_model.specs.Transcript.Heard.{NoCall, Stranger, Caller}
-
--- nothing is under any key
-none_there : {X : Type 0} (q : ℕ) (x : X) → get (empty {R = nat_cmp}) q ≡ Some x → ⊥
-none_there q x there = none-some x (sym (get-empty q) ∙ there)
-
--- no capability is covered
-none_covered : (ram : ℕ) → shortage (opened 0 0) ram 1 ≡ None → ⊥
-none_covered ram accepted = let fits = covers (opened 0 0) ram 1 accepted in let caps = fits.caps_fit in omega arith
-
--- no donation for a session is covered
-none_donated : (ram caps : ℕ) → donation_refusal (opened 0 0) ram caps ≡ None → ⊥
-none_donated ram caps accepted =
-    let parts = donation_covered (opened 0 0) ram caps accepted in
-    let fits = parts.0.caps_fit in
-    let enough = (large_enough ram caps parts.1).1 in
-    omega arith
-
--- nothing that a call can do changes who has nothing
-effects_nothing : KeptByEffects (λ s. s ≡ nothing) nothing
-effects_nothing = record {
-  allocates = λ n accepted. absurd (none_covered (page_of n) (accepted_size n (opened 0 0) accepted));
-  frees = λ selector bytes there. absurd (none_there selector (Dataspace bytes) there);
-  attaches = λ selector address bytes there stands room. absurd (none_there selector (Dataspace bytes) there);
-  detaches = λ address. ap (λ regions. record nothing { regions = regions }) (remove_free empty address (get-empty address));
-  pokes = λ selector offset bytes object there. absurd (none_there selector object there);
-  pokes_payload = λ address offset bytes payload there. absurd (none_there address payload there);
-  pokes_block = λ address offset bytes payload there. absurd (none_there address payload there);
-  takes = λ n hole best. absurd (none-some hole best);
-  grows = λ n start accepted gap. absurd (none_covered (growth_of n no_chunks (opened 0 0)).bytes (accepted_growth n no_chunks (opened 0 0) accepted).1);
-  takes_large = λ n start large accepted gap. absurd (none_covered (page_of n) (accepted_size n (opened 0 0) accepted));
-  gives = λ address payload there small. absurd (none_there address payload there);
-  gives_large = λ address bytes there. absurd (none_there address bytes there);
-  slices = λ n start accepted gap. absurd (none_covered (sliced_size n) (accepted_block n (opened 0 0) accepted));
-  unslices = λ address payload there. absurd (none_there address payload there);
-  allocates_cap = λ accepted. absurd (none_covered 0 accepted);
-  frees_cap = λ selector there. absurd (none_there selector RpcObject there);
-}
-
--- nor can a call of a session
-sessions_nothing : KeptBySessions (λ s. s ≡ nothing) nothing
-sessions_nothing = record {
-  opens = λ wish accepted. absurd (none_donated wish.ram wish.caps accepted);
-  upgrades = λ selector session more there accepted. absurd (none_there selector (OpenSession session) there);
-  serves = λ selector session request there. absurd (none_there selector (OpenSession session) there);
-  closes = λ selector session there. absurd (none_there selector (OpenSession session) there);
-}
+use Rattle.own_model.specs.World.{World, world_running, world_after_heard}
 
 -- no call changes the state of who has nothing
 nothing_stays : (entry : Entry) (call : Call) → (own_step entry call nothing).next ≡ nothing
-nothing_stays entry call = step_keeps (λ s. s ≡ nothing) nothing refl effects_nothing sessions_nothing entry call
+nothing_stays entry call = gone_left entry call nothing refl
 
 -- a running state reads as own run of the component's own part
 pub record Tracks (entries : List Entry) (starts states : List OwnState) (earlier : List Made) : Type 0 where
@@ -177,6 +122,20 @@ states_running-push entries states [] line = refl
 states_running-push entries states (first ∷ lines) line =
     states_running-push entries (states_after_heard entries states (heard entries first)) lines line
 
+-- init's account after lines and one line more
+pub init_running-push : InitOverLast
+init_running-push entries init states [] line = refl
+init_running-push entries init states (first ∷ lines) line =
+    init_running-push entries (init_after_heard entries init states (heard entries first)) (states_after_heard entries states (heard entries first)) lines line
+
+-- so the world after lines and one line more
+pub world_running-push : (world : World) (lines : List (List ℕ)) (line : List ℕ) →
+    world_running world (lines ++ line ∷ []) ≡ world_after_heard (world_running world lines) (heard world.entries line)
+world_running-push world lines line =
+    let states = states_running-push world.entries world.states lines line in
+    let init = init_running-push world.entries world.init world.states lines line in
+    λ i. record world { init = init i; states = states i }
+
 -- what is told of lines and one line more
 pub told_running-push : (entries : List Entry) (states : List OwnState) (lines : List (List ℕ)) (line : List ℕ) →
     told_running entries states (lines ++ line ∷ [])
@@ -211,4 +170,4 @@ length-states_running entries states (line ∷ lines) =
     ∙ heard-length entries states (heard entries line)
 
 -- the laws by which a loop over lines is proved
-pub ruleset running = (told_running-push, states_running-push, length-states_running, transcript-running, states_running-at)
+pub ruleset running = (told_running-push, states_running-push, init_running-push, length-states_running, transcript-running, states_running-at)

@@ -1,10 +1,10 @@
 -- What calls leave of sessions.
-use Rattle.std.proofs.Common.{◌≡◌, ℕ, ◌≤◌, Bool, true, false, cond, Some, refl, sym, ap, List, nat_lt}
+use Rattle.std.proofs.Common.{◌≡◌, ℕ, ◌≤◌, Bool, true, false, cond, Some, refl, sym, ap, List, nat_lt, ◌∙◌}
 use Rattle.std.proofs.lemmas.Option.{none-some, same_Some}
 use Rattle.std.specs.Prelude.{Option, None}
 use Rattle.std.specs.Option.{option_or}
 use Rattle.std.specs.FinMap.{get, insert}
-use Rattle.own_model.proofs.NatMapLemmas.{each_after_insert, before_remove}
+use Rattle.own_model.proofs.NatMapLemmas.{each_after_insert, before_remove, get-empty}
 use Rattle.own_model.proofs.StepLemmas.{KeptByEffects, KeptBySessions, covers}
 use Rattle.own_model.specs.Account.{Account, Fits, shortage}
 use Rattle.own_model.specs.NatMap.{NatMap}
@@ -15,6 +15,7 @@ use Rattle.trade_base.specs.Page.{page_of}
 use Rattle.trade_base.specs.declared.refusal.Refusal.{Refusal}
 use Rattle.trade_base.specs.declared.refusal.Refusal.TheVariants.{InsufficientRamQuota, InsufficientCapQuota}
 use Rattle.std.proofs.lemmas.Bool.{ltb-false}
+use Rattle.own_model.specs.OwnStep.{gone_state}
 
 -- ---- what a donation that is accepted has
 
@@ -100,6 +101,10 @@ module _ (Q : ℕ → Session → Type 0) where
     frees_cap = λ selector there. λ q x is. h q x (before_remove s.selectors selector q (OpenSession x) is);
   }
 
+  -- who has exited has none
+  pub gone_named : EachNamed gone_state
+  gone_named selector session is = absurd (none-some (OpenSession session) (sym (get-empty selector) ∙ is))
+
 module _ (Q : Session → Type 0) where
   abbrev Named : ℕ → Session → Type 0
   Named selector session = Q session
@@ -107,6 +112,9 @@ module _ (Q : Session → Type 0) where
   -- the same of each session
   pub effects_each : (s : OwnState) → EachSession Q s → KeptByEffects (EachSession Q) s
   effects_each s h = effects_named Named s h
+
+  pub gone_each : EachSession Q gone_state
+  gone_each = gone_named Named
 
   -- calls of sessions keep what holds of a new session, of one with more, and of one that has served
   pub sessions_each : ((wish : Wish) → too_small wish.ram wish.caps ≡ None → Q (new_session wish)) →

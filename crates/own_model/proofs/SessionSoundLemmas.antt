@@ -4,7 +4,7 @@ use Rattle.std.proofs.lemmas.List.Elements.{All-nil}
 use Rattle.own_model.proofs.FileChargeLemmas.{charges_stay}
 use Rattle.own_model.proofs.FileServiceLemmas.{files_stay, no_files_are}
 use Rattle.own_model.proofs.LogLemmas.{writes_lines}
-use Rattle.own_model.proofs.SessionLemmas.{effects_each, sessions_each}
+use Rattle.own_model.proofs.SessionLemmas.{effects_each, sessions_each, gone_each}
 use Rattle.own_model.proofs.TableLemmas.{run_keeps}
 use Rattle.own_model.specs.LogService.{IsUnbroken, IsPartial, log_served_bytes}
 use Rattle.own_model.specs.LogText.{log_request}
@@ -36,7 +36,7 @@ run_charges =
     (sessions_each UsesItsCharge
     (λ wish enough. let none = nothing_at_first wish.service in record { ram = omega (arith, none.0); caps = omega (arith, none.1) })
     (λ x ram caps h. record { ram = h.ram; caps = h.caps })
-    (λ x request h. serve_charges x.state x request refl h))
+    (λ x request h. serve_charges x.state x request refl h)) (gone_each UsesItsCharge)
 
 -- what is kept for a session is as it should be
 abbrev Keeps : Session → Type 0
@@ -60,4 +60,4 @@ kept_after (Filing files) x request h = files_stay files x.account request h
 pub run_kept : RunKeepsKept
 run_kept =
     run_keeps (EachSession Keeps) (effects_each Keeps)
-    (sessions_each Keeps (λ wish enough. kept_at_first wish.service) (λ x ram caps h. h) (λ x request h. kept_after x.state x request h))
+    (sessions_each Keeps (λ wish enough. kept_at_first wish.service) (λ x ram caps h. h) (λ x request h. kept_after x.state x request h)) (gone_each Keeps)

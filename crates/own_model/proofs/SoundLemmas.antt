@@ -1,5 +1,5 @@
 -- Calls keep an own state sound: each region is of a dataspace that a selector names, and lies apart from the others.
-use Rattle.std.proofs.Common.{◌≡◌, ◌≢◌, ℕ, ◌+◌, ◌-◌, ◌*◌, ◌/◌, ◌<◌, ◌≤◌, true, false, cond, eqb, List, length, nat_le, Some, refl, sym, ap, subst, ◌∙◌, eqb-true, nat_cmp, arith, is_some}
+use Rattle.std.proofs.Common.{◌≡◌, ◌≢◌, ℕ, ◌+◌, ◌-◌, ◌*◌, ◌/◌, ◌<◌, ◌≤◌, true, false, cond, eqb, List, length, nat_le, Some, refl, sym, ap, subst, ◌∙◌, eqb-true, nat_cmp, arith, is_some, Bool}
 use Rattle.std.proofs.lemmas.Bool.Decides.{nat_tests}
 use Rattle.std.proofs.lemmas.Option.{none-some, same_Some}
 use Rattle.std.specs.Prelude.{Option, None, is_none}
@@ -23,10 +23,10 @@ use Rattle.own_model.specs.Call.Call.{Free, Attach, AttachAt}
 use Rattle.own_model.specs.NatMap.{NatMap, joined}
 use Rattle.own_model.specs.OwnState.{OwnState, Object, zeros, new_selector, pages_in, with_part, object_with, heap_ranges}
 use Rattle.own_model.specs.OwnState.Object.{Dataspace, RpcObject, OpenSession}
-use Rattle.own_model.specs.OwnStep.{own_step, own_run, script_step, refused, unless, allocated, freed, with_region, attached_first, attached_at, region_detached, poked_at, payload_poked, sliced_at, sliced_freed, own_heap_gap, cap_allocated, cap_freed}
+use Rattle.own_model.specs.OwnStep.{gone_state, own_step, own_run, script_step, refused, unless, allocated, freed, with_region, attached_first, attached_at, region_detached, poked_at, payload_poked, sliced_at, sliced_freed, own_heap_gap, cap_allocated, cap_freed}
 use Rattle.own_model.specs.Region.{Region, user_low, user_high, most_regions, can_stand, first_gap, user_gap, IsPlace, without}
 use Rattle.own_model.specs.Sound.{IsPages, NamesDataspace, LieApart, AreMapped, IsBlock, KeysApart, IsSound}
-use Rattle.own_model.specs.OwnHeap.{ranges_of_heap}
+use Rattle.own_model.specs.OwnHeap.{ranges_of_heap, no_heap}
 use Rattle.own_model.specs.HeapWindow.{heap_low, heap_high, largest_machine}
 use Rattle.own_model.specs.Sliced.{sliced_header, sliced_size, block_pages, ranges_of_blocks}
 use Rattle.own_model.proofs.ApartLemmas.{LieApart-empty, LieApart-fewer, LieApart-insert}
@@ -378,9 +378,9 @@ sessions_sound s h = record {
 no_ranges : (q : ℕ) → get (ranges_of_blocks empty) q ≡ get (empty {R = nat_cmp}) q
 no_ranges q = get-ranges empty q ∙ ap (option_and_then (λ payload. Some (range_of payload))) (get-empty (q + sliced_header)) ∙ sym (get-empty q)
 
--- who starts has nothing
-pub start_sound : (start : StartEntry) → IsSound (start_state start)
-start_sound start = record {
+-- who has nothing but an account
+none_sound : (account : Account) (gone : Bool) → IsSound (record { account = account; selectors = empty; regions = empty; heap = no_heap; sliced = empty; gone = gone })
+none_sound account gone = record {
   whole = λ selector bytes is. absurd (none-some (Dataspace bytes) (sym (get-empty selector) ∙ is));
   mapped = record {
     named = λ at region is. absurd (none-some region (sym (get-empty at) ∙ is));
@@ -393,13 +393,20 @@ start_sound start = record {
   heap = subst (LieApart heap_low (heap_high largest_machine)) (sym (joined-no_heap (ranges_of_blocks empty))) (LieApart-empty heap_low (heap_high largest_machine) (ranges_of_blocks empty) no_ranges);
 }
 
+-- as who starts, and who has exited
+pub start_sound : (start : StartEntry) → IsSound (start_state start)
+start_sound start = none_sound (start_state start).account false
+
+pub gone_sound : IsSound gone_state
+gone_sound = none_sound gone_state.account true
+
 -- a call keeps it so
 pub step_sound : (entry : Entry) (call : Call) (s : OwnState) → IsSound s → IsSound (own_step entry call s).next
-step_sound entry call s h = step_keeps IsSound s h (effects_sound s h) (sessions_sound s h) entry call
+step_sound entry call s h = step_keeps IsSound s h (effects_sound s h) (sessions_sound s h) gone_sound entry call
 
 -- and so do calls
 pub run_sound : (entry : Entry) (calls : List Call) (s : OwnState) → IsSound s → IsSound (own_run entry calls s)
-run_sound = run_keeps IsSound effects_sound sessions_sound
+run_sound = run_keeps IsSound effects_sound sessions_sound gone_sound
 
 -- what is freed has no region left
 pub freed_has_none : (s : OwnState) (selector : ℕ) (bytes : List ℕ) → get s.selectors selector ≡ Some (Dataspace bytes) →

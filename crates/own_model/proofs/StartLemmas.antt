@@ -1,16 +1,17 @@
 -- What a start list hands out and what init keeps are the whole machine.
-use Rattle.std.proofs.Common.{◌≡◌, ◌+◌, List, [], ◌∷◌, map, sum_by, refl, sym, ◌∙◌, arith, lit≤}
+use Rattle.std.proofs.Common.{◌≡◌, ◌+◌, cond, List, [], ◌∷◌, map, sum_by, refl, sym, ◌∙◌, arith, lit≤}
+use Rattle.std.proofs.lemmas.List.{length-map}
 use Rattle.std.proofs.lemmas.List.Sums.{sum_by-cons}
-use Rattle.std.specs.List.{AllByRecursion}
+use Rattle.std.specs.List.{AllByRecursion, zip}
 use Rattle.std.proofs.lemmas.Option.{none-some}
 use Rattle.own_model.proofs.NatMapLemmas.{get-empty}
 use Rattle.own_model.proofs.Totals.{total-empty}
 use Rattle.own_model.specs.Account.{Account, parted_with}
 use Rattle.own_model.specs.Limits.{ram_with, caps_with, ram_limits, caps_limits, AreWithinLimits}
-use Rattle.own_model.specs.OwnState.{EachSession}
+use Rattle.own_model.specs.OwnState.{OwnState, EachSession}
 use Rattle.own_model.specs.OwnState.Object.{OpenSession}
-use Rattle.own_model.specs.StartList.{machine_a, StartEntry, StartList, Boots, AllCovered, start_state, machine_account, init_keeps}
-use Rattle.own_model.specs.World.{IsBalanced, start_world}
+use Rattle.own_model.specs.StartList.{machine_a, StartEntry, StartList, Boots, AllCovered, start_state, start_states, machine_account, init_keeps}
+use Rattle.own_model.specs.World.{HasItsBudget, ram_returned, caps_returned, IsBalanced, IsBalancedFor, start_world}
 
 -- nobody starts with a session
 pub start_alone : (start : StartEntry) → EachSession (λ session. ⊥) (start_state start)
@@ -53,6 +54,33 @@ start_balanced list covered = record {
   caps_add_up = caps_kept (machine_account list) list.starts covered refl;
 }
 
+-- each component has its budget
+budgets_handed : (starts : List StartEntry) → AllByRecursion (λ p. HasItsBudget p.0 p.1) (zip starts (map start_state starts))
+budgets_handed [] = tt
+budgets_handed (start ∷ starts) = (record { ram = omega (arith, total-empty ram_with); caps = omega (arith, total-empty caps_with) }, budgets_handed starts)
+
+-- and nobody is gone
+none_returned : (starts : List StartEntry) → (ram_returned starts (map start_state starts) ≡ 0) × (caps_returned starts (map start_state starts) ≡ 0)
+none_returned [] = (refl, refl)
+none_returned (start ∷ starts) =
+    let rest = none_returned starts in
+    let ram = sum_by-cons (λ (p : StartEntry × OwnState). cond p.1.gone p.0.ram 0) (start, start_state start) (zip starts (map start_state starts)) in
+    let caps = sum_by-cons (λ (p : StartEntry × OwnState). cond p.1.gone p.0.caps 0) (start, start_state start) (zip starts (map start_state starts)) in
+    (omega (arith, ram, rest.0), omega (arith, caps, rest.1))
+
+pub start_balanced_for : (list : StartList) → Boots list → IsBalancedFor list (start_world list)
+start_balanced_for list covered =
+    let init : Account = init_keeps (machine_account list) list.starts in
+    let none = none_returned list.starts in
+    let ram : init.ram_limit ≡ init.ram_limit + ram_returned list.starts (start_states list) = omega (arith, none.0) in
+    let caps : init.caps_limit ≡ init.caps_limit + caps_returned list.starts (start_states list) = omega (arith, none.1) in
+    record {
+      balanced = start_balanced list covered;
+      count = length-map list.starts start_state;
+      budgets = budgets_handed list.starts;
+      init = λ i. record init { ram_limit = ram i; caps_limit = caps i };
+    }
+
 -- machine A covers each of its budgets in turn, and so starts balanced
 pub machine_a_covers : Boots machine_a
 machine_a_covers = (
@@ -62,3 +90,6 @@ machine_a_covers = (
 
 pub machine_a_balanced : IsBalanced 64 64 (start_world machine_a)
 machine_a_balanced = start_balanced machine_a machine_a_covers
+
+pub machine_a_balanced_for : IsBalancedFor machine_a (start_world machine_a)
+machine_a_balanced_for = start_balanced_for machine_a machine_a_covers

@@ -13,13 +13,13 @@ use Rattle.own_model.proofs.RangeLemmas.{range_fits}
 use Rattle.own_model.proofs.StepLemmas.{KeptByEffects, KeptBySessions, attach_place, attach_at_place, size_tested}
 use Rattle.own_model.proofs.SessionLemmas.{named_there}
 use Rattle.own_model.specs.Account.{WithinLimits, shortage, alloc_refusal}
-use Rattle.own_model.specs.Call.{Call, is_of_session}
-use Rattle.own_model.specs.Call.Call.{Alloc, Free, Attach, AttachAt, Detach, Peek, Poke, Capalloc, Capfree, New, Del, Snew, Sdel, Quota, Open, Upgrade, CallSession, Close}
+use Rattle.own_model.specs.Call.{Call, is_of_session, is_exit}
+use Rattle.own_model.specs.Call.Call.{Alloc, Free, Attach, AttachAt, Detach, Peek, Poke, Capalloc, Capfree, New, Del, Snew, Sdel, Quota, Open, Upgrade, CallSession, Close, Exit}
 use Rattle.own_model.specs.BestFit.{Spot, block_size}
 use Rattle.own_model.specs.Growth.{Growth, most_chunks, is_large, hole_for, growth_of, growth_refusal, small_refusal}
 use Rattle.own_model.specs.OwnState.{OwnState, Object, pages_in, session_named}
 use Rattle.own_model.specs.OwnState.Object.{Dataspace, RpcObject, OpenSession}
-use Rattle.own_model.specs.OwnStep.{Outcome, own_step, own_run, entry_step, refused, unless, turned_away, allocated, freed, with_region, attached_first, attached_at, region_detached, count_refusal, peeked, poked, poked_at, payload_poked, block_poked, most_bytes, block_taken, grown_at, grown_in, large_at, large_in, small_new, given_back, deleted, sliced_at, sliced_in, sliced_freed, own_heap_gap, cap_allocated, cap_freed, told_quota, opened_by, session_opened, upgraded_by, session_upgraded, session_served, session_called, session_closed}
+use Rattle.own_model.specs.OwnStep.{Outcome, own_step, own_run, entry_step, refused, unless, turned_away, allocated, freed, with_region, attached_first, attached_at, region_detached, count_refusal, peeked, poked, poked_at, payload_poked, block_poked, most_bytes, block_taken, grown_at, grown_in, large_at, large_in, small_new, given_back, deleted, sliced_at, sliced_in, sliced_freed, own_heap_gap, cap_allocated, cap_freed, told_quota, opened_by, session_opened, upgraded_by, session_upgraded, session_served, session_called, session_closed, exited, gone_state}
 use Rattle.own_model.specs.Place.{Place, found}
 use Rattle.own_model.specs.Place.Place.{InDataspace, InPayload, InBlock}
 use Rattle.own_model.specs.Region.{Region, most_regions, user_low, user_high, can_stand, first_gap, user_gap, resolved, attach_refusal, attach_at_refusal}
@@ -67,8 +67,8 @@ module _ (s : OwnState) where
   leaves (Some other) accepted refusal told is = ap (refused s) (same_Some other refusal (ap refusal_in is))
   leaves None accepted refusal told is = absurd (none-some refusal (sym told ∙ ap refusal_in is))
 
--- what holds of a state, and after each thing that a call can do to it
-module _ (session : Bool) (P : OwnState → Type 0) (s : OwnState) (h : P s) (k : KeptByEffects P s) (q : session ≡ true → KeptBySessions P s) where
+-- what holds of a state, after each thing that a call can do to it, and of who has exited
+module _ (session ends : Bool) (P : OwnState → Type 0) (s : OwnState) (h : P s) (k : KeptByEffects P s) (q : session ≡ true → KeptBySessions P s) (g : ends ≡ true → P gone_state) where
   -- a refusal for which nothing else has to be looked at
   refused_for : (refusal : Refusal) (line : List Test) → Some refusal ≡ first_failed line → Explained session P s (refused s refusal) line
   refused_for refusal line first = record { why = Some refusal; accepted = told_quota s; told = refl; quiet = λ _. refl; is = refl; right = λ _ _. first; kept = λ _. h }
@@ -365,8 +365,8 @@ module _ (session : Bool) (P : OwnState → Type 0) (s : OwnState) (h : P s) (k 
     closes None at of = refused_for InvalidSession _ refl
 
   -- any call of a script
-  explained : (entry : Entry) (call : Call) → is_of_session call ≡ session → Explained session P s (entry_step entry call s) (line_of entry call s)
-  explained entry (Alloc n) of = record {
+  explained : (entry : Entry) (call : Call) → is_of_session call ≡ session → is_exit call ≡ ends → Explained session P s (entry_step entry call s) (line_of entry call s)
+  explained entry (Alloc n) of end = record {
     why = alloc_refusal n s.account;
     accepted = allocated n s;
     told = refl;
@@ -375,13 +375,13 @@ module _ (session : Bool) (P : OwnState → Type 0) (s : OwnState) (h : P s) (k 
     right = λ _ _. flip (is_valid_size n) (shortage s.account (page_of n) 1) (Some InvalidSize);
     kept = k.allocates n;
   }
-  explained entry (Free selector) of = frees selector (get s.selectors selector) refl
-  explained entry (Attach selector) of = attaches selector (get s.selectors selector) refl
-  explained entry (AttachAt selector address) of = attaches_at selector address (get s.selectors selector) refl
-  explained entry (Detach address) of = detaches address (get s.regions address)
-  explained entry (Peek address count) of = peeks count (found s address count)
-  explained entry (Poke address bytes) of = pokes address bytes (found s address (length bytes)) refl
-  explained entry Capalloc of = record {
+  explained entry (Free selector) of end = frees selector (get s.selectors selector) refl
+  explained entry (Attach selector) of end = attaches selector (get s.selectors selector) refl
+  explained entry (AttachAt selector address) of end = attaches_at selector address (get s.selectors selector) refl
+  explained entry (Detach address) of end = detaches address (get s.regions address)
+  explained entry (Peek address count) of end = peeks count (found s address count)
+  explained entry (Poke address bytes) of end = pokes address bytes (found s address (length bytes)) refl
+  explained entry Capalloc of end = record {
     why = shortage s.account 0 1;
     accepted = cap_allocated s;
     told = refl;
@@ -390,16 +390,17 @@ module _ (session : Bool) (P : OwnState → Type 0) (s : OwnState) (h : P s) (k 
     right = λ within _. ap (λ b. cond b (Some OutOfRam) (cond (lacks_caps s.account 1) (Some OutOfCaps) None)) (no_ram within);
     kept = k.allocates_cap;
   }
-  explained entry (Capfree selector) of = frees_cap selector (get s.selectors selector) refl
-  explained entry (New n) of = news n (is_large n) refl
-  explained entry (Del address) of = deletes address (get s.heap.payloads address) refl
-  explained entry (Snew n) of = slices n (own_heap_gap (sliced_size n) s) refl
-  explained entry (Sdel address) of = frees_block address (get s.sliced address) refl
-  explained entry Quota of = does (told_quota s) _ refl refl refl h
-  explained entry (Open service text) of = opens entry service (arguments_of text) (sym of)
-  explained entry (Upgrade selector text) of = upgrades selector (session_named (get s.selectors selector)) (named_there (get s.selectors selector)) (arguments_of text) (sym of)
-  explained entry (CallSession selector request) of = serves selector (session_named (get s.selectors selector)) (named_there (get s.selectors selector)) request (sym of)
-  explained entry (Close selector) of = closes selector (session_named (get s.selectors selector)) (named_there (get s.selectors selector)) (sym of)
+  explained entry (Capfree selector) of end = frees_cap selector (get s.selectors selector) refl
+  explained entry (New n) of end = news n (is_large n) refl
+  explained entry (Del address) of end = deletes address (get s.heap.payloads address) refl
+  explained entry (Snew n) of end = slices n (own_heap_gap (sliced_size n) s) refl
+  explained entry (Sdel address) of end = frees_block address (get s.sliced address) refl
+  explained entry Quota of end = does (told_quota s) _ refl refl refl h
+  explained entry (Open service text) of end = opens entry service (arguments_of text) (sym of)
+  explained entry (Upgrade selector text) of end = upgrades selector (session_named (get s.selectors selector)) (named_there (get s.selectors selector)) (arguments_of text) (sym of)
+  explained entry (CallSession selector request) of end = serves selector (session_named (get s.selectors selector)) (named_there (get s.selectors selector)) request (sym of)
+  explained entry (Close selector) of end = closes selector (session_named (get s.selectors selector)) (named_there (get s.selectors selector)) (sym of)
+  explained entry Exit of end = does exited _ refl refl refl (g (sym end))
 
   -- one that has exited does no call
   by_gone : (gone : Bool) (o : Outcome) (line : List Test) → Explained session P s o line → Explained session P s (unless (cond gone (Some Gone) None) s o) (when gone Gone ∷ line)
@@ -407,9 +408,10 @@ module _ (session : Bool) (P : OwnState → Type 0) (s : OwnState) (h : P s) (k 
   by_gone false o line e = record { why = e.why; accepted = e.accepted; told = e.told; quiet = e.quiet; is = e.is; right = e.right; kept = e.kept }
 
   -- any call of a component
-  by_kind : (kind : Kind) (entry : Entry) (call : Call) → is_of_session call ≡ session → Explained session P s (unless (turned_away kind s) s (entry_step entry call s)) (line_by kind entry call s)
-  by_kind Server entry call of = refused_for NotAScript _ refl
-  by_kind Script entry call of = by_gone s.gone (entry_step entry call s) (line_of entry call s) (explained entry call of)
+  by_kind : (kind : Kind) (entry : Entry) (call : Call) → is_of_session call ≡ session → is_exit call ≡ ends →
+      Explained session P s (unless (turned_away kind s) s (entry_step entry call s)) (line_by kind entry call s)
+  by_kind Server entry call of end = refused_for NotAScript _ refl
+  by_kind Script entry call of end = by_gone s.gone (entry_step entry call s) (line_of entry call s) (explained entry call of end)
 
   -- what is accepted or refused keeps it
   unless_keeps : (why : Option Refusal) (accepted : Outcome) → (why ≡ None → P accepted.next) → P (unless why s accepted).next
@@ -417,21 +419,30 @@ module _ (session : Bool) (P : OwnState → Type 0) (s : OwnState) (h : P s) (k 
   unless_keeps None accepted after = after refl
 
   -- so any such call keeps it
-  step_keeps_by : (entry : Entry) (call : Call) → is_of_session call ≡ session → P (own_step entry call s).next
-  step_keeps_by entry call of = let e = by_kind entry.kind entry call of in subst (λ o. P o.next) (sym e.is) (unless_keeps e.why e.accepted e.kept)
+  step_keeps_by : (entry : Entry) (call : Call) → is_of_session call ≡ session → is_exit call ≡ ends → P (own_step entry call s).next
+  step_keeps_by entry call of end = let e = by_kind entry.kind entry call of end in subst (λ o. P o.next) (sym e.is) (unless_keeps e.why e.accepted e.kept)
 
--- any call but one of a session keeps what all other effects keep
-pub others_keep : (P : OwnState → Type 0) (s : OwnState) → P s → KeptByEffects P s → (entry : Entry) (call : Call) → is_of_session call ≡ false → P (own_step entry call s).next
-others_keep P s h k entry call other = step_keeps_by false P s h k (λ e. absurd (true≢false (sym e))) entry call other
+module _ (P : OwnState → Type 0) (s : OwnState) (h : P s) (k : KeptByEffects P s) where
+  -- any call but one of a session and an exit keeps what all other effects keep
+  pub others_go_on : (entry : Entry) (call : Call) → is_of_session call ≡ false → is_exit call ≡ false → P (own_step entry call s).next
+  others_go_on entry call other on = step_keeps_by false false P s h k (λ e. absurd (true≢false (sym e))) (λ e. absurd (true≢false (sym e))) entry call other on
 
--- and any call what all effects keep
-pub step_keeps : (P : OwnState → Type 0) (s : OwnState) → P s → KeptByEffects P s → KeptBySessions P s → (entry : Entry) (call : Call) → P (own_step entry call s).next
-step_keeps P s h k q entry call = step_keeps_by (is_of_session call) P s h k (λ _. q) entry call refl
+  -- any call but one of a session, where it holds of who has exited
+  pub others_keep : P gone_state → (entry : Entry) (call : Call) → is_of_session call ≡ false → P (own_step entry call s).next
+  others_keep gone entry call other = step_keeps_by false (is_exit call) P s h k (λ e. absurd (true≢false (sym e))) (λ _. gone) entry call other refl
+
+  -- any call but an exit
+  pub goes_on : KeptBySessions P s → (entry : Entry) (call : Call) → is_exit call ≡ false → P (own_step entry call s).next
+  goes_on q entry call on = step_keeps_by (is_of_session call) false P s h k (λ _. q) (λ e. absurd (true≢false (sym e))) entry call refl on
+
+  -- and any call
+  pub step_keeps : KeptBySessions P s → P gone_state → (entry : Entry) (call : Call) → P (own_step entry call s).next
+  step_keeps q gone entry call = step_keeps_by (is_of_session call) (is_exit call) P s h k (λ _. q) (λ _. gone) entry call refl refl
 
 -- and so do calls, where what a call can do keeps it in each state
-pub run_keeps : (P : OwnState → Type 0) → ((s : OwnState) → P s → KeptByEffects P s) → ((s : OwnState) → P s → KeptBySessions P s) → (entry : Entry) (calls : List Call) (s : OwnState) → P s → P (own_run entry calls s)
-run_keeps P each sessions entry [] s h = h
-run_keeps P each sessions entry (call ∷ calls) s h = run_keeps P each sessions entry calls (own_step entry call s).next (step_keeps P s h (each s h) (sessions s h) entry call)
+pub run_keeps : (P : OwnState → Type 0) → ((s : OwnState) → P s → KeptByEffects P s) → ((s : OwnState) → P s → KeptBySessions P s) → P gone_state → (entry : Entry) (calls : List Call) (s : OwnState) → P s → P (own_run entry calls s)
+run_keeps P each sessions gone entry [] s h = h
+run_keeps P each sessions gone entry (call ∷ calls) s h = run_keeps P each sessions gone entry calls (own_step entry call s).next (step_keeps P s h (each s h) (sessions s h) gone entry call)
 
 -- ---- refusals
 
@@ -466,7 +477,7 @@ anything_of_sessions s = record {
 
 -- what a call is refused for, and what it does else
 why_call : (entry : Entry) (call : Call) (s : OwnState) → Explained (is_of_session call) (λ _. Unit {0}) s (own_step entry call s) (whole_line entry call s)
-why_call entry call s = by_kind (is_of_session call) (λ _. Unit {0}) s tt (anything s) (λ _. anything_of_sessions s) entry.kind entry call refl
+why_call entry call s = by_kind (is_of_session call) (is_exit call) (λ _. Unit {0}) s tt (anything s) (λ _. anything_of_sessions s) (λ _. tt) entry.kind entry call refl refl
 
 -- what is refused finishes no lines, nor does what is accepted where it finishes none
 unless_quiet : (why : Option Refusal) (s : OwnState) (accepted : Outcome) → accepted.lines ≡ [] → (unless why s accepted).lines ≡ []

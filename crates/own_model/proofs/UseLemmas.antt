@@ -1,7 +1,7 @@
 -- The use of an account is what its selectors name, before and after a call.
-use Rattle.std.proofs.Common.{◌≡◌, ℕ, ◌+◌, ◌-◌, List, [], ◌∷◌, Some, refl, ap, nat_cmp, arith, set}
+use Rattle.std.proofs.Common.{◌≡◌, ℕ, ◌+◌, ◌-◌, List, [], ◌∷◌, Some, refl, ap, nat_cmp, arith, set, Bool, true, false}
 use Rattle.std.specs.Prelude.{None}
-use Rattle.std.specs.FinMap.{get, remove, len-empty}
+use Rattle.std.specs.FinMap.{get, remove, len-empty, empty}
 use Rattle.trade_base.specs.Page.{page_of}
 use Rattle.own_model.proofs.NewSelector.{new_selector_free}
 use Rattle.own_model.proofs.BlockLemmas.{bytes-taken, bytes-given}
@@ -11,7 +11,7 @@ use Rattle.own_model.specs.Growth.{Growth, growth_of, new_hole}
 use Rattle.own_model.specs.Heap.{Block, Hole, header, bytes_in}
 use Rattle.own_model.specs.HeapStep.{with_block}
 use Rattle.own_model.specs.NatMap.{NatMap}
-use Rattle.own_model.specs.OwnHeap.{chunk_with, offset_of}
+use Rattle.own_model.specs.OwnHeap.{chunk_with, offset_of, no_heap}
 use Rattle.std.proofs.lemmas.List.{length-set, length-append}
 use Rattle.std.proofs.lemmas.List.Sums.{sum_by-append}
 use Rattle.own_model.proofs.StepLemmas.{KeptBySessions, KeptByEffects, valid_some}
@@ -21,8 +21,8 @@ use Rattle.own_model.proofs.Totals.{total-empty, total-insert_new, total-insert_
 use Rattle.own_model.specs.Call.{Call}
 use Rattle.own_model.specs.OwnState.{OwnState, Object, zeros, new_selector, with_part, object_with}
 use Rattle.own_model.specs.OwnState.Object.{Dataspace, RpcObject, OpenSession}
-use Rattle.own_model.specs.OwnStep.{own_run, allocated, freed, poked_at, payload_poked, block_taken, chunk_added, large_at, given_back, sliced_at, sliced_freed, own_heap_gap, cap_allocated, cap_freed}
-use Rattle.own_model.specs.Account.{Account, parted_with, alloc_refusal}
+use Rattle.own_model.specs.OwnStep.{gone_state, own_run, allocated, freed, poked_at, payload_poked, block_taken, chunk_added, large_at, given_back, sliced_at, sliced_freed, own_heap_gap, cap_allocated, cap_freed}
+use Rattle.own_model.specs.Account.{Account, opened, parted_with, alloc_refusal}
 use Rattle.own_model.specs.Session.{Session, new_session, upgraded, served}
 use Rattle.std.specs.FinMap.{insert}
 use Rattle.own_model.specs.Sliced.{sliced_header, sliced_size, block_size}
@@ -30,12 +30,19 @@ use Rattle.own_model.proofs.HeapRangeLemmas.{gap_free, gap_free_large, new_page}
 use Rattle.own_model.specs.StartList.{Entry, StartEntry, start_state}
 use Rattle.own_model.specs.Use.{UsesWhatItHolds, object_size, object_caps}
 
--- nothing is held at the start, and nothing used
-pub start_uses : (start : StartEntry) → UsesWhatItHolds (start_state start)
-start_uses start = record {
+-- where nothing is held, nothing is used
+none_uses : (ram caps : ℕ) (gone : Bool) → UsesWhatItHolds (record { account = opened ram caps; selectors = empty; regions = empty; heap = no_heap; sliced = empty; gone = gone })
+none_uses ram caps gone = record {
   ram = omega (arith, total-empty object_size, total-empty block_size, total-empty (λ (bytes : ℕ). bytes));
   caps = omega (arith, total-empty object_caps, len-empty nat_cmp (List ℕ), len-empty nat_cmp ℕ);
 }
+
+-- as at the start, and after an exit
+pub start_uses : (start : StartEntry) → UsesWhatItHolds (start_state start)
+start_uses start = none_uses start.ram start.caps false
+
+pub gone_uses : UsesWhatItHolds gone_state
+gone_uses = none_uses 0 0 true
 
 -- a new dataspace uses its bytes and a capability
 allocated_uses : (n : ℕ) (s : OwnState) → UsesWhatItHolds s → UsesWhatItHolds (allocated n s).next
@@ -215,4 +222,4 @@ sessions_use s h = record {
 
 -- calls keep what is used equal to what is held
 pub run_uses : (entry : Entry) (calls : List Call) (s : OwnState) → UsesWhatItHolds s → UsesWhatItHolds (own_run entry calls s)
-run_uses = run_keeps UsesWhatItHolds effects_use sessions_use
+run_uses = run_keeps UsesWhatItHolds effects_use sessions_use gone_uses

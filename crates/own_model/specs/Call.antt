@@ -24,6 +24,7 @@ pub data Call : Type 0 where
   Upgrade : ℕ → List ℕ → Call
   CallSession : ℕ → List ℕ → Call
   Close : ℕ → Call
+  Exit : Call
 
 -- a call opens a session, or is of one
 abbrev pub is_of_session : Call → Bool
@@ -32,6 +33,11 @@ is_of_session (Upgrade selector text) = true
 is_of_session (CallSession selector request) = true
 is_of_session (Close selector) = true
 is_of_session call = false
+
+-- a call ends its caller, where that isn't turned away
+abbrev pub is_exit : Call → Bool
+is_exit Exit = true
+is_exit call = false
 
 -- a call, and the name of the component that makes it
 pub record Spoken : Type 0 where
@@ -90,6 +96,7 @@ forms =
     ∷ record { word = codes "upgrade"; call = of_text Upgrade number_of }
     ∷ record { word = codes "call"; call = of_text CallSession number_of }
     ∷ record { word = codes "close"; call = of_one Close number_of }
+    ∷ record { word = codes "exit"; call = of_none Exit }
     ∷ record { word = codes "quota"; call = of_none Quota }
     ∷ []
 

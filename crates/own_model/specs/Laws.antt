@@ -1,30 +1,31 @@
 -- The laws of runs and of answers, as statements.
-use Rattle.std.specs.Prelude.{false, ◌≡◌, ◌≢◌, ◌<◌, ◌≤◌, ℕ, ◌+◌, ◌^◌, ◌++◌, List, [], ◌∷◌, length, Some, None}
+use Rattle.std.specs.Prelude.{true, false, if◌then◌else◌, ◌≡◌, ◌≢◌, ◌<◌, ◌≤◌, ℕ, ◌+◌, ◌^◌, ◌++◌, List, [], ◌∷◌, length, Some, None, ◌*◌}
 use Rattle.std.specs.FinMap.{get, len}
 use Rattle.std.specs.List.{AllByRecursion}
 use Rattle.trade_base.specs.declared.refusal.Refusal.{Refusal}
-use Rattle.trade_base.specs.declared.refusal.Refusal.TheVariants.{InvalidCap, OutOfCaps, TooManyRegions}
-use Rattle.own_model.specs.Account.{WithinLimits}
+use Rattle.trade_base.specs.declared.refusal.Refusal.TheVariants.{Gone, InvalidCap, OutOfCaps, TooManyRegions}
+use Rattle.own_model.specs.Account.{Account, WithinLimits}
 use Rattle.own_model.specs.Call.{Call, is_of_session}
-use Rattle.own_model.specs.Call.Call.{Free, Attach, AttachAt, Peek, Poke, Capalloc}
-use Rattle.own_model.specs.Limits.{ram_limits, caps_limits, AreWithinLimits}
+use Rattle.own_model.specs.Call.Call.{Free, Attach, AttachAt, Peek, Poke, Capalloc, Exit}
+use Rattle.own_model.specs.Donation.{raised}
+use Rattle.own_model.specs.Limits.{ram_limits, caps_limits, init_after, AreWithinLimits}
 use Rattle.own_model.specs.Routes.{Rule}
 use Rattle.own_model.specs.OwnState.{OwnState, IsLeastUnused, new_selector}
 use Rattle.own_model.specs.OwnState.Object.{Dataspace}
-use Rattle.own_model.specs.OwnStep.{own_run, own_step, script_step, refused}
+use Rattle.own_model.specs.OwnStep.{own_run, own_step, exits, exited, script_step, refused, gone_state}
 use Rattle.own_model.specs.Region.{Region, most_regions, resolved}
 use Rattle.own_model.specs.Reply.{address_text, hex_text}
 use Rattle.own_model.specs.Reply.Reply.{Bytes, Done, Refused}
-use Rattle.own_model.specs.Running.{told_running, states_running, told_now, states_after_heard}
+use Rattle.own_model.specs.Running.{told_running, states_running, told_now, states_after_heard, init_running, init_after_heard}
 use Rattle.own_model.specs.StartList.{Entry, StartEntry, StartList, Boots, start_state}
-use Rattle.own_model.specs.StartList.Kind.{Server}
+use Rattle.own_model.specs.StartList.Kind.{Script, Server}
 use Rattle.own_model.specs.Text.{lines_of, address_of, bytes_of_hex}
 use Rattle.own_model.specs.Transcript.{Made, heard, own_part, state_at, state_after, answer, transcript, calls_of, longest_line}
 use Rattle.own_model.specs.Transcript.Heard.{NoCall}
 use Rattle.own_model.specs.Sound.{IsSound}
-use Rattle.own_model.specs.Table.{first_failed, whole_line, refusal_in}
+use Rattle.own_model.specs.Table.{FailsFor, first_failed, whole_line, refusal_in}
 use Rattle.own_model.specs.Use.{UsesWhatItHolds}
-use Rattle.own_model.specs.World.{World, IsBalanced, with_state, outcome_at, start_world}
+use Rattle.own_model.specs.World.{World, IsBalanced, IsBalancedFor, with_state, world_running, outcome_at, start_world}
 
 -- a run over two lists of calls is the run over the first and then the second
 abbrev pub RunOverAppend : Type 0
@@ -61,6 +62,21 @@ StatesOverLast =
     (entries : List Entry) (states : List OwnState) (lines : List (List ℕ)) (line : List ℕ) →
     states_running entries states (lines ++ line ∷ [])
     ≡ states_after_heard entries (states_running entries states lines) (heard entries line)
+
+-- init's account after a first line and the lines that follow it
+abbrev pub InitOverFirst : Type 0
+InitOverFirst =
+    (entries : List Entry) (init : Account) (states : List OwnState) (line : List ℕ) (lines : List (List ℕ)) →
+    init_running entries init states (line ∷ lines)
+    ≡ init_running entries (init_after_heard entries init states (heard entries line))
+    (states_after_heard entries states (heard entries line)) lines
+
+-- init's account after lines and a last line
+abbrev pub InitOverLast : Type 0
+InitOverLast =
+    (entries : List Entry) (init : Account) (states : List OwnState) (lines : List (List ℕ)) (line : List ℕ) →
+    init_running entries init states (lines ++ line ∷ [])
+    ≡ init_after_heard entries (init_running entries init states lines) (states_running entries states lines) (heard entries line)
 
 -- lines leave as many running states
 abbrev pub StatesKeepLength : Type 0
@@ -107,18 +123,51 @@ ServersStay =
     (name : List ℕ) (routes : List Rule) (calls : List Call) (s : OwnState) →
     own_run (record { name = name; kind = Server; routes = routes }) calls s ≡ s
 
--- no call changes the limits of its caller and of the caller's open sessions together
+-- a call leaves the limits of its caller and of the caller's open sessions together, and an exit that is done leaves none
 abbrev pub StepKeepsLimits : Type 0
 StepKeepsLimits =
     (entry : Entry) (call : Call) (s : OwnState) →
-    (ram_limits (own_step entry call s).next ≡ ram_limits s) × (caps_limits (own_step entry call s).next ≡ caps_limits s)
+    (ram_limits (own_step entry call s).next ≡ (if exits entry call s then 0 else ram_limits s))
+    × (caps_limits (own_step entry call s).next ≡ (if exits entry call s then 0 else caps_limits s))
 
--- nor the limits of its caller's account alone, but for calls of sessions
+-- and so for the limits of its caller's account alone, but for calls of sessions
 abbrev pub OthersKeepOwnLimits : Type 0
 OthersKeepOwnLimits =
     (entry : Entry) (call : Call) (s : OwnState) → is_of_session call ≡ false →
-    ((own_step entry call s).next.account.ram_limit ≡ s.account.ram_limit)
-    × ((own_step entry call s).next.account.caps_limit ≡ s.account.caps_limit)
+    ((own_step entry call s).next.account.ram_limit ≡ (if exits entry call s then 0 else s.account.ram_limit))
+    × ((own_step entry call s).next.account.caps_limit ≡ (if exits entry call s then 0 else s.account.caps_limit))
+
+-- an exit that is done returns all limits of its caller and of the caller's open sessions to init, and no other call any
+abbrev pub ExitsReturnLimits : Type 0
+ExitsReturnLimits =
+    (entry : Entry) (call : Call) (init : Account) (s : OwnState) →
+    init_after init s (own_step entry call s).next
+    ≡ (if exits entry call s then raised init (ram_limits s) (caps_limits s) else init)
+
+-- an exit of a script that isn't gone is done, and leaves nothing
+abbrev pub ExitsAreDone : Type 0
+ExitsAreDone = (entry : Entry) (s : OwnState) → entry.kind ≡ Script → s.gone ≡ false → own_step entry Exit s ≡ exited
+
+-- a script that is gone is answered Gone, whatever it calls
+abbrev pub GoneAreTurnedAway : Type 0
+GoneAreTurnedAway =
+    (entry : Entry) (call : Call) (s : OwnState) → entry.kind ≡ Script → s.gone ≡ true → own_step entry call s ≡ refused s Gone
+
+-- and who is gone stays as it is
+abbrev pub GoneStay : Type 0
+GoneStay = (entry : Entry) (calls : List Call) (s : OwnState) → s.gone ≡ true → own_run entry calls s ≡ s
+
+-- so after an exit that is done nothing is left, whatever is called, and each call is answered Gone
+abbrev pub ExitsEndAll : Type 0
+ExitsEndAll =
+    (entry : Entry) (calls : List Call) (call : Call) (s : OwnState) → exits entry Exit s ≡ true →
+    (own_run entry (Exit ∷ calls) s ≡ gone_state) × (own_step entry call gone_state ≡ refused gone_state Gone)
+
+-- a call makes its caller gone only as an exit that is done
+abbrev pub ExitsAlone : Type 0
+ExitsAlone =
+    (entry : Entry) (call : Call) (s : OwnState) →
+    (own_step entry call s).next.gone ≡ (if exits entry call s then true else s.gone)
 
 -- an RPC object is refused to an account within its limits for want of capabilities alone
 abbrev pub CapallocLacksCapsAlone : Type 0
@@ -200,18 +249,40 @@ StepKeepsBalance =
 abbrev pub LinesKeepBalance : Type 0
 LinesKeepBalance =
     (pages caps : ℕ) (world : World) (lines : List (List ℕ)) →
-    IsBalanced pages caps world →
-    IsBalanced pages caps (record world { states = states_running world.entries world.states lines })
+    IsBalanced pages caps world → IsBalanced pages caps (world_running world lines)
+
+-- in a balanced world the limits of a component and of its open sessions together fit the machine
+abbrev pub LimitsFitTheMachine : Type 0
+LimitsFitTheMachine =
+    (pages caps : ℕ) (world : World) (component : ℕ) → IsBalanced pages caps world →
+    (ram_limits (state_at world.states component) ≤ pages * 4096) × (caps_limits (state_at world.states component) ≤ caps)
 
 -- a start list that boots starts balanced
 abbrev pub BootsBalanced : Type 0
-BootsBalanced = (list : StartList) → Boots list → IsBalanced list.pages list.caps (start_world list)
+BootsBalanced = (list : StartList) → Boots list → IsBalancedFor list (start_world list)
+
+-- a component's call leaves the world of a start list balanced for it
+abbrev pub StepKeepsBalanceFor : Type 0
+StepKeepsBalanceFor =
+    (list : StartList) (world : World) (component : ℕ) (call : Call) →
+    IsBalancedFor list world → IsBalancedFor list (with_state world component (outcome_at world component call).next)
+
+-- and so do lines
+abbrev pub LinesKeepBalanceFor : Type 0
+LinesKeepBalanceFor =
+    (list : StartList) (world : World) (lines : List (List ℕ)) → IsBalancedFor list world → IsBalancedFor list (world_running world lines)
 
 -- a call of an account within its limits, and of a sound state, is refused for the first reason on the call's line, and for nothing else
 abbrev pub RefusedInOrder : Type 0
 RefusedInOrder =
     (entry : Entry) (call : Call) (s : OwnState) → WithinLimits s.account → IsSound s →
     refusal_in (own_step entry call s).reply ≡ first_failed (whole_line entry call s)
+
+-- and each refusal has its own reason: a test of the line that fails, for that refusal
+abbrev pub RefusalsHaveReason : Type 0
+RefusalsHaveReason =
+    (entry : Entry) (call : Call) (s : OwnState) (refusal : Refusal) → WithinLimits s.account → IsSound s →
+    (own_step entry call s).reply ≡ Refused refusal → FailsFor refusal (whole_line entry call s)
 
 -- a refused call tells its refusal, finishes no lines and leaves the state
 abbrev pub RefusedLeaves : Type 0

@@ -43,3 +43,5 @@ pub mod FileLaws
 pub mod SessionLaws
 pub mod CodedSession
 pub mod Listed
+pub mod AccountList
+pub mod Shortage

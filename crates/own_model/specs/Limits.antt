@@ -1,6 +1,7 @@
 -- The limits of a component and of its open sessions together.
-use Rattle.std.specs.Prelude.{ℕ, ◌+◌}
-use Rattle.own_model.specs.Account.{WithinLimits}
+use Rattle.std.specs.Prelude.{ℕ, ◌+◌, ◌-◌}
+use Rattle.own_model.specs.Account.{Account, WithinLimits}
+use Rattle.own_model.specs.Donation.{raised}
 use Rattle.own_model.specs.NatMap.{total}
 use Rattle.own_model.specs.OwnState.{OwnState, Object, EachSession}
 use Rattle.own_model.specs.OwnState.Object.{Dataspace, RpcObject, OpenSession}
@@ -23,6 +24,10 @@ ram_limits s = s.account.ram_limit + total ram_with s.selectors
 -- all limits of capabilities
 abbrev pub caps_limits : OwnState → ℕ
 caps_limits s = s.account.caps_limit + total caps_with s.selectors
+
+-- init's account after a component goes from one own state to another: what its limits lose, init's gain
+abbrev pub init_after : Account → OwnState → OwnState → Account
+init_after init s next = raised init (ram_limits s - ram_limits next) (caps_limits s - caps_limits next)
 
 -- neither the component's account is overdrawn nor that of a session
 pub record AreWithinLimits (s : OwnState) : Type 0 where

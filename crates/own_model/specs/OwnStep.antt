@@ -1,18 +1,19 @@
 -- What a call does to its caller's own state, and what it is answered; and runs of calls.
-use Rattle.std.specs.Prelude.{ℕ, ◌+◌, ◌-◌, ◌/◌, ◌&&◌, List, [], ◌∷◌, length, nat_lt, nat_le, if◌then◌else◌, Option, Some, None, Result, Ok, Err}
+use Rattle.std.specs.Prelude.{ℕ, ◌+◌, ◌-◌, ◌/◌, ◌&&◌, Bool, true, List, [], ◌∷◌, length, nat_lt, nat_le, if◌then◌else◌, Option, Some, None, is_none, Result, Ok, Err}
+use Rattle.std.specs.FinMap as map
 use Rattle.std.specs.FinMap.{get, insert, remove}
 use Rattle.trade_base.specs.declared.refusal.Refusal.{Refusal}
 use Rattle.trade_base.specs.declared.refusal.Refusal.TheVariants.{NotAScript, Gone, BadArgs, InvalidSize, InvalidCap, InvalidSession, OutOfRam, PageFault}
 use Rattle.trade_base.specs.Page.{page_of}
-use Rattle.own_model.specs.Account.{shortage, charged, credited, parted_with, alloc_refusal}
-use Rattle.own_model.specs.Call.{Call}
-use Rattle.own_model.specs.Call.Call.{Alloc, Free, Attach, AttachAt, Detach, Peek, Poke, Capalloc, Capfree, New, Del, Snew, Sdel, Quota, Open, Upgrade, CallSession, Close}
+use Rattle.own_model.specs.Account.{opened, shortage, charged, credited, parted_with, alloc_refusal}
+use Rattle.own_model.specs.Call.{Call, is_exit}
+use Rattle.own_model.specs.Call.Call.{Alloc, Free, Attach, AttachAt, Detach, Peek, Poke, Capalloc, Capfree, New, Del, Snew, Sdel, Quota, Open, Upgrade, CallSession, Close, Exit}
 use Rattle.own_model.specs.OwnState.{OwnState, Object, zeros, new_selector, pages_in, with_part, object_with, session_named, heap_ranges}
 use Rattle.own_model.specs.OwnState.Object.{Dataspace, RpcObject, OpenSession}
 use Rattle.own_model.specs.BestFit.{Spot}
 use Rattle.own_model.specs.Growth.{Growth, is_large, hole_for, new_hole, growth_of, heap_refusal}
 use Rattle.own_model.specs.HeapStep.{with_block, without_block, with_chunk, with_large, without_large, with_poked}
-use Rattle.own_model.specs.OwnHeap.{payload_start}
+use Rattle.own_model.specs.OwnHeap.{payload_start, no_heap}
 use Rattle.own_model.specs.HeapWindow.{heap_gap, largest_machine}
 use Rattle.own_model.specs.Place.{Place, found, bytes_from}
 use Rattle.own_model.specs.Place.Place.{InDataspace, InPayload, InBlock}
@@ -316,6 +317,14 @@ session_closed selector (Some session) s = record {
 }
 session_closed selector None s = refused s InvalidSession
 
+-- nothing is left of who has exited: every session is closed, everything is dropped, and limits and use are 0
+abbrev pub gone_state : OwnState
+gone_state = record { account = opened 0 0; selectors = map.empty; regions = map.empty; heap = no_heap; sliced = map.empty; gone = true }
+
+-- a component exits
+abbrev pub exited : Outcome
+exited = record { reply = Done; lines = []; next = gone_state }
+
 -- what a call of a script does, whose name and routes its entry tells
 abbrev pub entry_step : Entry → Call → OwnState → Outcome
 entry_step entry (Alloc n) s = unless (alloc_refusal n s.account) s (allocated n s)
@@ -337,6 +346,7 @@ entry_step entry (Open service text) s = opened_by (wish entry.name entry.routes
 entry_step entry (Upgrade selector text) s = upgraded_by selector (session_named (get s.selectors selector)) (arguments_of text) s
 entry_step entry (CallSession selector request) s = session_called selector (session_named (get s.selectors selector)) request s
 entry_step entry (Close selector) s = session_closed selector (session_named (get s.selectors selector)) s
+entry_step entry Exit s = exited
 
 -- a script without a name and without routes: no session is opened for it
 abbrev pub unrouted : Entry
@@ -349,6 +359,10 @@ script_step call s = entry_step unrouted call s
 -- what a call of a component does
 abbrev pub own_step : Entry → Call → OwnState → Outcome
 own_step entry call s = unless (turned_away entry.kind s) s (entry_step entry call s)
+
+-- a call is an exit that is done
+abbrev pub exits : Entry → Call → OwnState → Bool
+exits entry call s = is_exit call && is_none (turned_away entry.kind s)
 
 -- the own state after these calls
 abbrev pub own_run : Entry → List Call → OwnState → OwnState

@@ -1,6 +1,8 @@
 -- The same answers from a running list of own states, one an entry: what a loop over the lines keeps.
 use Rattle.std.specs.Prelude.{ℕ, ◌++◌, List, [], ◌∷◌, slice_set, codes}
 use Rattle.trade_base.specs.declared.refusal.Refusal.TheVariants.{BadLine, UnknownComponent}
+use Rattle.own_model.specs.Account.{Account}
+use Rattle.own_model.specs.Limits.{init_after}
 use Rattle.own_model.specs.OwnState.{OwnState}
 use Rattle.own_model.specs.OwnStep.{Outcome, own_step}
 use Rattle.own_model.specs.Reply.Reply.{Refused}
@@ -41,3 +43,17 @@ told_running entries states [] = []
 told_running entries states (line ∷ lines) =
     told_now entries states (heard entries line)
     ++ told_running entries (states_after_heard entries states (heard entries line)) lines
+
+-- init's account after what was heard: a call may return limits of its caller's to it
+abbrev pub init_after_heard : List Entry → Account → List OwnState → Heard → Account
+init_after_heard entries init states NoCall = init
+init_after_heard entries init states (Stranger name) = init
+init_after_heard entries init states (Caller made) =
+    init_after init (state_at states made.component) (running_step entries states made).next
+
+-- init's account after these lines
+abbrev pub init_running : List Entry → Account → List OwnState → List (List ℕ) → Account
+init_running entries init states [] = init
+init_running entries init states (line ∷ lines) =
+    init_running entries (init_after_heard entries init states (heard entries line))
+    (states_after_heard entries states (heard entries line)) lines

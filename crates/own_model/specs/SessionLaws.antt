@@ -1,8 +1,8 @@
 -- The laws of sessions, as statements.
-use Rattle.std.specs.Prelude.{◌≡◌, ℕ, ◌==◌, Bool, false, List, Some}
+use Rattle.std.specs.Prelude.{◌≡◌, ℕ, ◌==◌, Bool, true, false, List, Some}
 use Rattle.std.specs.FinMap.{get}
 use Rattle.own_model.specs.Call.{Call}
-use Rattle.own_model.specs.Call.Call.{Upgrade, CallSession, Close}
+use Rattle.own_model.specs.Call.Call.{Upgrade, CallSession, Close, Exit}
 use Rattle.own_model.specs.Donated.{donated}
 use Rattle.own_model.specs.Donation.{raised}
 use Rattle.own_model.specs.OwnState.{OwnState, EachSession}
@@ -27,11 +27,12 @@ RunKeepsKept =
     (entry : Entry) (calls : List Call) (s : OwnState) → EachSession (λ session. IsKept session.state) s →
     EachSession (λ session. IsKept session.state) (own_run entry calls s)
 
--- a call is of the session under this selector
+-- a call is of the session under this selector: an exit is of each
 abbrev pub is_of : ℕ → Call → Bool
 is_of selector (Upgrade of text) = of == selector
 is_of selector (CallSession of request) = of == selector
 is_of selector (Close of) = of == selector
+is_of selector Exit = true
 is_of selector call = false
 
 -- a session stays as it is but for the calls that are of it

@@ -1,13 +1,14 @@
 -- The table of calls: what each call is refused for, in order.
-use Rattle.std.specs.Prelude.{ℕ, ◌+◌, ◌&&◌, Bool, true, false, not, List, [], ◌∷◌, length, nat_lt, nat_le, if◌then◌else◌, Option, Some, None, is_none}
+use Rattle.std.specs.Prelude.{◌≡◌, ℕ, ◌+◌, ◌&&◌, Bool, true, false, not, List, [], ◌∷◌, length, nat_lt, nat_le, if◌then◌else◌, Option, Some, None, is_none}
 use Rattle.std.specs.FinMap.{get, len}
+use Rattle.std.specs.List.{Any}
 use Rattle.trade_base.specs.Page.{page_of, is_valid_size}
 use Rattle.trade_base.specs.declared.refusal.Refusal.{Refusal}
 use Rattle.trade_base.specs.declared.refusal.Refusal.TheVariants.{NotAScript, Gone, InvalidSize, InvalidCap, InvalidSession, BadArgs, ServiceDenied, InsufficientRamQuota, InsufficientCapQuota, OutOfRam, OutOfCaps, RegionConflict, TooManyRegions, PageFault, TooManyChunks}
 use Rattle.own_model.specs.Account.{Account}
 use Rattle.own_model.specs.BestFit.{Spot, block_size}
 use Rattle.own_model.specs.Call.{Call}
-use Rattle.own_model.specs.Call.Call.{Alloc, Free, Attach, AttachAt, Detach, Peek, Poke, Capalloc, Capfree, New, Del, Snew, Sdel, Quota, Open, Upgrade, CallSession, Close}
+use Rattle.own_model.specs.Call.Call.{Alloc, Free, Attach, AttachAt, Detach, Peek, Poke, Capalloc, Capfree, New, Del, Snew, Sdel, Quota, Open, Upgrade, CallSession, Close, Exit}
 use Rattle.own_model.specs.Growth.{most_chunks, is_large, hole_for, growth_of}
 use Rattle.own_model.specs.OwnState.{OwnState, Object, pages_in, bytes_named, session_named}
 use Rattle.own_model.specs.OwnState.Object.{Dataspace, RpcObject, OpenSession}
@@ -35,6 +36,10 @@ when fails refusal = record { refusal = refusal; fails = fails }
 abbrev pub first_failed : List Test → Option Refusal
 first_failed [] = None
 first_failed (test ∷ tests) = if test.fails then Some test.refusal else first_failed tests
+
+-- a test fails, for this refusal
+abbrev pub FailsFor : Refusal → List Test → Type 0
+FailsFor refusal tests = Any (λ test. (test.refusal ≡ refusal) × (test.fails ≡ true)) tests
 
 -- an account doesn't cover so many bytes more, or so many capabilities
 abbrev pub lacks_ram : Account → ℕ → Bool
@@ -121,6 +126,7 @@ line_of entry (Open service text) s = open_line entry.routes service (arguments_
 line_of entry (Upgrade selector text) s = upgrade_line (session_named (get s.selectors selector)) (arguments_of text) s
 line_of entry (CallSession selector request) s = when (is_none (session_named (get s.selectors selector))) InvalidSession ∷ []
 line_of entry (Close selector) s = when (is_none (session_named (get s.selectors selector))) InvalidSession ∷ []
+line_of entry Exit s = []
 
 -- any component's line, by its kind: a server's, one's that has exited, or else the call's
 abbrev pub line_by : Kind → Entry → Call → OwnState → List Test

@@ -1,14 +1,11 @@
 -- Calls of many components, the answer to each, and the transcript of an input.
-use Rattle.std.specs.Prelude.{ℕ, ◌==◌, ◌++◌, List, [], ◌∷◌, length, nat_le, slice_index_or, if◌then◌else◌, Option, Some, None, false, codes}
+use Rattle.std.specs.Prelude.{ℕ, ◌==◌, ◌++◌, List, [], ◌∷◌, length, nat_le, slice_index_or, if◌then◌else◌, Option, Some, None, codes}
 use Rattle.std.specs.List.{flat_map, position}
 use Rattle.std.specs.Str.{bytes_eq}
-use Rattle.std.specs.FinMap as map
 use Rattle.trade_base.specs.declared.refusal.Refusal.TheVariants.{BadLine, UnknownComponent}
-use Rattle.own_model.specs.Account.{opened}
 use Rattle.own_model.specs.Call.{Call, Spoken, spoken}
-use Rattle.own_model.specs.OwnHeap.{no_heap}
 use Rattle.own_model.specs.OwnState.{OwnState}
-use Rattle.own_model.specs.OwnStep.{Outcome, own_step, own_run}
+use Rattle.own_model.specs.OwnStep.{Outcome, gone_state, own_step, own_run}
 use Rattle.own_model.specs.Reply.{Reply, reply_text, log_text}
 use Rattle.own_model.specs.Reply.Reply.{Refused}
 use Rattle.own_model.specs.StartList.{Entry}
@@ -34,8 +31,9 @@ nobody = record { name = []; kind = Server; routes = [] }
 abbrev pub entry_at : List Entry → ℕ → Entry
 entry_at entries component = slice_index_or entries component nobody
 
+-- what it has: nothing, as if it had exited
 abbrev pub nothing : OwnState
-nothing = record { account = opened 0 0; selectors = map.empty; regions = map.empty; heap = no_heap; sliced = map.empty; gone = false }
+nothing = gone_state
 
 abbrev pub state_at : List OwnState → ℕ → OwnState
 state_at states component = slice_index_or states component nothing

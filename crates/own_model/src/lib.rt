@@ -3,8 +3,10 @@
 //! The definitions stand in `specs/`. The functions here carry laws over them and do nothing at run time.
 #![tactic(auto)]
 
+mod accounts;
 mod answers;
 mod calls;
+mod exits;
 mod file_service;
 mod heap;
 mod heap_window;
@@ -19,14 +21,16 @@ mod sessions;
 mod sliced;
 mod start;
 
+pub use accounts::totals_are_the_machine;
 pub use answers::{
-    equal_parts_equal_answers, equal_parts_equal_states, states_are_own_runs, states_over_a_line,
-    told_over_a_line, transcript_is_running,
+    equal_parts_equal_answers, equal_parts_equal_states, init_over_a_line, states_are_own_runs,
+    states_over_a_line, told_over_a_line, transcript_is_running,
 };
 pub use calls::{
     addresses_are_read_back, calls_are_refused_in_order, hex_is_read_back,
-    new_selector_is_least_unused,
+    new_selector_is_least_unused, nothing_else_is_short,
 };
+pub use exits::{exits_end, exits_return_limits};
 pub use file_service::{
     file_errors_come_in_order, file_requests_are_served, files_are_charged, files_stay_files,
     written_files_are_read,
@@ -46,8 +50,8 @@ pub use regions::{
     found_ranges_fit, freed_has_no_regions, full_maps_refuse, pokes_are_read, regions_stay_sound,
 };
 pub use rows::{
-    arguments_are_read, empty_budget_is_told, lines_and_names_are_refused, lines_end_and_overflow,
-    long_lines_are_no_calls, longest_line_is_read, session_calls_are_read,
+    arguments_are_read, empty_budget_is_told, exits_are_told, lines_and_names_are_refused,
+    lines_end_and_overflow, long_lines_are_no_calls, longest_line_is_read, session_calls_are_read,
 };
 pub use runs::{own_part_over_append, own_run_over_append};
 pub use session_args::arguments_are_read_back;

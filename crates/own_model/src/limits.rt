@@ -1,13 +1,14 @@
 //! Laws of limits: what a call leaves of them, and of the whole machine's balance.
-ghost use Rattle.own_model.specs.Laws.{ServersStay, CapallocLacksCapsAlone, StepKeepsLimits, OthersKeepOwnLimits, StepKeepsWithinLimits, StepKeepsAllWithin, RunKeepsWithinLimits, StartsWithoutUse, RunKeepsUse, StepKeepsBalance, LinesKeepBalance};
+ghost use Rattle.own_model.specs.Laws.{ServersStay, CapallocLacksCapsAlone, StepKeepsLimits, OthersKeepOwnLimits, StepKeepsWithinLimits, StepKeepsAllWithin, RunKeepsWithinLimits, StartsWithoutUse, RunKeepsUse, StepKeepsBalance, LinesKeepBalance, LimitsFitTheMachine, StepKeepsBalanceFor, LinesKeepBalanceFor};
 
 /// Every call leaves a server's own state.
 pub fn servers_stay()
     ensures { ServersStay }
 {}
 
-/// No call changes the limits of its caller and of the caller's open sessions together, and but for calls of sessions none
-/// changes those of the caller's account alone. No call overdraws any of these accounts.
+/// No call but an exit changes the limits of its caller and of the caller's open sessions together, and but for calls of
+/// sessions none changes those of the caller's account alone; an exit that is done leaves none of them. No call overdraws any
+/// of these accounts.
 pub fn calls_keep_limits()
     ensures same { StepKeepsLimits }
     ensures own { OthersKeepOwnLimits }
@@ -28,8 +29,12 @@ pub fn use_is_what_is_held()
     ensures run { RunKeepsUse }
 {}
 
-/// A component's call leaves a balanced machine balanced, and so do lines.
+/// A component's call leaves a balanced machine balanced, and so do lines; a component's limits then fit the machine. Where each component with its open sessions has
+/// the budget that it started with, or nothing once it is gone, and init has all else, that stays too.
 pub fn calls_keep_balance()
     ensures call { StepKeepsBalance }
     ensures lines { LinesKeepBalance }
+    ensures fit { LimitsFitTheMachine }
+    ensures call_for { StepKeepsBalanceFor }
+    ensures lines_for { LinesKeepBalanceFor }
 {}

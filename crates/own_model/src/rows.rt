@@ -11,6 +11,13 @@ pub fn empty_budget_is_told()
     ensures nothing { told_by_a [] ≡ [] }
 {}
 
+/// Who has exited is answered so from then on, and nobody else is.
+pub fn exits_are_told()
+    ensures gone { told_by_a (codes "alice exit\nalice quota\nalice exit\nbob quota\n")
+        ≡ codes "alice: ok\nalice: Gone\nalice: Gone\nbob: ram 0/65536 caps 0/16\n" }
+    ensures refused { told_by_a (codes "log exit\nalice exit \nalice exit 1\n") ≡ codes "log: Not_a_script\n?: Bad_line\n?: Bad_line\n" }
+{}
+
 /// An empty line is a line, one that is too long is no call, and the last line needs no end.
 pub fn lines_end_and_overflow()
     ensures { told_by_a (codes "alice quota\n\n" ++ replicate 8193 120 ++ codes "\nbob quota")

@@ -9,7 +9,7 @@ pub fn sessions_stay_sound()
     ensures kept { RunKeepsKept }
 {}
 
-/// A session stays as it is but for the upgrades, requests and the close that name its selector.
+/// A session stays as it is but for the upgrades, requests and the close that name its selector, and its client's exit.
 pub fn sessions_stand_alone()
     ensures { SessionsStandAlone }
 {}

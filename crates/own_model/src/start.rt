@@ -4,9 +4,10 @@ ghost use Rattle.own_model.specs.Account.{opened};
 ghost use Rattle.own_model.specs.Laws.{BootsBalanced};
 ghost use Rattle.own_model.specs.Routes.{Service, fixed_routes, provider};
 ghost use Rattle.own_model.specs.StartList.{Boots, machine_a};
-ghost use Rattle.own_model.specs.World.{IsBalanced, start_world};
+ghost use Rattle.own_model.specs.World.{IsBalancedFor, start_world};
 
-/// A start list that boots starts with all of the machine's limits handed out, and nothing in use.
+/// A start list that boots starts with all of the machine's limits handed out, to each component its budget and to init what
+/// is left, and nothing in use.
 pub fn boots_balanced()
     ensures { BootsBalanced }
 {}
@@ -14,13 +15,13 @@ pub fn boots_balanced()
 /// Machine A boots: init covers each budget in turn, and keeps 96 KiB and 16 capabilities.
 pub fn machine_a_boots()
     ensures covered { Boots machine_a }
-    ensures balanced { IsBalanced 64 64 (start_world machine_a) }
+    ensures balanced { IsBalancedFor machine_a (start_world machine_a) }
     ensures kept { (start_world machine_a).init ≡ opened 98304 16 }
 {}
 
-/// Machine A's routes lead the log service to its server, whatever the label, and no other service anywhere.
+/// Machine A's routes lead each of the two services to its server, whatever the label, and no other service anywhere.
 pub fn services_are_routed()
     ensures log { provider fixed_routes (codes "LOG") (codes "main") ≡ Some Service.Log }
-    ensures files { provider fixed_routes (codes "File_system") (codes "main") ≡ None }
+    ensures files { provider fixed_routes (codes "File_system") (codes "main") ≡ Some Service.Files }
     ensures others { provider fixed_routes (codes "Nic") (codes "main") ≡ None }
 {}

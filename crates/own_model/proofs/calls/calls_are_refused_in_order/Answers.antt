@@ -1,5 +1,6 @@
 -- Each call's outcome is a refusal or what the call does.
 use Rattle.own_model.proofs.TableLemmas.{refused_in_order, refused_leaves}
+use Rattle.own_model.proofs.ShortageLemmas.{refused_with_reason}
 use Rattle.own_model.proofs.calls.calls_are_refused_in_order.Goals as goal
 
 pub returns-clause-order : goal.returns-clause-order
@@ -7,3 +8,6 @@ returns-clause-order c = refused_in_order
 
 pub returns-clause-leaves : goal.returns-clause-leaves
 returns-clause-leaves c = refused_leaves
+
+pub returns-clause-reasons : goal.returns-clause-reasons
+returns-clause-reasons c = refused_with_reason

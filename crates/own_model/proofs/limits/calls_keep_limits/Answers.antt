@@ -1,9 +1,9 @@
 -- Nothing that a call can do overdraws an account, and limits are only moved.
-use Rattle.own_model.proofs.LimitLemmas.{limits_move, limits_stay, step_within, step_all_within, run_within}
+use Rattle.own_model.proofs.LimitLemmas.{limits_left, limits_stay, step_within, step_all_within, run_within}
 use Rattle.own_model.proofs.limits.calls_keep_limits.Goals as goal
 
 pub returns-clause-same : goal.returns-clause-same
-returns-clause-same c = limits_move
+returns-clause-same c = limits_left
 
 pub returns-clause-own : goal.returns-clause-own
 returns-clause-own c = limits_stay

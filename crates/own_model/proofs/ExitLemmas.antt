@@ -1,0 +1,109 @@
+-- Exits, and what all other calls leave.
+use Rattle.std.proofs.Common.{◌≡◌, ◌&&◌, Bool, true, false, cond, [], ◌∷◌, refl, sym, ap, ◌∙◌, subst, true≢false}
+use Rattle.std.specs.Prelude.{Option, Some, None, is_none}
+use Rattle.trade_base.specs.declared.refusal.Refusal.{Refusal}
+use Rattle.trade_base.specs.declared.refusal.Refusal.TheVariants.{Gone}
+use Rattle.own_model.proofs.StepLemmas.{KeptByEffects, KeptBySessions}
+use Rattle.own_model.proofs.TableLemmas.{goes_on}
+use Rattle.own_model.specs.Call.{Call, is_exit}
+use Rattle.own_model.specs.Call.Call.{Exit}
+use Rattle.own_model.specs.Laws.{ExitsAreDone, GoneAreTurnedAway, GoneStay, ExitsAlone, ExitsEndAll}
+use Rattle.own_model.specs.OwnState.{OwnState}
+use Rattle.own_model.specs.OwnStep.{own_step, own_run, entry_step, exits, exited, gone_state, unless, turned_away}
+use Rattle.own_model.specs.StartList.{Entry, Kind}
+use Rattle.own_model.specs.StartList.Kind.{Script, Server}
+
+-- a call that ends its caller is an exit
+exit_is : (call : Call) → is_exit call ≡ true → Exit ≡ call
+exit_is Exit is = refl
+exit_is call is = absurd (true≢false (sym is))
+
+-- an exit is done or turned away
+done_or_not : (P : Bool → OwnState → Type 0) (s : OwnState) (why : Option Refusal) → P true gone_state → P false s → P (is_none why) (unless why s exited).next
+done_or_not P s (Some refusal) gone same = same
+done_or_not P s None gone same = gone
+
+-- what holds after each call that isn't an exit, of who has exited, and where nothing is changed, holds after each call
+pub by_exit : (P : Bool → OwnState → Type 0) (entry : Entry) (call : Call) (s : OwnState) →
+    (is_exit call ≡ false → P false (own_step entry call s).next) → P true gone_state → P false s → P (exits entry call s) (own_step entry call s).next
+by_exit P entry call s on gone same =
+    elim (is_exit call) as (λ b. is_exit call ≡ b → P (b && is_none (turned_away entry.kind s)) (own_step entry call s).next) [
+      | true ↦ λ is. subst (λ c. P (is_none (turned_away entry.kind s)) (own_step entry c s).next) (exit_is call is) (done_or_not P s (turned_away entry.kind s) gone same)
+      | false ↦ on
+    ] refl
+
+-- a script that isn't gone exits
+pub exits_done : ExitsAreDone
+exits_done entry s script here = ap (λ kind. unless (turned_away kind s) s exited) script ∙ ap (λ b. unless (cond b (Some Gone) None) s exited) here
+
+-- one that is gone is turned away
+pub gone_turned : GoneAreTurnedAway
+gone_turned entry call s script gone =
+    ap (λ kind. unless (turned_away kind s) s (entry_step entry call s)) script ∙ ap (λ b. unless (cond b (Some Gone) None) s (entry_step entry call s)) gone
+
+-- who is gone is left, whatever it is
+left_by : (kind : Kind) (entry : Entry) (call : Call) (s : OwnState) → s.gone ≡ true → (unless (turned_away kind s) s (entry_step entry call s)).next ≡ s
+left_by Server entry call s gone = refl
+left_by Script entry call s gone = ap (λ b. (unless (cond b (Some Gone) None) s (entry_step entry call s)).next) gone
+
+pub gone_left : (entry : Entry) (call : Call) (s : OwnState) → s.gone ≡ true → (own_step entry call s).next ≡ s
+gone_left entry call s gone = left_by entry.kind entry call s gone
+
+-- and so after any calls
+pub gone_stays : GoneStay
+gone_stays entry [] s gone = refl
+gone_stays entry (call ∷ calls) s gone = ap (own_run entry calls) (gone_left entry call s gone) ∙ gone_stays entry calls s gone
+
+-- an exit that is done is one of a script that isn't gone
+may_exit : (kind : Kind) (s : OwnState) → is_none (turned_away kind s) ≡ true → (kind ≡ Script) × (s.gone ≡ false)
+may_exit Server s done = absurd (true≢false (sym done))
+may_exit Script s done = (refl, elim s.gone as (λ b. is_none (cond b (Some Gone) None) ≡ true → b ≡ false) [ true ↦ λ e. absurd (true≢false (sym e)) | false ↦ λ _. refl ] done)
+
+-- and ends all
+pub exits_end_all : ExitsEndAll
+exits_end_all entry calls call s done =
+    let may = may_exit entry.kind s done in (
+      ap (λ o. own_run entry calls o.next) (exits_done entry s may.0 may.1) ∙ gone_stays entry calls gone_state refl,
+      gone_turned entry call gone_state may.0 refl,
+    )
+
+-- ---- only exits end
+
+abbrev GoneAlike : OwnState → OwnState → Type 0
+GoneAlike s t = t.gone ≡ s.gone
+
+effects_alike : (s : OwnState) → KeptByEffects (GoneAlike s) s
+effects_alike s = record {
+  allocates = λ n accepted. refl;
+  frees = λ selector bytes there. refl;
+  attaches = λ selector address bytes there stands room. refl;
+  detaches = λ address. refl;
+  pokes = λ selector offset bytes object there. refl;
+  pokes_payload = λ address offset bytes payload there. refl;
+  pokes_block = λ address offset bytes payload there. refl;
+  takes = λ n hole best. refl;
+  grows = λ n start accepted gap. refl;
+  takes_large = λ n start large accepted gap. refl;
+  gives = λ address payload there small. refl;
+  gives_large = λ address bytes there. refl;
+  slices = λ n start accepted gap. refl;
+  unslices = λ address payload there. refl;
+  allocates_cap = λ accepted. refl;
+  frees_cap = λ selector there. refl;
+}
+
+sessions_alike : (s : OwnState) → KeptBySessions (GoneAlike s) s
+sessions_alike s = record {
+  opens = λ wish accepted. refl;
+  upgrades = λ selector session more there accepted. refl;
+  serves = λ selector session request there. refl;
+  closes = λ selector session there. refl;
+}
+
+-- a call that isn't an exit makes nobody gone
+pub alike_on : (entry : Entry) (call : Call) (s : OwnState) → is_exit call ≡ false → (own_step entry call s).next.gone ≡ s.gone
+alike_on entry call s on = goes_on (GoneAlike s) s refl (effects_alike s) (sessions_alike s) entry call on
+
+-- nor does one that is turned away
+pub exits_alone : ExitsAlone
+exits_alone entry call s = by_exit (λ ends t. t.gone ≡ cond ends true s.gone) entry call s (alike_on entry call s) refl refl

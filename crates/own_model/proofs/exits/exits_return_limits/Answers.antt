@@ -1,0 +1,6 @@
+-- What a call leaves of limits tells what init is given.
+use Rattle.own_model.proofs.LimitLemmas.{limits_returned}
+use Rattle.own_model.proofs.exits.exits_return_limits.Goals as goal
+
+pub returns : goal.returns
+returns c = limits_returned

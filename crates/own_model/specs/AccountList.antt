@@ -1,0 +1,44 @@
+-- The account list: use and limits of every account, and the sums of all limits.
+use Rattle.std.specs.Prelude.{◌≡◌, ℕ, ◌*◌, ◌++◌, List, [], ◌∷◌, codes, decimal}
+use Rattle.std.specs.FinMap.{entries}
+use Rattle.std.specs.List.{flat_map, zip}
+use Rattle.own_model.specs.Account.{Account}
+use Rattle.own_model.specs.OwnState.{OwnState, Object}
+use Rattle.own_model.specs.OwnState.Object.{Dataspace, RpcObject, OpenSession}
+use Rattle.own_model.specs.Reply.{quota_text}
+use Rattle.own_model.specs.World.{World, IsBalanced, all_ram, all_caps}
+
+-- the line of an account, by its name
+abbrev pub account_line : List ℕ → Account → List ℕ
+account_line name account = codes "account " ++ name ++ codes " " ++ quota_text account ++ 10 ∷ []
+
+-- the line of a session's account, by its client's name and its selector
+abbrev pub session_line : List ℕ → ℕ → Account → List ℕ
+session_line name selector account = codes "session " ++ name ++ codes " " ++ decimal selector ++ codes " " ++ quota_text account ++ 10 ∷ []
+
+-- the line of what a selector names, if it names a session
+abbrev pub object_line : List ℕ → ℕ → Object → List ℕ
+object_line name selector (OpenSession session) = session_line name selector session.account
+object_line name selector (Dataspace bytes) = []
+object_line name selector RpcObject = []
+
+-- the lines of a component's open sessions, by rising selector
+abbrev pub session_lines : List ℕ → OwnState → List ℕ
+session_lines name s = flat_map (λ e. object_line name e.0 e.1) (entries s.selectors)
+
+-- the line of the sums of all limits
+abbrev pub total_line : ℕ → ℕ → List ℕ
+total_line ram caps = codes "total ram " ++ decimal ram ++ codes " caps " ++ decimal caps ++ 10 ∷ []
+
+-- init's line, the entries' lines in order, the lines of each one's open sessions in order, and the sums
+abbrev pub account_list_text : World → List ℕ
+account_list_text world =
+    account_line (codes "init") world.init
+    ++ flat_map (λ p. account_line p.0.name p.1.account) (zip world.entries world.states)
+    ++ flat_map (λ p. session_lines p.0.name p.1) (zip world.entries world.states)
+    ++ total_line (all_ram world) (all_caps world)
+
+-- the sums are the machine's
+abbrev pub TotalsAreTheMachine : Type 0
+TotalsAreTheMachine =
+    (pages caps : ℕ) (world : World) → IsBalanced pages caps world → total_line (all_ram world) (all_caps world) ≡ total_line (pages * 4096) caps
