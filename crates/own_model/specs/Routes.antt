@@ -38,7 +38,7 @@ provider (rule ∷ rules) service label = if matches rule service label then rul
 abbrev pub rule_for : List ℕ → Service → Rule
 rule_for service to = record { service = Some service; label = None; label_prefix = None; label_suffix = None; to = Some to }
 
--- the routes until start lists can be read: the log service leads to the log server, the file service to the file server,
--- and every other service to none
+-- the rules of the built-in machine: the log service leads to the log server, the file service to the file server, and every
+-- other service to none
 abbrev pub fixed_routes : List Rule
 fixed_routes = rule_for (codes "LOG") Service.Log ∷ rule_for (codes "File_system") Service.Files ∷ []
