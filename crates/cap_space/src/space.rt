@@ -1,5 +1,5 @@
 //! The capability space: a table with a place for each selector.
-ghost use Rattle.std.specs.Prelude.{◌≡◌, ◌<◌, ◌≤◌, ◌↔◌, None, IsTrue, IsFalse, IsSome, IfOk, IfSome, IfNone, count_by, is_some, length, slice_index_or};
+ghost use Rattle.std.specs.Prelude.{◌≡◌, ℕ, ◌<◌, ◌≤◌, ◌↔◌, None, IsTrue, IsFalse, IsSome, IfOk, IfSome, IfNone, count_by, is_some, length, slice_index_or};
 ghost use Rattle.std.specs.FinMap.{get, len};
 ghost use Rattle.own_model.specs.OwnState.{new_selector, IsLeastUnused};
 ghost use Rattle.cap_space.specs.Space.{dataspace_of, is_rpc_object, session_of, fresh_space, with_cap, without_cap};
@@ -143,6 +143,14 @@ impl CapSpace {
         slots[place] = None;
         self.first_free = self.first_free.min(place);
         self.used -= 1;
+    }
+
+    /// How many places there are. Each selector in use is one of 1 to so many.
+    pub fn places(&self) -> usize
+        ensures count { result ≡ self.now.places }
+        ensures within { (selector : ℕ) → IsSome (get self.now.caps selector) → (1 ≤ selector) × (selector ≤ self.now.places) }
+    {
+        self.slots.len()
     }
 
     /// Whether each place has a capability.

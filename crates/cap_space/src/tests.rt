@@ -11,6 +11,7 @@ fn freed_selector_is_given_again(rt: HostRuntime) {
         assert_eq!(rt; space.insert(Cap::RpcObject), Selector(selector));
     }
     assert!(rt; space.is_full());
+    assert_eq!(rt; space.places(), 3);
     assert_eq!(rt; space.take_dataspace(2), None);
     assert!(rt; space.take_rpc_object(2));
     assert!(rt; !space.take_rpc_object(2));

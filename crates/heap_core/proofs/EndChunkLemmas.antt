@@ -16,10 +16,10 @@ use Rattle.dataspace_core.proofs.WindowLaws.{own_account}
 use Rattle.heap_core.specs.declared.heap.Heap.{Heap}
 use Rattle.heap_core.specs.Heap.{HasNoBlocks, IsSound, chunk_at, heap_in, is_large_tag, keys_in, large_regions, large_tag, payer_of, share_at, times_in}
 use Rattle.heap_core.specs.End.{EndsChunks, HasChunk, bytes_from}
-use Rattle.heap_core.specs.Calls.{GivesAll}
+use Rattle.heap_core.specs.Calls.{GivesAll, KeepsElsewhere}
 use Rattle.heap_core.specs.declared.words.Chunk.{Chunk}
 use Rattle.heap_core.specs.Words.{is_among}
-use Rattle.heap_core.proofs.ShareLemmas.{get-large}
+use Rattle.heap_core.proofs.ShareLemmas.{get-large, in_tags}
 use Rattle.heap_core.proofs.StandLemmas.{blocks, chunk_total, count_blocks}
 use Rattle.own_model.specs.BestFit.{chunk_of}
 use Rattle.own_model.specs.Heap as model
@@ -58,6 +58,29 @@ keeps_then account old mid new regions between after first next = record {
   room = next.room ∙ first.room;
 }
 
+-- ---- regions with other numbers stay
+
+pub elsewhere_same : (regions : Regions) → KeepsElsewhere regions regions
+elsewhere_same regions = record { stays = λ s k tag high. (refl, refl); fewer = λ s k tag. tag }
+
+pub elsewhere_then : (regions between after : Regions) → KeepsElsewhere regions between → KeepsElsewhere between after → KeepsElsewhere regions after
+elsewhere_then regions between after first next = record {
+  stays = λ s k tag high.
+      let was = first.stays s k tag high in
+      let now = next.stays s k (was.1 ∙ tag) high in
+      (now.0 ∙ was.0, now.1 ∙ was.1);
+  fewer = λ s k tag. first.fewer s k (next.fewer s k tag);
+}
+
+-- where one with a heap's number goes, those with other numbers stay
+pub elsewhere_gone : (regions : Regions) (start number : ℕ) → get regions.tags start ≡ Some number → number ≤ large_tag → KeepsElsewhere regions (heap_detached regions start)
+elsewhere_gone regions start number tag low = record {
+  stays = λ s k other high.
+      let apart : s ≢ start = λ e. let same = same_Some k number (sym other ∙ ap (get regions.tags) e ∙ tag) in omega (arith, same, low, high) in
+      (get-remove_other regions.heap start s apart, get-remove_other regions.tags start s apart);
+  fewer = λ s k left. before_remove regions.tags start s k left;
+}
+
 -- no large block is left where the list of them is empty
 module _ (heap : Heap) (store : Store) (regions : Regions) (sound : IsSound heap store regions) (empty : heap.large.items ≡ []) where
   pub none_large : (s : ℕ) → get (large_regions (share_at (payer_of heap) store regions)) s ≡ None
@@ -88,6 +111,7 @@ module _ (heap : Heap) (store : Store) (regions : Regions) (sound : IsSound heap
     spaces = λ k none. refl;
     count = omega arith;
     rest = refl;
+    kept = elsewhere_same regions;
     others = record { shares = λ other apart. refl; root = refl; parents = refl; room = refl };
   }
 
@@ -114,6 +138,13 @@ module _ (heap : Heap) (left : ℕ) (old mid new : Store) (regions between : Reg
 
   chunk_region : is_some (get between.heap start) ≡ true
   chunk_region = ap is_some (in_map account start ds has.pages mid new between.pages between.heap_most between.heap between.tags ends.opens ends.window has.region)
+
+  -- its number is one of the heap's
+  chunk_kept : KeepsElsewhere between after
+  chunk_kept =
+      let sum = ends.sum in
+      let few = first.laid.few in
+      elsewhere_gone between start left (in_tags (part account mid) between.heap between.tags start left has.tag) (omega (arith, sum, few))
 
   chunk_exists : is_some (get mid.spaces ds) ≡ true
   chunk_exists = (gone_paid account start ds has.pages mid new between.pages between.heap_most between.heap between.tags ends.opens ends.window has.region).exists
@@ -179,6 +210,7 @@ module _ (heap : Heap) (left : ℕ) (old mid new : Store) (regions between : Reg
           let n = gone_count account start ds has.pages mid new between.pages between.heap_most between.heap between.tags ends.opens ends.window has.region freed in
           let m = ends.count in omega (arith, n, m);
       rest = ap (λ (m : Regions). record m { heap = after.heap; tags = after.tags }) ends.rest;
+      kept = elsewhere_then regions between after ends.kept chunk_kept;
       others = keeps_then account old mid new regions between after ends.others (gone_shares account start ds has.pages mid new between.pages between.heap_most between.heap between.tags ends.opens ends.window has.region freed);
     }
 
@@ -253,6 +285,7 @@ module _ (heap later : Heap) (old new : Store) (regions after : Regions) (sound 
     spaces = λ k no. ends.spaces k no.0;
     count = let c = ends.count in let n = count_is in omega (arith, c, n);
     rest = ends.rest;
+    kept = ends.kept;
   }
 
   pub end_sound : ((store : Store) (rs : Regions) → IsOpenIn store (payer_of heap) → IsWindowOf store rs.pages rs.heap_most rs.heap → HasNoBlocks (share_at (payer_of heap) store rs) → IsSound later store rs) → IsSound later new after

@@ -16,11 +16,13 @@ use Rattle.dataspace_core.specs.Store.{Store, part, account_in}
 use Rattle.dataspace_core.specs.Share.{Share, KeepsShares}
 use Rattle.dataspace_core.proofs.PartLaws.{account_of-part}
 use Rattle.heap_core.specs.declared.heap.Heap.{Heap}
-use Rattle.heap_core.specs.Calls.{GivesAll, GivesLarge, IsNoBlock}
+use Rattle.heap_core.specs.Calls.{GivesAll, GivesLarge, IsNoBlock, KeepsElsewhere}
 use Rattle.heap_core.specs.End.{EndsChunks, EndsLarge}
-use Rattle.heap_core.specs.Heap.{HasNoBlocks, IsSound, heap_at, heap_in, large_regions, payer_of, share_at, times_in}
+use Rattle.heap_core.specs.Heap.{HasNoBlocks, IsSound, heap_at, heap_in, large_regions, large_tag, payer_of, share_at, times_in}
 use Rattle.heap_core.specs.Words.{is_among}
-use Rattle.heap_core.proofs.EndChunkLemmas.{credit_twice, keeps_then}
+use Rattle.heap_core.proofs.ChangeLemmas.{large_number}
+use Rattle.heap_core.proofs.ShareLemmas.{get-large, in_tags}
+use Rattle.heap_core.proofs.EndChunkLemmas.{credit_twice, keeps_then, elsewhere_gone, elsewhere_then}
 use Rattle.heap_core.proofs.SiteLemmas.{times_there}
 
 -- none is given back yet
@@ -46,6 +48,12 @@ module _ (heap next later : Heap) (a : ℕ) (old mid new : Store) (regions betwe
   -- the heap then
   abbrev N : OwnHeap
   N = heap_at next mid between
+
+  -- its region keeps the number of a large block
+  number_there : get regions.tags a ≡ Some large_tag
+  number_there =
+      in_tags (part account old) regions.heap regions.tags a large_tag
+      (large_number (get S.tags a) (get S.heap a) _ (sym (get-large S a) ∙ one.region))
 
   large_there : get H.large a ≡ Some (one.pages * 4096)
   unfolding heap_in
@@ -90,6 +98,7 @@ module _ (heap next later : Heap) (a : ℕ) (old mid new : Store) (regions betwe
         let m = number in
         omega (arith, c, n, m);
     rest = rest.rest ∙ ap (λ (m : Regions). record m { heap = after.heap; tags = after.tags }) one.detached;
+    kept = elsewhere_then regions between after (subst (KeepsElsewhere regions) (sym one.detached) (elsewhere_gone regions a large_tag number_there (omega arith))) rest.kept;
   }
 
 -- one more is given back

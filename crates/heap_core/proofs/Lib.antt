@@ -32,6 +32,7 @@ pub mod SiteLemmas
 pub mod FoundLemmas
 pub mod MemoryLemmas
 pub mod LookupLemmas
+pub mod StartLemmas
 pub mod GiveLemmas
 pub mod GoneLemmas
 pub mod GoneLargeLemmas

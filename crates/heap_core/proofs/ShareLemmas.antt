@@ -4,11 +4,12 @@ use Rattle.std.proofs.lemmas.Bool.Decides.{nat_tests}
 use Rattle.std.specs.Prelude.{Option, None}
 use Rattle.std.specs.Option.{option_and_then}
 use Rattle.std.specs.FinMap.{get, get-retain_keys, nat_cmp-IsAntisymmetric}
-use Rattle.own_model.specs.NatMap.{NatMap}
+use Rattle.own_model.specs.NatMap.{NatMap, picked}
 use Rattle.own_model.specs.Region.{Region}
 use Rattle.own_model.proofs.NatMapLemmas.{get-picked}
 use Rattle.dataspace_core.specs.Store.{Part}
 use Rattle.dataspace_core.specs.Share.{Share, shown, share_in}
+use Rattle.dataspace_core.proofs.ShareLaws.{get-tags_of}
 use Rattle.heap_core.specs.Heap.{large_tag, is_large_tag, large_regions, HasNoBlocks}
 
 -- ---- what a share shows
@@ -43,12 +44,18 @@ pub get-large : (share : Share) (q : ℕ) → get (large_regions share) q ≡ co
 get-large share q = get-retain_keys share.heap (λ start. is_large_tag (get share.tags start)) q (λ x e. ap (λ k. is_large_tag (get share.tags k)) (sym (nat_cmp-IsAntisymmetric q x e)))
 
 -- it is a region of the share
-passed : (b : Bool) (o : Option Region) (r : Region) → cond b o None ≡ Some r → o ≡ Some r
+passed : {X : Type 0} (b : Bool) (o : Option X) (r : X) → cond b o None ≡ Some r → o ≡ Some r
 passed true o r h = h
 passed false o r h = cc
 
 pub large_there : (share : Share) (s : ℕ) (r : Region) → get (large_regions share) s ≡ Some r → get share.heap s ≡ Some r
 large_there share s r h = passed (is_large_tag (get share.tags s)) (get share.heap s) r (sym (get-large share s) ∙ h)
+
+-- the number that a share keeps with a region is the map's
+pub in_tags : (part : Part) (heap : NatMap Region) (tags : NatMap ℕ) (start k : ℕ) → get (share_in part heap tags).tags start ≡ Some k → get tags start ≡ Some k
+unfolding share_in
+in_tags part heap tags start k h =
+    passed (is_some (get (picked (shown part.spaces) heap) start)) (get tags start) k (sym (get-tags_of (picked (shown part.spaces) heap) tags start) ∙ h)
 
 -- a share without a heap's regions has no large block
 no_large_test : (o : Option ℕ) (p : Option Region) → ((r : Region) (k : ℕ) → p ≡ Some r → o ≡ Some k → large_tag < k) → cond (is_large_tag o) p None ≡ None

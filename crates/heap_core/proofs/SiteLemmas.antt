@@ -99,7 +99,7 @@ module _ (heap : Heap) (store : Store) (regions : Regions) (sound : IsSound heap
     found_low = let parts = found_parts regions address start of tag found in (held_parts address start parts.0 parts.4).0
 
     -- it is the only one that holds it
-    only : (s : ℕ) (r : Region) → get regions.heap s ≡ Some r → holds address 1 (s, r) ≡ true → (s ≡ start) × (r.of ≡ of)
+    pub only : (s : ℕ) (r : Region) → get regions.heap s ≡ Some r → holds address 1 (s, r) ≡ true → (s ≡ start) × (r.of ≡ of)
     only s r there h =
         let parts = found_parts regions address start of tag found in
         let same = held_once regions map address s start r parts.0 there parts.1 h parts.4 in

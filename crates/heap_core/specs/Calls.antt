@@ -130,6 +130,11 @@ abbrev pub IsNoBlock : Heap → Share → ℕ → Type 0
 IsNoBlock heap share k =
     (is_among (keys_in heap) k ≡ false) × ((s : ℕ) (r : Region) → get (large_regions share) s ≡ Some r → r.of ≢ k)
 
+-- regions that keep another number than a heap's stay where they stood, and none is new
+pub record KeepsElsewhere (regions after : Regions) : Type 0 where
+  pub stays : (s k : ℕ) → get regions.tags s ≡ Some k → large_tag < k → (get after.heap s ≡ get regions.heap s) × (get after.tags s ≡ get regions.tags s)
+  pub fewer : (s k : ℕ) → get after.tags s ≡ Some k → get regions.tags s ≡ Some k
+
 -- all chunks and large blocks of a heap are given back: the account's other dataspaces stay, and the regions that aren't the heap's
 pub record GivesAll (heap later : Heap) (old new : Store) (regions after : Regions) : Type 0 where
   pub value : heap_at later new after ≡ no_heap
@@ -139,6 +144,7 @@ pub record GivesAll (heap later : Heap) (old new : Store) (regions after : Regio
   pub spaces : (k : ℕ) → IsNoBlock heap (share_at (payer_of heap) old regions) k → get (part_at heap new).spaces k ≡ get (part_at heap old).spaces k
   pub count : len (part_at heap new).spaces + heap_count (heap_at heap old regions) ≡ len (part_at heap old).spaces
   pub rest : after ≡ record regions { heap = after.heap; tags = after.tags }
+  pub kept : KeepsElsewhere regions after
 
 -- ---- which payload holds a range
 

@@ -9,7 +9,7 @@ use Rattle.region_map.specs.Regions.{Regions}
 use Rattle.dataspace_core.specs.Store.{Store, part, account_in, IsOpenIn}
 use Rattle.dataspace_core.specs.Share.{Share, IsWindowOf, KeepsShares}
 use Rattle.heap_core.specs.declared.heap.Heap.{Heap}
-use Rattle.heap_core.specs.Calls.{GivesAll}
+use Rattle.heap_core.specs.Calls.{GivesAll, KeepsElsewhere}
 use Rattle.heap_core.specs.Heap.{IsSound, chunk_at, keys_in, large_tag, payer_of, share_at}
 use Rattle.heap_core.specs.Words.{is_among}
 
@@ -44,4 +44,5 @@ pub record EndsChunks (heap : Heap) (left : ℕ) (old new : Store) (regions afte
   pub spaces : (k : ℕ) → is_among (keys_in heap) k ≡ false → get (part (payer_of heap) new).spaces k ≡ get (part (payer_of heap) old).spaces k
   pub count : len (part (payer_of heap) new).spaces + gone ≡ len (part (payer_of heap) old).spaces
   pub rest : after ≡ record regions { heap = after.heap; tags = after.tags }
+  pub kept : KeepsElsewhere regions after
   pub others : KeepsShares (payer_of heap) old new regions.heap regions.tags after.heap after.tags

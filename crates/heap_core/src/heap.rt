@@ -11,7 +11,7 @@ ghost use Rattle.own_model.specs.OwnHeap.{no_heap};
 ghost use Rattle.region_map.specs.Regions.{Regions};
 ghost use Rattle.dataspace_core.specs.Share.{Share, IsWindowOf, KeepsShares};
 ghost use Rattle.dataspace_core.specs.Store.{Store, IsOpenIn, account_in};
-ghost use Rattle.heap_core.specs.Heap.{chunk_at, keys_in, payer_of, share_at, shape_in, heap_in, HasNoBlocks, IsSound};
+ghost use Rattle.heap_core.specs.Heap.{chunk_at, keys_in, payer_of, share_at, shape_in, heap_in, HasNoBlocks, IsLaid, IsSound};
 ghost use Rattle.heap_core.specs.Taken.{IsUsed, Clears};
 ghost use Rattle.heap_core.specs.Words.{around};
 
@@ -63,6 +63,7 @@ impl Heap {
         ensures sound { (store : Store) (regions : Regions) → IsOpenIn store account.0 →
             IsWindowOf store regions.pages regions.heap_most regions.heap →
             HasNoBlocks (share_at account.0 store regions) → IsSound result store regions }
+        ensures laid { (share : Share) → HasNoBlocks share → IsLaid result share }
         ensures empty { (share : Share) → HasNoBlocks share → heap_in result share ≡ no_heap }
     {
         Heap {
@@ -72,6 +73,15 @@ impl Heap {
             large: ArrayVec::new(),
             growth: FIRST_GROWTH,
         }
+    }
+
+    /// Takes its blocks for this account from now on. What it has stays, where the account's share holds it.
+    pub fn pay_from(&mut self, account: AccountId)
+        ensures payer { payer_of self.new ≡ account.0 }
+        ensures laid { (share : Share) → IsLaid self.old share → IsLaid self.new share }
+        ensures value { (share : Share) → heap_in self.new share ≡ heap_in self.old share }
+    {
+        self.account = account;
     }
 
     /// Takes a block for so many bytes, all zero, and tells the address of its payload. Below 65536 bytes it is taken in the

@@ -1,5 +1,5 @@
 //! Which block of a heap an address lies in.
-ghost use Rattle.std.specs.Prelude.{◌≡◌, ◌+◌, ◌-◌, ◌<◌, ◌≤◌, ◌==◌, IfSome, IfNone, None};
+ghost use Rattle.std.specs.Prelude.{◌≡◌, ℕ, ◌+◌, ◌-◌, ◌<◌, ◌≤◌, ◌==◌, List, length, IfSome, IfNone, IsSome, Some, None};
 ghost use Rattle.std.specs.FinMap.{get};
 ghost use Rattle.own_model.specs.Sliced.{block_found};
 ghost use Rattle.dataspace_core.specs.Store.{Exists, space_at};
@@ -47,6 +47,18 @@ impl Heap {
                 memory, map, start, ds, address, count,
             ),
         }
+    }
+
+    /// The dataspace that holds the payload which starts at an address, and its offset there. It reads no byte of the memory.
+    pub fn payload_at(&self, memory: &Memory, map: &RegionMap, address: u64) -> (DsId, u64)
+        requires sound { IsSound self.now memory.now map.now }
+        requires there { IsSome (get (heap_at self.now memory.now map.now).payloads address) }
+        ensures { (payload : List ℕ) (count : ℕ) → get (heap_at self.now memory.now map.now).payloads address ≡ Some payload →
+            1 ≤ count → count ≤ length payload → HoldsRange self.now memory.now map.now result.0.0 result.1 address count }
+    {
+        let _ = memory;
+        let (start, ds, _) = map.heap_region(address).unwrap();
+        (ds, address - start)
     }
 
     // Where an address lies. A region is this heap's by who pays for its dataspace, and by the number kept with it.

@@ -169,6 +169,13 @@ impl RegionMap {
         self.heap.remove(address);
     }
 
+    /// A law for callers: the regions of every map lie apart. It does nothing at run time.
+    pub fn lies_apart(&self)
+        ensures sound { AreSound self.now }
+    {
+        let _heap = &self.heap;
+    }
+
     /// The heap region that holds an address: its start, its dataspace, and the number kept with it.
     pub fn heap_region(&self, address: u64) -> Option<(u64, DsId, u64)>
         ensures found { option_map (λ region. (region.0, region.1.0, region.2)) result ≡ heap_found self.now address }

@@ -39,6 +39,13 @@ impl SlicedHeap {
         SlicedHeap { account, first: 0 }
     }
 
+    /// The account for which the heap takes its blocks.
+    pub fn account(&self) -> AccountId
+        ensures { result.0 ≡ payer_of self.now }
+    {
+        self.account
+    }
+
     /// Takes a block for so many bytes, all zero, and tells the address of its payload. The account pays for the block's
     /// bytes, its header of 32 among them, in whole pages, and one capability.
     ///

@@ -13,3 +13,6 @@ returns-clause-sound c store regions opens window none = record {
 
 pub returns-clause-empty : goal.returns-clause-empty
 returns-clause-empty c share none = new_value _ share none c.new.ensures.empty c.new-2.ensures c.new-3.ensures refl
+
+pub returns-clause-laid : goal.returns-clause-laid
+returns-clause-laid c share none = new_laid _ share none c.new.ensures.empty c.new-2.ensures c.new-3.ensures refl c.new.ensures.sound
