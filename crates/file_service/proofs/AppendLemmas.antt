@@ -1,0 +1,170 @@
+-- A node that is stored, a link that is set, and a file put behind the last one.
+use Rattle.std.proofs.Common.{◌≡◌, ◌≢◌, ℕ, ◌+◌, ◌-◌, ◌<◌, ◌≤◌, true, false, cond, eqb, List, [], ◌∷◌, ◌++◌, length, map, take, Option, Some, None, is_some, refl, sym, ap, subst, ◌∙◌, true≢false, ⊎_elim, arith}
+use Rattle.std.proofs.lemmas.Bool.{cases_eq}
+use Rattle.std.proofs.lemmas.Bool.Decides.{nat_tests}
+use Rattle.std.specs.Prelude.{IsSome}
+use Rattle.std.specs.Option.{unwrap_or}
+use Rattle.std.specs.FinMap.{get, insert}
+use Rattle.own_model.specs.FileService.{File, Files}
+use Rattle.own_model.specs.NatMap.{NatMap}
+use Rattle.own_model.specs.OwnHeap.{OwnHeap, chunk_with, offset_of}
+use Rattle.own_model.proofs.NatMapLemmas.{get-insert}
+use Rattle.sliced_heap.specs.Chain.{is_listed}
+use Rattle.file_service.specs.Calls.{payload_in, HasBytes}
+use Rattle.file_service.specs.Files.{node_at, link_in, nodes_from, bytes_at, file_at, files_of, IsFile, StandAt}
+use Rattle.file_service.specs.Links.{last_of}
+use Rattle.file_service.specs.Node.{FileNode, node_of}
+use Rattle.file_service.specs.Session.{LinksTo, KeepsFile, IsFresh}
+use Rattle.file_service.proofs.FileListLemmas.{append_map}
+use Rattle.file_service.proofs.KeptLemmas.{Stays, stand_appended, files_kept, files_are, blocks_are}
+use Rattle.file_service.proofs.LinkLemmas.{listed_first, listed_later, last_listed, unlisted}
+use Rattle.file_service.proofs.SearchLemmas.{link_some}
+
+-- ---- a node is stored
+
+module _ (nodes later : OwnHeap) (block : ℕ) (payload : List ℕ) (stored : later ≡ record nodes { payloads = insert nodes.payloads block payload }) where
+  -- other blocks hold what they held
+  pub stored_payload : (b : ℕ) → b ≢ block → get later.payloads b ≡ get nodes.payloads b
+  stored_payload b other =
+      let e : eqb b block ≡ false = grind (arith, nat_tests) in
+      ap (λ (n : OwnHeap). get n.payloads b) stored ∙ get-insert nodes.payloads block payload b ∙ rw e refl
+
+  pub stored_node : (b : ℕ) → b ≢ block → node_at later b ≡ node_at nodes b
+  stored_node b other = ap (λ o. node_of (unwrap_or o [])) (stored_payload b other)
+
+  pub stored_there : (b : ℕ) → b ≢ block → HasBytes nodes.payloads b 0 64 → HasBytes later.payloads b 0 64
+  stored_there b other was = record {
+    there = subst (λ (o : Option (List ℕ)). IsSome o) (sym (stored_payload b other)) was.there;
+    within = subst (λ (o : Option (List ℕ)). 0 + 64 ≤ length (unwrap_or o [])) (sym (stored_payload b other)) was.within;
+  }
+
+  pub stored_rest : later ≡ record nodes { payloads = later.payloads }
+  stored_rest = stored ∙ ap (λ p. record nodes { payloads = p }) (sym (ap (λ (n : OwnHeap). n.payloads) stored))
+
+  -- so a node with another link is all that has changed
+  pub stored_links : (first target : ℕ) → block ≢ 0 → node_at later block ≡ record (node_at nodes block) { next = target } → HasBytes later.payloads block 0 64 →
+      LinksTo first block target first nodes later
+  stored_links first target some is there = record {
+    linked = link_some first later block some ∙ ap (λ (n : FileNode). n.next) is;
+    links = λ b other. ap (λ (n : FileNode). cond (eqb b 0) first n.next) (stored_node b other);
+    rest = stored_rest;
+    files = λ b was. ⊎_elim
+        (λ (here : b ≡ block). subst (KeepsFile nodes later) (sym here) (record {
+          name = ap (λ (n : FileNode). n.name) is;
+          size = ap (λ (n : FileNode). n.size) is;
+          content = ap (λ (n : FileNode). n.content) is;
+          there = there;
+        }))
+        (λ (other : b ≢ block). record {
+          name = ap (λ (n : FileNode). n.name) (stored_node b other);
+          size = ap (λ (n : FileNode). n.size) (stored_node b other);
+          content = ap (λ (n : FileNode). n.content) (stored_node b other);
+          there = stored_there b other was;
+        })
+        (cases_eq b block);
+  }
+
+-- the session's own link is another one
+pub first_links : (first target : ℕ) (nodes : OwnHeap) → LinksTo first 0 target target nodes nodes
+first_links first target nodes = record {
+  linked = refl;
+  links = λ b other. let e : eqb b 0 ≡ false = grind (arith, nat_tests) in rw e refl;
+  rest = refl;
+  files = λ b was. record { name = refl; size = refl; content = refl; there = was };
+}
+
+-- ---- a file more
+
+-- the last file's node is still there when the new one is stored
+module _ (first last : ℕ) (nodes mid : OwnHeap) (contents : NatMap (List ℕ)) (blocks : List ℕ) (stand : StandAt first last nodes contents blocks)
+    (block : ℕ) (fresh : IsFresh first nodes block) (payload : List ℕ) (stored : mid ≡ record nodes { payloads = insert nodes.payloads block payload }) where
+  pub last_there : last ≢ 0 → HasBytes mid.payloads last 0 64
+  last_there some =
+      let among : is_listed (0 ∷ blocks) last ≡ true = subst (λ l. is_listed (0 ∷ blocks) l ≡ true) (sym stand.last_is) (last_listed 0 blocks) in
+      let listed : is_listed blocks last ≡ true = grind (arith, nat_tests, among, some) in
+      let free = ap (λ xs. is_listed (0 ∷ xs) block) (sym (blocks_are first last nodes contents blocks stand)) ∙ fresh.free in
+      stored_there nodes mid block payload stored last (unlisted (0 ∷ blocks) block last free among) (stand.each last listed).there
+
+module _ (first last : ℕ) (nodes mid later : OwnHeap) (contents : NatMap (List ℕ)) (blocks : List ℕ) (stand : StandAt first last nodes contents blocks)
+    (block : ℕ) (fresh : IsFresh first nodes block) (payload : List ℕ) (stored : mid ≡ record nodes { payloads = insert nodes.payloads block payload })
+    (name : List ℕ) (back : node_at mid block ≡ record { next = 0; content = 0; size = 0; name = name }) (there : HasBytes mid.payloads block 0 64)
+    (first_later : ℕ) (links : LinksTo first last block first_later mid later) where
+  not_listed : is_listed (0 ∷ blocks) block ≡ false
+  not_listed = ap (λ xs. is_listed (0 ∷ xs) block) (sym (blocks_are first last nodes contents blocks stand)) ∙ fresh.free
+
+  other_block : (b : ℕ) → is_listed (0 ∷ blocks) b ≡ true → b ≢ block
+  other_block b t = unlisted (0 ∷ blocks) block b not_listed t
+
+  rest : later ≡ record nodes { payloads = later.payloads }
+  rest = links.rest ∙ ap (λ (n : OwnHeap). record n { payloads = later.payloads }) (stored_rest nodes mid block payload stored)
+
+  chunk_same : (a : ℕ) → chunk_with later a ≡ chunk_with nodes a
+  chunk_same a = ap (λ n. chunk_with n a) rest
+
+  offset_same : (a : ℕ) → offset_of later a ≡ offset_of nodes a
+  offset_same a = ap (λ n. offset_of n a) rest
+
+  count_same : length later.shape.chunks ≡ length nodes.shape.chunks
+  count_same = ap (λ (n : OwnHeap). length n.shape.chunks) rest
+
+  stays : (b : ℕ) → is_listed blocks b ≡ true → Stays nodes later contents contents b
+  stays b t =
+      let other = other_block b (listed_later 0 b blocks t) in
+      let node = stored_node nodes mid block payload stored b other in
+      let kept = links.files b (stored_there nodes mid block payload stored b other (stand.each b t).there) in
+      record {
+        name = kept.name ∙ ap (λ (n : FileNode). n.name) node;
+        size = kept.size ∙ ap (λ (n : FileNode). n.size) node;
+        content = kept.content ∙ ap (λ (n : FileNode). n.content) node;
+        there = kept.there;
+        chunk = chunk_same (b - 16);
+        offset = offset_same (b - 16);
+        bytes = λ _. refl;
+      }
+
+  same_links : (b : ℕ) → is_listed (0 ∷ blocks) b ≡ true → b ≢ last → link_in first_later later b ≡ link_in first nodes b
+  same_links b t other =
+      links.links b other ∙ ap (λ (n : FileNode). cond (eqb b 0) first n.next) (stored_node nodes mid block payload stored b (other_block b t))
+
+  block_some : block ≢ 0
+  block_some e = other_block 0 (listed_first 0 blocks) (sym e)
+
+  not_last : block ≢ last
+  not_last e = other_block last (subst (λ l. is_listed (0 ∷ blocks) l ≡ true) (sym stand.last_is) (last_listed 0 blocks)) (sym e)
+
+  ends : link_in first_later later block ≡ 0
+  ends = links.links block not_last ∙ link_some first mid block block_some ∙ ap (λ (n : FileNode). n.next) back
+
+  new_file : KeepsFile mid later block
+  new_file = links.files block there
+
+  new_empty : (node_at later block).size ≡ 0
+  new_empty = new_file.size ∙ ap (λ (n : FileNode). n.size) back
+
+  new_is_file : IsFile later contents block
+  new_is_file = record {
+    there = new_file.there;
+    place = omega (arith, fresh.place, chunk_same (block - 16), count_same);
+    content = λ some. absurd (omega (arith, some, new_empty));
+  }
+
+  pub stand_new : StandAt first_later block later contents (blocks ++ block ∷ [])
+  stand_new = stand_appended first last nodes later contents contents blocks stand (omega (arith, count_same)) first_later block stays same_links links.linked ends not_listed new_is_file new_empty
+
+  new_file_is : file_at later contents block ≡ record { name = name; bytes = []; chunk = chunk_with nodes (block - 16); offset = offset_of nodes (block - 16) }
+  new_file_is =
+      let named = new_file.name ∙ ap (λ (n : FileNode). n.name) back in
+      let none : bytes_at contents (node_at later block) ≡ [] = ap (λ n. take n (payload_in contents (node_at later block).content)) new_empty in
+      λ i. record { name = named i; bytes = none i; chunk = chunk_same (block - 16) i; offset = offset_same (block - 16) i }
+
+  pub files_new : files_of first_later later contents ≡ record (files_of first nodes contents) {
+    files = (files_of first nodes contents).files ++ record { name = name; bytes = []; chunk = chunk_with nodes (block - 16); offset = offset_of nodes (block - 16) } ∷ [];
+  }
+  files_new =
+      let f : ℕ → File = file_at later contents in
+      let old = files_kept first last nodes later contents contents blocks stand (omega (arith, count_same)) stays ∙ sym (files_are first last nodes contents blocks stand) in
+      let shape = ap (λ (n : OwnHeap). n.shape) rest in
+      let files : map f (blocks ++ block ∷ []) ≡ (files_of first nodes contents).files ++ record { name = name; bytes = []; chunk = chunk_with nodes (block - 16); offset = offset_of nodes (block - 16) } ∷ [] =
+      append_map f f blocks (block ∷ []) ∙ ap (λ (xs : List File). xs ++ f block ∷ []) old ∙ ap (λ (x : File). (files_of first nodes contents).files ++ x ∷ []) new_file_is in
+      let value = files_are first_later block later contents (blocks ++ block ∷ []) stand_new ∙ files in
+      λ i. record { files = value i; shape = shape i }

@@ -1,0 +1,272 @@
+-- What calls of a session's sliced heap leave of the heap of nodes: blocks that come and go, and bytes that change.
+use Rattle.std.proofs.Common.{◌≡◌, ◌≢◌, ℕ, ◌+◌, ◌-◌, ◌/◌, ◌≤◌, true, false, cond, nat_le, List, length, drop, Some, is_some, refl, sym, ap, ◌∙◌, arith, inl, inr}
+use Rattle.std.proofs.lemmas.Bool.{cases_eq}
+use Rattle.std.proofs.lemmas.Bool.Decides.{nat_tests}
+use Rattle.std.proofs.lemmas.Option.{none-some, same_Some}
+use Rattle.std.specs.Prelude.{Option, None}
+use Rattle.std.specs.Option.{option_map, option_and_then, unwrap_or}
+use Rattle.std.specs.FinMap.{get, insert, remove, len}
+use Rattle.trade_base.specs.Bytes.{with_bytes}
+use Rattle.own_model.specs.Account.{Account, opened, charged, credited}
+use Rattle.own_model.specs.NatMap.{NatMap}
+use Rattle.own_model.specs.OwnState.{zeros, with_part}
+use Rattle.own_model.specs.Region.{Region}
+use Rattle.own_model.specs.Sliced.{sliced_header, sliced_size, block_size, block_pages}
+use Rattle.own_model.proofs.HeapRangeLemmas.{new_page}
+use Rattle.own_model.proofs.NatMapLemmas.{get-picked, get-insert_same, get-insert_other, get-remove_same, get-remove_other}
+use Rattle.own_model.proofs.Totals.{len-insert_new, len-insert_at, len-remove_at}
+use Rattle.region_map.specs.Regions.{Regions}
+use Rattle.dataspace_core.specs.Store.{Store, Part, part, account_in, account_of, bytes_of, part_with_bytes, PartBecomes}
+use Rattle.dataspace_core.specs.Share.{Share, share_in, shown}
+use Rattle.dataspace_core.proofs.PartLaws.{account_of-part}
+use Rattle.dataspace_core.proofs.ShareLaws.{get-tags_of}
+use Rattle.heap_core.specs.declared.heap.Heap.{Heap}
+use Rattle.heap_core.specs.Heap.{large_tag}
+use Rattle.heap_core.specs.Laws.{block_region}
+use Rattle.heap_core.proofs.ShareLemmas.{in_share}
+use Rattle.heap_core.proofs.StayLemmas.{told_region}
+use Rattle.sliced_heap.specs.declared.heap.SlicedHeap.{SlicedHeap}
+use Rattle.sliced_heap.specs.Heap.{payer_of, share_at, blocks_at, IsNoBlock, IsSound as IsSoundSliced, KeepsOthers, TakesBlock, GivesBlock, HoldsRange}
+use Rattle.sliced_heap.specs.Laws.{Pokes}
+use Rattle.sliced_heap.specs.Sliced.{sliced_tag, block_regions, payload_of}
+use Rattle.sliced_heap.proofs.BlockLemmas.{payload_at, is_of}
+use Rattle.sliced_heap.proofs.HeapLaws.{payload_poked}
+use Rattle.sliced_heap.proofs.ShareLemmas.{shown_block}
+use Rattle.file_service.specs.Furnished.{IsFurnished}
+use Rattle.file_service.proofs.BesideLemmas.{numbered, gap_is_free, lie_with, lie_without}
+use Rattle.file_service.proofs.FurnishedLemmas.{ChangesContents}
+use Rattle.file_service.proofs.WindowLemmas.{IsPut, is_put, kept_tag}
+
+-- ---- chunks of an account on a map that several accounts use
+
+-- the chunk or large block of a region with a number, where these dataspaces are shown
+abbrev numbered_in : NatMap (List ℕ) → Option ℕ → Option Region → Option (Region × ℕ)
+numbered_in spaces tag region = numbered tag (option_and_then (shown spaces) region)
+
+-- nothing is numbered where no region is
+none_numbered : (tag : Option ℕ) → numbered tag None ≡ None
+none_numbered None = refl
+none_numbered (Some k) = elim (nat_le k large_tag) as (λ b. ◌≡◌ {A = Option (Region × ℕ)} (cond b None None) None) [ true ↦ refl | false ↦ refl ]
+
+-- a number is kept with what is shown alone
+within_share : (tag : Option ℕ) (o : Option Region) → numbered (cond (is_some o) tag None) o ≡ numbered tag o
+within_share tag None = sym (none_numbered tag)
+within_share tag (Some r) = refl
+
+-- the chunk or large block that starts at an address
+region_is : (account : ℕ) (store : Store) (regions : Regions) (s : ℕ) →
+    block_region (share_at account store regions) s ≡ numbered_in (part account store).spaces (get regions.tags s) (get regions.heap s)
+unfolding share_in
+region_is account store regions s =
+    let o = get-picked (shown (part account store).spaces) regions.heap s in
+    ap (λ t. numbered t (get (share_at account store regions).heap s)) (get-tags_of _ regions.tags s)
+    ∙ within_share (get regions.tags s) (get (share_at account store regions).heap s)
+    ∙ ap (numbered (get regions.tags s)) o
+
+-- it is the same where its dataspace is there or not as before
+numbered_alike : (p q : NatMap (List ℕ)) (tag : Option ℕ) (o : Option Region) →
+    ((r : Region) (k : ℕ) → o ≡ Some r → tag ≡ Some k → k ≤ large_tag → is_some (get q r.of) ≡ is_some (get p r.of)) → numbered_in q tag o ≡ numbered_in p tag o
+numbered_alike p q None o alike = refl
+numbered_alike p q (Some k) None alike = refl
+numbered_alike p q (Some k) (Some r) alike =
+    elim (nat_le k large_tag) as (λ b. nat_le k large_tag ≡ b → ◌≡◌ {A = Option (Region × ℕ)}
+    (cond b (option_map (λ (region : Region). (region, k)) (shown q r)) None) (cond b (option_map (λ (region : Region). (region, k)) (shown p r)) None)) [
+      | true ↦ λ low. ap (λ b. option_map (λ (region : Region). (region, k)) (cond b (Some r) None)) (alike r k refl refl (grind (arith, nat_tests)))
+      | false ↦ λ high. refl
+    ] refl
+
+-- what there is of an account
+account_is : (o : Option Account) (x : Account) → o ≡ Some x → unwrap_or o (opened 0 0) ≡ x
+account_is o x is = ap (λ (y : Option Account). unwrap_or y (opened 0 0)) is
+
+module _ {heap : Heap} {sliced : SlicedHeap} {store : Store} {regions : Regions} (f : IsFurnished heap sliced store regions) where
+  -- the account, its share, and its part
+  abbrev a : ℕ
+  a = payer_of sliced
+
+  abbrev S : Share
+  S = share_at (payer_of sliced) store regions
+
+  abbrev p : Part
+  p = part (payer_of sliced) store
+
+  -- a dataspace that a region with a chunk's number shows is no sliced block's
+  chunk_no_sliced : (s k : ℕ) (r : Region) → get regions.heap s ≡ Some r → get regions.tags s ≡ Some k → k ≤ large_tag → IsNoBlock S r.of
+  chunk_no_sliced s k r there tag low t q block e =
+      let one = shown_block (payer_of sliced) store regions t q block in
+      let at = f.sound.window.once t s q r one.there there e in
+      absurd (omega (arith, low, same_Some k sliced_tag (sym tag ∙ ap (get regions.tags) (sym at) ∙ one.tag)))
+
+  -- a chunk's region is the map's
+  chunk_in_map : (s k : ℕ) (r : Region) → block_region S s ≡ Some (r, k) → (get regions.heap s ≡ Some r) × (get regions.tags s ≡ Some k) × (k ≤ large_tag)
+  chunk_in_map s k r is =
+      let told = told_region S s k r is in
+      ((in_share p regions.heap regions.tags s r told.there).0, kept_tag (payer_of sliced) store regions s r told.there ∙ told.tag, told.few)
+
+  account_was : account_in store (payer_of sliced) ≡ account_of p
+  account_was = sym (account_of-part (payer_of sliced) store)
+
+  -- an account after a charge or a credit
+  account_now : (new : Store) (x : Account) → (part (payer_of sliced) new).account ≡ Some x → account_in new (payer_of sliced) ≡ x
+  account_now new x is = sym (account_of-part (payer_of sliced) new) ∙ account_is _ x is
+
+  -- ---- a block more
+
+  module _ {now : SlicedHeap} {new : Store} {after : Regions} (sound : IsSoundSliced now new after) (payer : payer_of now ≡ payer_of sliced) (others : KeepsOthers (payer_of sliced) store new regions after)
+      (n address : ℕ) (takes : TakesBlock (payer_of sliced) n address store new regions after) where
+    abbrev more : Region
+    more = record { of = takes.ds; pages = sliced_size n / 4096 }
+
+    more_heap : after.heap ≡ insert regions.heap takes.start more
+    more_heap = ap (λ (r : Regions). r.heap) takes.attached
+
+    more_tags : after.tags ≡ insert regions.tags takes.start sliced_tag
+    more_tags = ap (λ (r : Regions). r.tags) takes.attached
+
+    -- nothing stood there
+    more_free : get regions.heap takes.start ≡ None
+    more_free = gap_is_free regions.pages regions.heap (sliced_size n / 4096) takes.start (new_page n) f.sound.window.lie takes.gap
+
+    -- no region shows the new dataspace
+    more_unshown : (s : ℕ) (r : Region) → get regions.heap s ≡ Some r → r.of ≢ takes.ds
+    more_unshown s r there e =
+        let shown = f.sound.window.shown_whole s r there in
+        none-some shown.space (sym (ap (get store.spaces) e ∙ takes.fresh) ∙ shown.there)
+
+    more_same : (s k : ℕ) (r : Region) → get regions.heap s ≡ Some r → get regions.tags s ≡ Some k → k ≤ large_tag → get (part (payer_of sliced) new).spaces r.of ≡ get p.spaces r.of
+    more_same s k r there tag low = takes.dataspaces r.of (more_unshown s r there) (chunk_no_sliced s k r there tag low)
+
+    more_stands : (s : ℕ) → block_region (share_at (payer_of sliced) new after) s ≡ block_region S s
+    more_stands s =
+        region_is (payer_of sliced) new after s
+        ∙ (λ i. numbered_in (part (payer_of sliced) new).spaces (get (more_tags i) s) (get (more_heap i) s))
+        ∙ elim (cases_eq s takes.start) [
+          | inl here ↦
+              (λ i. numbered_in (part (payer_of sliced) new).spaces (get-insert_same regions.tags takes.start sliced_tag s here i) (get (insert regions.heap takes.start more) s))
+              ∙ sym (none_numbered (get regions.tags s))
+              ∙ ap (numbered_in p.spaces (get regions.tags s)) (sym (ap (get regions.heap) here ∙ more_free))
+          | inr apart ↦
+              (λ i. numbered_in (part (payer_of sliced) new).spaces (get-insert_other regions.tags takes.start sliced_tag s apart i) (get-insert_other regions.heap takes.start more s apart i))
+              ∙ numbered_alike p.spaces (part (payer_of sliced) new).spaces (get regions.tags s) (get regions.heap s) (λ r k there tag low. ap is_some (more_same s k r there tag low))
+        ]
+        ∙ sym (region_is (payer_of sliced) store regions s)
+
+    -- no payload started there
+    pub more_no_payload : get (blocks_at (payer_of sliced) store regions) address ≡ None
+    more_no_payload =
+        let none : get (block_regions S) takes.start ≡ None = elim (get (block_regions S) takes.start) as (λ o. get (block_regions S) takes.start ≡ o → o ≡ None) [
+          | None ↦ λ e. refl
+          | Some r ↦ λ e. absurd (none-some r (sym more_free ∙ (shown_block (payer_of sliced) store regions takes.start r e).there))
+        ] refl in
+        ap (get (blocks_at (payer_of sliced) store regions)) takes.at
+        ∙ payload_at S sliced.first f.session.sound.linked takes.start ∙ ap (option_and_then (payload_of S.part.spaces)) none
+
+    pub more_charge : account_in new (payer_of sliced) ≡ charged (account_in store (payer_of sliced)) (sliced_size n) 1
+    more_charge = account_now new _ takes.charge
+
+    pub more_changes : ChangesContents f now new after
+    more_changes = record {
+      sound = sound;
+      payer = payer;
+      others = others;
+      lie = rw more_heap (lie_with regions.pages regions.heap takes.ds (sliced_size n / 4096) takes.start (new_page n) f.sound.window.lie takes.gap);
+      stands = more_stands;
+      kept = λ s k r is. let at = chunk_in_map s k r is in more_same s k r at.0 at.1 at.2;
+      uses = omega (arith, takes.count, ap (λ (x : Account). x.caps_used) more_charge);
+      count = omega (arith, takes.count, ap len takes.blocks, len-insert_new (blocks_at (payer_of sliced) store regions) address (zeros (sliced_size n - sliced_header)) more_no_payload);
+    }
+
+  -- ---- a block less
+
+  module _ {now : SlicedHeap} {new : Store} {after : Regions} (sound : IsSoundSliced now new after) (payer : payer_of now ≡ payer_of sliced) (others : KeepsOthers (payer_of sliced) store new regions after)
+      (address : ℕ) (gives : GivesBlock (payer_of sliced) address store new regions after) where
+    abbrev less : Region
+    less = record { of = gives.ds; pages = block_pages gives.payload }
+
+    less_heap : after.heap ≡ remove regions.heap gives.start
+    less_heap = ap (λ (r : Regions). r.heap) gives.detached
+
+    less_tags : after.tags ≡ remove regions.tags gives.start
+    less_tags = ap (λ (r : Regions). r.tags) gives.detached
+
+    -- it kept a sliced block's number
+    less_tag : get regions.tags gives.start ≡ Some sliced_tag
+    less_tag =
+        let block = is_of S sliced.first f.session.sound.linked address gives.payload gives.was in
+        let same : block.start ≡ gives.start = omega (arith, block.at, gives.at) in
+        ap (get regions.tags) (sym same) ∙ (shown_block (payer_of sliced) store regions block.start block.region block.there).tag
+
+    less_same : (s k : ℕ) (r : Region) → get regions.heap s ≡ Some r → get regions.tags s ≡ Some k → k ≤ large_tag → get (part (payer_of sliced) new).spaces r.of ≡ get p.spaces r.of
+    less_same s k r there tag low = gives.dataspaces r.of (chunk_no_sliced s k r there tag low)
+
+    less_stands : (s : ℕ) → block_region (share_at (payer_of sliced) new after) s ≡ block_region S s
+    less_stands s =
+        region_is (payer_of sliced) new after s
+        ∙ (λ i. numbered_in (part (payer_of sliced) new).spaces (get (less_tags i) s) (get (less_heap i) s))
+        ∙ elim (cases_eq s gives.start) [
+          | inl here ↦
+              (λ i. numbered_in (part (payer_of sliced) new).spaces (get-remove_same regions.tags gives.start s here i) (get (remove regions.heap gives.start) s))
+              ∙ ap (λ t. numbered_in p.spaces t (get regions.heap s)) (sym (ap (get regions.tags) here ∙ less_tag))
+          | inr apart ↦
+              (λ i. numbered_in (part (payer_of sliced) new).spaces (get-remove_other regions.tags gives.start s apart i) (get-remove_other regions.heap gives.start s apart i))
+              ∙ numbered_alike p.spaces (part (payer_of sliced) new).spaces (get regions.tags s) (get regions.heap s) (λ r k there tag low. ap is_some (less_same s k r there tag low))
+        ]
+        ∙ sym (region_is (payer_of sliced) store regions s)
+
+    pub less_credit : account_in new (payer_of sliced) ≡ credited (account_in store (payer_of sliced)) (block_size gives.payload) 1
+    less_credit = account_now new _ gives.charge
+
+    pub less_changes : ChangesContents f now new after
+    less_changes = record {
+      sound = sound;
+      payer = payer;
+      others = others;
+      lie = rw less_heap (lie_without regions.pages regions.heap gives.start f.sound.window.lie);
+      stands = less_stands;
+      kept = λ s k r is. let at = chunk_in_map s k r is in less_same s k r at.0 at.1 at.2;
+      uses = omega (arith, gives.count, f.session.pays, ap (λ (x : Account). x.caps_used) less_credit);
+      count = omega (arith, gives.count, ap len gives.blocks, len-remove_at (blocks_at (payer_of sliced) store regions) address gives.payload gives.was);
+    }
+
+  -- ---- other bytes
+
+  module _ (ds offset address : ℕ) (bytes : List ℕ) {new : Store} (held : HoldsRange S ds offset address (length bytes)) (becomes : PartBecomes (payer_of sliced) (part_with_bytes p ds offset bytes) store new) where
+    pub pokes : Pokes sliced (held.start + sliced_header) (with_part (drop sliced_header held.bytes) (offset - sliced_header) bytes) store new regions
+    pokes = payload_poked sliced ds offset address bytes store new regions f.session.sound held becomes
+
+    there_now : get p.spaces ds ≡ Some held.bytes
+    unfolding share_in
+    there_now = held.there
+
+    put : IsPut (payer_of sliced) ds store new
+    put = is_put (payer_of sliced) ds offset bytes held.bytes there_now held.within becomes
+
+    poke_same : (s k : ℕ) (r : Region) → get regions.heap s ≡ Some r → get regions.tags s ≡ Some k → k ≤ large_tag → get (part (payer_of sliced) new).spaces r.of ≡ get p.spaces r.of
+    poke_same s k r there tag low = put.others r.of (λ e. chunk_no_sliced s k r there tag low held.start _ held.region (sym e))
+
+    poke_stands : (s : ℕ) → block_region (share_at (payer_of sliced) new regions) s ≡ block_region S s
+    poke_stands s =
+        region_is (payer_of sliced) new regions s
+        ∙ numbered_alike p.spaces (part (payer_of sliced) new).spaces (get regions.tags s) (get regions.heap s) (λ r k there tag low. ap is_some (poke_same s k r there tag low))
+        ∙ sym (region_is (payer_of sliced) store regions s)
+
+    pub poke_account : account_in new (payer_of sliced) ≡ account_in store (payer_of sliced)
+    poke_account = sym (account_of-part (payer_of sliced) new) ∙ ap account_of becomes.own ∙ account_of-part (payer_of sliced) store
+
+    pub poke_changes : ChangesContents f sliced new regions
+    poke_changes = record {
+      sound = pokes.sound;
+      payer = refl;
+      others = record {
+        shares = λ other apart. ap (λ q. share_in q regions.heap regions.tags) (becomes.others other apart);
+        root = becomes.root;
+        parents = becomes.parents;
+        room = becomes.room;
+        rest = refl;
+      };
+      lie = f.sound.window.lie;
+      stands = poke_stands;
+      kept = λ s k r is. let at = chunk_in_map s k r is in poke_same s k r at.0 at.1 at.2;
+      uses = omega (arith, ap (λ (q : Part). len q.spaces) becomes.own, ap (λ (x : Account). x.caps_used) poke_account, len-insert_at p.spaces ds (with_bytes (bytes_of p ds) offset bytes) held.bytes there_now);
+      count = omega (arith, ap (λ (q : Part). len q.spaces) becomes.own, len-insert_at p.spaces ds (with_bytes (bytes_of p ds) offset bytes) held.bytes there_now, ap len pokes.blocks, len-insert_at (blocks_at (payer_of sliced) store regions) (held.start + sliced_header) (with_part (drop sliced_header held.bytes) (offset - sliced_header) bytes) (drop sliced_header held.bytes) held.payload);
+    }

@@ -1,0 +1,167 @@
+-- A block that is taken for the node of a new file: the other files stay, and it is where the model puts the file.
+use Rattle.std.proofs.Common.{◌≡◌, ◌≢◌, ℕ, ◌+◌, ◌-◌, ◌<◌, ◌≤◌, true, false, cond, eqb, List, [], ◌∷◌, ◌++◌, length, map, Option, Some, None, is_some, refl, sym, ap, subst, ◌∙◌, true≢false, arith}
+use Rattle.std.proofs.lemmas.Bool.Decides.{nat_tests}
+use Rattle.std.proofs.lemmas.Option.{none-some}
+use Rattle.std.specs.Prelude.{IsSome}
+use Rattle.std.specs.Option.{unwrap_or}
+use Rattle.std.specs.FinMap.{get, insert}
+use Rattle.own_model.specs.Account.{Account, charged}
+use Rattle.own_model.specs.BestFit.{Spot, block_size}
+use Rattle.own_model.specs.FileService.{File, Files, FileServed, node_size, created, told}
+use Rattle.own_model.specs.FileText.FileReply.{Done}
+use Rattle.own_model.specs.Growth.{Growth, hole_for, growth_of, new_hole, shape_taken, shape_grown}
+use Rattle.own_model.specs.HeapStep.{size_taken, with_block, with_chunk}
+use Rattle.own_model.specs.NatMap.{NatMap}
+use Rattle.own_model.specs.OwnHeap.{OwnHeap, chunk_with, offset_of, payload_start}
+use Rattle.own_model.specs.OwnState.{zeros}
+use Rattle.own_model.proofs.BestFitLemmas.{best_is_hole}
+use Rattle.own_model.proofs.ByteLemmas.{length-zeros}
+use Rattle.own_model.proofs.NatMapLemmas.{some_of, get-insert, get-insert_same}
+use Rattle.heap_core.proofs.TakesGrownLemmas.{growth_fits}
+use Rattle.sliced_heap.specs.Chain.{is_listed}
+use Rattle.file_service.specs.Calls.{payload_in, HasBytes, TakesNode, TakesInHole, TakesInChunk}
+use Rattle.file_service.specs.Files.{node_at, nodes_from, file_at, IsFile, StandAt}
+use Rattle.file_service.specs.Furnished.{Stock}
+use Rattle.file_service.specs.Session.{IsFresh}
+use Rattle.file_service.specs.Node.{FileNode, node_of}
+use Rattle.file_service.proofs.KeptLemmas.{Stays, stand_kept, files_kept, blocks_are}
+use Rattle.file_service.proofs.PlaceLemmas.{HasPlaces, chunk_taken, offset_taken, count_taken, chunk_grown, offset_grown, placed_in_hole, placed_in_chunk, starts_at}
+
+-- what a taken block leaves and where it stands
+pub record Takes (first last : ℕ) (blocks : List ℕ) (block : ℕ) (old new : Stock) : Type 0 where
+  pub stand : StandAt first last new.nodes new.contents blocks
+  pub files : map (file_at new.nodes new.contents) blocks ≡ map (file_at old.nodes old.contents) blocks
+  pub fresh : IsFresh first new.nodes block
+  pub is_created : (name : List ℕ) (files : List File) →
+      created name (hole_for node_size old.nodes.shape) (record { files = files; shape = old.nodes.shape }) old.account
+      ≡ told Done (record {
+        files = files ++ record { name = name; bytes = []; chunk = chunk_with new.nodes (block - 16); offset = offset_of new.nodes (block - 16) } ∷ [];
+        shape = new.nodes.shape;
+      }) new.account
+
+module _ (first last : ℕ) (nodes later : OwnHeap) (contents : NatMap (List ℕ)) (blocks : List ℕ) (stand : StandAt first last nodes contents blocks)
+    (block : ℕ) (payload : List ℕ) (free : get nodes.payloads block ≡ None) (is : later.payloads ≡ insert nodes.payloads block payload)
+    (chunk : (a : ℕ) → chunk_with nodes a < length nodes.shape.chunks → chunk_with later a ≡ chunk_with nodes a)
+    (offset : (a : ℕ) → chunk_with nodes a < length nodes.shape.chunks → offset_of later a ≡ offset_of nodes a)
+    (more : length nodes.shape.chunks ≤ length later.shape.chunks) where
+  -- a block that has a payload is another one
+  not_it : (b : ℕ) → is_listed blocks b ≡ true → b ≢ block
+  not_it b t e = let there = some_of (get nodes.payloads b) (stand.each b t).there.there in none-some there.0 (sym free ∙ ap (get nodes.payloads) (sym e) ∙ there.1)
+
+  same_payload : (b : ℕ) → is_listed blocks b ≡ true → get later.payloads b ≡ get nodes.payloads b
+  same_payload b t =
+      let other = not_it b t in
+      let e : eqb b block ≡ false = grind (arith, nat_tests) in
+      ap (λ m. get m b) is ∙ get-insert nodes.payloads block payload b ∙ rw e refl
+
+  same_node : (b : ℕ) → is_listed blocks b ≡ true → node_at later b ≡ node_at nodes b
+  same_node b t = ap (λ o. node_of (unwrap_or o [])) (same_payload b t)
+
+  taken_stays : (b : ℕ) → is_listed blocks b ≡ true → Stays nodes later contents contents b
+  taken_stays b t =
+      let was = (stand.each b t).there in
+      record {
+        name = ap (λ (n : FileNode). n.name) (same_node b t);
+        size = ap (λ (n : FileNode). n.size) (same_node b t);
+        content = ap (λ (n : FileNode). n.content) (same_node b t);
+        there = record {
+          there = subst (λ (o : Option (List ℕ)). IsSome o) (sym (same_payload b t)) was.there;
+          within = subst (λ (o : Option (List ℕ)). 0 + 64 ≤ length (unwrap_or o [])) (sym (same_payload b t)) was.within;
+        };
+        chunk = chunk (b - 16) (stand.each b t).place;
+        offset = offset (b - 16) (stand.each b t).place;
+        bytes = λ _. refl;
+      }
+
+  pub stand_taken : StandAt first last later contents blocks
+  stand_taken = stand_kept first last nodes later contents contents blocks stand more taken_stays (λ b t. ap (λ (n : FileNode). n.next) (same_node b t))
+
+  pub files_taken : map (file_at later contents) blocks ≡ map (file_at nodes contents) blocks
+  files_taken = files_kept first last nodes later contents contents blocks stand more taken_stays
+
+  -- the block is none of those of files
+  pub fresh_taken : 0 < block → 64 ≤ length payload → chunk_with later (block - 16) < length later.shape.chunks → IsFresh first later block
+  fresh_taken some long place =
+      let there : get later.payloads block ≡ Some payload = ap (λ m. get m block) is ∙ get-insert_same nodes.payloads block payload block refl in
+      let unlisted : is_listed blocks block ≡ false = elim (is_listed blocks block) as (λ t. is_listed blocks block ≡ t → t ≡ false) [
+        | true ↦ λ t. absurd (not_it block t refl)
+        | false ↦ λ _. refl
+      ] refl in
+      record {
+        there = record { there = ap is_some there; within = subst (λ (o : Option (List ℕ)). 0 + 64 ≤ length (unwrap_or o [])) (sym there) (omega (arith, long)) };
+        place = place;
+        free = ap (λ xs. is_listed (0 ∷ xs) block) (blocks_are first last later contents blocks stand_taken) ∙ grind (arith, nat_tests);
+      }
+
+-- what a hole gives is as long as a block for a node, or longer
+long_taken : (size : ℕ) → 112 ≤ size → 64 ≤ length (zeros (size_taken 112 size - 16))
+long_taken size enough = let e = length-zeros (size_taken 112 size - 16) in grind (arith, nat_tests, e)
+
+module _ (first last : ℕ) (blocks : List ℕ) (block : ℕ) (old : Stock) (stand : StandAt first last old.nodes old.contents blocks) (has : HasPlaces old.nodes)
+    (free : get old.nodes.payloads block ≡ None) where
+  -- in the best hole
+  in_hole : (hole : Spot) (new : Stock) → hole_for node_size old.nodes.shape ≡ Some hole → TakesInHole hole block old new → Takes first last blocks block old new
+  in_hole hole new best t =
+      let later : OwnHeap = with_block node_size hole old.nodes in
+      let payload = zeros (size_taken (block_size node_size) hole.size - 16) in
+      let free_there : get old.nodes.payloads (payload_start old.nodes hole) ≡ None = ap (get old.nodes.payloads) (sym t.at) ∙ free in
+      let is : later.payloads ≡ insert old.nodes.payloads block payload = ap (λ a. insert old.nodes.payloads a payload) (sym t.at) in
+      let chunk : (a : ℕ) → chunk_with old.nodes a < length old.nodes.shape.chunks → chunk_with later a ≡ chunk_with old.nodes a = λ a _. chunk_taken old.nodes node_size hole a in
+      let offset : (a : ℕ) → chunk_with old.nodes a < length old.nodes.shape.chunks → offset_of later a ≡ offset_of old.nodes a = λ a _. offset_taken old.nodes node_size hole a in
+      let count = count_taken old.nodes node_size hole in
+      let place = placed_in_hole old.nodes node_size block hole has best t.at in
+      let enough = (best_is_hole (block_size node_size) old.nodes.shape.chunks hole has.blocks best).1 in
+      let here : chunk_with later (block - 16) ≡ hole.chunk = chunk_taken old.nodes node_size hole (block - 16) ∙ place.1.0 in
+      let into : offset_of later (block - 16) ≡ hole.offset = offset_taken old.nodes node_size hole (block - 16) ∙ place.1.1 in
+      let takes : Takes first last blocks block old (record old { nodes = later }) = record {
+        stand = stand_taken first last old.nodes later old.contents blocks stand block payload free is chunk offset (omega (arith, count));
+        files = files_taken first last old.nodes later old.contents blocks stand block payload free is chunk offset (omega (arith, count));
+        fresh = fresh_taken first last old.nodes later old.contents blocks stand block payload free is chunk offset (omega (arith, count))
+            (omega (arith, t.at)) (long_taken hole.size enough) (omega (arith, here, place.0, count));
+        is_created = λ name files.
+            ap (λ o. created name o (record { files = files; shape = old.nodes.shape }) old.account) best
+            ∙ (λ i. told Done (record {
+              files = files ++ record { name = name; bytes = []; chunk = sym here i; offset = sym into i } ∷ [];
+              shape = shape_taken node_size hole old.nodes.shape;
+            }) old.account);
+      } in
+      subst (Takes first last blocks block old) (sym t.is) takes
+
+  -- in a new chunk
+  in_chunk : (new : Stock) → HasPlaces new.nodes → hole_for node_size old.nodes.shape ≡ None → TakesInChunk block old new → Takes first last blocks block old new
+  in_chunk new later_has none t =
+      let growth : Growth = growth_of node_size old.nodes.shape old.account in
+      let grown : OwnHeap = with_chunk growth t.start old.nodes in
+      let hole : Spot = new_hole growth old.nodes.shape in
+      let later : OwnHeap = with_block node_size hole grown in
+      let payload = zeros (size_taken (block_size node_size) growth.bytes - 16) in
+      let fits = growth_fits node_size old.nodes.shape old.account in
+      let has_later : HasPlaces later = subst (λ (s : Stock). HasPlaces s.nodes) t.is later_has in
+      let place = placed_in_chunk old.nodes node_size block t.start growth has fits t.at has_later in
+      let start : payload_start grown hole ≡ block = starts_at old.nodes growth t.start has ∙ sym t.at in
+      let is : later.payloads ≡ insert old.nodes.payloads block payload = ap (λ a. insert old.nodes.payloads a payload) start in
+      let chunk : (a : ℕ) → chunk_with old.nodes a < length old.nodes.shape.chunks → chunk_with later a ≡ chunk_with old.nodes a =
+      λ a within. chunk_taken grown node_size hole a ∙ chunk_grown old.nodes growth t.start has a within in
+      let offset : (a : ℕ) → chunk_with old.nodes a < length old.nodes.shape.chunks → offset_of later a ≡ offset_of old.nodes a =
+      λ a within. offset_taken grown node_size hole a ∙ offset_grown old.nodes growth t.start has a within in
+      let more : length old.nodes.shape.chunks ≤ length later.shape.chunks = omega (arith, place.0) in
+      let takes : Takes first last blocks block old (record old { account = charged old.account growth.bytes 1; nodes = later }) = record {
+        stand = stand_taken first last old.nodes later old.contents blocks stand block payload free is chunk offset more;
+        files = files_taken first last old.nodes later old.contents blocks stand block payload free is chunk offset more;
+        fresh = fresh_taken first last old.nodes later old.contents blocks stand block payload free is chunk offset more
+            (omega (arith, t.at)) (long_taken growth.bytes fits) (omega (arith, place.0, place.1.0));
+        is_created = λ name files.
+            ap (λ o. created name o (record { files = files; shape = old.nodes.shape }) old.account) none
+            ∙ (λ i. told Done (record {
+              files = files ++ record { name = name; bytes = []; chunk = sym place.1.0 i; offset = sym place.1.1 i } ∷ [];
+              shape = shape_taken node_size hole (shape_grown growth old.nodes.shape);
+            }) (charged old.account growth.bytes 1));
+      } in
+      subst (Takes first last blocks block old) (sym t.is) takes
+
+  -- a taken block
+  pub takes_node : (new : Stock) → HasPlaces new.nodes → TakesNode block old new → Takes first last blocks block old new
+  takes_node new later_has t = elim (hole_for node_size old.nodes.shape) as (λ o. hole_for node_size old.nodes.shape ≡ o → Takes first last blocks block old new) [
+    | Some hole ↦ λ best. in_hole hole new best (t.in_hole hole best)
+    | None ↦ λ none. in_chunk new later_has none (t.in_chunk none)
+  ] refl

@@ -1,0 +1,122 @@
+-- The heap of nodes ends: its chunks go, and the sliced blocks stay where they stand.
+use Rattle.std.proofs.Common.{◌≡◌, ℕ, ◌+◌, ◌==◌, Bool, true, false, cond, true≢false, length, Some, is_some, refl, sym, ap, subst, ◌∙◌, arith}
+use Rattle.std.proofs.lemmas.Bool.{false_from_ne_true}
+use Rattle.std.proofs.lemmas.Bool.Decides.{nat_tests}
+use Rattle.std.proofs.lemmas.Option.{same_Some}
+use Rattle.std.specs.Prelude.{Option, None}
+use Rattle.std.specs.Option.{option_and_then}
+use Rattle.std.specs.FinMap.{get, len, empty, len-empty}
+use Rattle.std.specs.Ordering.{nat_cmp}
+use Rattle.own_model.specs.Account.{Account, credited}
+use Rattle.own_model.specs.OwnHeap.{OwnHeap}
+use Rattle.own_model.specs.Region.{Region}
+use Rattle.own_model.specs.Use.{heap_count, heap_size}
+use Rattle.own_model.proofs.NatMapLemmas.{same}
+use Rattle.region_map.specs.Regions.{Regions}
+use Rattle.dataspace_core.specs.Share.{KeepsShares, shown}
+use Rattle.dataspace_core.specs.Store.{Store, part, account_in}
+use Rattle.heap_core.specs.declared.heap.Heap.{Heap}
+use Rattle.heap_core.specs.Calls.{GivesAll, IsNoBlock, KeepsElsewhere}
+use Rattle.heap_core.specs.Heap.{payer_of as heap_payer, heap_at, large_tag, IsSound as IsSoundHeap}
+use Rattle.sliced_heap.specs.declared.heap.SlicedHeap.{SlicedHeap}
+use Rattle.sliced_heap.specs.Heap.{payer_of, share_at}
+use Rattle.sliced_heap.specs.Sliced.{sliced_tag, is_sliced_tag, block_regions}
+use Rattle.server_frame.specs.Session.{HasBlocksAlone, holding_of}
+use Rattle.file_service.specs.Furnished.{IsFurnished, KeepsSession}
+use Rattle.file_service.proofs.FurnishedLemmas.{ChangesNodes, nodes_are, nodes_kept}
+use Rattle.file_service.proofs.NodeCallLemmas.{account_by}
+use Rattle.file_service.proofs.WindowLemmas.{IsNoHeapBlock, block_is, no_chunk, shown_alike, shown_block_at, shown_large}
+
+-- what passes for a sliced block's number is that number
+sliced_number : (o : Option ℕ) → is_sliced_tag o ≡ true → o ≡ Some sliced_tag
+sliced_number None e = absurd (true≢false (sym e))
+sliced_number (Some k) e = let is : k ≡ sliced_tag = grind (arith, nat_tests) in ap Some is
+
+-- where no region with another number than a heap's has moved, and none is new, the sliced blocks stay
+module _ (account : ℕ) (old new : Store) (regions after : Regions) (kept : KeepsElsewhere regions after)
+    (alike : (s : ℕ) (r : Region) → get regions.heap s ≡ Some r → get regions.tags s ≡ Some sliced_tag → is_some (get (part account new).spaces r.of) ≡ is_some (get (part account old).spaces r.of)) where
+  not_sliced : (s : ℕ) → is_sliced_tag (get regions.tags s) ≡ false → is_sliced_tag (get after.tags s) ≡ false
+  not_sliced s other = false_from_ne_true _ (λ is.
+      let test : (sliced_tag == sliced_tag) ≡ true = grind (arith, nat_tests) in
+      true≢false (sym test ∙ sym (ap is_sliced_tag (kept.fewer s sliced_tag (sliced_number _ is))) ∙ other))
+
+  shown_still : (s : ℕ) (b : Bool) → is_sliced_tag (get regions.tags s) ≡ b →
+      shown_block_at (part account new).spaces (get after.tags s) (get after.heap s) ≡ shown_block_at (part account old).spaces (get regions.tags s) (get regions.heap s)
+  shown_still s true is =
+      let tag = sliced_number _ is in
+      let stays = kept.stays s sliced_tag tag (omega arith) in
+      (λ i. shown_block_at (part account new).spaces (stays.1 i) (stays.0 i))
+      ∙ ap (λ o. cond (is_sliced_tag (get regions.tags s)) o None) (shown_alike (part account old).spaces (part account new).spaces (get regions.heap s) (λ r there. alike s r there tag))
+  shown_still s false other =
+      ap (λ b. cond b (option_and_then (shown (part account new).spaces) (get after.heap s)) None) (not_sliced s other)
+      ∙ sym (ap (λ b. cond b (option_and_then (shown (part account old).spaces) (get regions.heap s)) None) other)
+
+  blocks_kept : block_regions (share_at account new after) ≡ block_regions (share_at account old regions)
+  blocks_kept = same _ _ (λ s. block_is account new after s ∙ shown_still s _ refl ∙ sym (block_is account old regions s))
+
+module _ {heap later : Heap} {sliced : SlicedHeap} {store new : Store} {regions after : Regions} (f : IsFurnished heap sliced store regions) (given : GivesAll heap later store new regions after)
+    (sound : IsSoundHeap later new after) (others : KeepsShares (heap_payer heap) store new regions.heap regions.tags after.heap after.tags) (payer : heap_payer later ≡ heap_payer heap) where
+  -- what no chunk and no large block shows is neither
+  no_block : (k : ℕ) → IsNoHeapBlock regions k → IsNoBlock heap (share_at (heap_payer heap) store regions) k
+  no_block k none = (
+    no_chunk heap store regions f.sound k none,
+    λ s r large. let is = shown_large (heap_payer heap) store regions s r large in none s large_tag r is.there is.tag (omega arith),
+  )
+
+  -- so is what a sliced block shows
+  sliced_alone : (s : ℕ) (r : Region) → get regions.heap s ≡ Some r → get regions.tags s ≡ Some sliced_tag → IsNoHeapBlock regions r.of
+  sliced_alone s r there tag t k q other number low e =
+      let at = f.sound.window.once t s q r other there e in
+      omega (arith, low, same_Some k sliced_tag (sym number ∙ ap (get regions.tags) at ∙ tag))
+
+  stands : block_regions (share_at (heap_payer heap) new after) ≡ block_regions (share_at (heap_payer heap) store regions)
+  stands = blocks_kept (heap_payer heap) store new regions after given.kept (λ s r there tag. ap is_some (given.spaces r.of (no_block r.of (sliced_alone s r there tag))))
+
+  -- there was no large block
+  none_large : (heap_at heap store regions).large ≡ empty
+  none_large = ap (λ (h : OwnHeap). h.large) (sym (nodes_are heap sliced store regions f.payer)) ∙ f.nodes.no_large
+
+  count_is : heap_count (heap_at heap store regions) ≡ length (heap_at heap store regions).shape.chunks
+  count_is = let none = ap len none_large ∙ len-empty nat_cmp ℕ in omega (arith, none)
+
+  credit : account_in new (heap_payer heap) ≡ credited (account_in store (heap_payer heap)) (heap_size (heap_at heap store regions)) (heap_count (heap_at heap store regions))
+  credit = account_by (heap_payer heap) new _ given.charge
+
+  pays : (account_in store (heap_payer heap)).caps_used ≡ len (part (heap_payer heap) store).spaces + 1
+  pays = subst (λ x. (account_in store x).caps_used ≡ len (part x store).spaces + 1) (sym f.payer) f.session.pays
+
+  no_chunks_left : length (heap_at later new after).shape.chunks ≡ 0
+  no_chunks_left = ap (λ (h : OwnHeap). length h.shape.chunks) given.value
+
+  changes : ChangesNodes (heap_payer heap) heap store regions later new after
+  changes =
+      let fewer = given.count in
+      record {
+        sound = sound;
+        payer = payer;
+        shares = others;
+        rest = given.rest;
+        stands = stands;
+        kept = λ k some none. given.spaces k (no_block k none);
+        uses = omega (arith, ap (λ (x : Account). x.caps_used) credit, fewer, pays);
+        no_large = ap (λ (h : OwnHeap). h.large) given.value ∙ sym none_large;
+        count = omega (arith, fewer, count_is, no_chunks_left);
+      }
+
+  -- the session is kept
+  pub end_keeps : KeepsSession sliced later sliced store new regions after
+  end_keeps = nodes_kept f (subst (λ x. ChangesNodes x heap store regions later new after) f.payer changes)
+
+  -- and has nothing but sliced blocks
+  pub end_alone : HasBlocksAlone (holding_of sliced new after)
+  end_alone =
+      let all = end_keeps.furnished.nodes.all in
+      let none = ap (λ (h : OwnHeap). length h.shape.chunks) (nodes_are later sliced new after (payer ∙ f.payer)) ∙ no_chunks_left in
+      omega (arith, all, none)
+
+  -- its limits stay
+  pub end_ram : (account_in new (payer_of sliced)).ram_limit ≡ (account_in store (payer_of sliced)).ram_limit
+  end_ram = subst (λ x. (account_in new x).ram_limit ≡ (account_in store x).ram_limit) f.payer (ap (λ (x : Account). x.ram_limit) credit)
+
+  pub end_caps : (account_in new (payer_of sliced)).caps_limit ≡ (account_in store (payer_of sliced)).caps_limit
+  end_caps = subst (λ x. (account_in new x).caps_limit ≡ (account_in store x).caps_limit) f.payer (ap (λ (x : Account). x.caps_limit) credit)

@@ -1,0 +1,68 @@
+-- Where a node's bytes are found.
+use Rattle.std.proofs.Common.{◌≡◌, ℕ, ◌+◌, ◌-◌, ◌≤◌, List, length, Some, sym, ap, ◌∙◌, arith}
+use Rattle.std.proofs.lemmas.Option.{same_Some}
+use Rattle.std.specs.Prelude.{slice_range}
+use Rattle.std.specs.FinMap.{get}
+use Rattle.own_model.specs.OwnHeap.{OwnHeap}
+use Rattle.region_map.specs.Regions.{Regions}
+use Rattle.dataspace_core.specs.Store.{Store, space_at}
+use Rattle.dataspace_core.proofs.PartLaws.{IsPaidBy, paid_in_part}
+use Rattle.heap_core.specs.declared.heap.Heap.{Heap}
+use Rattle.heap_core.specs.Calls.{HoldsRange}
+use Rattle.heap_core.specs.Heap.{payer_of as heap_payer, heap_in, heap_at}
+use Rattle.heap_core.proofs.RangeLemmas.{payload_read}
+use Rattle.sliced_heap.specs.declared.heap.SlicedHeap.{SlicedHeap}
+use Rattle.server_frame.specs.Session.{holding_of}
+use Rattle.file_service.specs.Calls.{HasBytes, payload_in}
+use Rattle.file_service.specs.Found.{FindsNode}
+use Rattle.file_service.specs.Furnished.{IsFurnished}
+use Rattle.file_service.proofs.FoundLemmas.{there_is}
+use Rattle.file_service.proofs.FurnishedLemmas.{nodes_are}
+use Rattle.file_service.proofs.NodePlaceLemmas.{one_payload}
+
+module _ {heap : Heap} {sliced : SlicedHeap} {store : Store} {regions : Regions} (f : IsFurnished heap sliced store regions) (address : ℕ)
+    (has : HasBytes (heap_in heap (holding_of sliced store regions)).payloads address 0 64) (count : ℕ) (some : 1 ≤ count) (few : count ≤ 64) where
+  abbrev payload : List ℕ
+  payload = payload_in (heap_in heap (holding_of sliced store regions)).payloads address
+
+  -- the node's payload is one of the heap's
+  pub payload_there : get (heap_at heap store regions).payloads address ≡ Some payload
+  payload_there =
+      ap (λ (h : OwnHeap). get h.payloads address) (sym (nodes_are heap sliced store regions f.payer))
+      ∙ there_is (heap_in heap (holding_of sliced store regions)).payloads address has.there
+
+  module _ (ds offset : ℕ) (held : HoldsRange heap store regions ds offset address count) where
+    -- what is found is that payload
+    pub same_at : held.at ≡ address
+    same_at =
+        let low = held.low in
+        let high = held.high in
+        let within = has.within in
+        let none = ap (λ (h : OwnHeap). h.large) (sym (nodes_are heap sliced store regions f.payer)) ∙ f.nodes.no_large in
+        one_payload heap store regions f.sound none address held.at address held.payload payload held.starts payload_there
+        (record { from = low; to = omega (arith, high) }) (record { from = omega arith; to = omega (arith, within) })
+
+    pub same_payload : held.payload ≡ payload
+    same_payload = same_Some held.payload payload (sym held.starts ∙ ap (get (heap_at heap store regions).payloads) same_at ∙ payload_there)
+
+    pub node_paid : IsPaidBy (heap_payer heap) ds held.bytes store
+    node_paid = paid_in_part (heap_payer heap) ds held.bytes store held.there
+
+    pub finds_node : FindsNode heap store regions ds offset address count
+    finds_node =
+        let into = held.into in
+        let low = held.low in
+        let high = held.high in
+        let within = held.within in
+        let long = ap length node_paid.bytes_are in
+        record { held = held; at = same_at; there = record { exists = node_paid.exists; within = omega (arith, into, low, high, within, long) } }
+
+    -- its bytes are the payload's
+    pub node_read : slice_range (space_at store ds).bytes offset (offset + count) ≡ slice_range payload 0 count
+    node_read =
+        let zero : address - held.at ≡ 0 = omega (arith, same_at) in
+        let end : 0 + count ≡ count = omega arith in
+        ap (λ (l : List ℕ). slice_range l offset (offset + count)) node_paid.bytes_are
+        ∙ payload_read heap store regions ds offset address count held
+        ∙ (λ i. slice_range (same_payload i) (zero i) (zero i + count))
+        ∙ ap (slice_range payload 0) end

@@ -1,0 +1,136 @@
+-- The bytes that stand for a node tell it back.
+use Rattle.std.proofs.Common.{◌≡◌, ℕ, ◌+◌, ◌-◌, ◌<◌, ◌≤◌, ◌^◌, List, [], ◌++◌, length, take, drop, refl, sym, ap, ◌∙◌, append_assoc, length-append, arith}
+use Rattle.std.proofs.Math.Seq.{take-append_seam, drop-append_seam}
+use Rattle.std.proofs.lemmas.List.{length-drop, length-take-le, take-append-drop, take-append-le, drop-append-le}
+use Rattle.std.specs.Prelude.{min, slice_range}
+use Rattle.trade_base.specs.Bytes.{with_bytes}
+use Rattle.trade_base.specs.Word.{word_of, word_bytes}
+use Rattle.trade_base.proofs.WordLemmas.{length-word_bytes, word_of-word_bytes}
+use Rattle.own_model.specs.OwnState.{with_part}
+use Rattle.own_model.proofs.ByteLemmas.{with_part-within}
+use Rattle.file_service.specs.Node.{FileNode, IsNode, node_of, bytes_of, word_from, longest_name}
+
+-- a part between others
+slice_mid : (xs ys zs : List ℕ) (n m : ℕ) → length xs ≡ n → m ≡ n + length ys → slice_range (xs ++ (ys ++ zs)) n m ≡ ys
+slice_mid xs ys zs n m long to =
+    let size : m - n ≡ length ys = omega (arith, to) in
+    (λ i. take (size i) (drop (sym long i) (xs ++ (ys ++ zs)))) ∙ ap (take (length ys)) (drop-append_seam xs (ys ++ zs)) ∙ take-append_seam ys zs
+
+-- a word between others
+word_mid : (xs zs : List ℕ) (word n : ℕ) → length xs ≡ n → word < 2 ^ 64 → word_from (xs ++ (word_bytes word ++ zs)) n ≡ word
+word_mid xs zs word n long small =
+    ap word_of (slice_mid xs (word_bytes word) zs n (n + 8) long (ap (λ k. n + k) (sym (length-word_bytes word)))) ∙ word_of-word_bytes word small
+
+-- six lists one after another
+parted : (a b c d e f : List ℕ) → a ++ b ++ c ++ d ++ e ++ f ≡ a ++ (b ++ (c ++ (d ++ (e ++ f))))
+parted a b c d e f = simp append_assoc refl
+
+first_two : (a b r : List ℕ) → a ++ (b ++ r) ≡ (a ++ b) ++ r
+first_two a b r = sym (append_assoc a b r)
+
+module _ (v : FileNode) (is : IsNode v) (rest : List ℕ) where
+  abbrev a : List ℕ
+  a = word_bytes v.next
+
+  abbrev b : List ℕ
+  b = word_bytes v.content
+
+  abbrev c : List ℕ
+  c = word_bytes v.size
+
+  abbrev d : List ℕ
+  d = word_bytes (length v.name)
+
+  abbrev tail : List ℕ
+  tail = v.name ++ rest
+
+  is_parted : bytes_of v ++ rest ≡ a ++ (b ++ (c ++ (d ++ tail)))
+  unfolding bytes_of
+  is_parted = parted a b c d v.name rest
+
+  two : length (a ++ b) ≡ 16
+  two = length-append a b ∙ (λ i. length-word_bytes v.next i + length-word_bytes v.content i)
+
+  three : length ((a ++ b) ++ c) ≡ 24
+  three = length-append (a ++ b) c ∙ (λ i. two i + length-word_bytes v.size i)
+
+  four : length (((a ++ b) ++ c) ++ d) ≡ 32
+  four = length-append ((a ++ b) ++ c) d ∙ (λ i. three i + length-word_bytes (length v.name) i)
+
+  in_two : bytes_of v ++ rest ≡ (a ++ b) ++ (c ++ (d ++ tail))
+  in_two = is_parted ∙ first_two a b (c ++ (d ++ tail))
+
+  in_three : bytes_of v ++ rest ≡ ((a ++ b) ++ c) ++ (d ++ tail)
+  in_three = in_two ∙ first_two (a ++ b) c (d ++ tail)
+
+  in_four : bytes_of v ++ rest ≡ (((a ++ b) ++ c) ++ d) ++ tail
+  in_four = in_three ∙ first_two ((a ++ b) ++ c) d tail
+
+  short : length v.name < 2 ^ 64
+  short = let few = is.name in omega (arith, few)
+
+  name_length : word_from (bytes_of v ++ rest) 24 ≡ length v.name
+  name_length = ap (λ l. word_from l 24) in_three ∙ word_mid ((a ++ b) ++ c) tail (length v.name) 24 three short
+
+  name_is : slice_range (bytes_of v ++ rest) 32 (32 + min (word_from (bytes_of v ++ rest) 24) longest_name) ≡ v.name
+  name_is =
+      let few = is.name in
+      let to : 32 + min (word_from (bytes_of v ++ rest) 24) longest_name ≡ 32 + length v.name = omega (arith, few, name_length) in
+      ap (λ l. slice_range l 32 (32 + min (word_from (bytes_of v ++ rest) 24) longest_name)) in_four
+      ∙ slice_mid (((a ++ b) ++ c) ++ d) v.name rest 32 (32 + min (word_from (bytes_of v ++ rest) 24) longest_name) four to
+
+  -- the bytes of a node tell it, whatever stands behind them
+  pub node_back : node_of (bytes_of v ++ rest) ≡ v
+  unfolding node_of
+  node_back = λ i. record {
+    next = (ap (λ l. word_from l 0) is_parted ∙ word_mid [] (b ++ (c ++ (d ++ tail))) v.next 0 refl is.next) i;
+    content = (ap (λ l. word_from l 8) is_parted ∙ word_mid a (c ++ (d ++ tail)) v.content 8 (length-word_bytes v.next) is.content) i;
+    size = (ap (λ l. word_from l 16) in_two ∙ word_mid (a ++ b) (d ++ tail) v.size 16 two is.size) i;
+    name = name_is i;
+  }
+
+-- so many bytes stand for it
+pub length-bytes_of : (v : FileNode) → length (bytes_of v) ≡ 32 + length v.name
+unfolding bytes_of
+length-bytes_of v =
+    let w0 = length-word_bytes v.next in
+    let w1 = length-word_bytes v.content in
+    let w2 = length-word_bytes v.size in
+    let w3 = length-word_bytes (length v.name) in
+    simp length-append (omega (arith, w0, w1, w2, w3))
+
+-- put over the front of a payload they tell the node
+pub node_stored_back : (v : FileNode) → IsNode v → (payload : List ℕ) → 64 ≤ length payload → node_of (with_part payload 0 (bytes_of v)) ≡ v
+unfolding with_bytes
+node_stored_back v is payload long =
+    let size = length-bytes_of v in
+    let few = is.name in
+    ap node_of (with_part-within payload 0 (bytes_of v) (omega (arith, size, few, long)))
+    ∙ node_back v is (drop (0 + length (bytes_of v)) payload)
+
+-- a range of the first of two lists
+slice_left : (xs ys : List ℕ) (from count : ℕ) → from + count ≤ length xs → slice_range (xs ++ ys) from (from + count) ≡ slice_range xs from (from + count)
+slice_left xs ys from count within =
+    let size = length-drop from xs in
+    ap (take (from + count - from)) (drop-append-le from xs ys (omega (arith, within)))
+    ∙ take-append-le (from + count - from) (drop from xs) ys (omega (arith, size, within))
+
+-- what stands behind the bytes of a node tells nothing of it
+slice_front : (bytes : List ℕ) (from count : ℕ) → 64 ≤ length bytes → from + count ≤ 64 → slice_range (slice_range bytes 0 64) from (from + count) ≡ slice_range bytes from (from + count)
+slice_front bytes from count long within =
+    let front : slice_range bytes 0 64 ≡ take 64 bytes = refl in
+    let size = length-take-le 64 bytes long in
+    (λ i. slice_range (front i) from (from + count))
+    ∙ sym (slice_left (take 64 bytes) (drop 64 bytes) from count (omega (arith, size, within)))
+    ∙ ap (λ (l : List ℕ). slice_range l from (from + count)) (take-append-drop 64 bytes)
+
+pub node_front : (bytes : List ℕ) → 64 ≤ length bytes → node_of (slice_range bytes 0 64) ≡ node_of bytes
+unfolding node_of
+node_front bytes long =
+    let size : word_from (slice_range bytes 0 64) 24 ≡ word_from bytes 24 = ap word_of (slice_front bytes 24 8 long (omega arith)) in
+    λ i. record {
+      next = word_of (slice_front bytes 0 8 long (omega arith) i);
+      content = word_of (slice_front bytes 8 8 long (omega arith) i);
+      size = word_of (slice_front bytes 16 8 long (omega arith) i);
+      name = (ap (λ n. slice_range (slice_range bytes 0 64) 32 (32 + min n longest_name)) size ∙ slice_front bytes 32 (min (word_from bytes 24) longest_name) long (omega arith)) i;
+    }

@@ -1,0 +1,120 @@
+-- A file that goes: the one before it is linked to the one behind it, and the others stay.
+use Rattle.std.proofs.Common.{◌≡◌, ◌≢◌, ℕ, ◌+◌, ◌-◌, ◌<◌, ◌≤◌, true, false, cond, eqb, List, [], ◌∷◌, ◌++◌, length, map, take, Option, Some, None, refl, sym, ap, subst, ◌∙◌, true≢false, ⊎_elim, arith}
+use Rattle.std.proofs.lemmas.Bool.{cases_eq}
+use Rattle.std.proofs.lemmas.Bool.Decides.{nat_tests}
+use Rattle.std.specs.Prelude.{IsSome}
+use Rattle.std.specs.Option.{unwrap_or}
+use Rattle.std.specs.FinMap.{get, remove}
+use Rattle.own_model.specs.FileService.{File, Files, is_named, without}
+use Rattle.own_model.specs.Growth.{shape_given}
+use Rattle.own_model.specs.HeapStep.{without_block}
+use Rattle.own_model.specs.NatMap.{NatMap}
+use Rattle.own_model.specs.OwnHeap.{OwnHeap, chunk_with, offset_of}
+use Rattle.own_model.proofs.NatMapLemmas.{get-remove}
+use Rattle.sliced_heap.specs.Chain.{is_listed}
+use Rattle.file_service.specs.Calls.{payload_in, HasBytes}
+use Rattle.file_service.specs.Files.{node_at, link_in, file_at, files_of, StandAt}
+use Rattle.file_service.specs.Links.{last_of}
+use Rattle.file_service.specs.Node.{FileNode, node_of}
+use Rattle.file_service.specs.Session.{IsFound, LinksTo, KeepsFile}
+use Rattle.file_service.proofs.FileListLemmas.{append_map, without_behind}
+use Rattle.file_service.proofs.KeptLemmas.{Stays, same_file, stand_without, files_are, listed_nonzero}
+use Rattle.file_service.proofs.LinkLemmas.{map_kept, listed_append, listed_first, listed_later, last_listed, once_first, once_later, once_apart, unlisted}
+use Rattle.file_service.proofs.PlaceLemmas.{chunk_given, offset_given, count_given}
+use Rattle.file_service.proofs.SearchLemmas.{files_around, in_blocks}
+
+module _ (first last : ℕ) (nodes mid later : OwnHeap) (contents after : NatMap (List ℕ)) (name : List ℕ) (previous address : ℕ) (node : FileNode)
+    (found : IsFound first last nodes contents name previous address node)
+    (first_later last_later : ℕ) (links : LinksTo first previous node.next first_later nodes mid) (given : later ≡ without_block address mid)
+    (last_is : last_later ≡ cond (eqb last address) previous last)
+    (gone : (a : ℕ) → (0 < node.size → a ≢ node.content) → get after a ≡ get contents a) where
+  abbrev all : List ℕ
+  all = found.before ++ address ∷ found.behind
+
+  chunk_same : (a : ℕ) → chunk_with later a ≡ chunk_with nodes a
+  chunk_same a = ap (λ n. chunk_with n a) given ∙ chunk_given mid address a ∙ ap (λ n. chunk_with n a) links.rest
+
+  offset_same : (a : ℕ) → offset_of later a ≡ offset_of nodes a
+  offset_same a = ap (λ n. offset_of n a) given ∙ offset_given mid address a ∙ ap (λ n. offset_of n a) links.rest
+
+  count_same : length later.shape.chunks ≡ length nodes.shape.chunks
+  count_same = ap (λ (n : OwnHeap). length n.shape.chunks) given ∙ count_given mid address ∙ ap (λ (n : OwnHeap). length n.shape.chunks) links.rest
+
+  in_all : is_listed all address ≡ true
+  in_all = in_blocks first last nodes contents name previous address node found
+
+  not_old : (b : ℕ) → is_listed all b ≡ true → b ≢ address → 0 < (node_at nodes b).size → 0 < node.size → (node_at nodes b).content ≢ node.content
+  not_old b t other some_b some e =
+      other (found.stand.apart b address t in_all some_b (subst (λ (n : FileNode). 0 < n.size) found.node_is some) (e ∙ ap (λ (n : FileNode). n.content) found.node_is))
+
+  -- other blocks stay when one is given back
+  left_payload : (b : ℕ) → b ≢ address → get later.payloads b ≡ get mid.payloads b
+  left_payload b other =
+      let e : eqb b address ≡ false = grind (arith, nat_tests) in
+      ap (λ (n : OwnHeap). get n.payloads b) given ∙ get-remove mid.payloads address b ∙ rw e refl
+
+  left_node : (b : ℕ) → b ≢ address → node_at later b ≡ node_at mid b
+  left_node b other = ap (λ o. node_of (unwrap_or o [])) (left_payload b other)
+
+  left_stays : (b : ℕ) → is_listed all b ≡ true → b ≢ address → Stays nodes later contents after b
+  left_stays b t other =
+      let kept = links.files b (found.stand.each b t).there in
+      let same = left_node b other in
+      record {
+        name = ap (λ (n : FileNode). n.name) same ∙ kept.name;
+        size = ap (λ (n : FileNode). n.size) same ∙ kept.size;
+        content = ap (λ (n : FileNode). n.content) same ∙ kept.content;
+        there = record {
+          there = subst (λ (o : Option (List ℕ)). IsSome o) (sym (left_payload b other)) kept.there.there;
+          within = subst (λ (o : Option (List ℕ)). 0 + 64 ≤ length (unwrap_or o [])) (sym (left_payload b other)) kept.there.within;
+        };
+        chunk = chunk_same (b - 16);
+        offset = offset_same (b - 16);
+        bytes = λ some_b. gone (node_at nodes b).content (λ some. not_old b t other some_b some);
+      }
+
+  left_link : (b : ℕ) → b ≢ address → link_in first_later later b ≡ link_in first_later mid b
+  left_link b other = ap (λ (n : FileNode). cond (eqb b 0) first_later n.next) (left_node b other)
+
+  left_links : (b : ℕ) → is_listed (0 ∷ all) b ≡ true → b ≢ address → b ≢ last_of 0 found.before → link_in first_later later b ≡ link_in first nodes b
+  left_links b t other holder = left_link b other ∙ links.links b (λ e. holder (e ∙ found.previous_is))
+
+  -- the one before it is another one
+  previous_other : last_of 0 found.before ≢ address
+  previous_other =
+      let fresh : is_listed (0 ∷ found.before) address ≡ false =
+      let some = listed_nonzero first last nodes contents all found.stand address in_all in
+      let apart = once_apart found.before found.behind address (once_later 0 all found.stand.line.once) in
+      let l = listed_append found.before found.behind address in
+      grind (arith, nat_tests) in
+      unlisted (0 ∷ found.before) address (last_of 0 found.before) fresh (last_listed 0 found.before)
+
+  left_linked : link_in first_later later (last_of 0 found.before) ≡ (node_at nodes address).next
+  left_linked =
+      left_link (last_of 0 found.before) previous_other ∙ ap (link_in first_later mid) (sym found.previous_is) ∙ links.linked ∙ ap (λ (n : FileNode). n.next) found.node_is
+
+  pub stand_removed : StandAt first_later last_later later after (found.before ++ found.behind)
+  stand_removed = stand_without first last nodes later contents after all found.stand (omega (arith, count_same)) first_later last_later address found.before found.behind refl
+      left_stays left_links left_linked (last_is ∙ ap (λ p. cond (eqb last address) p last) found.previous_is)
+
+  same_others : (b : ℕ) → is_listed (found.before ++ found.behind) b ≡ true → file_at later after b ≡ file_at nodes contents b
+  same_others b t =
+      let l = listed_append found.before (address ∷ found.behind) b in
+      let w = listed_append found.before found.behind b in
+      let fresh = once_apart found.before found.behind address (once_later 0 all found.stand.line.once) in
+      same_file nodes later contents after b (left_stays b (grind (arith, nat_tests)) (unlisted (found.before ++ found.behind) address b fresh t))
+
+  pub files_removed : files_of first_later later after ≡ record {
+    files = without name (files_of first nodes contents).files;
+    shape = shape_given (file_at nodes contents address).chunk (file_at nodes contents address).offset nodes.shape;
+  }
+  files_removed =
+      let f : ℕ → File = file_at nodes contents in
+      let g : ℕ → File = file_at later after in
+      let new = files_are first_later last_later later after (found.before ++ found.behind) stand_removed in
+      let kept : map g (found.before ++ found.behind) ≡ map f (found.before ++ found.behind) = map_kept f g (found.before ++ found.behind) same_others in
+      let old = without_behind name (map f found.before) (f address) (map f found.behind) found.others found.named in
+      let around = ap (without name) (files_around first last nodes contents name previous address node found) in
+      let value = new ∙ kept ∙ append_map f f found.before found.behind ∙ sym old ∙ sym around in
+      let shape = ap (λ (n : OwnHeap). n.shape) given ∙ ap (λ (n : OwnHeap). shape_given (chunk_with n (address - 16)) (offset_of n (address - 16)) n.shape) links.rest in
+      λ i. record { files = value i; shape = shape i }

@@ -1,0 +1,76 @@
+-- A file that gets another content in place of its old one, which is given back after it.
+use Rattle.std.proofs.Common.{◌≡◌, ◌≢◌, ℕ, ◌+◌, ◌-◌, ◌<◌, true, false, eqb, List, ◌∷◌, ◌++◌, length, take, refl, sym, ap, subst, ◌∙◌, arith}
+use Rattle.std.proofs.lemmas.Bool.Decides.{nat_tests}
+use Rattle.std.specs.FinMap.{get, insert, remove}
+use Rattle.own_model.specs.Account.{Account, credited}
+use Rattle.own_model.specs.FileService.{rewritten, content_ram, content_caps}
+use Rattle.own_model.specs.Sliced.{block_size, sliced_size}
+use Rattle.own_model.specs.NatMap.{NatMap}
+use Rattle.own_model.specs.OwnHeap.{OwnHeap}
+use Rattle.own_model.proofs.NatMapLemmas.{get-remove}
+use Rattle.sliced_heap.specs.Chain.{is_listed}
+use Rattle.file_service.specs.Calls.{payload_in, HasBytes}
+use Rattle.file_service.specs.Files.{node_at, nodes_from, files_of, HasContent, AreFiles}
+use Rattle.file_service.specs.Node.{FileNode}
+use Rattle.file_service.specs.Session.{IsFound, IsOwn}
+use Rattle.file_service.proofs.KeptLemmas.{bytes_by, blocks_are}
+use Rattle.file_service.proofs.SearchLemmas.{in_blocks, content_long}
+use Rattle.file_service.proofs.SetLemmas.{stand_rewritten, files_rewritten}
+
+module _ (first last : ℕ) (nodes later : OwnHeap) (contents : NatMap (List ℕ)) (name : List ℕ) (previous address : ℕ) (node : FileNode)
+    (found : IsFound first last nodes contents name previous address node)
+    (payload : List ℕ) (stored : later ≡ record nodes { payloads = insert nodes.payloads address payload })
+    (content size : ℕ) (back : node_at later address ≡ record node { content = content; size = size }) (there : HasBytes later.payloads address 0 64)
+    (has : 0 < size → HasContent contents (record node { content = content; size = size })) (own : 0 < size → IsOwn first nodes content) where
+  own_others : 0 < size → (b : ℕ) → is_listed (nodes_from first nodes) b ≡ true → b ≢ address → 0 < (node_at nodes b).size → (node_at nodes b).content ≢ content
+  own_others some b t other some_b = own some b t some_b
+
+  -- there was no old content
+  pub kept_alone : AreFiles first last later contents
+  kept_alone = record {
+    blocks = found.before ++ address ∷ found.behind;
+    stand = stand_rewritten first last nodes later contents contents name previous address node found payload stored content size back there has own_others (λ a apart. refl);
+  }
+
+  pub files_alone : files_of first later contents ≡ record (files_of first nodes contents) { files = rewritten name (take size (payload_in contents content)) (files_of first nodes contents).files }
+  files_alone = files_rewritten first last nodes later contents contents name previous address node found payload stored content size back there has own_others (λ a apart. refl)
+
+  -- the old content goes
+  module _ (was_some : 0 < node.size) where
+    abbrev pub left : NatMap (List ℕ)
+    left = remove contents node.content
+
+    gone : (a : ℕ) → (0 < node.size → a ≢ node.content) → get left a ≡ get contents a
+    gone a apart =
+        let other = apart was_some in
+        let e : eqb a node.content ≡ false = grind (arith, nat_tests) in
+        get-remove contents node.content a ∙ rw e refl
+
+    content_stays : 0 < size → get left content ≡ get contents content
+    content_stays some =
+        let listed : is_listed (nodes_from first nodes) address ≡ true =
+        ap (λ xs. is_listed xs address) (blocks_are first last nodes contents (found.before ++ address ∷ found.behind) found.stand) ∙ in_blocks first last nodes contents name previous address node found in
+        gone content (λ _ e. own some address listed (subst (λ (n : FileNode). 0 < n.size) found.node_is was_some) (ap (λ (n : FileNode). n.content) (sym found.node_is) ∙ sym e))
+
+    has_left : 0 < size → HasContent left (record node { content = content; size = size })
+    has_left some = let h = has some in record { payload = h.payload; there = content_stays some ∙ h.there; long = h.long }
+
+    pub kept_left : AreFiles first last later left
+    kept_left = record {
+      blocks = found.before ++ address ∷ found.behind;
+      stand = stand_rewritten first last nodes later contents left name previous address node found payload stored content size back there has_left own_others gone;
+    }
+
+    pub files_left : files_of first later left ≡ record (files_of first nodes contents) { files = rewritten name (take size (payload_in contents content)) (files_of first nodes contents).files }
+    files_left =
+        files_rewritten first last nodes later contents left name previous address node found payload stored content size back there has_left own_others gone
+        ∙ ap (λ bytes. record (files_of first nodes contents) { files = rewritten name bytes (files_of first nodes contents).files })
+        (bytes_by size (get left content) (get contents content) content_stays)
+
+-- what was charged for a content is credited
+pub credited_is : (account : Account) (size : ℕ) (payload : List ℕ) → 0 < size → length payload ≡ sliced_size size - 32 →
+    credited account (block_size payload) 1 ≡ credited account (content_ram size) (content_caps size)
+credited_is account size payload some long =
+    let e : eqb size 0 ≡ false = grind (arith, nat_tests) in
+    let b : 32 + length payload ≡ sliced_size size = omega (arith, long, content_long size, some) in
+    rw e (ap (λ ram. credited account ram 1) b)

@@ -1,0 +1,195 @@
+-- How requests are served, by the tests that they pass.
+use Rattle.std.proofs.Common.{◌≡◌, ◌≢◌, ℕ, ◌-◌, ◌<◌, ◌≤◌, true, false, List, [], length, take, drop, Option, Some, None, is_some, refl, sym, ap, subst, ◌∙◌, true≢false, arith}
+use Rattle.std.proofs.lemmas.Bool.Decides.{nat_tests}
+use Rattle.std.proofs.lemmas.Slice.Eq.{bytes_eq-Decides}
+use Rattle.std.specs.Prelude.{nat_lt, Result, Ok, Err, MatchResult, is_ok}
+use Rattle.std.specs.Str.{bytes_eq}
+use Rattle.trade_base.specs.declared.refusal.Refusal.{Refusal}
+use Rattle.own_model.specs.Account.{Account}
+use Rattle.own_model.specs.FileService.{File, Files, FileServed, node_size, created, content_credited, rewritten, without, told, error_of, file_named, sized, cleared, dropped, named, read, written}
+use Rattle.own_model.specs.FileText as model
+use Rattle.own_model.specs.FileText.FileRequest.{Create, Write, Read, Size, Clear, Drop}
+use Rattle.own_model.specs.FileText.FileReply.{Done, Count, Bytes, Refused}
+use Rattle.own_model.specs.FileText.FileError.{BadName, Exists, NotFound, Gap, TooLong}
+use Rattle.own_model.specs.Growth.{heap_refusal, hole_for, shape_given}
+use Rattle.own_model.specs.Text.{is_name}
+use Rattle.region_map.specs.Regions.{Regions}
+use Rattle.dataspace_core.specs.Store.{Store}
+use Rattle.heap_core.specs.declared.heap.Heap.{Heap}
+use Rattle.sliced_heap.specs.declared.heap.SlicedHeap.{SlicedHeap}
+use Rattle.sliced_heap.specs.Heap.{payer_of, KeepsOthers}
+use Rattle.sliced_heap.proofs.EndLemmas.{keeps_then}
+use Rattle.file_service.specs.Files.{file_at}
+use Rattle.file_service.specs.Furnished.{Stock, stock, IsFurnished, KeepsSession}
+use Rattle.file_service.specs.Node.{FileNode}
+use Rattle.file_service.specs.Session.{files_in, HasFiles, Serves, IsTold, IsFound, served_in}
+use Rattle.file_service.specs.declared.session.FileSession.{FileSession}
+
+-- ---- what other accounts have
+
+-- nothing is done
+pub keeps_same : (heap : Heap) (sliced : SlicedHeap) (old new : Store) (regions : Regions) → IsFurnished heap sliced old regions → new ≡ old → KeepsSession sliced heap sliced old new regions regions
+keeps_same heap sliced old new regions furnished e = subst (λ m. KeepsSession sliced heap sliced old m regions regions) (sym e) (record {
+  furnished = furnished;
+  payer = refl;
+  others = record { shares = λ other apart. refl; root = refl; parents = refl; room = refl; rest = refl };
+})
+
+-- one thing after another
+pub keeps_both : (heap later : Heap) (sliced between now : SlicedHeap) (old mid new : Store) (regions middle after : Regions) →
+    KeepsSession sliced heap between old mid regions middle → KeepsSession between later now mid new middle after → KeepsSession sliced later now old new regions after
+keeps_both heap later sliced between now old mid new regions middle after first next = record {
+  furnished = next.furnished;
+  payer = next.payer ∙ first.payer;
+  others = keeps_then (payer_of sliced) old mid new regions middle after first.others (subst (λ k. KeepsOthers k mid new middle after) first.payer next.others);
+}
+
+-- ---- a reply that leaves all
+
+-- a told reply is served so
+pub serves_told : (served : FileServed) (reply : model.FileReply) (session : FileSession) (has : Stock) → HasFiles session has →
+    served ≡ told reply (files_in session has) has.account → Serves served reply session session has
+serves_told served reply session has files is = record {
+  reply_is = ap (λ (s : FileServed). s.reply) (sym is);
+  leaves = record { account = ap (λ (s : FileServed). s.account) (sym is); files = ap (λ (s : FileServed). s.files) (sym is); kept = files; label = refl };
+}
+
+-- also where the memory is told to be the same
+pub serves_same : (served : FileServed) (reply : model.FileReply) (session : FileSession) (sliced : SlicedHeap) (old new : Store) (regions : Regions) →
+    HasFiles session (stock session.heap sliced old regions) → new ≡ old →
+    served ≡ told reply (files_in session (stock session.heap sliced old regions)) (stock session.heap sliced old regions).account →
+    Serves served reply session session (stock session.heap sliced new regions)
+serves_same served reply session sliced old new regions files e is =
+    subst (λ m. Serves served reply session session (stock session.heap sliced m regions)) (sym e) (serves_told served reply session (stock session.heap sliced old regions) files is)
+
+-- also where all is told to be the same
+pub serves_refused : (served : FileServed) (reply : model.FileReply) (session : FileSession) (sliced now : SlicedHeap) (old new : Store) (regions after : Regions) →
+    HasFiles session (stock session.heap sliced old regions) → now ≡ sliced → new ≡ old → after ≡ regions →
+    served ≡ told reply (files_in session (stock session.heap sliced old regions)) (stock session.heap sliced old regions).account →
+    Serves served reply session session (stock session.heap now new after)
+serves_refused served reply session sliced now old new regions after files s e r is =
+    subst (λ x. Serves served reply session session (stock session.heap x new after)) (sym s)
+    (subst (λ x. Serves served reply session session (stock session.heap sliced new x)) (sym r) (serves_same served reply session sliced old new regions files e is))
+
+-- what is done is served so
+pub serves_done : (served : FileServed) (reply : model.FileReply) (files : Files) (account : Account) (old later : FileSession) (new : Stock) →
+    served ≡ told reply files account → new.account ≡ account → files_in later new ≡ files → HasFiles later new → later.label ≡ old.label →
+    Serves served reply old later new
+serves_done served reply files account old later new is account_is files_are kept label = record {
+  reply_is = ap (λ (s : FileServed). s.reply) (sym is);
+  leaves = record {
+    account = account_is ∙ ap (λ (s : FileServed). s.account) (sym is);
+    files = files_are ∙ ap (λ (s : FileServed). s.files) (sym is);
+    kept = kept;
+    label = label;
+  };
+}
+
+-- ---- names
+
+-- a text that is told to be a name's is it
+pub name_is : (xs ys : List ℕ) → bytes_eq xs ys ≡ true → xs ≡ ys
+name_is xs ys e = (bytes_eq-Decides xs ys).0 e
+
+-- a file that is found has the name
+pub found_name : (first last : ℕ) (session : FileSession) (has : Stock) (name : List ℕ) (previous address : ℕ) (node : FileNode) →
+    IsFound first last has.nodes has.contents name previous address node → node.name ≡ name
+found_name first last session has name previous address node found =
+    ap (λ (n : FileNode). n.name) found.node_is ∙ name_is (file_at has.nodes has.contents address).name name found.named
+
+-- so has the file of its block
+pub file_name : (first last : ℕ) (has : Stock) (name : List ℕ) (previous address : ℕ) (node : FileNode) →
+    IsFound first last has.nodes has.contents name previous address node → (file_at has.nodes has.contents address).name ≡ name
+file_name first last has name previous address node found = name_is (file_at has.nodes has.contents address).name name found.named
+
+-- ---- CREATE
+
+module _ (name : List ℕ) (session : FileSession) (has : Stock) where
+  pub create_bad : is_name name ≡ false → IsTold (Create name) (Refused BadName) session has
+  create_bad bad = rw bad refl
+
+  pub create_exists : is_name name ≡ true → is_some (file_named name (files_in session has)) ≡ true → IsTold (Create name) (Refused Exists) session has
+  create_exists good there = rw (good, there) refl
+
+  module _ (good : is_name name ≡ true) (none : file_named name (files_in session has) ≡ None) where
+    pub create_refused : (r : Refusal) → heap_refusal node_size has.nodes.shape has.account ≡ Some r → IsTold (Create name) (Refused (error_of r)) session has
+    create_refused r is = rw (good, none, is) refl
+
+    pub create_done : heap_refusal node_size has.nodes.shape has.account ≡ None →
+        served_in (Create name) session has ≡ created name (hole_for node_size has.nodes.shape) (files_in session has) has.account
+    create_done is = rw (good, none, is) refl
+
+-- ---- requests that find a file, or don't
+
+module _ (name : List ℕ) (session : FileSession) (has : Stock) where
+  abbrev pub found_in : Option File
+  found_in = file_named name (files_in session has)
+
+  pub size_none : found_in ≡ None → IsTold (Size name) (Refused NotFound) session has
+  size_none none = ap (λ o. sized o (files_in session has) has.account) none
+
+  pub size_found : (file : File) (n : ℕ) → found_in ≡ Some file → length file.bytes ≡ n → IsTold (Size name) (Count n) session has
+  size_found file n there is =
+      ap (λ o. sized o (files_in session has) has.account) there ∙ ap (λ m. told (Count m) (files_in session has) has.account) is
+
+  pub read_none : (offset count : ℕ) → found_in ≡ None → IsTold (Read name offset count) (Refused NotFound) session has
+  read_none offset count none = ap (λ o. read offset count o (files_in session has) has.account) none
+
+  pub read_gap : (offset count : ℕ) (file : File) → found_in ≡ Some file → length file.bytes < offset → IsTold (Read name offset count) (Refused Gap) session has
+  read_gap offset count file there above =
+      let e : nat_lt (length file.bytes) offset ≡ true = grind (arith, nat_tests) in
+      ap (λ o. read offset count o (files_in session has) has.account) there ∙ rw e refl
+
+  pub read_long : (offset count : ℕ) (file : File) → found_in ≡ Some file → offset ≤ length file.bytes → 1024 < count → IsTold (Read name offset count) (Refused TooLong) session has
+  read_long offset count file there low above =
+      let e : nat_lt (length file.bytes) offset ≡ false = grind (arith, nat_tests) in
+      let l : nat_lt 1024 count ≡ true = grind (arith, nat_tests) in
+      ap (λ o. read offset count o (files_in session has) has.account) there ∙ rw (e, l) refl
+
+  pub read_found : (offset count : ℕ) (file : File) (bytes : List ℕ) → found_in ≡ Some file → offset ≤ length file.bytes → count ≤ 1024 →
+      take count (drop offset file.bytes) ≡ bytes → IsTold (Read name offset count) (Bytes bytes) session has
+  read_found offset count file bytes there low few is =
+      let e : nat_lt (length file.bytes) offset ≡ false = grind (arith, nat_tests) in
+      let l : nat_lt 1024 count ≡ false = grind (arith, nat_tests) in
+      ap (λ o. read offset count o (files_in session has) has.account) there ∙ rw (e, l) (ap (λ b. told (Bytes b) (files_in session has) has.account) is)
+
+  pub clear_none : found_in ≡ None → IsTold (Clear name) (Refused NotFound) session has
+  clear_none none = ap (λ o. cleared o (files_in session has) has.account) none
+
+  pub clear_done : (file : File) → found_in ≡ Some file → file.name ≡ name →
+      served_in (Clear name) session has
+      ≡ told Done (record (files_in session has) { files = rewritten name [] (files_in session has).files }) (content_credited file has.account)
+  clear_done file there is =
+      ap (λ o. cleared o (files_in session has) has.account) there
+      ∙ ap (λ n. told Done (record (files_in session has) { files = rewritten n [] (files_in session has).files }) (content_credited file has.account)) is
+
+  pub drop_done : (file : File) → found_in ≡ Some file → file.name ≡ name →
+      served_in (Drop name) session has
+      ≡ told Done (record {
+        files = without name (files_in session has).files;
+        shape = shape_given file.chunk file.offset (files_in session has).shape;
+      }) (content_credited file has.account)
+  drop_done file there is =
+      ap (λ o. dropped o (files_in session has) has.account) there
+      ∙ ap (λ n. told Done (record {
+        files = without n (files_in session has).files;
+        shape = shape_given file.chunk file.offset (files_in session has).shape;
+      }) (content_credited file has.account)) is
+
+  pub drop_none : found_in ≡ None → IsTold (Drop name) (Refused NotFound) session has
+  drop_none none = ap (λ o. dropped o (files_in session has) has.account) none
+
+  pub write_none : (offset : ℕ) (bytes : List ℕ) → found_in ≡ None → IsTold (Write name offset bytes) (Refused NotFound) session has
+  write_none offset bytes none = ap (λ o. written offset bytes o (files_in session has) has.account) none
+
+  pub write_gap : (offset : ℕ) (bytes : List ℕ) (file : File) → found_in ≡ Some file → length file.bytes < offset → IsTold (Write name offset bytes) (Refused Gap) session has
+  write_gap offset bytes file there above =
+      let e : nat_lt (length file.bytes) offset ≡ true = grind (arith, nat_tests) in
+      ap (λ o. written offset bytes o (files_in session has) has.account) there ∙ rw e refl
+
+-- ---- results
+
+-- what is Ok after its error was mapped was Ok before
+pub was_ok : {T E D : Type 0} (self : Result T E) (mapped : Result T D) (x : T) (Q : E → Type 0) → MatchResult self (λ y. mapped ≡ Ok y) Q → is_ok mapped ≡ is_ok self → mapped ≡ Ok x → self ≡ Ok x
+was_ok (Ok y) mapped x Q cases variant is = let e : y ≡ x = cc in ap Ok e
+was_ok (Err e) mapped x Q cases variant is = absurd (true≢false (ap is_ok (sym is) ∙ variant))

@@ -1,0 +1,37 @@
+-- The file that is found gets no content.
+use Rattle.std.proofs.Common.{◌≡◌, ◌∙◌, [], Some, ap, subst}
+use Rattle.std.specs.Prelude.{IfSome}
+use Rattle.std.specs.Result.{result_ok}
+use Rattle.own_model.specs.FileService.{content_credited, rewritten}
+use Rattle.own_model.specs.FileText.FileReply.{Done}
+use Rattle.own_model.specs.FileText.FileRequest.{Clear}
+use Rattle.file_service.specs.Files.{file_at}
+use Rattle.file_service.specs.Furnished.{Stock, stock}
+use Rattle.file_service.specs.Node.{value_of}
+use Rattle.file_service.specs.Session.{files_in, served_in, Finds}
+use Rattle.file_service.proofs.SearchLemmas.{found_named}
+use Rattle.file_service.proofs.ServeLemmas.{serves_done, clear_done, file_name, found_name}
+use Rattle.file_service.proofs.session.FileSession.clear.Goals as goal
+
+pub returns-clause-serves : goal.returns-clause-serves
+returns-clause-serves c =
+    let was : Stock = stock c.args.self.now.heap c.args.sliced.now c.args.memory.now c.args.map.now in
+    let now : Stock = stock c.replace.new.self.heap c.replace.new.sliced c.replace.new.memory c.replace.new.map in
+    let some : c.find.result ≡ Some c.in_ok-found.found = c.ok_or.ensures.ok_part ∙ ap result_ok c.in_ok-found.was in
+    let found : Finds c.args.self.now was c.args.name.now c.in_ok-found.found = subst (λ o. IfSome o (Finds c.args.self.now was c.args.name.now)) some c.find.ensures.some in
+    let previous = c.in_ok-found.found.previous in
+    let address = c.in_ok-found.found.address in
+    let node = value_of c.in_ok-found.found.node in
+    let file = file_at was.nodes was.contents address in
+    let called = found_name c.args.self.now.first c.args.self.now.last c.args.self.now was c.args.name.now previous address node found in
+    let files : files_in c.replace.new.self now ≡ record (files_in c.args.self.now was) { files = rewritten c.args.name.now [] (files_in c.args.self.now was).files } =
+    c.replace.ensures.files
+    ∙ ap (λ m. let s = stock c.args.self.now.heap c.args.sliced.now m c.args.map.now in record (files_in c.args.self.now s) { files = rewritten node.name [] (files_in c.args.self.now s).files }) c.find.ensures.memory
+    ∙ ap (λ n. record (files_in c.args.self.now was) { files = rewritten n [] (files_in c.args.self.now was).files }) called in
+    let account : now.account ≡ content_credited file was.account =
+    c.replace.ensures.account ∙ ap (λ m. let s = stock c.args.self.now.heap c.args.sliced.now m c.args.map.now in content_credited (file_at s.nodes s.contents address) s.account) c.find.ensures.memory in
+    serves_done (served_in (Clear c.args.name.now) c.args.self.now was) Done _ _ c.args.self.now c.replace.new.self now
+    (clear_done c.args.name.now c.args.self.now was file
+    (found_named c.args.self.now.first c.args.self.now.last was.nodes was.contents c.args.name.now previous address node found)
+    (file_name c.args.self.now.first c.args.self.now.last was c.args.name.now previous address node found))
+    account files c.replace.ensures.kept c.replace.ensures.label

@@ -1,0 +1,91 @@
+-- The name and the files are looked at first, then the heap.
+use Rattle.std.proofs.Common.{◌≡◌, ◌∙◌, ◌-◌, ◌++◌, ◌∷◌, [], true, None, is_some, sym, ap, subst}
+use Rattle.std.specs.Prelude.{IfSome, IfNone, IfOk}
+use Rattle.std.specs.Result.{result_err}
+use Rattle.own_model.specs.FileService.{File, FileServed, node_size, file_named}
+use Rattle.own_model.specs.FileText.FileReply.{Refused}
+use Rattle.own_model.specs.FileText.FileError.{Exists}
+use Rattle.own_model.specs.FileText.FileRequest.{Create}
+use Rattle.own_model.specs.Growth.{heap_refusal}
+use Rattle.own_model.specs.OwnHeap.{chunk_with, offset_of}
+use Rattle.own_model.proofs.NatMapLemmas.{some_of, none_of}
+use Rattle.file_service.specs.Calls.{TakesNode}
+use Rattle.file_service.specs.Furnished.{Stock, stock}
+use Rattle.file_service.specs.Node.{value_of}
+use Rattle.file_service.specs.Session.{files_in, Finds, served_in}
+use Rattle.file_service.proofs.CreateLemmas.{Takes, takes_node}
+use Rattle.file_service.proofs.KeptLemmas.{files_are}
+use Rattle.file_service.proofs.PlaceLemmas.{furnished_has_places}
+use Rattle.file_service.proofs.SearchLemmas.{found_named}
+use Rattle.file_service.proofs.ServeLemmas.{serves_same, create_exists, create_done, was_ok}
+use Rattle.file_service.proofs.session.FileSession.create.Goals as goal
+
+pub returns-then-is_some-clause-serves : goal.returns-then-is_some-clause-serves
+returns-then-is_some-clause-serves c =
+    let was : Stock = stock c.args.self.now.heap c.args.sliced.now c.args.memory.now c.args.map.now in
+    let got = some_of c.find.result (sym c.if-is_some.ensures) in
+    let found : Finds c.args.self.now was c.args.name.now got.0 = subst (λ o. IfSome o (Finds c.args.self.now was c.args.name.now)) got.1 c.find.ensures.some in
+    let there : is_some (file_named c.args.name.now (files_in c.args.self.now was)) ≡ true =
+    ap is_some (found_named c.args.self.now.first c.args.self.now.last was.nodes was.contents c.args.name.now got.0.previous got.0.address (value_of got.0.node) found) in
+    serves_same (served_in (Create c.args.name.now) c.args.self.now was) (Refused Exists) c.args.self.now c.args.sliced.now c.args.memory.now c.find.new.memory c.args.map.now
+    c.requires.files c.find.ensures.memory (create_exists c.args.name.now c.args.self.now was (sym c.if-not-is_name.ensures) there)
+
+pub append-requires-clause-fresh : goal.append-requires-clause-fresh
+append-requires-clause-fresh c =
+    let was : Stock = stock c.args.self.now.heap c.args.sliced.now c.args.memory.now c.args.map.now in
+    let taken : Stock = stock c.take_node.new.heap c.args.sliced.now c.take_node.new.memory c.take_node.new.map in
+    let ok = was_ok c.take_node.result c.map_err.result c.in_ok-address.address _ c.map_err.ensures.cases c.map_err.ensures.variant c.in_ok-address.was in
+    let old : TakesNode c.in_ok-address.address (stock c.args.self.now.heap c.args.sliced.now c.find.new.memory c.args.map.now) taken =
+    subst (λ r. IfOk r (λ address. TakesNode address (stock c.args.self.now.heap c.args.sliced.now c.find.new.memory c.args.map.now) taken)) ok c.take_node.ensures.taken in
+    let t : TakesNode c.in_ok-address.address was taken = subst (λ m. TakesNode c.in_ok-address.address (stock c.args.self.now.heap c.args.sliced.now m c.args.map.now) taken) c.find.ensures.memory old in
+    (takes_node c.args.self.now.first c.args.self.now.last c.requires.files.blocks c.in_ok-address.address was c.requires.files.stand
+    (furnished_has_places c.args.self.now.heap c.args.sliced.now c.args.memory.now c.args.map.now c.requires.furnished) t.free taken
+    (furnished_has_places c.take_node.new.heap c.args.sliced.now c.take_node.new.memory c.take_node.new.map c.take_node.ensures.keeps.furnished) t).fresh
+
+pub append-requires-clause-files : goal.append-requires-clause-files
+append-requires-clause-files c =
+    let was : Stock = stock c.args.self.now.heap c.args.sliced.now c.args.memory.now c.args.map.now in
+    let taken : Stock = stock c.take_node.new.heap c.args.sliced.now c.take_node.new.memory c.take_node.new.map in
+    let ok = was_ok c.take_node.result c.map_err.result c.in_ok-address.address _ c.map_err.ensures.cases c.map_err.ensures.variant c.in_ok-address.was in
+    let old : TakesNode c.in_ok-address.address (stock c.args.self.now.heap c.args.sliced.now c.find.new.memory c.args.map.now) taken =
+    subst (λ r. IfOk r (λ address. TakesNode address (stock c.args.self.now.heap c.args.sliced.now c.find.new.memory c.args.map.now) taken)) ok c.take_node.ensures.taken in
+    let t : TakesNode c.in_ok-address.address was taken = subst (λ m. TakesNode c.in_ok-address.address (stock c.args.self.now.heap c.args.sliced.now m c.args.map.now) taken) c.find.ensures.memory old in
+    record {
+      blocks = c.requires.files.blocks;
+      stand = (takes_node c.args.self.now.first c.args.self.now.last c.requires.files.blocks c.in_ok-address.address was c.requires.files.stand
+          (furnished_has_places c.args.self.now.heap c.args.sliced.now c.args.memory.now c.args.map.now c.requires.furnished) t.free taken
+          (furnished_has_places c.take_node.new.heap c.args.sliced.now c.take_node.new.memory c.take_node.new.map c.take_node.ensures.keeps.furnished) t).stand;
+    }
+
+pub returns-clause-serves : goal.returns-clause-serves
+returns-clause-serves c =
+    let was : Stock = stock c.args.self.now.heap c.args.sliced.now c.args.memory.now c.args.map.now in
+    let taken : Stock = stock c.take_node.new.heap c.args.sliced.now c.take_node.new.memory c.take_node.new.map in
+    let ok = was_ok c.take_node.result c.map_err.result c.in_ok-address.address _ c.map_err.ensures.cases c.map_err.ensures.variant c.in_ok-address.was in
+    let old : TakesNode c.in_ok-address.address (stock c.args.self.now.heap c.args.sliced.now c.find.new.memory c.args.map.now) taken =
+    subst (λ r. IfOk r (λ address. TakesNode address (stock c.args.self.now.heap c.args.sliced.now c.find.new.memory c.args.map.now) taken)) ok c.take_node.ensures.taken in
+    let t : TakesNode c.in_ok-address.address was taken = subst (λ m. TakesNode c.in_ok-address.address (stock c.args.self.now.heap c.args.sliced.now m c.args.map.now) taken) c.find.ensures.memory old in
+    let takes : Takes c.args.self.now.first c.args.self.now.last c.requires.files.blocks c.in_ok-address.address was taken =
+    takes_node c.args.self.now.first c.args.self.now.last c.requires.files.blocks c.in_ok-address.address was c.requires.files.stand
+    (furnished_has_places c.args.self.now.heap c.args.sliced.now c.args.memory.now c.args.map.now c.requires.furnished) t.free taken
+    (furnished_has_places c.take_node.new.heap c.args.sliced.now c.take_node.new.memory c.take_node.new.map c.take_node.ensures.keeps.furnished) t in
+    let none_found = none_of c.find.result (sym c.is_some.ensures ∙ c.if-is_some.false) in
+    let none : file_named c.args.name.now (files_in c.args.self.now was) ≡ None =
+    subst (λ o. IfNone o (file_named c.args.name.now (files_in c.args.self.now was) ≡ None)) none_found c.find.ensures.none in
+    let granted : heap_refusal node_size was.nodes.shape was.account ≡ None =
+    subst (λ m. let s = stock c.args.self.now.heap c.args.sliced.now m c.args.map.now in heap_refusal node_size s.nodes.shape s.account ≡ None) c.find.ensures.memory
+    (sym c.take_node.ensures.refusal ∙ ap result_err ok) in
+    let is = create_done c.args.name.now c.args.self.now was (sym c.if-not-is_name.ensures) none granted ∙ takes.is_created c.args.name.now (files_in c.args.self.now was).files in
+    let same : (files_in (record c.args.self.now { heap = c.take_node.new.heap }) taken).files ≡ (files_in c.args.self.now was).files =
+    files_are c.args.self.now.first c.args.self.now.last taken.nodes taken.contents c.requires.files.blocks takes.stand ∙ takes.files
+    ∙ sym (files_are c.args.self.now.first c.args.self.now.last was.nodes was.contents c.requires.files.blocks c.requires.files.stand) in
+    let file : File = record { name = c.args.name.now; bytes = []; chunk = chunk_with taken.nodes (c.in_ok-address.address - 16); offset = offset_of taken.nodes (c.in_ok-address.address - 16) } in
+    record {
+      reply_is = ap (λ (s : FileServed). s.reply) (sym is);
+      leaves = record {
+        account = c.append.ensures.account ∙ ap (λ (s : FileServed). s.account) (sym is);
+        files = c.append.ensures.files ∙ (λ i. record { files = same i ++ file ∷ []; shape = taken.nodes.shape }) ∙ ap (λ (s : FileServed). s.files) (sym is);
+        kept = c.append.ensures.kept;
+        label = c.append.ensures.label;
+      };
+    }

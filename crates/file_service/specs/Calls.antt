@@ -1,0 +1,81 @@
+-- What the calls on nodes and contents do to what a session has.
+use Rattle.std.specs.Prelude.{◌≡◌, ℕ, ◌+◌, ◌-◌, ◌≤◌, List, [], length, take, IsSome, Some, None}
+use Rattle.std.specs.Option.{unwrap_or}
+use Rattle.std.specs.FinMap.{get, insert, remove}
+use Rattle.own_model.specs.Account.{charged, credited}
+use Rattle.own_model.specs.BestFit.{Spot, chunk_of, used_at}
+use Rattle.own_model.specs.FileService.{node_size}
+use Rattle.own_model.specs.Growth.{hole_for, growth_of, new_hole, shape_given}
+use Rattle.own_model.specs.HeapStep.{with_block, with_chunk, with_poked, without_block}
+use Rattle.own_model.specs.NatMap.{NatMap}
+use Rattle.own_model.specs.OwnHeap.{payload_start, start_of}
+use Rattle.own_model.specs.OwnState.{zeros, with_part}
+use Rattle.own_model.specs.Sliced.{sliced_header, sliced_size, block_size}
+use Rattle.file_service.specs.Furnished.{Stock}
+
+-- the payload that starts at an address, or no bytes
+abbrev pub payload_in : NatMap (List ℕ) → ℕ → List ℕ
+payload_in payloads address = unwrap_or (get payloads address) []
+
+-- ---- nodes
+
+-- a node's block is taken in this hole
+pub record TakesInHole (hole : Spot) (address : ℕ) (old new : Stock) : Type 0 where
+  pub at : address ≡ payload_start old.nodes hole
+  pub is : new ≡ record old { nodes = with_block node_size hole old.nodes }
+
+-- it is taken in a chunk by which the heap has grown, and which is charged
+pub record TakesInChunk (address : ℕ) (old new : Stock) : Type 0 where
+  pub start : ℕ
+  pub at : address ≡ start + 16
+  pub is : let growth = growth_of node_size old.nodes.shape old.account in
+      new ≡ record old {
+        account = charged old.account growth.bytes 1;
+        nodes = with_block node_size (new_hole growth old.nodes.shape) (with_chunk growth start old.nodes);
+      }
+
+-- a node's block is taken: in the best hole, or else in a new chunk. No payload stood there
+pub record TakesNode (address : ℕ) (old new : Stock) : Type 0 where
+  pub free : get old.nodes.payloads address ≡ None
+  pub in_hole : (hole : Spot) → hole_for node_size old.nodes.shape ≡ Some hole → TakesInHole hole address old new
+  pub in_chunk : hole_for node_size old.nodes.shape ≡ None → TakesInChunk address old new
+
+-- a node's block is given back: a hole stands in its place
+pub record GivesNode (address : ℕ) (old new : Stock) : Type 0 where
+  pub is : new ≡ record old { nodes = without_block address old.nodes }
+  pub place : (chunk offset size : ℕ) → used_at offset (chunk_of old.nodes.shape.chunks chunk) ≡ Some size →
+      address ≡ start_of old.nodes chunk + offset + 16 → new.nodes.shape ≡ shape_given chunk offset old.nodes.shape
+
+-- bytes are put over the front of a node's payload
+abbrev pub node_stored : ℕ → List ℕ → Stock → Stock
+node_stored address bytes old = record old { nodes = with_poked address (payload_in old.nodes.payloads address) 0 bytes old.nodes }
+
+-- ---- contents
+
+-- a content of so many bytes is taken, all zero, and charged
+abbrev pub content_taken : ℕ → ℕ → Stock → Stock
+content_taken bytes address old = record old {
+  account = charged old.account (sliced_size bytes) 1;
+  contents = insert old.contents address (zeros (sliced_size bytes - sliced_header));
+}
+
+-- a content is given back, and credited
+abbrev pub content_given : ℕ → Stock → Stock
+content_given address old = record old {
+  account = credited old.account (block_size (payload_in old.contents address)) 1;
+  contents = remove old.contents address;
+}
+
+-- bytes are put over a content's from an offset on
+abbrev pub content_written : ℕ → ℕ → List ℕ → Stock → Stock
+content_written address offset bytes old =
+    record old { contents = insert old.contents address (with_part (payload_in old.contents address) offset bytes) }
+
+-- so many bytes of a content's front are put over those of another's
+abbrev pub content_copied : ℕ → ℕ → ℕ → Stock → Stock
+content_copied from to count old = content_written to 0 (take count (payload_in old.contents from)) old
+
+-- a content starts at an address, and has so many bytes from an offset on
+pub record HasBytes (contents : NatMap (List ℕ)) (address offset count : ℕ) : Type 0 where
+  pub there : IsSome (get contents address)
+  pub within : offset + count ≤ length (payload_in contents address)

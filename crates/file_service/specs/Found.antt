@@ -1,0 +1,26 @@
+-- Where the bytes of nodes and contents are found in the memory.
+use Rattle.std.specs.Prelude.{◌≡◌, ℕ, ◌+◌, ◌≤◌, length}
+use Rattle.dataspace_core.specs.Store.{Store, Exists, space_at}
+use Rattle.region_map.specs.Regions.{Regions}
+use Rattle.heap_core.specs.declared.heap.Heap.{Heap}
+use Rattle.heap_core.specs.Calls.{HoldsRange as HoldsInHeap}
+use Rattle.sliced_heap.specs.declared.heap.SlicedHeap.{SlicedHeap}
+use Rattle.sliced_heap.specs.Heap.{payer_of, share_at, HoldsRange}
+use Rattle.own_model.specs.Sliced.{sliced_header}
+
+-- a dataspace of the memory has so many bytes from an offset on
+pub record IsThere (store : Store) (ds offset count : ℕ) : Type 0 where
+  pub exists : Exists store ds
+  pub within : offset + count ≤ length (space_at store ds).bytes
+
+-- so many bytes of the node whose block's payload starts at an address
+pub record FindsNode (heap : Heap) (store : Store) (regions : Regions) (ds offset address count : ℕ) : Type 0 where
+  pub held : HoldsInHeap heap store regions ds offset address count
+  pub at : held.at ≡ address
+  pub there : IsThere store ds offset count
+
+-- so many bytes of the content that starts at an address, so far into it
+pub record FindsContent (sliced : SlicedHeap) (store : Store) (regions : Regions) (ds offset address into count : ℕ) : Type 0 where
+  pub held : HoldsRange (share_at (payer_of sliced) store regions) ds offset (address + into) count
+  pub at : held.start + sliced_header ≡ address
+  pub there : IsThere store ds offset count

@@ -1,0 +1,123 @@
+-- What a session of the file service is to its client, and what its requests do.
+use Rattle.std.specs.Prelude.{◌≡◌, ◌≢◌, ℕ, ◌-◌, ◌<◌, true, false, length, List, ◌∷◌, ◌++◌, map, take, find, Some, None, Result, Ok, Err}
+use Rattle.own_model.specs.FileService.{Files, FileServed, is_named, request_served, told}
+use Rattle.own_model.specs.FileText as model
+use Rattle.own_model.specs.FileText.FileReply.{Done, Count, Bytes, Refused}
+use Rattle.session_proto.specs.FileReply.{model_error}
+use Rattle.session_proto.specs.declared.file_reply.FileError.{FileError}
+use Rattle.dataspace_core.specs.Share.{Share}
+use Rattle.heap_core.specs.Heap.{heap_in}
+use Rattle.sliced_heap.specs.Sliced.{sliced_of}
+use Rattle.own_model.specs.NatMap.{NatMap}
+use Rattle.own_model.specs.Heap.{header}
+use Rattle.own_model.specs.OwnHeap.{OwnHeap, chunk_with}
+use Rattle.own_model.specs.Session.{Labelled}
+use Rattle.own_model.specs.Session.ServiceState.{Filing}
+use Rattle.sliced_heap.specs.Chain.{is_listed}
+use Rattle.file_service.specs.Calls.{HasBytes}
+use Rattle.file_service.specs.Files.{file_at, files_of, link_in, node_at, nodes_from, StandAt, AreFiles}
+use Rattle.file_service.specs.Links.{last_of}
+use Rattle.file_service.specs.Node.{FileNode}
+use Rattle.file_service.specs.Node.{value_of as node_value}
+use Rattle.file_service.specs.declared.session.Found.{Found}
+use Rattle.file_service.specs.Furnished.{Stock, KeepsNodes}
+use Rattle.file_service.specs.declared.session.FileSession.{FileSession}
+
+-- what a session is, read out of what its account has
+abbrev pub value_of : FileSession → Share → Labelled
+value_of session share = record {
+  label = session.label.items;
+  state = Filing (files_of session.first (heap_in session.heap share) (sliced_of share));
+}
+
+-- what is true of a session between its requests
+pub record IsSession (session : FileSession) (share : Share) : Type 0 where
+  pub nodes : KeepsNodes session.heap share
+  pub files : AreFiles session.first session.last (heap_in session.heap share) (sliced_of share)
+
+-- ---- while a request is served
+
+-- the files of a session that has this stock
+abbrev pub files_in : FileSession → Stock → Files
+files_in session stock = files_of session.first stock.nodes stock.contents
+
+-- it has files
+abbrev pub HasFiles : FileSession → Stock → Type 0
+HasFiles session stock = AreFiles session.first session.last stock.nodes stock.contents
+
+-- after a request the account and the files are as it is served, and the label stays
+pub record Leaves (served : FileServed) (old later : FileSession) (new : Stock) : Type 0 where
+  pub account : new.account ≡ served.account
+  pub files : files_in later new ≡ served.files
+  pub kept : HasFiles later new
+  pub label : later.label ≡ old.label
+
+-- and it is answered so
+pub record Serves (served : FileServed) (reply : model.FileReply) (old later : FileSession) (new : Stock) : Type 0 where
+  pub reply_is : model.file_reply reply ≡ served.reply
+  pub leaves : Leaves served old later new
+
+-- the node of a name is found, with what is before it: none of the files before it has the name
+pub record IsFound (first last : ℕ) (nodes : OwnHeap) (contents : NatMap (List ℕ)) (name : List ℕ) (previous address : ℕ) (node : FileNode) : Type 0 where
+  pub before : List ℕ
+  pub behind : List ℕ
+  pub stand : StandAt first last nodes contents (before ++ address ∷ behind)
+  pub previous_is : previous ≡ last_of 0 before
+  pub others : find (is_named name) (map (file_at nodes contents) before) ≡ None
+  pub named : is_named name (file_at nodes contents address) ≡ true
+  pub node_is : node ≡ node_at nodes address
+
+-- a search for a name ends there
+abbrev pub Finds : FileSession → Stock → List ℕ → Found → Type 0
+Finds session stock name found =
+    IsFound session.first session.last stock.nodes stock.contents name found.previous found.address (node_value found.node)
+
+-- a node is as it was, but for its link
+pub record KeepsFile (nodes later : OwnHeap) (block : ℕ) : Type 0 where
+  pub name : (node_at later block).name ≡ (node_at nodes block).name
+  pub size : (node_at later block).size ≡ (node_at nodes block).size
+  pub content : (node_at later block).content ≡ (node_at nodes block).content
+  pub there : HasBytes later.payloads block 0 64
+
+-- a holder is linked to another block, and else all nodes are as they were
+pub record LinksTo (first holder block later_first : ℕ) (nodes later : OwnHeap) : Type 0 where
+  pub linked : link_in later_first later holder ≡ block
+  pub links : (b : ℕ) → b ≢ holder → link_in later_first later b ≡ link_in first nodes b
+  pub rest : later ≡ record nodes { payloads = later.payloads }
+  pub files : (b : ℕ) → HasBytes nodes.payloads b 0 64 → KeepsFile nodes later b
+
+-- a block that is taken for a node is none of a file yet
+pub record IsFresh (first : ℕ) (nodes : OwnHeap) (block : ℕ) : Type 0 where
+  pub there : HasBytes nodes.payloads block 0 64
+  pub place : chunk_with nodes (block - header) < length nodes.shape.chunks
+  pub free : is_listed (0 ∷ nodes_from first nodes) block ≡ false
+
+-- a content is no file's yet
+abbrev pub IsOwn : ℕ → OwnHeap → ℕ → Type 0
+IsOwn first nodes content =
+    (b : ℕ) → is_listed (nodes_from first nodes) b ≡ true → 0 < (node_at nodes b).size → (node_at nodes b).content ≢ content
+
+-- ---- replies
+
+-- whether it is done
+abbrev pub done_reply : {A : Type 0} → Result A FileError → model.FileReply
+done_reply (Ok _) = Done
+done_reply (Err e) = Refused (model_error e)
+
+-- a count
+abbrev pub counted_reply : Result ℕ FileError → model.FileReply
+counted_reply (Ok n) = Count n
+counted_reply (Err e) = Refused (model_error e)
+
+-- the first of these bytes
+abbrev pub bytes_reply : List ℕ → Result ℕ FileError → model.FileReply
+bytes_reply bytes (Ok n) = Bytes (take n bytes)
+bytes_reply bytes (Err e) = Refused (model_error e)
+
+-- what a request that a session with this stock makes is served
+abbrev pub served_in : model.FileRequest → FileSession → Stock → FileServed
+served_in request session stock = request_served (Some request) (files_in session stock) stock.account
+
+-- it is this reply, and leaves all as it is
+abbrev pub IsTold : model.FileRequest → model.FileReply → FileSession → Stock → Type 0
+IsTold request reply session stock = served_in request session stock ≡ told reply (files_in session stock) stock.account

@@ -1,0 +1,333 @@
+//! What requests do to files.
+ghost use Rattle.std.specs.Prelude.{◌≡◌, ◌≢◌, ◌+◌, ◌-◌, ◌<◌, ◌≤◌, ◌==◌, if◌then◌else◌, ◌++◌, ◌^◌, ◌∷◌, [], length, take};
+ghost use Rattle.own_model.specs.FileService as model;
+ghost use Rattle.own_model.specs.FileService.{content_credited, rewritten};
+ghost use Rattle.own_model.specs.Heap.{header};
+ghost use Rattle.own_model.specs.OwnHeap.{chunk_with, offset_of};
+ghost use Rattle.own_model.specs.FileText.FileRequest.{Create, Write, Clear, Drop};
+ghost use Rattle.dataspace_core.specs.Store.{account_in, IsOpenIn};
+ghost use Rattle.sliced_heap.specs.Heap.{payer_of};
+ghost use Rattle.session_proto.specs.FileReply.{model_error};
+ghost use Rattle.file_service.specs.Calls.{payload_in, content_copied, HasBytes};
+ghost use Rattle.file_service.specs.Files.{file_at, HasContent};
+ghost use Rattle.file_service.specs.Node.{value_of as node_value};
+ghost use Rattle.file_service.specs.Furnished.{stock, IsFurnished, KeepsSession};
+ghost use Rattle.file_service.specs.Session.{files_in, HasFiles, Finds, LinksTo, IsFresh, IsOwn, Serves, done_reply, counted_reply, served_in};
+
+use crate::contents::{copy_content, give_content, take_content, write_content};
+use crate::node::{Node, copied};
+use crate::nodes::{give_node, load_node, store_node, take_node};
+use crate::session::{FileSession, Found};
+use dataspace_core::Memory;
+use heap_core::Heap;
+use region_map::RegionMap;
+use session_proto::FileError;
+use sliced_heap::SlicedHeap;
+use text_read::is_name;
+use trade_base::Refusal;
+
+impl FileSession {
+    /// Makes an empty file.
+    ///
+    /// It is refused with `BadName` where that is no name, with `Exists` where there is such a file, and else where the heap
+    /// refuses a block for its node.
+    pub(crate) fn create(
+        &mut self,
+        sliced: &SlicedHeap,
+        memory: &mut Memory,
+        map: &mut RegionMap,
+        name: &[u8],
+    ) -> Result<(), FileError>
+        requires furnished { IsFurnished self.old.heap sliced.now memory.old map.old }
+        requires files { HasFiles self.old (stock self.old.heap sliced.now memory.old map.old) }
+        ensures serves { Serves (served_in (Create name.now) self.old (stock self.old.heap sliced.now memory.old map.old)) (done_reply result)
+            self.old self.new (stock self.new.heap sliced.now memory.new map.new) }
+        ensures keeps { KeepsSession sliced.now self.new.heap sliced.now memory.old memory.new map.old map.new }
+    {
+        if !is_name(name) {
+            return Err(FileError::BadName);
+        }
+        if self.find(sliced, memory, map, name).is_some() {
+            return Err(FileError::Exists);
+        }
+        let address = take_node(&mut self.heap, sliced, memory, map).map_err(error_of)?;
+        self.append(sliced, memory, map, address, name);
+        Ok(())
+    }
+
+    /// Puts bytes over a file's from an offset on. Where the file gets longer by it, its bytes are a new content, and the old
+    /// one goes after that. It tells how many bytes were written.
+    ///
+    /// It is refused with `NotFound` where there is no such file, with `Gap` where the offset is above its size, and else
+    /// where the account doesn't cover the new content.
+    pub(crate) fn write(
+        &mut self,
+        sliced: &mut SlicedHeap,
+        memory: &mut Memory,
+        map: &mut RegionMap,
+        name: &[u8],
+        offset: u64,
+        bytes: &[u8],
+    ) -> Result<u64, FileError>
+        requires few { length bytes.now ≤ 4096 }
+        requires furnished { IsFurnished self.old.heap sliced.old memory.old map.old }
+        requires files { HasFiles self.old (stock self.old.heap sliced.old memory.old map.old) }
+        ensures serves { Serves (served_in (Write name.now offset bytes.now) self.old (stock self.old.heap sliced.old memory.old map.old)) (counted_reply result)
+            self.old self.new (stock self.new.heap sliced.new memory.new map.new) }
+        ensures keeps { KeepsSession sliced.old self.new.heap sliced.new memory.old memory.new map.old map.new }
+    {
+        let found = self
+            .find(sliced, memory, map, name)
+            .ok_or(FileError::NotFound)?;
+        let size = found.node.size;
+        if offset > size {
+            return Err(FileError::Gap);
+        }
+        let count = bytes.len() as u64;
+        if count > size - offset {
+            return self.lengthen(sliced, memory, map, found, offset, bytes);
+        }
+        if count > 0 {
+            let content = found.node.content;
+            write_content(&self.heap, sliced, memory, map, content, offset, bytes);
+        }
+        Ok(count)
+    }
+
+    /// Takes all bytes out of a file, or answers `NotFound` where there is none of the name.
+    pub(crate) fn clear(
+        &mut self,
+        sliced: &mut SlicedHeap,
+        memory: &mut Memory,
+        map: &mut RegionMap,
+        name: &[u8],
+    ) -> Result<(), FileError>
+        requires furnished { IsFurnished self.old.heap sliced.old memory.old map.old }
+        requires files { HasFiles self.old (stock self.old.heap sliced.old memory.old map.old) }
+        ensures serves { Serves (served_in (Clear name.now) self.old (stock self.old.heap sliced.old memory.old map.old)) (done_reply result)
+            self.old self.new (stock self.new.heap sliced.new memory.new map.new) }
+        ensures keeps { KeepsSession sliced.old self.new.heap sliced.new memory.old memory.new map.old map.new }
+    {
+        let found = self
+            .find(sliced, memory, map, name)
+            .ok_or(FileError::NotFound)?;
+        self.replace(sliced, memory, map, found, 0, 0);
+        Ok(())
+    }
+
+    /// Takes a file out, or answers `NotFound` where there is none of the name.
+    pub(crate) fn remove(
+        &mut self,
+        sliced: &mut SlicedHeap,
+        memory: &mut Memory,
+        map: &mut RegionMap,
+        name: &[u8],
+    ) -> Result<(), FileError>
+        requires furnished { IsFurnished self.old.heap sliced.old memory.old map.old }
+        requires files { HasFiles self.old (stock self.old.heap sliced.old memory.old map.old) }
+        ensures serves { Serves (served_in (Drop name.now) self.old (stock self.old.heap sliced.old memory.old map.old)) (done_reply result)
+            self.old self.new (stock self.new.heap sliced.new memory.new map.new) }
+        ensures keeps { KeepsSession sliced.old self.new.heap sliced.new memory.old memory.new map.old map.new }
+    {
+        let found = self
+            .find(sliced, memory, map, name)
+            .ok_or(FileError::NotFound)?;
+        let Found {
+            previous,
+            address,
+            node,
+        } = found;
+        self.link(sliced, memory, map, previous, node.next);
+        self.last = last_without(self.last, address, previous);
+        give_node(&mut self.heap, sliced, memory, map, address);
+        if node.size > 0 {
+            give_content(&self.heap, sliced, memory, map, node.content);
+        }
+        Ok(())
+    }
+
+    // Puts a taken block behind the last file's node, as that of an empty file.
+    fn append(
+        &mut self,
+        sliced: &SlicedHeap,
+        memory: &mut Memory,
+        map: &RegionMap,
+        address: u64,
+        name: &[u8],
+    )
+        requires furnished { IsFurnished self.old.heap sliced.now memory.old map.now }
+        requires files { HasFiles self.old (stock self.old.heap sliced.now memory.old map.now) }
+        requires fresh { IsFresh self.old.first (stock self.old.heap sliced.now memory.old map.now).nodes address }
+        requires name { length name.now ≤ 32 }
+        ensures files { let old = stock self.old.heap sliced.now memory.old map.now in
+            files_in self.new (stock self.new.heap sliced.now memory.new map.now) ≡ record (files_in self.old old) {
+              files = (files_in self.old old).files ++ record {
+                name = name.now;
+                bytes = [];
+                chunk = chunk_with old.nodes (address - header);
+                offset = offset_of old.nodes (address - header);
+              } ∷ [];
+            } }
+        ensures kept { HasFiles self.new (stock self.new.heap sliced.now memory.new map.now) }
+        ensures account { (stock self.new.heap sliced.now memory.new map.now).account ≡ (stock self.old.heap sliced.now memory.old map.now).account }
+        ensures label { self.new.label ≡ self.old.label }
+        ensures keeps { KeepsSession sliced.now self.new.heap sliced.now memory.old memory.new map.now map.now }
+    {
+        let node = Node {
+            next: 0,
+            content: 0,
+            size: 0,
+            name: copied(name),
+        };
+        store_node(&self.heap, sliced, memory, map, address, &node);
+        let last = self.last;
+        self.link(sliced, memory, map, last, address);
+        self.last = address;
+    }
+
+    // Links a file's node, or the session itself where its address is 0, to another one.
+    fn link(
+        &mut self,
+        sliced: &SlicedHeap,
+        memory: &mut Memory,
+        map: &RegionMap,
+        holder: u64,
+        address: u64,
+    )
+        requires furnished { IsFurnished self.old.heap sliced.now memory.old map.now }
+        requires there { holder ≢ 0 → HasBytes (stock self.old.heap sliced.now memory.old map.now).nodes.payloads holder 0 64 }
+        ensures links { LinksTo self.old.first holder address self.new.first
+            (stock self.old.heap sliced.now memory.old map.now).nodes (stock self.new.heap sliced.now memory.new map.now).nodes }
+        ensures rest { let new = stock self.new.heap sliced.now memory.new map.now in
+            new ≡ record (stock self.old.heap sliced.now memory.old map.now) { nodes = new.nodes } }
+        ensures same { self.new ≡ record self.old { first = self.new.first } }
+        ensures keeps { KeepsSession sliced.now self.new.heap sliced.now memory.old memory.new map.now map.now }
+    {
+        if holder == 0 {
+            self.first = address;
+            return;
+        }
+        let mut node = load_node(&self.heap, sliced, memory, map, holder);
+        node.next = address;
+        store_node(&self.heap, sliced, memory, map, holder, &node);
+    }
+
+    // Writes a file's bytes up to an offset, and these behind them, as a new content.
+    fn lengthen(
+        &mut self,
+        sliced: &mut SlicedHeap,
+        memory: &mut Memory,
+        map: &mut RegionMap,
+        found: Found,
+        offset: u64,
+        bytes: &[u8],
+    ) -> Result<u64, FileError>
+        requires furnished { IsFurnished self.old.heap sliced.old memory.old map.old }
+        requires files { HasFiles self.old (stock self.old.heap sliced.old memory.old map.old) }
+        requires found { Finds self.old (stock self.old.heap sliced.old memory.old map.old) found.node.name.items found }
+        requires low { offset ≤ found.node.size }
+        requires longer { found.node.size < offset + length bytes.now }
+        requires few { length bytes.now ≤ 4096 }
+        ensures serves { Serves (served_in (Write found.node.name.items offset bytes.now) self.old (stock self.old.heap sliced.old memory.old map.old))
+            (counted_reply result) self.old self.new (stock self.new.heap sliced.new memory.new map.new) }
+        ensures keeps { KeepsSession sliced.old self.new.heap sliced.new memory.old memory.new map.old map.new }
+    {
+        ram_fits(sliced, memory);
+        let size = offset
+            .checked_add(bytes.len() as u64)
+            .ok_or(FileError::OutOfRam)?;
+        let content = take_content(&self.heap, sliced, memory, map, size).map_err(error_of)?;
+        let old = found.node.content;
+        copy_front(&self.heap, sliced, memory, map, old, content, offset);
+        write_content(&self.heap, sliced, memory, map, content, offset, bytes);
+        self.replace(sliced, memory, map, found, content, size);
+        Ok(bytes.len() as u64)
+    }
+
+    // Gives a file another content, and then the old one back.
+    fn replace(
+        &mut self,
+        sliced: &mut SlicedHeap,
+        memory: &mut Memory,
+        map: &mut RegionMap,
+        found: Found,
+        content: u64,
+        size: u64,
+    )
+        requires furnished { IsFurnished self.old.heap sliced.old memory.old map.old }
+        requires found { Finds self.old (stock self.old.heap sliced.old memory.old map.old) found.node.name.items found }
+        requires content { 0 < size → HasContent (stock self.old.heap sliced.old memory.old map.old).contents
+            (record (node_value found.node) { content = content; size = size }) }
+        requires own { 0 < size → IsOwn self.old.first (stock self.old.heap sliced.old memory.old map.old).nodes content }
+        ensures files { let old = stock self.old.heap sliced.old memory.old map.old in
+            files_in self.new (stock self.new.heap sliced.new memory.new map.new) ≡ record (files_in self.old old) {
+              files = rewritten found.node.name.items (take size (payload_in old.contents content)) (files_in self.old old).files;
+            } }
+        ensures kept { HasFiles self.new (stock self.new.heap sliced.new memory.new map.new) }
+        ensures account { let old = stock self.old.heap sliced.old memory.old map.old in
+            (stock self.new.heap sliced.new memory.new map.new).account
+            ≡ content_credited (file_at old.nodes old.contents found.address) old.account }
+        ensures label { self.new.label ≡ self.old.label }
+        ensures keeps { KeepsSession sliced.old self.new.heap sliced.new memory.old memory.new map.old map.new }
+    {
+        let Found { address, node, .. } = found;
+        let mut node = node;
+        let old = node.content;
+        let was = node.size;
+        node.content = content;
+        node.size = size;
+        store_node(&self.heap, sliced, memory, map, address, &node);
+        if was > 0 {
+            give_content(&self.heap, sliced, memory, map, old);
+        }
+    }
+}
+
+/// The last node's address after the node at an address goes, with the one before it.
+fn last_without(last: u64, address: u64, previous: u64) -> u64
+    ensures { result ≡ (if last == address then previous else last) }
+{
+    if last == address { previous } else { last }
+}
+
+/// The RAM of an account is counted in 64 bits, so a content whose size is above them is out of RAM.
+fn ram_fits(sliced: &SlicedHeap, memory: &Memory)
+    requires { IsOpenIn memory.now (payer_of sliced.now) }
+    ensures { (account_in memory.now (payer_of sliced.now)).ram_limit < 2 ^ 64 }
+{
+    let _ = memory.limits(sliced.account());
+}
+
+/// Copies so many bytes of a content's front to another's, if any.
+fn copy_front(
+    heap: &Heap,
+    sliced: &SlicedHeap,
+    memory: &mut Memory,
+    map: &RegionMap,
+    from: u64,
+    to: u64,
+    count: u64,
+)
+    requires furnished { IsFurnished heap.now sliced.now memory.old map.now }
+    requires source { 0 < count → HasBytes (stock heap.now sliced.now memory.old map.now).contents from 0 count }
+    requires target { HasBytes (stock heap.now sliced.now memory.old map.now).contents to 0 count }
+    requires apart { 0 < count → from ≢ to }
+    ensures copied { stock heap.now sliced.now memory.new map.now
+        ≡ content_copied from to count (stock heap.now sliced.now memory.old map.now) }
+    ensures keeps { KeepsSession sliced.now heap.now sliced.now memory.old memory.new map.now map.now }
+{
+    if count > 0 {
+        copy_content(heap, sliced, memory, map, from, to, count);
+    }
+}
+
+/// What a reply names a refusal of a heap.
+fn error_of(refusal: Refusal) -> FileError
+    ensures { model_error result ≡ model.error_of refusal }
+{
+    match refusal {
+        Refusal::TooManyChunks => FileError::TooManyChunks,
+        Refusal::OutOfCaps => FileError::OutOfCaps,
+        _ => FileError::OutOfRam,
+    }
+}

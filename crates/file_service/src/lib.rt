@@ -1,0 +1,18 @@
+//! The file service: each session has files, whose nodes are linked blocks of a heap and whose contents are sliced blocks.
+#![tactic(auto)]
+
+mod change;
+mod contents;
+mod find;
+mod furnished;
+mod look;
+mod node;
+mod nodes;
+mod service;
+mod session;
+#[cfg(test)]
+mod tests;
+
+pub use node::LONGEST_NAME;
+pub use service::FileService;
+pub use session::FileSession;

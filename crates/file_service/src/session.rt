@@ -1,0 +1,54 @@
+//! A session of the file service.
+
+use crate::furnished::new_nodes;
+use crate::node::Node;
+use arrayvec::ArrayVec;
+use heap_core::Heap;
+use server_frame::LONGEST_LABEL;
+use trade_base::AccountId;
+
+/// What the file service keeps for a session. Each file has a node, a block of the heap, and the nodes are linked in the
+/// order of creation.
+#[derive(Drop)]
+pub struct FileSession {
+    pub(crate) label: ArrayVec<u8, LONGEST_LABEL>,
+    /// The heap of nodes.
+    pub(crate) heap: Heap,
+    /// The address of the first file's node, or 0.
+    pub(crate) first: u64,
+    /// The address of the last file's node, or 0.
+    pub(crate) last: u64,
+}
+
+/// A file that is found: where its node is, and that of the file before it, or 0.
+#[derive(Drop)]
+pub(crate) struct Found {
+    pub(crate) previous: u64,
+    pub(crate) address: u64,
+    pub(crate) node: Node,
+}
+
+impl FileSession {
+    ghost use Rattle.std.specs.Prelude.{◌≡◌, ◌≤◌, length};
+    ghost use Rattle.dataspace_core.specs.Share.{Share};
+    ghost use Rattle.own_model.specs.Routes.Service.{Files};
+    ghost use Rattle.own_model.specs.Session.{state_at_first};
+    ghost use Rattle.server_frame.specs.Session.{HasBlocksAlone};
+    ghost use Rattle.file_service.specs.Session.{value_of, IsSession};
+
+    /// A session without files.
+    pub(crate) fn open(account: AccountId, label: &[u8]) -> FileSession
+        requires { length label.now ≤ LONGEST_LABEL }
+        ensures first { (share : Share) → HasBlocksAlone share → value_of result share ≡ record { label = label.now; state = state_at_first Files } }
+        ensures kept { (share : Share) → HasBlocksAlone share → IsSession result share }
+    {
+        let mut copy = ArrayVec::new();
+        let _ = copy.try_extend_from_slice(label);
+        FileSession {
+            label: copy,
+            heap: new_nodes(account),
+            first: 0,
+            last: 0,
+        }
+    }
+}
