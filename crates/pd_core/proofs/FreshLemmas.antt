@@ -3,7 +3,7 @@ use Rattle.std.proofs.Common.{◌≡◌, ℕ, zero, suc, ◌+◌, ◌*◌, ◌�
 use Rattle.std.specs.Prelude.{IfSome, IsSome, None}
 use Rattle.std.proofs.lemmas.Option.{none-some}
 use Rattle.std.specs.Option.{option_map, unwrap_or}
-use Rattle.std.specs.List.{All}
+use Rattle.std.specs.List.{All, enumerate_from}
 use Rattle.std.specs.FinMap as finmap
 use Rattle.std.specs.FinMap.{get, empty, len}
 use Rattle.std.proofs.lemmas.List.Elements.{All-head, All-tail}
@@ -12,6 +12,7 @@ use Rattle.own_model.specs.Account.{Account, opened}
 use Rattle.own_model.specs.Moved.{moved_up}
 use Rattle.own_model.specs.Limits.{caps_with, caps_limits}
 use Rattle.own_model.specs.Region.{Region}
+use Rattle.own_model.specs.Routes.{Rule}
 use Rattle.own_model.specs.Sliced.{sliced_header}
 use Rattle.own_model.specs.StartList.{StartEntry, start_state}
 use Rattle.own_model.specs.Transcript.{nobody}
@@ -24,8 +25,10 @@ use Rattle.quota_core.proofs.SlabMap.{map_of-empty}
 use Rattle.trade_base.specs.declared.id.AccountId.{AccountId}
 use Rattle.own_model.specs.Session.{Labelled}
 use Rattle.dataspace_core.specs.Room.{HasRoom}
+use Rattle.region_map.specs.Regions.{Regions}
+use Rattle.slab.specs.Slab.{Slab}
 use Rattle.server_frame.specs.Frame.{Row, row_of}
-use Rattle.server_frame.specs.Session.{HasBlocksAlone}
+use Rattle.server_frame.specs.declared.server.Session.{Session as Kept}
 use Rattle.server_frame.proofs.FrameLaws.{server_at_first}
 use Rattle.cap_space.specs.declared.cap.Cap.{Cap}
 use Rattle.dataspace_core.specs.Store.{Store, Part, part, root_in, account_in, accounts_in, account_of, IsOpenIn, ram_limits_in, caps_limits_in}
@@ -37,18 +40,18 @@ use Rattle.heap_core.specs.Laws.{IsMapOf}
 use Rattle.heap_core.proofs.StayLemmas.{empty_map as empty_heap_map}
 use Rattle.sliced_heap.specs.Heap.{payer_of as sliced_payer, share_at, MapsMemory, HasNoBlocks}
 use Rattle.sliced_heap.specs.Sliced.{block_regions, payload_of, sliced_of}
-use Rattle.pd_core.specs.Sessions.{log_value}
+use Rattle.pd_core.specs.Sessions.{log_value, IsLogKept, files_value, IsFilesKept}
 use Rattle.pd_core.specs.declared.component.Component.{Component}
 use Rattle.pd_core.specs.declared.component.Role.{Role}
 use Rattle.own_model.specs.OwnHeap.{no_heap}
-use Rattle.pd_core.specs.declared.component.Role.TheVariants.{Script as AScript, Server as AServer, Log as ALog}
+use Rattle.pd_core.specs.declared.component.Role.TheVariants.{Script as AScript, Log as ALog, Files as AFiles, Gone as AGone}
 use Rattle.pd_core.specs.declared.script.Script.{Script}
 use Rattle.sliced_heap.proofs.HeapLaws.{empty_map}
 use Rattle.pd_core.specs.Own.{Sessions, no_sessions, own_of, own_at, part_at, own_heap_at, sliced_at, object_of, regions_of, selector_of}
 use Rattle.pd_core.specs.Sound.{session_at, rpc_weight, session_weight, IsLawful, IsSoundScript}
-use Rattle.pd_core.specs.Component.{entry_of, payer_in, payer_of, caps_in, caps_of, places_in, places_of, rows_in, rows_of, tables_in, NamesItsSessions, HasPlaces, HasNewHeap, HasNewHeaps, own_in, own, IsSoundRole}
-use Rattle.pd_core.specs.Core.{rows_at, sessions_in, world_of, IsCore}
-use Rattle.pd_core.specs.Fresh.{start_of, starts_of, opened_part, started_world, AreEmpty, IsNewServer, IsFresh, AreFresh}
+use Rattle.pd_core.specs.Component.{entry_of, payer_in, payer_of, caps_in, caps_of, places_in, places_of, rows_in, rows_of, tables_in, NamesItsSessions, HasPlaces, HasNewHeap, HasNewHeaps, own_in, own, IsSoundServer, IsSoundRole}
+use Rattle.pd_core.specs.Core.{Rules, rows_at, sessions_in, world_of, IsCore}
+use Rattle.pd_core.specs.Fresh.{account_at, start_of, opened_part, started_world, AreEmpty, HasNoSessions, IsNewServer, IsFresh, AreFresh}
 
 -- a start with this budget
 abbrev budget : ℕ → ℕ → StartEntry
@@ -155,34 +158,44 @@ module _ (store : Store) (ram caps : ℕ) where
   server_state : (account : AccountId) → part account.0 store ≡ opened_part ram caps → own_of no_sessions (part account.0 store) empty empty no_heap empty ≡ start_state (budget ram caps)
   server_state account unused = ap (λ p. own_of no_sessions p empty empty no_heap empty) unused ∙ own_opened no_sessions ram caps
 
+  -- and it is sound where it has no sessions
+  server_sound : {T : Type 0} (kept : T → Share → Type 0) (account : ℕ) (sessions : Slab (Kept T)) (regions : Regions) → part account store ≡ opened_part ram caps → HasNoSessions store sessions regions →
+      IsSoundServer kept store account sessions regions
+  server_sound kept account sessions regions unused new = record {
+    is_open = subst (λ (p : Part). IsSome p.account) (sym unused) refl;
+    server = server_at_first kept sessions store regions new.none new.no_heap new.pages new.heap_most;
+    places = new.places;
+  }
+
   role_fresh : (role : Role) → part (payer_in role) store ≡ opened_part ram caps → IfSome (tables_in role) (λ tables. AreEmpty store caps tables.0 tables.1) → HasNewHeap role → IsNewServer store role →
       RoleIsFresh role
   role_fresh (AScript script) unused fresh heap new =
       record { sound = script_sound script unused fresh heap; state = script_unused script unused fresh heap; no_caps = fresh.no_caps; no_rows = refl; places = fresh.places }
-  role_fresh (AServer account) unused fresh heap new = record {
-    sound = subst (λ (p : Part). IsSome p.account) (sym unused) refl;
-    state = λ sessions. server_state account unused;
-    no_caps = refl;
-    no_rows = refl;
-    places = tt;
-  }
   role_fresh (ALog account server) unused fresh heap new = record {
-    sound = record { is_open = subst (λ (p : Part). IsSome p.account) (sym unused) refl; server = server_at_first (λ line share. HasBlocksAlone share) server.sessions store server.map new.none new.no_heap new.pages new.heap_most; places = new.places };
+    sound = server_sound IsLogKept account.0 server.sessions server.map unused new;
     state = λ sessions. server_state account unused;
     no_caps = refl;
     no_rows = map_of-empty (row_of log_value store server.map) server.sessions new.none;
     places = tt;
   }
+  role_fresh (AFiles account server) unused fresh heap new = record {
+    sound = server_sound IsFilesKept account.0 server.sessions server.map unused new;
+    state = λ sessions. server_state account unused;
+    no_caps = refl;
+    no_rows = map_of-empty (row_of files_value store server.map) server.sessions new.none;
+    places = tt;
+  }
+  role_fresh AGone unused fresh heap new = absurd heap
 
 -- a fresh component is sound, and its own state is that of its start
 module _ (store : Store) (component : Component) (fresh : IsFresh store component) where
   -- as its role is
-  role : RoleIsFresh store (start_of store component).ram (start_of store component).caps component.role
+  role : RoleIsFresh store (account_at store component).ram_limit (account_at store component).caps_limit component.role
   role = role_fresh store _ _ component.role fresh.unused fresh.tables fresh.heap fresh.server
 
   -- its own state is that of its start
-  fresh_state : (sessions : Sessions) → own sessions store component ≡ start_state (start_of store component)
-  fresh_state = role.state
+  fresh_state : (rules : List Rule) (sessions : Sessions) → own sessions store component ≡ start_state (start_of rules store component)
+  fresh_state rules = role.state
 
   -- it names no session
   fresh_named : (rows : ℕ → NatMap (Row Labelled)) → NamesItsSessions rows (payer_of component) (caps_of component)
@@ -196,7 +209,7 @@ module _ (store : Store) (component : Component) (fresh : IsFresh store componen
   -- there is a place for each capability of its budget
   fresh_places : (sessions : Sessions) → HasPlaces sessions store component
   fresh_places sessions =
-      let all : caps_limits (own sessions store component) ≡ (start_of store component).caps = omega (arith, ap caps_limits (fresh_state sessions), total-empty caps_with) in
+      let all : caps_limits (own sessions store component) ≡ (account_at store component).caps_limit = omega (arith, ap caps_limits (fresh_state [] sessions), total-empty caps_with) in
       subst (λ n. IfSome (places_of component) (λ places. n ≤ places)) (sym all) role.places
 
 -- where each component serves none, no session is open
@@ -205,17 +218,19 @@ no_rows_at store [] all k = refl
 no_rows_at store (c ∷ rest) all zero = All-head (λ c. rows_of store c ≡ empty) c rest all
 no_rows_at store (c ∷ rest) all (suc k) = no_rows_at store rest (All-tail (λ c. rows_of store c ≡ empty) c rest all) k
 
--- the entries and the own states are those of the starts
-fresh_entries : (store : Store) (components : List Component) → map entry_of components ≡ map (λ start. start.entry) (starts_of store components)
-fresh_entries store [] = refl
-fresh_entries store (c ∷ rest) = ap (λ entries. entry_of c ∷ entries) (fresh_entries store rest)
+-- the entries are those of the starts
+fresh_entries : (rules : Rules) (store : Store) (components : List (ℕ × Component)) →
+    map (λ c. entry_of (rules c.0) c.1) components ≡ map (λ (start : StartEntry). start.entry) (map (λ c. start_of (rules c.0) store c.1) components)
+fresh_entries rules store [] = refl
+fresh_entries rules store (c ∷ rest) = ap (λ entries. entry_of (rules c.0) c.1 ∷ entries) (fresh_entries rules store rest)
 
--- the same of the own states
-fresh_states : (sessions : Sessions) (store : Store) (components : List Component) → All (IsFresh store) components → map (own sessions store) components ≡ map start_state (starts_of store components)
-fresh_states sessions store [] fresh = refl
-fresh_states sessions store (c ∷ rest) fresh =
-    let first = fresh_state store c (All-head (IsFresh store) c rest fresh) sessions in
-    let others = fresh_states sessions store rest (All-tail (IsFresh store) c rest fresh) in
+-- and the own states are, from any place on
+fresh_states : (rules : Rules) (sessions : Sessions) (store : Store) (n : ℕ) (components : List Component) → All (IsFresh store) components →
+    map (own sessions store) components ≡ map start_state (map (λ c. start_of (rules c.0) store c.1) (enumerate_from n components))
+fresh_states rules sessions store n [] fresh = refl
+fresh_states rules sessions store n (c ∷ rest) fresh =
+    let first = fresh_state store c (All-head (IsFresh store) c rest fresh) (rules n) sessions in
+    let others = fresh_states rules sessions store (n + 1) rest (All-tail (IsFresh store) c rest fresh) in
     λ j. first j ∷ others j
 
 module _ (store : Store) (components : List Component) (fresh : AreFresh store components) where
@@ -229,28 +244,34 @@ module _ (store : Store) (components : List Component) (fresh : AreFresh store c
   fresh_core room = record {
     init = fresh.init;
     sound = λ k d h. (role store _ (fresh.each k d h)).sound;
-    not_init = λ k d h. (fresh.each k d h).not_init;
-    children = λ k d h. (fresh.each k d h).child;
-    apart = fresh.apart;
+    not_init = λ k d h live. (fresh.each k d h).not_init;
+    children = λ k d h live. (fresh.each k d h).child;
+    apart = λ j k d before h one two. fresh.apart j k d before h;
     named = λ k d h. fresh_named store _ (fresh.each k d h) (rows_at store components);
     placed = λ k d h. fresh_places store _ (fresh.each k d h) (sessions_in store components);
     sessions = record {
       each = λ server session row there. absurd (none-some row (sym (none_open server session) ∙ there));
       apart = λ server other a b row next there _ _. absurd (none-some row (sym (none_open server a) ∙ there));
     };
+    held = λ child parent is inner. absurd (inner (fresh.outer child parent is));
     room = room;
   }
 
   -- their world is the one that starts with them
-  pub fresh_world : world_of store components ≡ started_world store components
-  fresh_world =
-      let entries = fresh_entries store components in
-      let states = fresh_states (sessions_in store components) store components fresh.each in
+  pub fresh_world : (rules : Rules) → world_of rules store components ≡ started_world rules store components
+  fresh_world rules =
+      let entries = fresh_entries rules store (enumerate_from 0 components) in
+      let states = fresh_states rules (sessions_in store components) store 0 components fresh.each in
       λ j. record { entries = entries j; init = account_in store (root_in store); states = states j }
 
 -- a new server is still new while other accounts are opened
-pub new_server_stays : (store store' : Store) → ram_limits_in store' ≡ ram_limits_in store → caps_limits_in store' ≡ caps_limits_in store → (role : Role) → IsNewServer store role → IsNewServer store' role
-new_server_stays store store' ram caps (AScript script) new = tt
-new_server_stays store store' ram caps (AServer account) new = tt
-new_server_stays store store' ram caps (ALog account server) new =
-    record { none = new.none; places = omega (arith, new.places, caps); no_heap = new.no_heap; heap_most = new.heap_most; pages = new.pages ∙ sym ram }
+module _ (store store' : Store) (ram : ram_limits_in store' ≡ ram_limits_in store) (caps : caps_limits_in store' ≡ caps_limits_in store) where
+  no_sessions_stay : {T : Type 0} (sessions : Slab (Kept T)) (regions : Regions) → HasNoSessions store sessions regions → HasNoSessions store' sessions regions
+  no_sessions_stay sessions regions new =
+      record { none = new.none; places = omega (arith, new.places, caps); no_heap = new.no_heap; heap_most = new.heap_most; pages = new.pages ∙ sym ram }
+
+  pub new_server_stays : (role : Role) → IsNewServer store role → IsNewServer store' role
+  new_server_stays (AScript script) new = tt
+  new_server_stays (ALog account server) new = no_sessions_stay server.sessions server.map new
+  new_server_stays (AFiles account server) new = no_sessions_stay server.sessions server.map new
+  new_server_stays AGone new = tt

@@ -5,6 +5,8 @@ pub mod SessionOwnLemmas
 pub mod SessionCallLemmas
 pub mod SessionScriptLemmas
 pub mod SessionDoneLemmas
+pub mod ServerLemmas
+pub mod RoleLemmas
 pub mod SessionOpenLemmas
 pub mod BesideLemmas
 pub mod OwnLemmas
@@ -17,15 +19,14 @@ pub mod BytesLemmas
 pub mod PlaceLemmas
 pub mod ComponentLemmas
 pub mod CoreLemmas
+pub mod QuotaLemmas
 pub mod RouterLemmas
 pub mod SessionBesideLemmas
 pub mod SessionCore
 pub mod SessionCoreLemmas
-pub mod SessionClosedLemmas
 pub mod SessionCallsLemmas
 pub mod SessionChangesLemmas
 pub mod SessionWorldLemmas
-pub mod SessionNamedLemmas
 pub mod SessionOpenedLemmas
 pub mod SessionLedLemmas
 pub mod FreshLemmas
@@ -34,3 +35,9 @@ pub mod HeapCallLemmas
 pub mod HeapChangeLemmas
 pub mod HeapOutcomeLemmas
 pub mod HeapPlaceLemmas
+pub mod ReleaseLemmas
+pub mod EndLemmas
+pub mod ExitWorldLemmas
+pub mod ExitRoomLemmas
+pub mod ExitLemmas
+pub mod ExitCallLemmas

@@ -162,7 +162,7 @@ module _ (p : Part) (space : Space) (regions : Regions) (heap : OwnHeap) (sliced
 
     module _ (ready : HasSessions sessions space.caps) where
       -- the own state has the selectors of the space
-      selects : (q : ℕ) → is_some (get before.selectors q) ≡ is_some (get space.caps q)
+      pub selects : (q : ℕ) → is_some (get before.selectors q) ≡ is_some (get space.caps q)
       selects q = ap is_some (object_is q) ∙ has_object sessions p (get space.caps q) (sound.named.there q) (ready q)
 
       -- the own state's new selector is the space's

@@ -1,50 +1,49 @@
 -- A call of a session that is refused before its session is looked at, and the components that one is between.
-use Rattle.std.proofs.Common.{◌≡◌, ◌≢◌, ℕ, ◌<◌, List, Option, None, Some, Ok, Err, Result, length, map, get_or, refl, sym, ap, subst, ◌∙◌, inl, inr, arith}
+use Rattle.std.proofs.Common.{set, ◌≡◌, ◌≢◌, false, true, is_some, ℕ, ◌<◌, List, Option, None, Some, Ok, Err, Result, length, map, get_or, refl, sym, ap, subst, ◌∙◌, inl, inr, arith}
 use Rattle.std.proofs.lemmas.Bool.{cases_lt}
 use Rattle.std.proofs.lemmas.Option.{none-some, same_Some}
-use Rattle.std.proofs.lemmas.List.{set-get_or, get_or-map, get_or_past, length-map}
+use Rattle.std.proofs.lemmas.List.{get_or_default, get_or-set_other, set-get_or, get_or-map, get_or_past, length-map}
 use Rattle.std.specs.FinMap.{get, empty}
 use Rattle.std.specs.List.{flat_map}
-use Rattle.std.specs.Option.{ok_or, option_map, option_and_then}
+use Rattle.std.specs.Option.{ok_or, option_map, option_and_then, option_or}
 use Rattle.std.specs.Result.{result_ok, result_err}
-use Rattle.std.specs.Prelude.{IsErrAnd}
-use Rattle.trade_base.specs.declared.id.AccountId.{AccountId}
+use Rattle.std.specs.Prelude.{IsErrAnd, IsSome}
 use Rattle.trade_base.specs.declared.id.SessionId.{SessionId}
 use Rattle.trade_base.specs.declared.refusal.Refusal.{Refusal}
-use Rattle.trade_base.specs.declared.refusal.Refusal.TheVariants.{InvalidSession, NotAScript, BadArgs}
+use Rattle.trade_base.specs.declared.refusal.Refusal.TheVariants.{InvalidSession, NotAScript, Gone, BadArgs}
 use Rattle.own_model.specs.Call.{Call}
 use Rattle.own_model.specs.Call.Call.{Open, Upgrade, CallSession, Close}
 use Rattle.own_model.specs.NatMap.{NatMap}
-use Rattle.own_model.specs.OwnState.{session_named}
+use Rattle.own_model.specs.OwnState.{OwnState, session_named}
 use Rattle.own_model.specs.OwnState.Object.{Dataspace as ADataspace}
-use Rattle.own_model.specs.OwnStep.{own_step, refused, opened_by, upgraded_by, session_called, session_closed}
+use Rattle.own_model.specs.OwnStep.{own_step, entry_step, gone_state, refused, opened_by, upgraded_by, session_called, session_closed}
 use Rattle.own_model.specs.Reply.{reply_text, log_text}
 use Rattle.own_model.specs.Reply.Reply.{Refused}
-use Rattle.own_model.specs.Routes.{fixed_routes}
-use Rattle.own_model.specs.Routes.Service.{Log as LogKind}
+use Rattle.own_model.specs.Routes.{Rule}
+use Rattle.own_model.specs.StartList.{Entry}
 use Rattle.own_model.specs.Session.{wish, wish_in, Labelled}
-use Rattle.own_model.specs.SessionArgs.{arguments_of}
-use Rattle.own_model.specs.Transcript.{nothing, state_at}
+use Rattle.own_model.specs.SessionArgs.{Arguments, arguments_of}
+use Rattle.own_model.specs.Transcript.{state_at}
 use Rattle.own_model.specs.World.{World, with_state}
+use Rattle.own_model.proofs.BalanceLemmas.{with_state_same}
 use Rattle.own_model.proofs.NatMapLemmas.{get-picked, get-empty}
 use Rattle.cap_space.specs.declared.cap.Cap.{Cap}
 use Rattle.cap_space.specs.declared.cap.Cap.TheVariants.{Dataspace, RpcObject, Session}
 use Rattle.dataspace_core.specs.Store.{Store, Part}
 use Rattle.server_frame.specs.Frame.{Row}
-use Rattle.server_frame.specs.declared.server.Server.{Server}
-use Rattle.log_service.specs.declared.service.LogService.{LogService}
-use Rattle.log_service.specs.Session.{LabelledLine}
 use Rattle.pd_core.specs.Answer.{told_alone, reply_of}
 use Rattle.pd_core.specs.declared.answer.Answer.{Answer}
-use Rattle.pd_core.specs.Component.{entry_of, kind_of, served_by, payer_of, caps_in, caps_of, rows_in, rows_of, own_in, own, IsSessionOf, NamesItsSessions, IsSoundLog, IsSoundRole, IsSound}
-use Rattle.pd_core.specs.Core.{rows_at, sessions_in, world_of, IsCore}
+use Rattle.pd_core.specs.Component.{entry_of, kind_of, served_by, payer_of, caps_in, caps_of, rows_in, rows_of, own_in, own, IsSessionOf, NamesItsSessions}
+use Rattle.pd_core.specs.Core.{Rules, rows_at, sessions_in, world_of, IsCore}
+use Rattle.pd_core.specs.Exit.{refusal_of}
 use Rattle.pd_core.specs.Own.{Sessions, object_of, own_of, own_at, part_at}
-use Rattle.pd_core.specs.SessionCalls.{IsLog, named_in, Answers}
+use Rattle.pd_core.specs.SessionCalls.{IsServing, named_in, Answers}
 use Rattle.pd_core.specs.Sound.{session_at}
 use Rattle.pd_core.specs.declared.component.Component.{Component}
 use Rattle.pd_core.specs.declared.component.Role.{Role}
-use Rattle.pd_core.specs.declared.component.Role.TheVariants.{Script as AScript, Server as AServer, Log as ALog}
+use Rattle.pd_core.specs.declared.component.Role.TheVariants.{Script as AScript, Log as ALog, Files as AFiles, Gone as AGone}
 use Rattle.pd_core.specs.declared.script.Script.{Script}
+use Rattle.pd_core.proofs.SessionCore.{AreTwo}
 use Rattle.pd_core.proofs.CoreLemmas.{outcome_is, state_is}
 use Rattle.pd_core.proofs.SessionDoneLemmas.{refused_reply}
 
@@ -59,32 +58,23 @@ ok_is None e x is = absurd (none-some x (ap result_ok is))
 ok_is (Some y) e x is = ap result_ok is
 
 -- a role's selector that names a session is a script's
-pub named_script : (role : Role) (selector : ℕ) (named : ℕ × SessionId) → named_in role selector ≡ Ok named →
+named_script : (role : Role) (selector : ℕ) (named : ℕ × SessionId) → named_in role selector ≡ Ok named →
     (script : Script) × (role ≡ AScript script) × (session_at (get script.caps.caps selector) ≡ Some named)
 named_script (AScript script) selector named is = (script, refl, ok_is (session_at (get script.caps.caps selector)) InvalidSession named is)
-named_script (AServer account) selector named is = absurd (none-some named (ap result_ok is))
 named_script (ALog account server) selector named is = absurd (none-some named (ap result_ok is))
+named_script (AFiles account server) selector named is = absurd (none-some named (ap result_ok is))
+named_script AGone selector named is = absurd (none-some named (ap result_ok is))
 
--- a component with a session is a log server
-pub log_by_row : (store : Store) (role : Role) (id : ℕ) (row : Row Labelled) → get (rows_in store role) id ≡ Some row → IsLog role
-log_by_row store (AScript script) id row there = absurd (none-some row (sym (get-empty id) ∙ there))
-log_by_row store (AServer account) id row there = absurd (none-some row (sym (get-empty id) ∙ there))
-log_by_row store (ALog account server) id row there = refl
+-- a role with a session serves
+serving_role : (store : Store) (role : Role) (id : ℕ) (row : Row Labelled) → get (rows_in store role) id ≡ Some row → IsSome (served_by role)
+serving_role store (AScript script) id row there = absurd (none-some row (sym (get-empty id) ∙ there))
+serving_role store (ALog account server) id row there = refl
+serving_role store (AFiles account server) id row there = refl
+serving_role store AGone id row there = absurd (none-some row (sym (get-empty id) ∙ there))
 
--- a script isn't one
-pub not_log : (role : Role) (script : Script) → role ≡ AScript script → IsLog role → ⊥
-not_log role script is log = none-some LogKind (ap served_by (sym is) ∙ log)
-
--- a role that is the log server's is told so
-pub log_role : (role : Role) → IsLog role → ((account : AccountId) (server : Server LogService LabelledLine) → role ≡ ALog account server → ⊥) → ⊥
-log_role (AScript script) log none = none-some LogKind log
-log_role (AServer account) log none = none-some LogKind log
-log_role (ALog account server) log none = none account server refl
-
--- and works on this memory
-pub log_works : (store : Store) (component : Component) (account : AccountId) (server : Server LogService LabelledLine) → component.role ≡ ALog account server →
-    IsSound store component → IsSoundLog store account.0 server.sessions server.map
-log_works store component account server is sound = subst (IsSoundRole store) is sound
+-- a script doesn't
+pub not_serving : (component : Component) (script : Script) → component.role ≡ AScript script → IsServing component → ⊥
+not_serving component script is serving = (let none : false ≡ true = ap (λ r. is_some (served_by r)) (sym is) ∙ serving in cc)
 
 -- ---- refusals
 
@@ -106,107 +96,107 @@ unfolding own_of
 unnamed S store script selector none =
     ap session_named (get-picked (object_of S (part_at store script)) script.caps.caps selector) ∙ no_object S (part_at store script) (get script.caps.caps selector) none
 
-module _ (S : Sessions) (store : Store) (name : List ℕ) where
+-- a call of a session is refused where its selector names none
+abbrev pub AsksFor : Call → ℕ → Type 0
+AsksFor call selector = (entry : Entry) (s : OwnState) → session_named (get s.selectors selector) ≡ None → entry_step entry call s ≡ refused s InvalidSession
+
+pub close_asks : (selector : ℕ) → AsksFor (Close selector) selector
+close_asks selector entry s none = ap (λ o. session_closed selector o s) none
+
+pub upgrade_asks : (selector : ℕ) (text : List ℕ) → AsksFor (Upgrade selector text) selector
+upgrade_asks selector text entry s none = ap (λ o. upgraded_by selector o (arguments_of text) s) none
+
+pub call_asks : (selector : ℕ) (request : List ℕ) → AsksFor (CallSession selector request) selector
+call_asks selector request entry s none = ap (λ o. session_called selector o request s) none
+
+module _ (S : Sessions) (store : Store) (name : List ℕ) (rules : List Rule) where
+  abbrev Refuses : Role → Call → Refusal → Type 0
+  Refuses role call refusal =
+      own_step (record { name = name; kind = kind_of role; routes = rules }) call (own_in S store role) ≡ refused (own_in S store role) refusal
+
   -- a call of a session that a selector doesn't name
-  pub closed_none : (role : Role) (selector : ℕ) (refusal : Refusal) → named_in role selector ≡ Err refusal →
-      own_step (record { name = name; kind = kind_of role; routes = fixed_routes }) (Close selector) (own_in S store role) ≡ refused (own_in S store role) refusal
+  unnamed_step : (call : Call) (selector : ℕ) → AsksFor call selector → (role : Role) (refusal : Refusal) → named_in role selector ≡ Err refusal → Refuses role call refusal
   unfolding own_of
-  closed_none (AScript script) selector refusal is =
+  unnamed_step call selector asks (AScript script) refusal is =
       let why = err_is (session_at (get script.caps.caps selector)) InvalidSession refusal is in
-      ap (λ o. session_closed selector o (own_at S store script)) (unnamed S store script selector why.0) ∙ ap (refused (own_at S store script)) why.1
-  closed_none (AServer account) selector refusal is = ap (refused (own_in S store (AServer account))) (same_Some NotAScript refusal (ap result_err is))
-  closed_none (ALog account server) selector refusal is = ap (refused (own_in S store (ALog account server))) (same_Some NotAScript refusal (ap result_err is))
+      asks (record { name = name; kind = kind_of (AScript script); routes = rules }) (own_at S store script) (unnamed S store script selector why.0) ∙ ap (refused (own_at S store script)) why.1
+  unnamed_step call selector asks (ALog account server) refusal is = ap (refused (own_in S store (ALog account server))) (same_Some NotAScript refusal (ap result_err is))
+  unnamed_step call selector asks (AFiles account server) refusal is = ap (refused (own_in S store (AFiles account server))) (same_Some NotAScript refusal (ap result_err is))
+  unnamed_step call selector asks AGone refusal is = ap (refused gone_state) (same_Some Gone refusal (ap result_err is))
 
-  pub upgraded_none : (role : Role) (selector : ℕ) (text : List ℕ) (refusal : Refusal) → named_in role selector ≡ Err refusal →
-      own_step (record { name = name; kind = kind_of role; routes = fixed_routes }) (Upgrade selector text) (own_in S store role) ≡ refused (own_in S store role) refusal
-  unfolding own_of
-  upgraded_none (AScript script) selector text refusal is =
-      let why = err_is (session_at (get script.caps.caps selector)) InvalidSession refusal is in
-      ap (λ o. upgraded_by selector o (arguments_of text) (own_at S store script)) (unnamed S store script selector why.0) ∙ ap (refused (own_at S store script)) why.1
-  upgraded_none (AServer account) selector text refusal is = ap (refused (own_in S store (AServer account))) (same_Some NotAScript refusal (ap result_err is))
-  upgraded_none (ALog account server) selector text refusal is = ap (refused (own_in S store (ALog account server))) (same_Some NotAScript refusal (ap result_err is))
-
-  pub called_none : (role : Role) (selector : ℕ) (request : List ℕ) (refusal : Refusal) → named_in role selector ≡ Err refusal →
-      own_step (record { name = name; kind = kind_of role; routes = fixed_routes }) (CallSession selector request) (own_in S store role) ≡ refused (own_in S store role) refusal
-  unfolding own_of
-  called_none (AScript script) selector request refusal is =
-      let why = err_is (session_at (get script.caps.caps selector)) InvalidSession refusal is in
-      ap (λ o. session_called selector o request (own_at S store script)) (unnamed S store script selector why.0) ∙ ap (refused (own_at S store script)) why.1
-  called_none (AServer account) selector request refusal is = ap (refused (own_in S store (AServer account))) (same_Some NotAScript refusal (ap result_err is))
-  called_none (ALog account server) selector request refusal is = ap (refused (own_in S store (ALog account server))) (same_Some NotAScript refusal (ap result_err is))
+  -- a call of a server, or of one that has exited
+  no_script : (call : Call) (role : Role) (refusal : Refusal) → ((script : Script) → role ≢ AScript script) → Some refusal ≡ option_or (refusal_of role) (Some NotAScript) → Refuses role call refusal
+  no_script call (AScript script) refusal other why = absurd (other script refl)
+  no_script call (ALog account server) refusal other why = ap (refused (own_in S store (ALog account server))) (same_Some NotAScript refusal (sym why))
+  no_script call (AFiles account server) refusal other why = ap (refused (own_in S store (AFiles account server))) (same_Some NotAScript refusal (sym why))
+  no_script call AGone refusal other why = ap (refused gone_state) (same_Some Gone refusal (sym why))
 
   -- a script that asks for no session that there is
-  pub opened_none : (role : Role) (script : Script) (service text : List ℕ) (refusal : Refusal) → role ≡ AScript script → wish name fixed_routes service text ≡ Err refusal →
-      own_step (record { name = name; kind = kind_of role; routes = fixed_routes }) (Open service text) (own_in S store role) ≡ refused (own_in S store role) refusal
+  unasked : (role : Role) (script : Script) (service text : List ℕ) (refusal : Refusal) → role ≡ AScript script → wish name rules service text ≡ Err refusal → Refuses role (Open service text) refusal
   unfolding own_of
-  opened_none role script service text refusal it is =
-      subst (λ r. own_step (record { name = name; kind = kind_of r; routes = fixed_routes }) (Open service text) (own_in S store r) ≡ refused (own_in S store r) refusal) (sym it)
-      (ap (λ w. opened_by w (own_at S store script)) is)
+  unasked role script service text refusal it is =
+      subst (λ r. Refuses r (Open service text) refusal) (sym it) (ap (λ w. opened_by w (own_at S store script)) is)
 
 -- a refused call leaves the world
-pub refused_answers : (store : Store) (components : List Component) (i : ℕ) (caller : Component) (call : Call) (refusal : Refusal) → i < length components → caller ≡ get_or components i caller →
-    own_step (entry_of caller) call (own (sessions_in store components) store caller) ≡ refused (own (sessions_in store components) store caller) refusal →
-    Answers call i (told_alone (reply_text (Refused refusal))) store components store components
-refused_answers store components i caller call refusal here read is =
-    let world : World = world_of store components in
-    let outcome = outcome_is store components i caller here read call ∙ is in
+pub refused_answers : (rules : Rules) (store : Store) (components : List Component) (i : ℕ) (caller : Component) (call : Call) (refusal : Refusal) → i < length components → caller ≡ get_or components i caller →
+    own_step (entry_of (rules i) caller) call (own (sessions_in store components) store caller) ≡ refused (own (sessions_in store components) store caller) refusal →
+    Answers rules call i (told_alone (reply_text (Refused refusal))) store components store components
+refused_answers rules store components i caller call refusal here read is =
+    let world : World = world_of rules store components in
+    let outcome = outcome_is rules store components i caller here read call ∙ is in
     let same : own (sessions_in store components) store caller ≡ state_at world.states i = sym (state_is store components i caller here read) in
     record {
       answered = ap (λ o. reply_text o.reply) (sym outcome);
       lines = ap (λ o. flat_map log_text o.lines) (sym outcome);
-      stepped = sym (ap (λ o. with_state world i o.next) outcome ∙ ap (with_state world i) same ∙ ap (λ states. record world { states = states }) (set-get_or world.states i nothing));
+      stepped = sym (ap (λ o. with_state world i o.next) outcome ∙ ap (with_state world i) same ∙ with_state_same world i);
     }
 
--- a server whose table has a session stands among the components, and is a log server
-pub log_stands : (store : Store) (components : List Component) (s id : ℕ) (row : Row Labelled) → get (rows_at store components s) id ≡ Some row →
-    (s < length components) × ((d : Component) → IsLog (get_or components s d).role)
-log_stands store components s id row there = elim (cases_lt s (length components)) [
-  | inl within ↦
-      (within, λ d. log_by_row store (get_or components s d).role id row (ap (λ (m : NatMap (Row Labelled)). get m id) (sym (get_or-map (rows_of store) components s d empty within)) ∙ there))
-  | inr past ↦
-      absurd (none-some row (sym (get-empty id) ∙ ap (λ (m : NatMap (Row Labelled)). get m id) (sym (get_or_past (map (rows_of store) components) s empty (omega (arith, past, length-map components (rows_of store))))) ∙ there))
-]
+-- the component that is read at a place calls
+module _ (rules : Rules) {store : Store} {components : List Component} {i : ℕ} {d : Component} (core : IsCore store components) (here : i < length components) (read : d ≡ get_or components i d) where
+  abbrev caller : Component
+  caller = get_or components i d
+
+  abbrev IsRefused : Call → Refusal → Type 0
+  IsRefused call refusal = Answers rules call i (told_alone (reply_text (Refused refusal))) store components store components
+
+  pub unnamed_answers : {call : Call} (selector : ℕ) (asks : AsksFor call selector) {found : Result (ℕ × SessionId) Refusal} (refusal : Refusal) → found ≡ named_in caller.role selector → found ≡ Err refusal → IsRefused call refusal
+  unnamed_answers {call} selector asks refusal result was =
+      refused_answers rules store components i caller call refusal here (ap (get_or components i) read)
+      (unnamed_step (sessions_in store components) store caller.name.items (rules i) call selector asks caller.role refusal (sym result ∙ was))
+
+  pub no_script_answers : (call : Call) (refusal : Refusal) → ((script : Script) → caller.role ≢ AScript script) → Some refusal ≡ option_or (refusal_of caller.role) (Some NotAScript) → IsRefused call refusal
+  no_script_answers call refusal other why =
+      refused_answers rules store components i caller call refusal here (ap (get_or components i) read) (no_script (sessions_in store components) store caller.name.items (rules i) call caller.role refusal other why)
+
+  pub unasked_answers : (script : Script) (service text : List ℕ) (refusal : Refusal) → caller.role ≡ AScript script → wish caller.name.items (rules i) service text ≡ Err refusal → IsRefused (Open service text) refusal
+  unasked_answers script service text refusal it is =
+      refused_answers rules store components i caller (Open service text) refusal here (ap (get_or components i) read)
+      (unasked (sessions_in store components) store caller.name.items (rules i) caller.role script service text refusal it is)
 
 -- what a call that is refused gives back
-pub refused_result : (store : Store) (components : List Component) (i : ℕ) (call : Call) (refusal : Refusal) (r : Result Answer Refusal) → IsErrAnd r (λ y. y ≡ refusal) →
-    Answers call i (told_alone (reply_text (Refused refusal))) store components store components → Answers call i (told_alone (reply_text (reply_of r))) store components store components
-refused_result store components i call refusal r is answers =
-    subst (λ o. Answers call i (told_alone (reply_text o)) store components store components) (sym (refused_reply r refusal is)) answers
+pub passed_on : {rules : Rules} {call : Call} {i : ℕ} {store store' : Store} {components components' : List Component} (refusal : Refusal) (r : Result Answer Refusal) → IsErrAnd r (λ y. y ≡ refusal) →
+    Answers rules call i (told_alone (reply_text (Refused refusal))) store components store' components' → Answers rules call i (told_alone (reply_text (reply_of r))) store components store' components'
+passed_on {rules} {call} {i} {store} {store'} {components} {components'} refusal r is answers =
+    subst (λ o. Answers rules call i (told_alone (reply_text o)) store components store' components') (sym (refused_reply r refusal is)) answers
+
+-- a component that is put back as it was read leaves all, where the memory stays
+pub unchanged : (P : Store → List Component → Type 0) {store store' : Store} (components : List Component) (s : ℕ) (d : Component) {after : Component} → store' ≡ store → after ≡ get_or components s d →
+    P store components → P store' (set components s after)
+unchanged P {store} {store'} components s d {after} same_store same holds =
+    subst (λ m. P m (set components s after)) (sym same_store) (subst (P store) (sym (ap (set components s) same ∙ set-get_or components s d)) holds)
+
+-- the text of arguments can't be read
+pub unread_wish : (name : List ℕ) (rules : List Rule) (service text : List ℕ) → arguments_of text ≡ None → wish name rules service text ≡ Err BadArgs
+unread_wish name rules service text none = ap (wish_in name rules service) none
+
+-- arguments are their parts
+pub arguments_are : (text : List ℕ) {args : Arguments} (ram caps : ℕ) (label : List ℕ) → arguments_of text ≡ Some args → ram ≡ args.ram → caps ≡ args.caps → label ≡ args.label →
+    arguments_of text ≡ Some (record { ram = ram; caps = caps; label = label })
+arguments_are text ram caps label reads e f g = reads ∙ (λ j. Some (record { ram = sym e j; caps = sym f j; label = sym g j }))
 
 -- ---- the components that a call is between
 
-module _ (store : Store) (components : List Component) (i : ℕ) (caller : Component) (here : i < length components) (read : caller ≡ get_or components i caller) (core : IsCore store components)
-    (selector : ℕ) (named : ℕ × SessionId) (is : named_in caller.role selector ≡ Ok named) where
-  -- the selector's capability
-  pub named_at : session_at (get (caps_of caller) selector) ≡ Some named
-  named_at =
-      let its = named_script caller.role selector named is in
-      subst (λ role. session_at (get (caps_in role) selector) ≡ Some named) (sym its.1) its.2
-
-  -- its session is the caller's
-  pub named_session : IsSessionOf (payer_of caller) (get (rows_at store components named.0) named.1.0)
-  named_session =
-      let names = subst (λ c. NamesItsSessions (rows_at store components) (payer_of c) (caps_of c)) (sym read) (core.named i caller here) in
-      names.its selector named.0 named.1 named_at
-
-  -- a log server serves it
-  pub server_stands : (named.0 < length components) × ((d : Component) → IsLog (get_or components named.0 d).role)
-  server_stands = log_stands store components named.0 named.1.0 named_session.row named_session.there
-
-  -- and isn't the caller
-  pub server_apart : i ≢ named.0
-  server_apart e =
-      let its = named_script caller.role selector named is in
-      not_log caller.role its.0 its.1 (subst (λ c. IsLog c.role) (sym (read ∙ ap (λ k. get_or components k caller) e)) (server_stands.1 caller))
-
--- ---- why a session isn't asked for
-
--- the text of arguments can't be read
-pub unread_wish : (name service text : List ℕ) → arguments_of text ≡ None → wish name fixed_routes service text ≡ Err BadArgs
-unread_wish name service text none = ap (wish_in name fixed_routes service) none
-
--- ---- what is found
-
+-- a capability that names a session
 cap_of : (o : Option Cap) (named : ℕ × SessionId) → session_at o ≡ Some named → o ≡ Some (Session named.0 named.1)
 cap_of None named is = absurd (none-some named is)
 cap_of (Some (Dataspace ds)) named is = absurd (none-some named is)
@@ -214,8 +204,77 @@ cap_of (Some RpcObject) named is = absurd (none-some named is)
 cap_of (Some (Session server session)) named is =
     let same = same_Some (server, session) named is in ap (λ (p : ℕ × SessionId). Some (Session p.0 p.1)) same
 
--- a script's selector names the session that is found
-pub named_cap : (role : Role) (script : Script) (selector : ℕ) (named : ℕ × SessionId) → role ≡ AScript script → named_in role selector ≡ Ok named →
-    get script.caps.caps selector ≡ Some (Session named.0 named.1)
-named_cap role script selector named is found =
-    cap_of (get script.caps.caps selector) named (ok_is (session_at (get script.caps.caps selector)) InvalidSession named (ap (λ r. named_in r selector) (sym is) ∙ found))
+-- a selector of the component at a place names a session, by its server's place and its key there
+pub record Names (store : Store) (components : List Component) (i : ℕ) (caller : Component) (selector : ℕ) (named : ℕ × SessionId) : Type 0 where
+  pub core : IsCore store components
+  pub here : i < length components
+  pub read : caller ≡ get_or components i caller
+  pub is : named_in caller.role selector ≡ Ok named
+
+-- so does the one that is read there, where it is found
+pub names_by : {store : Store} {components : List Component} {i : ℕ} {d : Component} {selector : ℕ} {named : ℕ × SessionId} {found : Result (ℕ × SessionId) Refusal} → IsCore store components → i < length components →
+    d ≡ get_or components i d → found ≡ named_in (get_or components i d).role selector → found ≡ Ok named → Names store components i (get_or components i d) selector named
+names_by {components = components} {i = i} core here read result was = record { core = core; here = here; read = ap (get_or components i) read; is = sym result ∙ was }
+
+-- the server of a session stands at a place that isn't the caller's
+pub record ServerStands (components : List Component) (i s : ℕ) : Type 0 where
+  pub within : s < length components
+  pub apart : i ≢ s
+  pub serving : (d : Component) → IsServing (get_or components s d)
+
+-- a server whose table has a session stands among the components, and serves
+pub server_by_row : (store : Store) (components : List Component) (s id : ℕ) (row : Row Labelled) → get (rows_at store components s) id ≡ Some row →
+    (s < length components) × ((d : Component) → get (rows_of store (get_or components s d)) id ≡ Some row)
+server_by_row store components s id row there = elim (cases_lt s (length components)) [
+  | inl within ↦
+      (within, λ d. ap (λ (m : NatMap (Row Labelled)). get m id) (sym (get_or-map (rows_of store) components s d empty within)) ∙ there)
+  | inr past ↦
+      absurd (none-some row (sym (get-empty id) ∙ ap (λ (m : NatMap (Row Labelled)). get m id) (sym (get_or_past (map (rows_of store) components) s empty (omega (arith, past, length-map components (rows_of store))))) ∙ there))
+]
+
+module _ {store : Store} {components : List Component} {i : ℕ} {caller : Component} {selector : ℕ} {named : ℕ × SessionId} (names : Names store components i caller selector named) where
+  open names use {core, here, read, is}
+
+  -- the selector is a script's
+  its : (script : Script) × (caller.role ≡ AScript script) × (session_at (get script.caps.caps selector) ≡ Some named)
+  its = named_script caller.role selector named is
+
+  -- its session is the caller's
+  pub named_session : IsSessionOf (payer_of caller) (get (rows_at store components named.0) named.1.0)
+  named_session =
+      let all = subst (λ c. NamesItsSessions (rows_at store components) (payer_of c) (caps_of c)) (sym read) (core.named i caller here) in
+      all.its selector named.0 named.1 (subst (λ role. session_at (get (caps_in role) selector) ≡ Some named) (sym its.1) its.2)
+
+  pub stands : ServerStands components i named.0
+  stands =
+      let server = server_by_row store components named.0 named.1.0 named_session.row named_session.there in
+      let serving : (d : Component) → IsServing (get_or components named.0 d) = λ d. serving_role store (get_or components named.0 d).role named.1.0 named_session.row (server.1 d) in
+      record {
+        within = server.0;
+        apart = λ e. not_serving caller its.0 its.1 (subst IsServing (sym (read ∙ ap (λ k. get_or components k caller) e)) (serving caller));
+        serving = serving;
+      }
+
+  -- the caller is a script, whose selector is the session's
+  pub named_role : (script : Script) × (caller.role ≡ AScript script)
+  named_role = (its.0, its.1)
+
+  pub named_cap : get (named_role.0).caps.caps selector ≡ Some (Session named.0 named.1)
+  unfolding named_role
+  named_cap = cap_of (get (its.0).caps.caps selector) named its.2
+
+  -- the server stays where the caller is replaced
+  pub named_beside : (client d : Component) → get_or (set components i client) named.0 d ≡ get_or components named.0 d
+  named_beside client d = get_or-set_other components i named.0 client d (λ e. stands.apart (sym e))
+
+  -- so a script stands at one place and a server at another
+  pub named_two : {host : Component} (d : Component) → host ≡ get_or components named.0 d → AreTwo store components i named.0 caller host (named_role.0)
+  named_two {host} d at = record {
+    here = here;
+    there = stands.within;
+    caller_read = read;
+    host_read = at ∙ get_or_default components named.0 d host stands.within;
+    is_script = named_role.1;
+    serving = subst IsServing (sym at) (stands.serving d);
+    core = core;
+  }

@@ -8,7 +8,6 @@ use Rattle.std.proofs.lemmas.Bool.{cases_eq, cases_lt}
 use Rattle.std.proofs.lemmas.Bool.Decides.{nat_tests}
 use Rattle.std.proofs.lemmas.Option.{none-some, same_Some}
 use Rattle.std.proofs.lemmas.List.{get_or-map, get_or_past, length-map}
-use Rattle.trade_base.specs.declared.id.AccountId.{AccountId}
 use Rattle.trade_base.specs.declared.id.SessionId.{SessionId}
 use Rattle.own_model.specs.Account.{Account, Fits, opened, parted_with}
 use Rattle.own_model.specs.Donation.{raised}
@@ -25,50 +24,28 @@ use Rattle.dataspace_core.specs.Store.{Store, Part, part, root_in, account_in, a
 use Rattle.dataspace_core.proofs.LimitLaws.{accounts_after}
 use Rattle.dataspace_core.proofs.PartLaws.{account_of-part, open_in_part, part_open}
 use Rattle.dataspace_core.proofs.RoomLaws.{limits_moved, limits_opened, room_for_one_more, room_is_taken, room_is_raised, room_stays, room_is_given_back}
-use Rattle.slab.specs.Slab.{slab_len}
 use Rattle.own_model.specs.Session.{session_account, donation_refusal, Labelled}
 use Rattle.own_model.proofs.SessionLemmas.{donation_covered, large_enough}
-use Rattle.quota_core.proofs.SlabMap.{get-map_of_at}
-use Rattle.server_frame.specs.Laws.{HasClients}
-use Rattle.server_frame.specs.Session.{HasBlocksAlone}
-use Rattle.server_frame.proofs.PlaceLaws.{table_has_place, opens_an_account}
-use Rattle.server_frame.proofs.RowLaws.{no_session_by_rows}
+use Rattle.server_frame.proofs.PlaceLaws.{opens_an_account}
+use Rattle.server_frame.proofs.RowLaws.{IsNoRows}
 use Rattle.pd_core.proofs.ComponentLemmas.{component_open}
-use Rattle.server_frame.specs.Frame.{row_of, IsNoSession, OpensSession, Row}
-use Rattle.server_frame.specs.declared.server.Server.{Server}
-use Rattle.log_service.specs.declared.service.LogService.{LogService}
-use Rattle.log_service.specs.Session.{LabelledLine}
+use Rattle.server_frame.specs.Frame.{OpensSession, Row}
 use Rattle.pd_core.specs.Own.{object_of, own_of, part_at}
 use Rattle.pd_core.specs.Sound.{session_at, session_weight, IsSoundScript}
-use Rattle.pd_core.specs.Sessions.{log_value, log_rows, row_session, IsLogServer, NamesSession}
-use Rattle.pd_core.specs.Component.{payer_in, payer_of, caps_in, places_in, rows_in, rows_of, own_in, IsSessionOf, NamesItsSessions, IsSoundRole}
-use Rattle.pd_core.specs.Core.{rows_at, sessions_in, IsCore}
-use Rattle.pd_core.proofs.SessionCore.{IsRowOf, IsAccountOf, ChangesSession, rows_with}
+use Rattle.pd_core.specs.Sessions.{row_session, NamesSession}
+use Rattle.pd_core.specs.Component.{IsLiveRole, payer_in, payer_of, caps_in, places_in, rows_of, own_in, IsSessionOf, NamesItsSessions, HasPlace, Works, IsSoundRole}
+use Rattle.pd_core.specs.Core.{rows_at, sessions_in}
+use Rattle.pd_core.proofs.SessionCore.{AreTwo, IsRowOf, NamesAccount, IsAccountOf, ChangesSession, rows_with}
 use Rattle.pd_core.specs.declared.component.Role.{Role}
-use Rattle.pd_core.specs.declared.component.Role.TheVariants.{Script as AScript, Server as AServer, Log as ALog}
+use Rattle.pd_core.specs.declared.component.Role.TheVariants.{Script as AScript}
 use Rattle.pd_core.specs.declared.component.Component.{Component}
 use Rattle.pd_core.specs.declared.script.Script.{Script}
 use Rattle.pd_core.proofs.SessionOpenLemmas.{NamesOpen}
-use Rattle.pd_core.proofs.SessionDoneLemmas.{row_is, row_account, client_apart}
+use Rattle.pd_core.proofs.ServerLemmas.{IsPaidRow, paid_in, keys_differ_in, sound_works, AreClients, place_in}
 
 -- what is so of all components' roles is so of one that is read
 role_at : (P : Role → Type 0) (components : List Component) (k : ℕ) (c : Component) (role : Role) → k < length components → c ≡ get_or components k c → c.role ≡ role → All (λ d. P d.role) components → P role
 role_at P components k c role within read is all = subst P (ap (λ (d : Component). d.role) (sym read) ∙ is) (all k c within)
-
--- the account of a row is another's child and open, and has two capabilities
-record IsPaidRow (store : Store) (row : Row Labelled) : Type 0 where
-  child : IsChildIn store row.key row.client
-  account : account_in store row.key ≡ row.account
-
-row_child : (store : Store) (role : Role) → IsSoundRole store role → (id : ℕ) (row : Row Labelled) → get (rows_in store role) id ≡ Some row → IsPaidRow store row
-row_child store (AScript script) sound id row there = absurd (none-some row (sym (get-empty id) ∙ there))
-row_child store (AServer pays) sound id row there = absurd (none-some row (sym (get-empty id) ∙ there))
-row_child store (ALog pays server) sound id row there =
-    let its = row_is server.sessions store server.map id row there in
-    record {
-      child = subst (λ (r : Row Labelled). IsChildIn store r.key r.client) its.is (sound.server.each id its.session its.there).child;
-      account = row_account server.sessions store server.map id row there;
-    }
 
 -- ---- selectors
 
@@ -100,10 +77,10 @@ module _ (rows : ℕ → NatMap (Row Labelled)) (s key : ℕ) (rows' : NatMap (R
     once = once;
   }
 
--- a script stands at one place of the components and a log server at another
-module _ (store : Store) (components : List Component) (i s : ℕ) (caller host : Component) (script : Script) (pays : AccountId) (server : Server LogService LabelledLine)
-    (here : i < length components) (there : s < length components) (caller_read : caller ≡ get_or components i caller) (host_read : host ≡ get_or components s host)
-    (is_script : caller.role ≡ AScript script) (is_log : host.role ≡ ALog pays server) (core : IsCore store components) where
+-- a script stands at one place of the components and a server at another
+module _ {store : Store} {components : List Component} {i s : ℕ} {caller host : Component} {script : Script} (two : AreTwo store components i s caller host script) where
+  open two use {here, there, caller_read, host_read, is_script, serving, core}
+
   abbrev payer : ℕ
   payer = script.account.0
 
@@ -111,23 +88,30 @@ module _ (store : Store) (components : List Component) (i s : ℕ) (caller host 
   rows = rows_at store components
 
   abbrev server_rows : NatMap (Row Labelled)
-  server_rows = log_rows server.sessions store server.map
+  server_rows = rows_of store host
 
   at_script : (P : Role → Type 0) → All (λ d. P d.role) components → P (AScript script)
   at_script P all = role_at P components i caller (AScript script) here caller_read is_script all
 
-  at_server : (P : Role → Type 0) → All (λ d. P d.role) components → P (ALog pays server)
-  at_server P all = role_at P components s host (ALog pays server) there host_read is_log all
+  at_server : (P : Role → Type 0) → All (λ d. P d.role) components → P host.role
+  at_server P all = role_at P components s host host.role there host_read refl all
+
+  -- it is sound
+  pub server_sound : IsSoundRole store host.role
+  server_sound = at_server (IsSoundRole store) core.sound
+
+  works : Works store host.role
+  works = sound_works store host.role server_sound
 
   -- the rows at the server's place are its own
-  rows_are : rows s ≡ server_rows
-  rows_are = get_or-map (rows_of store) components s host empty there ∙ ap (rows_of store) (sym host_read) ∙ ap (rows_in store) is_log
+  pub rows_are : rows s ≡ server_rows
+  rows_are = get_or-map (rows_of store) components s host empty there ∙ ap (rows_of store) (sym host_read)
 
   -- each row's account is its client's child
   paid_row : (at id : ℕ) (row : Row Labelled) → get (rows at) id ≡ Some row → IsPaidRow store row
   paid_row at id row is = elim (cases_lt at (length components)) [
     | inl within ↦
-        row_child store (get_or components at caller).role (core.sound at caller within) id row
+        paid_in store (get_or components at caller).role (sound_works store (get_or components at caller).role (core.sound at caller within)) id row
         (ap (λ (m : NatMap (Row Labelled)). get m id) (sym (get_or-map (rows_of store) components at caller empty within)) ∙ is)
     | inr past ↦
         absurd (none-some row (sym (get-empty id)
@@ -140,7 +124,7 @@ module _ (store : Store) (components : List Component) (i s : ℕ) (caller host 
       let paid = paid_row at id row is in
       subst (λ (a : Account). 2 ≤ a.caps_limit) paid.account (core.room.paid row.key row.client paid.child (core.sessions.each at id row is).client)
 
-  named : NamesItsSessions rows payer script.caps.caps
+  pub named : NamesItsSessions rows payer script.caps.caps
   named = at_script (λ r. NamesItsSessions rows (payer_in r) (caps_in r)) core.named
 
   -- an account of an open session
@@ -149,13 +133,10 @@ module _ (store : Store) (components : List Component) (i s : ℕ) (caller host 
     not_init = (core.sessions.each s key row is).not_init;
     others = (core.sessions.each s key row is).others;
     its = λ other id next at e.
-        let same = core.sessions.apart other s id key next row at is e in
-        let log = at_server (IsSoundRole store) core.sound in
-        let one = row_is server.sessions store server.map id next (ap (λ (m : NatMap (Row Labelled)). get m id) (sym (ap rows same ∙ rows_are)) ∙ at) in
-        let two = row_is server.sessions store server.map key row (ap (λ (m : NatMap (Row Labelled)). get m key) (sym rows_are) ∙ is) in (
+        let same = core.sessions.apart other s id key next row at is e in (
           same,
-          log.server.apart id key one.session two.session one.there two.there
-              (ap (λ (r : Row Labelled). r.key) one.is ∙ e ∙ sym (ap (λ (r : Row Labelled). r.key) two.is)),
+          keys_differ_in store host.role works id key next row (ap (λ (m : NatMap (Row Labelled)). get m id) (sym (ap rows same ∙ rows_are)) ∙ at)
+              (ap (λ (m : NatMap (Row Labelled)). get m key) (sym rows_are) ∙ is) e,
         );
   }
 
@@ -182,7 +163,7 @@ module _ (store : Store) (components : List Component) (i s : ℕ) (caller host 
         omega (arith, least, found)
 
     -- there is a place for each selector that the account could pay for with the session's limits
-    placed : (account_in store payer).caps_limit + row.account.caps_limit + total session_weight script.caps.caps ≤ script.caps.places + 1
+    pub placed : (account_in store payer).caps_limit + row.account.caps_limit + total session_weight script.caps.caps ≤ script.caps.places + 1
     unfolding own_of
     placed =
         let all = at_script (λ r. IfSome (places_in r) (λ p. caps_limits (own_in (sessions_in store components) store r) ≤ p)) core.placed in
@@ -194,7 +175,7 @@ module _ (store : Store) (components : List Component) (i s : ℕ) (caller host 
         let account = ap (λ (a : Account). a.caps_limit) (account_of-part payer store) in
         omega (arith, all, selectors, weights, costs, found, rest, account)
 
-    pub names_session : NamesSession script store server_rows q s session
+    abbrev pub names_session : NamesSession script store server_rows q s session
     names_session = record {
       row = row;
       there = ap (λ (m : NatMap (Row Labelled)). get m session.0) (sym rows_are) ∙ its.there;
@@ -206,25 +187,22 @@ module _ (store : Store) (components : List Component) (i s : ℕ) (caller host 
 
     -- ---- what the calls change
 
-    -- the row as the server keeps it
-    pub kept : get server_rows session.0 ≡ Some row
-    kept = ap (λ (m : NatMap (Row Labelled)). get m session.0) (sym rows_are) ∙ its.there
-
-    log_server : IsLogServer server.sessions store server.map
-    log_server = (at_server (IsSoundRole store) core.sound).server
+    -- its account is its client's child, and what the row tells
+    pub row_paid : IsPaidRow store row
+    row_paid = paid_row s session.0 row its.there
 
     row_apart : row.client ≢ row.key
-    row_apart = client_apart server.sessions store server.map log_server session.0 row kept
+    row_apart = row_paid.apart
 
     child : IsChildIn store row.key row.client
-    child = (paid_row s session.0 row its.there).child
+    child = row_paid.child
 
     client_open : IsOpenIn store row.client
     client_open = subst (IsOpenIn store) (sym its.client) (open_in_part payer store (at_script (IsSoundRole store) core.sound).own.paid.is_open)
 
     client_outer : IsOuter store row.client
     client_outer parent is =
-        let below = at_script (λ r. IsChildIn store (payer_in r) (root_in store)) core.children in
+        let below = at_script (λ r. IsLiveRole r → IsChildIn store (payer_in r) (root_in store)) core.children tt in
         same_Some _ _ (sym is ∙ ap (λ k. get store.books.parents k) its.client ∙ below)
 
     -- the row before is this one
@@ -254,6 +232,10 @@ module _ (store : Store) (components : List Component) (i s : ℕ) (caller host 
           (λ p other is same. record { row = next; there = written_here; client = next_client ∙ its.client })
           named.once
 
+      -- the selector still names it
+      written_held : NamesAccount s payer row.key rows' script.caps.caps
+      written_held = record { selector = q; session = session; names = ap session_at names; row = next; there = written_here; is = written_row next written_here }
+
       -- more is donated for it
       pub changes_raised : (ram caps : ℕ) → RaisesPart row.client row.key ram caps store store' → Fits (account_in store row.client) ram caps → IsSoundScript store' script → ram_limits_in store' ≡ ram_limits_in store →
           ChangesSession s session.0 row.key store store' script script rows rows'
@@ -262,6 +244,8 @@ module _ (store : Store) (components : List Component) (i s : ℕ) (caller host 
         pays = refl;
         places = refl;
         named = written_named;
+        kept = λ p at other is _. is;
+        held = λ _ _. written_held;
         others = λ other not_payer not_account. raises.others other (λ e. not_payer (e ∙ its.client)) not_account;
         parents = λ other _. ap (λ (m : NatMap ℕ). get m other) raises.parents;
         parent = λ other is. same_Some _ _ (sym is ∙ ap (λ (m : NatMap ℕ). get m row.key) raises.parents ∙ child) ∙ its.client;
@@ -296,7 +280,7 @@ module _ (store : Store) (components : List Component) (i s : ℕ) (caller host 
         limit_stays =
             ap (λ (o : Option Account). (unwrap_or o (opened 0 0)).caps_limit) (sym has.1)
             ∙ ap (λ (a : Account). a.caps_limit) (account_of-part row.key store') ∙ same_limit
-            ∙ ap (λ (a : Account). a.caps_limit) (sym (paid_row s session.0 row its.there).account)
+            ∙ ap (λ (a : Account). a.caps_limit) (sym row_paid.account)
 
         pub changes_served : IsSoundScript store' script → ram_limits_in store' ≡ ram_limits_in store → ChangesSession s session.0 row.key store store' script script rows rows'
         changes_served sound limits = record {
@@ -304,6 +288,8 @@ module _ (store : Store) (components : List Component) (i s : ℕ) (caller host 
           pays = refl;
           places = refl;
           named = written_named;
+          kept = λ p at other is _. is;
+          held = λ _ _. written_held;
           others = λ other _ not_account. others other not_account;
           parents = λ other _. ap (λ (m : NatMap ℕ). get m other) parents;
           parent = λ other is. same_Some _ _ (sym is ∙ ap (λ (m : NatMap ℕ). get m row.key) parents ∙ child) ∙ its.client;
@@ -345,10 +331,22 @@ module _ (store : Store) (components : List Component) (i s : ℕ) (caller host 
           (λ p other is same. absurd (not_closed p s other is (named.once p q s other session (named_before p s other is) (ap session_at names) same)))
           (λ p r at a b is js e. named.once p r at a b (named_before p at a is) (named_before r at b js) e)
 
+      -- all other sessions are named as before
+      closed_kept : (p at : ℕ) (other : SessionId) → session_at (get script.caps.caps p) ≡ Some (at, other) → ((at ≡ s) → (other.0 ≡ session.0) → ⊥) → session_at (get closed_script.caps.caps p) ≡ Some (at, other)
+      closed_kept p at other is apart = elim (cases_eq p q) [
+        | inl e ↦
+            let same : ◌≡◌ {A = ℕ × SessionId} (s, session) (at, other) = same_Some _ _ (sym (ap (λ k. session_at (get script.caps.caps k)) e ∙ ap session_at names) ∙ is) in
+            absurd (apart (ap (λ (x : ℕ × SessionId). x.0) (sym same)) (ap (λ (x : ℕ × SessionId). x.1.0) (sym same)))
+        | inr e ↦ ap session_at (get-remove_other script.caps.caps q p e) ∙ is
+      ]
+
       module _ (closes : ClosesPart row.key row.client store store') where
         account_gone : get (accounts_in store') row.key ≡ None
         unfolding part
         account_gone = ap (λ (p : Part). p.account) closes.closed_one
+
+        key_gone : get (parents_in store') row.key ≡ None
+        key_gone = ap (λ (m : NatMap ℕ). get m row.key) closes.parents ∙ get-remove_same (parents_in store) row.key row.key refl
 
         client_still : IsOpenIn store' row.client
         client_still = open_in_part row.client store' (ap (λ (p : Part). is_some p.account) closes.raised_one)
@@ -372,9 +370,11 @@ module _ (store : Store) (components : List Component) (i s : ℕ) (caller host 
           pays = refl;
           places = refl;
           named = closed_named;
+          kept = closed_kept;
+          held = λ other is. absurd (none-some other (sym key_gone ∙ is));
           others = λ other not_payer not_account. closes.others other not_account (λ e. not_payer (e ∙ its.client));
           parents = λ other apart. ap (λ (m : NatMap ℕ). get m other) closes.parents ∙ get-remove_other (parents_in store) row.key other apart;
-          parent = λ other is. absurd (none-some other (sym (ap (λ (m : NatMap ℕ). get m row.key) closes.parents ∙ get-remove_same (parents_in store) row.key row.key refl) ∙ is));
+          parent = λ other is. absurd (none-some other (sym key_gone ∙ is));
           root = closes.root;
           ram = limits;
           caps = sym (limits_opened (λ x. x.caps_limit) row.client row.key client_had.0 key_had.0 store' store client_had.1 key_had.1
@@ -387,32 +387,25 @@ module _ (store : Store) (components : List Component) (i s : ℕ) (caller host 
 
   -- ---- a session is opened
 
-  payer_open : IsOpenIn store payer
+  pub payer_open : IsOpenIn store payer
   payer_open = open_in_part payer store (at_script (IsSoundRole store) core.sound).own.paid.is_open
 
   payer_outer : IsOuter store payer
-  payer_outer parent is = same_Some _ _ (sym is ∙ at_script (λ r. IsChildIn store (payer_in r) (root_in store)) core.children)
-
-  server_sound : IsLogServer server.sessions store server.map
-  server_sound = (at_server (IsSoundRole store) core.sound).server
+  payer_outer parent is = same_Some _ _ (sym is ∙ at_script (λ r. IsLiveRole r → IsChildIn store (payer_in r) (root_in store)) core.children tt)
 
   row_here : (id : ℕ) (r : Row Labelled) → get server_rows id ≡ Some r → get (rows s) id ≡ Some r
   row_here id r is = ap (λ (m : NatMap (Row Labelled)). get m id) rows_are ∙ is
 
   -- no session is on the script's account
-  pub no_session : IsNoSession server.sessions payer
-  no_session =
-      no_session_by_rows log_value server.sessions store server.map payer
-      (λ id row is e. at_script (λ r. payer_in r ≢ row.key) (core.sessions.each s id row (row_here id row is)).others (sym e))
+  pub no_session : IsNoRows server_rows payer
+  no_session id row is e = at_script (λ r. IsLiveRole r → payer_in r ≢ row.key) (core.sessions.each s id row (row_here id row is)).others tt (sym e)
 
   -- each session that it names is open
   pub names_open : NamesOpen script server_rows s
   names_open q session is = ap is_some (ap (λ (m : NatMap (Row Labelled)). get m session.0) (sym rows_are) ∙ (named.its q s session (ap session_at is)).there)
 
-  clients : HasClients server.sessions store
-  clients id session is =
-      (core.sessions.each s id (row_of log_value store server.map session)
-      (row_here id _ (get-map_of_at (row_of log_value store server.map) server.sessions id session is))).client
+  clients : AreClients store host.role
+  clients id row is = (core.sessions.each s id row (row_here id row is)).client
 
   module _ (ram caps : ℕ) (accepted : donation_refusal (account_in store payer) ram caps ≡ None) where
     fits : Fits (account_in store payer) ram caps
@@ -422,10 +415,8 @@ module _ (store : Store) (components : List Component) (i s : ℕ) (caller host 
     least = (large_enough ram caps (donation_covered (account_in store payer) ram caps accepted).1).1
 
     -- there is a place for it, and for its account
-    pub has_place : slab_len server.sessions < server.sessions.capacity
-    has_place =
-        table_has_place (λ line share. HasBlocksAlone share) server.sessions store server.map payer ram caps server.sessions.capacity server_sound clients core.room no_session fits least
-        (at_server (IsSoundRole store) core.sound).places
+    pub has_place : HasPlace host.role
+    has_place = place_in store host.role serving server_sound clients core.room payer ram caps no_session fits least
 
     pub has_room : 0 < room_in store
     has_room = room_for_one_more store payer ram caps core.room payer_outer fits least
@@ -438,7 +429,7 @@ module _ (store : Store) (components : List Component) (i s : ℕ) (caller host 
       pub account_of_new : IsAccountOf (root_in store) components rows s session.0 opens.key
       account_of_new = record {
         not_init = λ e. not_new (root_in store) core.init (sym e);
-        others = λ k d within. not_new (payer_of (get_or components k d)) (open_in_part (payer_of (get_or components k d)) store (component_open store (get_or components k d) (core.sound k d within)));
+        others = λ k d within live. not_new (payer_of (get_or components k d)) (open_in_part (payer_of (get_or components k d)) store (component_open store (get_or components k d) (core.sound k d within) live));
         its = λ other id row is e. absurd (not_new row.key (core.room.there row.key row.client (paid_row other id row is).child) e);
       }
 
@@ -465,6 +456,13 @@ module _ (store : Store) (components : List Component) (i s : ℕ) (caller host 
 
         opened_here : (p at : ℕ) (other : SessionId) → p ≡ selector → session_at (get opened_script.caps.caps p) ≡ Some (at, other) → ◌≡◌ {A = ℕ × SessionId} (s, session) (at, other)
         opened_here p at other e is = same_Some _ _ (sym (ap session_at (get-insert_same script.caps.caps selector (Session s session) p e)) ∙ is)
+
+        -- all other sessions are named as before
+        opened_kept : (p at : ℕ) (other : SessionId) → session_at (get script.caps.caps p) ≡ Some (at, other) → session_at (get opened_script.caps.caps p) ≡ Some (at, other)
+        opened_kept p at other is = elim (cases_eq p selector) [
+          | inl e ↦ absurd (none-some (at, other) (sym (ap (λ k. session_at (get script.caps.caps k)) e ∙ ap session_at free) ∙ is))
+          | inr e ↦ ap session_at (get-insert_other script.caps.caps selector (Session s session) p e) ∙ is
+        ]
 
         -- no other selector names it
         new_alone : (p q at : ℕ) (a b : SessionId) → p ≡ selector → q ≢ selector → session_at (get opened_script.caps.caps p) ≡ Some (at, a) → session_at (get opened_script.caps.caps q) ≡ Some (at, b) → a.0 ≡ b.0 → ⊥
@@ -498,6 +496,8 @@ module _ (store : Store) (components : List Component) (i s : ℕ) (caller host 
           pays = refl;
           places = refl;
           named = opened_named;
+          kept = λ p at other is _. opened_kept p at other is;
+          held = λ _ _. record { selector = selector; session = session; names = ap session_at (get-insert_same script.caps.caps selector (Session s session) selector refl); row = new_row; there = new_here; is = record { client = refl; key = refl } };
           others = opens.others;
           parents = λ other apart. ap (λ (m : NatMap ℕ). get m other) opens.parents ∙ get-insert_other (parents_in store) opens.key payer other apart;
           parent = λ other is. same_Some _ _ (sym is ∙ ap (λ (m : NatMap ℕ). get m opens.key) opens.parents ∙ get-insert_same (parents_in store) opens.key payer opens.key refl);
@@ -507,7 +507,7 @@ module _ (store : Store) (components : List Component) (i s : ℕ) (caller host 
               (ap (λ (p : Part). p.account) opens.parted ∙ ap (λ a. Some (parted_with a ram caps)) (account_of-part payer store))
               opens.charge opens.others opens.fresh payer_open (let fit = fits.caps_fit in omega arith);
           room = room_is_taken payer opens.key ram caps (session_account ram caps) store store' (opens_an_account Labelled payer ram caps session.0 first store store' server_rows rows' opens)
-              payer_open payer_outer (at_script (λ r. payer_in r ≢ root_in store) core.not_init) fits least core.room;
+              payer_open payer_outer (at_script (λ r. IsLiveRole r → payer_in r ≢ root_in store) core.not_init tt) fits least core.room;
           rows_stay = new_elsewhere;
           was = λ row is. absurd (was_free row is);
           is = λ row is.

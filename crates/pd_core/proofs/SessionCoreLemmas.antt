@@ -1,77 +1,53 @@
 -- The world when a call of a session has changed the memory, its caller and its server.
-use Rattle.std.proofs.Common.{◌≡◌, ◌≢◌, ℕ, ◌<◌, ◌≤◌, List, length, get_or, set, map, Some, is_some, refl, sym, ap, subst, ◌∙◌, inl, inr, arith, length-set, get_or-set_other}
+use Rattle.std.proofs.Common.{◌≡◌, ◌≢◌, false, true, ℕ, ◌<◌, ◌≤◌, List, length, get_or, set, map, Some, is_some, refl, sym, ap, subst, ◌∙◌, inl, inr, arith, length-set, get_or-set_other}
 use Rattle.std.specs.List.{All, flat_map}
 use Rattle.std.specs.FinMap.{get, empty}
-use Rattle.std.specs.Prelude.{Option, ◌⊎◌, IfSome, None}
+use Rattle.std.specs.Prelude.{Option, ◌⊎◌, IfSome, IsSome, None}
 use Rattle.std.proofs.lemmas.Bool.{cases_eq}
 use Rattle.std.proofs.lemmas.Bool.Decides.{nat_tests}
 use Rattle.std.proofs.lemmas.Option.{none-some}
-use Rattle.std.proofs.Math.Seq.{map-set_same}
-use Rattle.std.proofs.lemmas.List.{map-set, get_or-map, ext_get_or, length-map, get_or_read}
+use Rattle.std.proofs.lemmas.List.{get_or-map, length-map, get_or_read}
 use Rattle.std.proofs.lemmas.Grind.{get_or-set_at}
 use Rattle.trade_base.specs.declared.id.AccountId.{AccountId}
 use Rattle.trade_base.specs.declared.id.SessionId.{SessionId}
-use Rattle.own_model.specs.Call.{Call}
+use Rattle.own_model.specs.Call.{Call, is_exit}
 use Rattle.own_model.specs.Limits.{caps_limits}
 use Rattle.own_model.specs.NatMap.{NatMap}
 use Rattle.own_model.specs.OwnState.{OwnState}
-use Rattle.own_model.specs.OwnStep.{own_step}
-use Rattle.own_model.specs.Routes.{fixed_routes}
+use Rattle.own_model.specs.OwnStep.{own_step, entry_step}
+use Rattle.own_model.specs.Routes.{Rule}
 use Rattle.own_model.specs.StartList.{Entry}
-use Rattle.own_model.specs.Transcript.{nobody, nothing}
-use Rattle.own_model.specs.World.{with_state, outcome_at}
+use Rattle.own_model.specs.Transcript.{nothing}
+use Rattle.own_model.proofs.BalanceLemmas.{world_on}
 use Rattle.own_model.proofs.LimitLemmas.{limits_move}
 use Rattle.own_model.proofs.NatMapLemmas.{get-empty}
-use Rattle.dataspace_core.specs.Store.{Store, Part, part, root_in, account_in, account_of, IsOpenIn, IsChildIn}
+use Rattle.dataspace_core.specs.Store.{Store, Part, part, root_in, parents_in, account_in, account_of, IsOpenIn, IsChildIn}
 use Rattle.dataspace_core.proofs.PartLaws.{account_of-part, open_in_part, part_open}
 use Rattle.server_frame.specs.Frame.{Row}
-use Rattle.server_frame.specs.declared.server.Server.{Server}
 use Rattle.server_frame.proofs.RowLaws.{IsNoRows}
-use Rattle.log_service.specs.declared.service.LogService.{LogService}
-use Rattle.log_service.specs.Session.{LabelledLine}
-use Rattle.pd_core.specs.Component.{entry_of, payer_in, payer_of, caps_of, kind_of, places_in, places_of, rows_in, rows_of, own, own_in, NamesItsSessions, HasPlaces, IsSound, IsSoundRole}
+use Rattle.pd_core.specs.Component.{IsLiveRole, IsLive, entry_of, payer_in, payer_of, caps_of, kind_of, caps_in, places_in, places_of, rows_in, rows_of, own, own_in, NamesItsSessions, HasPlaces, IsSound, IsSoundRole, StaysServer, served_by}
 use Rattle.own_model.specs.OwnHeap.{no_heap}
 use Rattle.cap_space.specs.declared.cap.Cap.{Cap}
 use Rattle.pd_core.specs.Own.{Sessions, no_sessions, own_of, own_at}
 use Rattle.pd_core.specs.Sound.{session_at}
-use Rattle.pd_core.specs.Sessions.{log_rows, row_session, IsLogServer, AgreeBut, DoesSession}
+use Rattle.pd_core.specs.Sessions.{row_session, AgreeBut, DoesSession}
 use Rattle.pd_core.proofs.SessionOwnLemmas.{is_step}
 use Rattle.own_model.specs.Reply.{Reply, LogLine, reply_text, log_text}
 use Rattle.own_model.specs.Session.{Session as AnOpenSession, Labelled}
 use Rattle.std.specs.Option.{option_map}
-use Rattle.pd_core.specs.Core.{rows_at, sessions_in, world_of, IsSession, AreSessions, IsCore}
+use Rattle.pd_core.specs.Core.{Rules, rows_at, sessions_in, world_of, IsSession, AreSessions, IsHeld, AreHeld, IsCore}
 use Rattle.server_frame.specs.Told.{Told}
-use Rattle.pd_core.specs.SessionCalls.{Answers}
-use Rattle.pd_core.proofs.SessionCore.{ReplacesTwo, IsRowOf, IsAccountOf, ChangesSession, rows_with}
+use Rattle.pd_core.specs.SessionCalls.{IsServing}
+use Rattle.pd_core.proofs.SessionCore.{AreTwo, Goes, ReplacesTwo, IsRowOf, IsAccountOf, ChangesSession, rows_with}
 use Rattle.pd_core.specs.declared.component.Role.{Role}
-use Rattle.pd_core.specs.declared.component.Role.TheVariants.{Script as AScript, Log as ALog}
+use Rattle.pd_core.specs.declared.component.Role.TheVariants.{Script as AScript}
 use Rattle.pd_core.specs.declared.component.Component.{Component}
 use Rattle.pd_core.specs.declared.script.Script.{Script}
-use Rattle.pd_core.proofs.CoreLemmas.{payer_at, payers_differ, outcome_is}
+use Rattle.pd_core.proofs.CoreLemmas.{payer_at, payers_differ, entries_alike, read_after, outcome_is}
+use Rattle.pd_core.proofs.ComponentLemmas.{component_open}
+use Rattle.pd_core.proofs.ServerLemmas.{caps_of_server, places_of_server, own_of_server, enough_places, sound_server, live_server, live_named}
 use Rattle.pd_core.proofs.SessionBesideLemmas.{rows_still, sound_still, own_still}
 use Rattle.pd_core.proofs.SessionRowLemmas.{agree_by}
-
--- what is read of components of which one is this, and the others are read as before
-module _ {X : Type 0} (f g : Component → X) (d : X) (components components' : List Component) (many : length components' ≡ length components) (i : ℕ) (after : Component) (here : i < length components)
-    (at : (c : Component) → get_or components' i c ≡ after) (others : (k : ℕ) (c : Component) → k < length components → k ≢ i → g (get_or components' k c) ≡ f (get_or components k c)) where
-  read_at : (k : ℕ) → k < length components → get_or (map g components') k d ≡ get_or (set (map f components) i (g after)) k d
-  read_at k within = elim (cases_eq k i) [
-    | inl its ↦
-        get_or-map g components' k after d (omega (arith, within, many))
-        ∙ ap g (ap (λ j. get_or components' j after) its ∙ at after)
-        ∙ sym (get_or-set_at (map f components) i k (g after) d its (omega (arith, here, length-map components f)))
-    | inr differs ↦
-        get_or-map g components' k after d (omega (arith, within, many))
-        ∙ others k after within differs
-        ∙ sym (get_or-map f components k after d within)
-        ∙ sym (get_or-set_other (map f components) i k (g after) d differs)
-  ]
-
-  read_after : map g components' ≡ set (map f components) i (g after)
-  read_after =
-      let left = length-map components' g in
-      let right = length-set (map f components) i (g after) ∙ length-map components f in
-      ext_get_or d _ _ (left ∙ many ∙ sym right) (λ k h. read_at k (omega (arith, h, left, many)))
 
 -- two components are set at places that differ
 pub replaces_by_set : (components : List Component) (i s : ℕ) (caller host : Component) → i < length components → s < length components → s ≢ i → ReplacesTwo components (set (set components i caller) s host) i s caller host
@@ -96,10 +72,10 @@ module _ (rows rows' : ℕ → NatMap (Row Labelled)) (s key payer account : ℕ
     ]
   ]
 
--- a script stands at one place of the components and a log server at another
-module _ (store : Store) (components : List Component) (i s : ℕ) (caller host : Component) (script : Script) (pays : AccountId) (server : Server LogService LabelledLine)
-    (here : i < length components) (there : s < length components) (caller_read : caller ≡ get_or components i caller) (host_read : host ≡ get_or components s host)
-    (is_script : caller.role ≡ AScript script) (is_log : host.role ≡ ALog pays server) (core : IsCore store components) where
+-- a script stands at one place of the components and a server at another
+module _ {store : Store} {components : List Component} {i s : ℕ} {caller host : Component} {script : Script} (two : AreTwo store components i s caller host script) where
+  open two use {here, there, caller_read, host_read, is_script, serving, core}
+
   -- what stands at the places
   caller_is : (d : Component) → caller ≡ get_or components i d
   caller_is d = get_or_read components i caller here caller_read d
@@ -111,7 +87,7 @@ module _ (store : Store) (components : List Component) (i s : ℕ) (caller host 
   pub two_places : s ≢ i
   two_places e =
       let same : host ≡ caller = host_is caller ∙ ap (λ k. get_or components k caller) e ∙ sym (caller_is caller) in
-      let roles : ALog pays server ≡ AScript script = sym is_log ∙ ap (λ (c : Component). c.role) same ∙ is_script in
+      let none : false ≡ true = ap (λ r. is_some (served_by r)) (sym (ap (λ (c : Component). c.role) same ∙ is_script)) ∙ serving in
       cc
 
   abbrev payer : ℕ
@@ -123,41 +99,56 @@ module _ (store : Store) (components : List Component) (i s : ℕ) (caller host 
   payer_is : payer_of caller ≡ payer
   payer_is = ap payer_in is_script
 
+  -- the caller's step is its script's
+  pub caller_step : (rules : List Rule) (call : Call) (S : Sessions) →
+      own_step (entry_of rules caller) call (own S store caller) ≡ entry_step (entry_of rules caller) call (own_at S store script)
+  unfolding own_of
+  caller_step rules call S =
+      ap (own_step (entry_of rules caller) call) (ap (own_in S store) is_script)
+      ∙ is_step (entry_of rules caller) call (own_at S store script) (ap kind_of is_script) refl
+
   -- what is so of all components is so of the caller's role
   at_role : (P : Role → Type 0) → All (λ c. P c.role) components → P (AScript script)
   at_role P all = subst P (ap (λ (c : Component). c.role) (sym (caller_is caller)) ∙ is_script) (all i caller here)
 
-  at_host : (P : Role → Type 0) → All (λ c. P c.role) components → P (ALog pays server)
-  at_host P all = subst P (ap (λ (c : Component). c.role) (sym (host_is host)) ∙ is_log) (all s host there)
+  at_host : (P : Role → Type 0) → All (λ c. P c.role) components → P host.role
+  at_host P all = subst P (ap (λ (c : Component). c.role) (sym (host_is host))) (all s host there)
+
+  -- neither of the two has exited
+  caller_live : IsLive caller
+  caller_live = subst IsLiveRole (sym is_script) tt
+
+  host_live : IsLive host
+  host_live = live_server host.role serving
 
   -- others aren't charged on the caller's account
-  payer_apart : (k : ℕ) (d : Component) → k < length components → k ≢ i → payer_of (get_or components k d) ≢ payer
-  payer_apart k d within differs e =
-      payers_differ components core.apart k i d within here differs (e ∙ sym payer_is ∙ ap payer_of (caller_is d))
+  payer_apart : (k : ℕ) (d : Component) → k < length components → k ≢ i → IsLive (get_or components k d) → payer_of (get_or components k d) ≢ payer
+  payer_apart k d within differs live e =
+      payers_differ components core.apart k i d within here differs live (subst IsLive (caller_is d) caller_live) (e ∙ sym payer_is ∙ ap payer_of (caller_is d))
 
   -- no session is on the caller's account
   no_rows : (k : ℕ) (d : Component) → k < length components → IsNoRows (rows_of store (get_or components k d)) payer
   no_rows k d within id row is e =
       let at = ap (λ (m : NatMap (Row Labelled)). get m id) (get_or-map (rows_of store) components k d empty within) ∙ is in
-      at_role (λ r. payer_in r ≢ row.key) (core.sessions.each k id row at).others (sym e)
+      at_role (λ r. IsLiveRole r → payer_in r ≢ row.key) (core.sessions.each k id row at).others tt (sym e)
 
   -- a call of a session changes them
-  module _ (store' : Store) (components' : List Component) (script' : Script) (server' : Server LogService LabelledLine) (key account : ℕ)
-      (replaced : ReplacesTwo components components' i s (record caller { role = AScript script' }) (record host { role = ALog pays server' }))
+  module _ (store' : Store) (components' : List Component) (script' : Script) (host' : Component) (key account : ℕ)
+      (replaced : ReplacesTwo components components' i s (record caller { role = AScript script' }) host')
       (apart : IsAccountOf (root_in store) components (rows_at store components) s key account)
-      (changes : ChangesSession s key account store store' script script' (rows_at store components) (log_rows server'.sessions store' server'.map))
-      (serves : IsLogServer server'.sessions store' server'.map) (capacity : server'.sessions.capacity ≡ server.sessions.capacity) where
+      (changes : ChangesSession s key account store store' script script' (rows_at store components) (rows_of store' host'))
+      (stays : StaysServer host store' host') where
     abbrev after : Component
     after = record caller { role = AScript script' }
 
     abbrev host_after : Component
-    host_after = record host { role = ALog pays server' }
+    host_after = host'
 
     abbrev rows' : ℕ → NatMap (Row Labelled)
     rows' = rows_at store' components'
 
     abbrev put_rows : NatMap (Row Labelled)
-    put_rows = log_rows server'.sessions store' server'.map
+    put_rows = rows_of store' host'
 
     -- no other server has a session on the session's account
     none_there : (k : ℕ) (d : Component) → k < length components → k ≢ s → IsNoRows (rows_of store (get_or components k d)) account
@@ -217,7 +208,7 @@ module _ (store : Store) (components : List Component) (i s : ℕ) (caller host 
     named_apart k d within differs q at id session names e f =
         let its = (core.named k d within).its q at session names in
         let row = changes.was its.row (sym (λ j. get (rows (e j)) (f j)) ∙ its.there) in
-        payer_apart k d within differs (sym its.client ∙ row.client)
+        payer_apart k d within differs (live_named (get_or components k d).role q (at, session) names) (sym its.client ∙ row.client)
 
     -- ---- the others
 
@@ -233,26 +224,29 @@ module _ (store : Store) (components : List Component) (i s : ℕ) (caller host 
         (λ q at session names. sessions_agree at session.0 (named_apart k d within not_caller q at 0 session names))
 
     -- the server's account
-    host_apart : pays.0 ≢ payer
-    host_apart e = payer_apart s host there two_places (ap payer_of (sym (host_is host)) ∙ ap payer_in is_log ∙ e)
+    host_apart : payer_of host ≢ payer
+    host_apart e = payer_apart s host there two_places (subst IsLive (host_is host) host_live) (ap payer_of (sym (host_is host)) ∙ e)
 
-    host_beside : pays.0 ≢ account
-    host_beside = at_host (λ r. payer_in r ≢ account) apart.others
+    host_beside : payer_of host ≢ account
+    host_beside = at_host (λ r. IsLiveRole r → payer_in r ≢ account) apart.others host_live
 
-    host_part : part pays.0 store' ≡ part pays.0 store
-    host_part = changes.others pays.0 host_apart host_beside
+    host_part : part (payer_of host) store' ≡ part (payer_of host) store
+    host_part = changes.others (payer_of host) host_apart host_beside
+
+    still_serving : IsServing host'
+    still_serving = subst IsSome (sym stays.service) serving
 
     host_sound : IsSound store' host_after
     host_sound =
         let sound = at_host (IsSoundRole store) core.sound in
-        record {
-          is_open = ap (λ (p : Part). is_some p.account) host_part ∙ sound.is_open;
-          server = serves;
-          places = omega (arith, sound.places, changes.caps, capacity);
-        }
+        let is_open = ap (λ (p : Part). is_some p.account) host_part ∙ component_open store host sound host_live in
+        sound_server store' host'.role still_serving stays.works (subst (λ account. IsSome (part account store').account) (sym stays.account) is_open)
+        (omega (arith, enough_places store host.role serving sound, changes.caps, stays.capacity))
 
     host_own : own S' store' host_after ≡ own S store host
-    host_own = ap (λ p. own_of no_sessions p empty empty no_heap empty) host_part ∙ ap (own_in S store) (sym is_log)
+    host_own =
+        own_of_server S' store' host'.role still_serving ∙ ap (λ account. own_of no_sessions (part account store') empty empty no_heap empty) stays.account
+        ∙ ap (λ p. own_of no_sessions p empty empty no_heap empty) host_part ∙ sym (own_of_server S store host.role serving)
 
     -- ---- all components
 
@@ -269,26 +263,23 @@ module _ (store : Store) (components : List Component) (i s : ℕ) (caller host 
     states_after = read_after (own S store) (own S' store') nothing components components' replaced.many i after here replaced.caller_at own_each
 
     -- the entries stay
-    entry_with : (c : Component) (r : Role) → c.role ≡ r → ◌≡◌ {A = Entry} (record { name = c.name.now; kind = kind_of r; routes = fixed_routes }) (entry_of c)
-    entry_with c r is = ap {B = Entry} (λ q. record { name = c.name.now; kind = kind_of q; routes = fixed_routes }) (sym is)
-
-    entry_each : (k : ℕ) (d : Component) → k < length components → k ≢ i → entry_of (get_or components' k d) ≡ entry_of (get_or components k d)
-    entry_each k d within not_caller = elim (cases_eq k s) [
+    entry_each : (r : List Rule) (k : ℕ) (d : Component) → k < length components → entry_of r (get_or components' k d) ≡ entry_of r (get_or components k d)
+    entry_each r k d within = elim (cases_eq k i) [
       | inl at ↦
-          ap entry_of (ap (λ j. get_or components' j d) at ∙ replaced.host_at d) ∙ entry_with host (ALog pays server) is_log
-          ∙ ap entry_of (host_is d ∙ ap (λ j. get_or components j d) (sym at))
-      | inr not_host ↦ ap entry_of (replaced.others k d not_caller not_host)
+          ap (entry_of r) (ap (λ j. get_or components' j d) at ∙ replaced.caller_at d)
+          ∙ ap {B = Entry} (λ q. record { name = caller.name.items; kind = kind_of q; routes = r }) (sym is_script)
+          ∙ ap (entry_of r) (caller_is d ∙ ap (λ j. get_or components j d) (sym at))
+      | inr not_caller ↦ elim (cases_eq k s) [
+        | inl at ↦
+            ap (entry_of r) (ap (λ j. get_or components' j d) at ∙ replaced.host_at d) ∙ stays.entry r
+            ∙ ap (entry_of r) (host_is d ∙ ap (λ j. get_or components j d) (sym at))
+        | inr not_host ↦ ap (entry_of r) (replaced.others k d not_caller not_host)
+      ]
     ]
-
-    entries_after : map entry_of components' ≡ map entry_of components
-    entries_after =
-        read_after entry_of entry_of nobody components components' replaced.many i after here replaced.caller_at entry_each
-        ∙ sym (map-set entry_of components i after)
-        ∙ map-set_same entry_of components i after caller (entry_with caller (AScript script) is_script ∙ ap entry_of (caller_is caller))
 
     -- and so does init's account
     payer_not_init : payer ≢ root_in store
-    payer_not_init = at_role (λ r. payer_in r ≢ root_in store) core.not_init
+    payer_not_init = at_role (λ r. IsLiveRole r → payer_in r ≢ root_in store) core.not_init tt
 
     init_after : account_in store' (root_in store') ≡ account_in store (root_in store)
     init_after =
@@ -320,14 +311,24 @@ module _ (store : Store) (components : List Component) (i s : ℕ) (caller host 
           ∙ ap payer_of (caller_is d ∙ ap (λ j. get_or components j d) (sym at))
       | inr not_caller ↦ elim (cases_eq k s) [
         | inl at ↦
-            ap payer_of (ap (λ j. get_or components' j d) at ∙ replaced.host_at d) ∙ sym (ap payer_in is_log)
+            ap payer_of (ap (λ j. get_or components' j d) at ∙ replaced.host_at d) ∙ stays.account
             ∙ ap payer_of (host_is d ∙ ap (λ j. get_or components j d) (sym at))
         | inr not_host ↦ ap payer_of (replaced.others k d not_caller not_host)
       ]
     ]
 
-    payers_after : (P : ℕ → Type 0) → All (λ c. P (payer_of c)) components → All (λ c. P (payer_of c)) components'
-    payers_after P all k d within = subst P (sym (payer_stays k d)) (all k d (omega (arith, within, replaced.many)))
+    -- none comes back
+    live_before : (k : ℕ) (d : Component) → IsLive (get_or components' k d) → IsLive (get_or components k d)
+    live_before k d live = elim (cases_eq k i) [
+      | inl at ↦ subst IsLive (caller_is d ∙ ap (λ j. get_or components j d) (sym at)) caller_live
+      | inr not_caller ↦ elim (cases_eq k s) [
+        | inl at ↦ subst IsLive (host_is d ∙ ap (λ j. get_or components j d) (sym at)) host_live
+        | inr not_host ↦ subst IsLive (replaced.others k d not_caller not_host) live
+      ]
+    ]
+
+    payers_after : (P : ℕ → Type 0) → All (λ c. IsLive c → P (payer_of c)) components → All (λ c. IsLive c → P (payer_of c)) components'
+    payers_after P all k d within live = subst P (sym (payer_stays k d)) (all k d (omega (arith, within, replaced.many)) (live_before k d live))
 
     -- a session is still one, and so is the one that changed
     session_after : (row : Row Labelled) → IsSession (root_in store) components row → IsSession (root_in store') components' row
@@ -341,7 +342,7 @@ module _ (store : Store) (components : List Component) (i s : ℕ) (caller host 
     session_new row its = session_after row (record {
       client = λ e. payer_not_init (sym its.client ∙ e);
       not_init = λ e. apart.not_init (sym its.key ∙ e);
-      others = λ k d within e. apart.others k d within (e ∙ its.key);
+      others = λ k d within live e. apart.others k d within live (e ∙ its.key);
     })
 
     row_before : (at id : ℕ) (row : Row Labelled) → get (rows' at) id ≡ Some row → (get (rows at) id ≡ Some row) ⊎ ((at ≡ s) × IsRowOf payer account row)
@@ -373,10 +374,10 @@ module _ (store : Store) (components : List Component) (i s : ℕ) (caller host 
       | inr other ↦ ap (λ (m : NatMap (Row Labelled)). get m id) (rows_elsewhere at other)
     ]
 
-    names_none : NamesItsSessions rows' pays.0 empty
+    names_none : NamesItsSessions rows' (payer_of host') (caps_of host')
     names_none =
-        let caps : NatMap Cap = empty in
-        let none : (q : ℕ) → session_at (get caps q) ≡ None = λ q. ap session_at (get-empty q) in
+        let none : (q : ℕ) → session_at (get (caps_of host') q) ≡ None =
+        λ q. ap (λ (m : NatMap Cap). session_at (get m q)) (caps_of_server host'.role still_serving) ∙ ap session_at (get-empty q) in
         record {
           its = λ q at session is. absurd (none-some (at, session) (sym (none q) ∙ is));
           once = λ p q at a b is _ _. absurd (none-some (at, a) (sym (none p) ∙ is));
@@ -396,59 +397,111 @@ module _ (store : Store) (components : List Component) (i s : ℕ) (caller host 
           once = named.once;
         })
 
-    -- what the model tells of its caller's own state is the outcome of its step
-    pub session_outcome : (call : Call) (reply : Reply) (lines : List LogLine) (was is : Option AnOpenSession) → DoesSession call reply lines s key was is store script store' script' →
-        option_map row_session (get (rows s) key) ≡ was → option_map row_session (get put_rows key) ≡ is →
-        own_step (entry_of caller) call (own S store caller) ≡ record { reply = reply; lines = lines; next = own S' store' after }
-    unfolding own_of
-    session_outcome call reply lines was is does before now =
-        let kind = ap kind_of is_script in
-        ap (own_step (entry_of caller) call) (ap (own_in S store) is_script)
-        ∙ is_step (entry_of caller) call (own_at S store script) kind refl
-        ∙ does (entry_of caller) S S' kind sessions_agree before (ap (λ (m : NatMap (Row Labelled)). option_map row_session (get m key)) (rows_here s refl) ∙ now)
+    -- a selector that names another session still does
+    named_still : (k q at : ℕ) (session : SessionId) → ((at ≡ s) → (session.0 ≡ key) → ⊥) → ((d : Component) → session_at (get (caps_of (get_or components k d)) q) ≡ Some (at, session)) →
+        (d : Component) → session_at (get (caps_of (get_or components' k d)) q) ≡ Some (at, session)
+    named_still k q at session differs names d = elim (cases_eq k i) [
+      | inl its ↦
+          ap (λ (c : Component). session_at (get (caps_of c) q)) (ap (λ j. get_or components' j d) its ∙ replaced.caller_at d)
+          ∙ changes.kept q at session
+          (ap (λ r. session_at (get (caps_in r) q)) (sym is_script) ∙ ap (λ (c : Component). session_at (get (caps_of c) q)) (caller_is d ∙ ap (λ j. get_or components j d) (sym its)) ∙ names d) differs
+      | inr not_caller ↦ elim (cases_eq k s) [
+        | inl its ↦
+            absurd (none-some (at, session) (sym (ap session_at (get-empty q)) ∙ ap (λ (m : NatMap Cap). session_at (get m q)) (sym (caps_of_server host.role serving))
+            ∙ ap (λ (c : Component). session_at (get (caps_of c) q)) (host_is d ∙ ap (λ j. get_or components j d) (sym its)) ∙ names d))
+        | inr not_host ↦ ap (λ (c : Component). session_at (get (caps_of c) q)) (replaced.others k d not_caller not_host) ∙ names d
+      ]
+    ]
 
-    module _ (call : Call) (next : own (sessions_in store' components') store' (record caller { role = AScript script' }) ≡ (own_step (entry_of caller) call (own (sessions_in store components) store caller)).next) where
-      -- the world is as it was but for the caller's own state
-      pub session_world : world_of store' components' ≡ with_state (world_of store components) i (outcome_at (world_of store components) i call).next
-      session_world =
-          let states = states_after ∙ ap (set (map (own S store) components) i) (next ∙ ap (λ o. o.next) (sym (outcome_is store components i caller here caller_read call))) in
-          λ j. record { entries = entries_after j; init = init_after j; states = states j }
+    -- each account below another than init's is still that of a session with a selector
+    held_new : (parent : ℕ) → get (parents_in store') account ≡ Some parent → IsHeld components' rows' account parent
+    held_new parent below =
+        let at = changes.held parent below in
+        record {
+          place = i;
+          within = omega (arith, here, replaced.many);
+          selector = at.selector;
+          server = s;
+          session = at.session;
+          named = λ d. ap (λ (c : Component). session_at (get (caps_of c) at.selector)) (replaced.caller_at d) ∙ at.names;
+          row = at.row;
+          there = ap (λ (m : NatMap (Row Labelled)). get m at.session.0) (rows_here s refl) ∙ at.there;
+          key = at.is.key;
+          client = at.is.client ∙ sym (changes.parent parent below);
+        }
 
-      -- the caller's capabilities still find places
+    held_still : (child parent : ℕ) → child ≢ account → IsHeld components rows child parent → IsHeld components' rows' child parent
+    held_still child parent other held =
+        let differs : (held.server ≡ s) → (held.session.0 ≡ key) → ⊥ = λ e f. other (sym held.key ∙ (changes.was held.row (sym (λ j. get (rows (e j)) (f j)) ∙ held.there)).key) in
+        record {
+          place = held.place;
+          within = omega (arith, held.within, replaced.many);
+          selector = held.selector;
+          server = held.server;
+          session = held.session;
+          named = named_still held.place held.selector held.server held.session differs held.named;
+          row = held.row;
+          there = same_row held.server held.session.0 differs ∙ held.there;
+          key = held.key;
+          client = held.client;
+        }
+
+    held_after : AreHeld store' components'
+    held_after child parent below not_init = elim (cases_eq child account) [
+      | inl its ↦ subst (λ c. IsHeld components' rows' c parent) (sym its) (held_new parent (ap (get (parents_in store')) (sym its) ∙ below))
+      | inr other ↦ held_still child parent other (core.held child parent (sym (changes.parents child other) ∙ below) (λ e. not_init (e ∙ sym changes.root)))
+    ]
+
+    -- where the model's step gives its caller's own state, its capabilities still find places
+    module _ (entry : Entry) (call : Call) (on : is_exit call ≡ false) (next : own S' store' after ≡ (own_step entry call (own S store caller)).next) where
       places_after : HasPlaces S' store' after
       places_after =
-          let moved = ap caps_limits next ∙ (limits_move (entry_of caller) call (own S store caller)).1 in
+          let moved = ap caps_limits next ∙ (limits_move entry call (own S store caller) on).1 in
           let same = ap (λ r. caps_limits (own_in S store r)) is_script in
           let placed = at_role (λ r. IfSome (places_in r) (λ p. caps_limits (own_in S store r) ≤ p)) core.placed in
           omega (arith, moved, same, placed, changes.places)
 
-      -- the core stays sound
-      pub session_core : IsCore store' components'
+      -- and the core stays sound
+      session_core : IsCore store' components'
       session_core = record {
         init = init_open;
         sound = each_after (IsSound store') changes.sound host_sound beside;
-        not_init = payers_after (λ p. p ≢ root_in store') (λ k d within e. core.not_init k d within (e ∙ changes.root));
-        children = payers_after (λ p. IsChildIn store' p (root_in store')) (λ k d within.
-            changes.parents (payer_at components k d) (apart.others k d within) ∙ core.children k d within ∙ ap Some (sym changes.root));
-        apart = λ j k d before h e. core.apart j k d before (omega (arith, h, replaced.many)) (sym (payer_stays j d) ∙ e ∙ payer_stays k d);
+        not_init = payers_after (λ p. p ≢ root_in store') (λ k d within live e. core.not_init k d within live (e ∙ changes.root));
+        children = payers_after (λ p. IsChildIn store' p (root_in store')) (λ k d within live.
+            changes.parents (payer_at components k d) (apart.others k d within live) ∙ core.children k d within live ∙ ap Some (sym changes.root));
+        apart = λ j k d before h one two e.
+            core.apart j k d before (omega (arith, h, replaced.many)) (live_before j d one) (live_before k d two) (sym (payer_stays j d) ∙ e ∙ payer_stays k d);
         named = named_after;
-        placed = each_after (HasPlaces S' store') places_after tt
+        placed = each_after (HasPlaces S' store') places_after
+            (subst (λ o. IfSome o (λ places. caps_limits (own S' store' host') ≤ places)) (sym (places_of_server host'.role still_serving)) tt)
             (λ k d within not_caller not_host. subst (λ (o : OwnState). IfSome (places_of (get_or components k d)) (λ p. caps_limits o ≤ p)) (sym (own_beside k d within not_caller)) (core.placed k d within));
         sessions = sessions_after;
+        held = held_after;
         room = changes.room;
       }
 
-    -- a call of this outcome is answered as the model's, and leaves the model's world and a sound core
-    module _ (call : Call) (reply : Reply) (lines : List LogLine) (outcome : own_step (entry_of caller) call (own (sessions_in store components) store caller)
-        ≡ record { reply = reply; lines = lines; next = own (sessions_in store' components') store' (record caller { role = AScript script' }) }) where
-      pub session_answers : (told : Told) → told.text ≡ reply_text reply → told.lines ≡ flat_map log_text lines → Answers call i told store components store' components'
-      session_answers told text finished =
-          let at = outcome_is store components i caller here caller_read call ∙ outcome in
+    module _ (rules : Rules) (call : Call) (on : is_exit call ≡ false) (reply : Reply) (lines : List LogLine) (told : Told) (text : told.text ≡ reply_text reply) (finished : told.lines ≡ flat_map log_text lines) where
+      -- a call of this outcome goes as the model's
+      pub outcome_goes : own_step (entry_of (rules i) caller) call (own (sessions_in store components) store caller)
+          ≡ record { reply = reply; lines = lines; next = own (sessions_in store' components') store' (record caller { role = AScript script' }) } →
+          Goes rules call i told store components store' components'
+      outcome_goes outcome =
+          let at = outcome_is rules store components i caller here caller_read call ∙ outcome in
+          let states = states_after ∙ ap (set (map (own S store) components) i) (ap (λ o. o.next) (sym at)) in
+          let entries = entries_alike rules components components' caller replaced.many (λ k within r. entry_each r k caller within) in
           record {
-            answered = text ∙ ap (λ o. reply_text o.reply) (sym at);
-            lines = finished ∙ ap (λ o. flat_map log_text o.lines) (sym at);
-            stepped = session_world call (ap (λ o. o.next) (sym outcome));
+            answers = record {
+              answered = text ∙ ap (λ o. reply_text o.reply) (sym at);
+              lines = finished ∙ ap (λ o. flat_map log_text o.lines) (sym at);
+              stepped = (λ j. record { entries = entries j; init = init_after j; states = states j }) ∙ sym (world_on (world_of rules store components) i call on);
+            };
+            core = session_core (entry_of (rules i) caller) call on (ap (λ o. o.next) (sym outcome));
           }
 
-      pub session_keeps : IsCore store' components'
-      session_keeps = session_core call (ap (λ o. o.next) (sym outcome))
+      -- and so does one that is this to the model
+      pub session_goes : (was is : Option AnOpenSession) → DoesSession call reply lines s key was is store script store' script' →
+          option_map row_session (get (rows_at store components s) key) ≡ was → option_map row_session (get (rows_of store' host') key) ≡ is →
+          Goes rules call i told store components store' components'
+      session_goes was is does before now =
+          outcome_goes (caller_step (rules i) call S
+          ∙ does (entry_of (rules i) caller) S S' (ap kind_of is_script) sessions_agree before (ap (λ (m : NatMap (Row Labelled)). option_map row_session (get m key)) (rows_here s refl) ∙ now))

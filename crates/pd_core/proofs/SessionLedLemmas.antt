@@ -1,178 +1,131 @@
--- A session that the component at a place asks for: what its opening requires, and how it goes.
-use Rattle.std.proofs.Common.{◌≡◌, ◌≢◌, ℕ, ◌<◌, List, [], length, get_or, set, Option, None, Some, Ok, Result, refl, sym, ap, subst, ◌∙◌}
-use Rattle.std.specs.FinMap.{get, len}
-use Rattle.std.specs.Prelude.{IsErrAnd}
-use Rattle.std.proofs.lemmas.List.{get_or_read, set-get_or, set_comm}
-use Rattle.slab.specs.Slab.{slab_len}
-use Rattle.trade_base.specs.declared.id.AccountId.{AccountId}
+-- A session that the component at a place asks for: the server that it is led to, and how it goes.
+use Rattle.std.proofs.Common.{◌≡◌, ℕ, ◌<◌, List, length, get_or, set, is_some, Option, None, Some, Ok, sym, ap, subst, ◌∙◌}
+use Rattle.std.proofs.lemmas.List.{get_or_default, set_comm, get_or-set_other}
 use Rattle.trade_base.specs.declared.id.Selector.{Selector}
 use Rattle.trade_base.specs.declared.id.SessionId.{SessionId}
 use Rattle.trade_base.specs.declared.refusal.Refusal.{Refusal}
 use Rattle.own_model.specs.Call.Call.{Open}
-use Rattle.own_model.specs.NatMap.{NatMap}
 use Rattle.own_model.specs.OwnState.{new_selector}
 use Rattle.own_model.specs.Reply.{reply_text}
-use Rattle.own_model.specs.Routes.{fixed_routes, provider}
-use Rattle.own_model.specs.Routes.Service.{Log as LogKind}
-use Rattle.own_model.specs.Session.{donation_refusal, label_with, wish, wish_in, wish_of, Labelled}
+use Rattle.own_model.specs.Reply.Reply.{Selected, Refused}
+use Rattle.own_model.specs.Routes.{Service, provider}
+use Rattle.own_model.specs.Session.{donation_refusal, label_with, state_at_first, wish, wish_in, wish_of}
 use Rattle.own_model.specs.SessionArgs.{Arguments, arguments_of}
-use Rattle.own_model.specs.Session.ServiceState.{Logging}
-use Rattle.cap_space.specs.Space.{with_cap}
-use Rattle.cap_space.specs.declared.cap.Cap.TheVariants.{Session}
-use Rattle.dataspace_core.specs.Store.{Store, account_in, ram_limits_in, room_in}
-use Rattle.server_frame.specs.Frame.{Row, IsNoSession, OpensSession}
-use Rattle.server_frame.specs.declared.server.Server.{Server}
-use Rattle.log_service.specs.declared.service.LogService.{LogService}
-use Rattle.log_service.specs.Session.{LabelledLine}
-use Rattle.pd_core.specs.Answer.{told_alone, reply_of}
-use Rattle.pd_core.specs.declared.answer.Answer.{Answer}
-use Rattle.pd_core.specs.declared.answer.Answer.TheVariants.{Selected}
-use Rattle.pd_core.specs.Component.{IsSound, IsSoundRole}
-use Rattle.pd_core.specs.Core.{IsCore}
-use Rattle.pd_core.specs.SessionCalls.{Agrees, IsLog, Leads}
-use Rattle.pd_core.specs.Sessions.{log_rows, IsLogServer}
-use Rattle.pd_core.specs.Sound.{IsSoundScript}
+use Rattle.dataspace_core.specs.Store.{Store, account_in, ram_limits_in}
+use Rattle.server_frame.specs.Frame.{OpensSession}
+use Rattle.pd_core.specs.Answer.{told_alone}
+use Rattle.pd_core.specs.Component.{caps_of, caps_in, rows_of, service_of, StaysServer}
+use Rattle.pd_core.specs.Core.{Rules, IsCore}
+use Rattle.pd_core.specs.SessionCalls.{Agrees, Answers, HasSelectorLeft, Leads, IsServing, with_session}
 use Rattle.pd_core.specs.declared.component.Component.{Component}
-use Rattle.pd_core.specs.declared.component.Role.{Role}
-use Rattle.pd_core.specs.declared.component.Role.TheVariants.{Script as AScript, Server as AServer, Log as ALog}
+use Rattle.pd_core.specs.declared.component.Role.TheVariants.{Script as AScript}
 use Rattle.pd_core.specs.declared.script.Script.{Script}
-use Rattle.pd_core.proofs.RouterLemmas.{led_to_log}
-use Rattle.pd_core.proofs.SessionCallsLemmas.{not_log, log_works, refused_result}
-use Rattle.pd_core.proofs.SessionChangesLemmas.{no_session, names_open, has_place, has_room}
-use Rattle.pd_core.proofs.SessionOpenLemmas.{NamesOpen, OpensFor, has_place as has_selector, opens_for}
-use Rattle.pd_core.proofs.SessionOpenedLemmas.{log_wish, not_opened, opened_answers, opened_core}
-use Rattle.pd_core.proofs.SessionWorldLemmas.{Goes}
+use Rattle.pd_core.proofs.RouterLemmas.{led_to_service}
+use Rattle.pd_core.proofs.SessionCallsLemmas.{not_serving, ServerStands}
+use Rattle.pd_core.proofs.SessionChangesLemmas.{names_open}
+use Rattle.pd_core.proofs.SessionCore.{AreTwo, Goes}
+use Rattle.pd_core.proofs.SessionOpenLemmas.{has_place as has_selector}
+use Rattle.pd_core.proofs.SessionOpenedLemmas.{wish_for, not_opened, opened_goes}
+use Rattle.pd_core.proofs.SessionWorldLemmas.{script_sound}
 
--- a role is one script's
-abbrev script_or : Script → Role → Script
-script_or other (AScript script) = script
-script_or other (AServer account) = other
-script_or other (ALog account server) = other
+-- the component at a place is a script that asks for a session with these arguments, and is led to a place
+pub record IsLed (rules : Rules) (leads : Leads) (store : Store) (components : List Component) (i s : ℕ) (caller : Component) (script : Script) (service text : List ℕ) (args : Arguments) : Type 0 where
+  pub core : IsCore store components
+  pub here : i < length components
+  pub read : caller ≡ get_or components i caller
+  pub agrees : Agrees rules leads components
+  pub is_script : caller.role ≡ AScript script
+  pub reads : arguments_of text ≡ Some args
+  pub led : leads i service args.label ≡ Some s
 
-same_script : (role : Role) (a b : Script) → role ≡ AScript a → role ≡ AScript b → b ≡ a
-same_script role a b is js = ap (script_or a) (sym js ∙ is)
+-- so is the one that is read there, where a place is found
+pub led_by : {rules : Rules} {leads : Leads} {store : Store} {components : List Component} {i s : ℕ} {d : Component} {script : Script} {service : List ℕ} (text : List ℕ) {args : Arguments} {found : Option ℕ} →
+    IsCore store components → i < length components → d ≡ get_or components i d → Agrees rules leads components → (get_or components i d).role ≡ AScript script → arguments_of text ≡ Some args →
+    found ≡ leads i service args.label → found ≡ Some s → IsLed rules leads store components i s (get_or components i d) script service text args
+led_by {components = components} {i = i} text core here read agrees is_script reads result was = record {
+  core = core;
+  here = here;
+  read = ap (get_or components i) read;
+  agrees = agrees;
+  is_script = is_script;
+  reads = reads;
+  led = sym result ∙ was;
+}
 
--- a script asks for a session, and is led to a place
-module _ (leads : Leads) (store : Store) (components : List Component) (i s : ℕ) (caller : Component) (here : i < length components) (read : caller ≡ get_or components i caller) (core : IsCore store components)
-    (agrees : Agrees leads components) (script : Script) (is_script : caller.role ≡ AScript script) (service text label : List ℕ) (args : Arguments) (reads : arguments_of text ≡ Some args)
-    (its : label ≡ args.label) (found : Option ℕ) (led : found ≡ leads i service label) (is : found ≡ Some s) where
-  to_log : (provider fixed_routes service label ≡ Some LogKind) × ((s < length components) × ((d : Component) → IsLog (get_or components s d).role))
-  to_log = led_to_log leads components i s caller service label agrees here read (sym led ∙ is)
+module _ {rules : Rules} {leads : Leads} {store : Store} {components : List Component} {i s : ℕ} {caller : Component} {script : Script} {service text : List ℕ} {args : Arguments}
+    (is_led : IsLed rules leads store components i s caller script service text args) where
+  open is_led use {core, here, read, agrees, is_script, reads, led}
 
-  -- a log server stands there
-  pub led_within : s < length components
-  led_within = to_log.1.0
+  to_service : (kind : Service) × (provider (rules i) service args.label ≡ Some kind) × ((s < length components) × ((d : Component) → service_of (get_or components s d) ≡ Some kind))
+  to_service = led_to_service rules leads components i service args.label agrees here s led
 
-  pub led_log : (d : Component) → IsLog (get_or components s d).role
-  led_log = to_log.1.1
+  -- a server of this service stands there, and isn't the caller
+  abbrev kind : Service
+  kind = to_service.0
 
-  -- and isn't the caller
-  pub led_apart : i ≢ s
-  led_apart e = not_log caller.role script is_script (subst (λ c. IsLog c.role) (sym (read ∙ ap (λ k. get_or components k caller) e)) (led_log caller))
+  pub led_stands : ServerStands components i s
+  led_stands =
+      let serving : (d : Component) → IsServing (get_or components s d) = λ d. ap is_some (to_service.2.1 d) in
+      record {
+        within = to_service.2.0;
+        apart = λ e. not_serving caller script is_script (subst IsServing (sym (read ∙ ap (λ k. get_or components k caller) e)) (serving caller));
+        serving = serving;
+      }
 
   -- what is asked for
-  asks : wish caller.name.now fixed_routes service text ≡ Ok (log_wish caller.name.now args)
-  asks = ap (wish_in caller.name.now fixed_routes service) reads ∙ ap (wish_of caller.name.now args) (ap (provider fixed_routes service) (sym its) ∙ to_log.0)
+  asks : wish caller.name.items (rules i) service text ≡ Ok (wish_for kind caller.name.items args)
+  asks = ap (wish_in caller.name.items (rules i) service) reads ∙ ap (wish_of caller.name.items args) to_service.1
 
-  sound : IsSoundScript store script
-  sound = subst (IsSoundRole store) (ap (λ (c : Component). c.role) (sym read) ∙ is_script) (core.sound i caller here)
+  module _ (d : Component) where
+    abbrev host : Component
+    host = get_or components s d
 
-  module _ (host : Component) (host_read : host ≡ get_or components s host) (pays : AccountId) (server : Server LogService LabelledLine) (is_log : host.role ≡ ALog pays server)
-      (ram caps : ℕ) (ram_is : ram ≡ args.ram) (caps_is : caps ≡ args.caps) where
-    -- it works on this memory, has no session on the script's account, and has a place for one, and the memory for its account
-    pub led_server : IsLogServer server.sessions store server.map
-    led_server = (log_works store host pays server is_log (subst (IsSound store) (sym host_read) (core.sound s host led_within))).server
+    pub led_two : AreTwo store components i s caller host script
+    led_two = record {
+      here = here;
+      there = led_stands.within;
+      caller_read = read;
+      host_read = get_or_default components s d host led_stands.within;
+      is_script = is_script;
+      serving = led_stands.serving d;
+      core = core;
+    }
 
-    pub led_free : IsNoSession server.sessions script.account.0
-    led_free = no_session store components i s caller host script pays server here led_within read host_read is_script is_log core
+    -- it is refused
+    pub led_refused : (refusal : Refusal) → Some refusal ≡ donation_refusal (account_in store script.account.0) args.ram args.caps →
+        Answers rules (Open service text) i (told_alone (reply_text (Refused refusal))) store components store components
+    led_refused refusal is = not_opened led_two rules kind service text args asks refusal is
 
-    pub led_place : donation_refusal (account_in store script.account.0) ram caps ≡ None → slab_len server.sessions < server.sessions.capacity
-    led_place accepted = has_place store components i s caller host script pays server here led_within read host_read is_script is_log core ram caps accepted
+    -- it is opened, and the script is read again
+    module _ (store' : Store) (host' : Component) (stays : StaysServer host store' host') (limits : ram_limits_in store' ≡ ram_limits_in store)
+        (accepted : None ≡ donation_refusal (account_in store script.account.0) args.ram args.caps) (session : SessionId) (whole : List ℕ) (labelled : whole ≡ label_with caller.name.items args.label)
+        (opening : (k : Service) → service_of host ≡ Some k →
+        OpensSession script.account.0 args.ram args.caps session.0 (record { label = whole; state = state_at_first k }) store store' (rows_of store host) (rows_of store' host')) (e : Component) where
+      opens : OpensSession script.account.0 args.ram args.caps session.0 (record { label = label_with caller.name.items args.label; state = state_at_first kind }) store store' (rows_of store host) (rows_of store' host')
+      opens =
+          subst (λ l. OpensSession script.account.0 args.ram args.caps session.0 (record { label = l; state = state_at_first kind }) store store' (rows_of store host) (rows_of store' host')) labelled
+          (opening kind (to_service.2.1 d))
 
-    pub led_room : donation_refusal (account_in store script.account.0) ram caps ≡ None → 0 < room_in store
-    led_room accepted = has_room store components i s caller host script pays server here led_within read host_read is_script is_log core ram caps accepted
+      abbrev again : Component
+      again = get_or (set components s host') i e
 
-    abbrev rows : NatMap (Row Labelled)
-    rows = log_rows server.sessions store server.map
+      same_caller : again ≡ caller
+      same_caller = get_or-set_other components s i host' e led_stands.apart ∙ get_or_default components i e caller here ∙ sym read
 
-    named : NamesOpen script rows s
-    named = names_open store components i s caller host script pays server here led_within read host_read is_script is_log core
+      same_role : again.role ≡ AScript script
+      same_role = ap (λ (c : Component). c.role) same_caller ∙ is_script
 
-    -- the donation is that of the arguments
-    same_refusal : donation_refusal (account_in store script.account.0) ram caps ≡ donation_refusal (account_in store script.account.0) args.ram args.caps
-    same_refusal j = donation_refusal (account_in store script.account.0) (ram_is j) (caps_is j)
+      -- it has a place for the selector
+      pub led_selector : HasSelectorLeft again.role
+      led_selector =
+          subst HasSelectorLeft (sym same_role)
+          (has_selector store store' script (rows_of store host) s session args.ram args.caps (script_sound led_two) (names_open led_two) opens.free limits opens.parted (sym accepted))
 
-    module _ (store' : Store) (server' : Server LogService LabelledLine) where
-      abbrev host' : Component
-      host' = record host { role = ALog pays server' }
-
-      -- it is refused
-      pub led_refused : (refusal : Refusal) (r : Result Answer Refusal) → IsErrAnd r (λ y. y ≡ refusal) → Some refusal ≡ donation_refusal (account_in store script.account.0) ram caps →
-          server' ≡ server → store' ≡ store → Goes (Open service text) i (told_alone (reply_text (reply_of r))) store components store' (set components s host')
-      led_refused refusal r is_refused refuses same_server same_store =
-          let same : set components s host' ≡ components =
-          ap (set components s) (ap {B = Component} (λ r. record host { role = r }) (ap (ALog pays) same_server ∙ sym is_log) ∙ host_read) ∙ set-get_or components s host in
-          subst (λ m. Goes (Open service text) i (told_alone (reply_text (reply_of r))) store components m (set components s host')) (sym same_store)
-          (subst (Goes (Open service text) i (told_alone (reply_text (reply_of r))) store components store) (sym same) (record {
-            answers = refused_result store components i (Open service text) refusal r is_refused
-                (not_opened store components i s caller host script pays server here led_within read host_read is_script is_log core service text args asks refusal (sym (refuses ∙ same_refusal)));
-            core = core;
-          }))
-
-      abbrev rows' : NatMap (Row Labelled)
-      rows' = log_rows server'.sessions store' server'.map
-
-      -- it is opened, and the script has a place for its selector
-      module _ (serves : IsLogServer server'.sessions store' server'.map) (capacity : server'.sessions.capacity ≡ server.sessions.capacity) (limits : ram_limits_in store' ≡ ram_limits_in store)
-          (id : SessionId) (accepted : None ≡ donation_refusal (account_in store script.account.0) ram caps) (whole : List ℕ) (labelled : whole ≡ label_with caller.name.now label)
-          (opens : OpensSession script.account.0 ram caps id.0 (record { label = whole; state = Logging [] }) store store' rows rows')
-          (again : Component) (again_read : again ≡ get_or components i again) (script2 : Script) (still_script : again.role ≡ AScript script2) where
-        same_caller : again ≡ caller
-        same_caller = get_or_read components i again here again_read caller ∙ sym read
-
-        still : script2 ≡ script
-        still = same_script caller.role script script2 is_script (ap (λ (c : Component). c.role) (sym same_caller) ∙ still_script)
-
-        pub led_selector : len script2.caps.caps < script2.caps.places
-        led_selector =
-            subst (λ (x : Script). len x.caps.caps < x.caps.places) (sym still)
-            (has_selector store store' script rows s id ram caps sound named opens.free limits opens.parted (sym accepted))
-
-        module _ (selector : Selector) (script3 : Script) (least : selector.0 ≡ new_selector script2.caps.caps) (fresh : get script2.caps.caps selector.0 ≡ None)
-            (taken : script3 ≡ record script2 { caps = with_cap script2.caps selector.0 (Session s id) }) where
-          abbrev kept : Script
-          kept = record script { caps = with_cap script.caps selector.0 (Session s id) }
-
-          is_kept : script3 ≡ kept
-          is_kept = taken ∙ ap {B = Script} (λ x. record x { caps = with_cap x.caps selector.0 (Session s id) }) still
-
-          accepted_args : donation_refusal (account_in store script.account.0) args.ram args.caps ≡ None
-          accepted_args = sym (accepted ∙ same_refusal)
-
-          opens_args : OpensSession script.account.0 args.ram args.caps id.0 (record { label = whole; state = Logging [] }) store store' rows rows'
-          opens_args =
-              subst (λ n. OpensSession script.account.0 args.ram n id.0 (record { label = whole; state = Logging [] }) store store' rows rows') caps_is
-              (subst (λ n. OpensSession script.account.0 n caps id.0 (record { label = whole; state = Logging [] }) store store' rows rows') ram_is opens)
-
-          opens_it : OpensFor (Selected selector) s whole args.ram args.caps store store' script kept rows rows'
-          opens_it =
-              opens_for store store' script rows s id args.ram args.caps sound named opens_args.free limits opens_args.parted accepted_args
-              selector.0 (subst (λ (x : Script). get x.caps.caps selector.0 ≡ None) still fresh) (least ∙ ap (λ (x : Script). new_selector x.caps.caps) still)
-              (with_cap script.caps selector.0 (Session s id)) (Selected selector) whole rows' refl refl opens_args
-
-          the_label : whole ≡ label_with caller.name.now args.label
-          the_label = labelled ∙ ap (label_with caller.name.now) its
-
-          same_list : set (set components s host') i (record again { role = AScript script3 }) ≡ set (set components i (record caller { role = AScript kept })) s host'
-          same_list =
-              ap (set (set components s host') i) (ap {A = Component} {B = Component} (λ c. record c { role = AScript script3 }) same_caller ∙ ap {A = Script} {B = Component} (λ x. record caller { role = AScript x }) is_kept)
-              ∙ set_comm components s i host' (record caller { role = AScript kept }) (λ e. led_apart (sym e))
-
-          pub led_opened : Goes (Open service text) i (told_alone (reply_text (reply_of (Ok (Selected selector))))) store components store' (set (set components s host') i (record again { role = AScript script3 }))
-          led_opened =
-              subst (Goes (Open service text) i (told_alone (reply_text (reply_of (Ok (Selected selector))))) store components store') (sym same_list) (record {
-                answers = opened_answers store components i s caller host script pays server here led_within read host_read is_script is_log core service text args asks
-                    store' kept server' serves capacity limits accepted_args (Selected selector) whole the_label opens_it;
-                core = opened_core store components i s caller host script pays server here led_within read host_read is_script is_log core service text args asks
-                    store' kept server' serves capacity limits accepted_args (Selected selector) whole the_label opens_it;
-              })
+      pub led_opened : (selector : Selector) (kept : Component) → selector.0 ≡ new_selector (caps_of again) → kept ≡ record again { role = with_session again.role selector.0 s session } →
+          Goes rules (Open service text) i (told_alone (reply_text (Selected selector.0))) store components store' (set (set components s host') i kept)
+      led_opened selector kept least is =
+          let same : kept ≡ record caller { role = with_session (AScript script) selector.0 s session } =
+          is ∙ (λ j. record (same_caller j) { role = with_session (same_role j) selector.0 s session }) in
+          subst (Goes rules (Open service text) i (told_alone (reply_text (Selected selector.0))) store components store')
+          (set_comm components i s (record caller { role = with_session (AScript script) selector.0 s session }) host' led_stands.apart ∙ ap (set (set components s host') i) (sym same))
+          (opened_goes led_two rules kind service text args asks store' host' stays limits (sym accepted) session opens selector.0 (least ∙ ap (λ r. new_selector (caps_in r)) same_role))

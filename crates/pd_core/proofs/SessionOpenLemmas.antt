@@ -20,14 +20,11 @@ use Rattle.own_model.specs.StartList.{Entry}
 use Rattle.own_model.proofs.NatMapLemmas.{get-insert_same, get-insert_other}
 use Rattle.own_model.proofs.SessionLemmas.{donation_covered, large_enough}
 use Rattle.own_model.proofs.Totals.{len-insert_new, total-insert_new}
-use Rattle.own_model.specs.Session.ServiceState.{Logging}
 use Rattle.cap_space.specs.declared.cap.Cap.TheVariants.{Dataspace, Session}
 use Rattle.cap_space.specs.Space.{Space, with_cap}
 use Rattle.dataspace_core.specs.Store.{Store, Part, part, account_of, account_in, ram_limits_in, parted_part}
 use Rattle.dataspace_core.proofs.PartLaws.{account_of-part}
-use Rattle.server_frame.specs.Frame.{Row, OpensSession}
-use Rattle.pd_core.specs.Answer.{model_answer}
-use Rattle.pd_core.specs.declared.answer.Answer.{Answer}
+use Rattle.server_frame.specs.Frame.{Row}
 use Rattle.pd_core.specs.Own.{Sessions, HasSessions, own_at, own_of, own_heap_at, sliced_at, part_at}
 use Rattle.pd_core.specs.Sessions.{AgreeBut}
 use Rattle.pd_core.specs.Sound.{rpc_weight, session_weight, IsLawful, IsSoundScript}
@@ -43,19 +40,17 @@ abbrev pub NamesOpen : Script → NatMap (Row Labelled) → ℕ → Type 0
 NamesOpen script rows server =
     (selector : ℕ) (session : SessionId) → get script.caps.caps selector ≡ Some (Session server session) → IsSome (get rows session.0)
 
--- a session with this label and donation is opened for a script, under a new selector: what the model tells of it, where all
--- other sessions are the same before and after, and that the script is sound
-pub record OpensFor (answer : Answer) (server : ℕ) (label : List ℕ) (ram caps : ℕ) (old new : Store) (before after : Script) (rows rows' : NatMap (Row Labelled)) : Type 0 where
-  pub id : SessionId
-  pub selector : ℕ
-  pub told : model_answer answer ≡ Selected selector
-  pub opens : OpensSession before.account.0 ram caps id.0 (record { label = label; state = Logging [] }) old new rows rows'
-  pub free : get before.caps.caps selector ≡ None
-  pub script : after ≡ record before { caps = with_cap before.caps selector (Session server id) }
-  pub sound : IsSoundScript new after
+-- a script with a session under a selector
+abbrev pub script_with : Script → ℕ → ℕ → SessionId → Script
+script_with script selector server session = record script { caps = with_cap script.caps selector (Session server session) }
+
+-- a session with this donation is opened for a script under a new selector: what the model tells of it, where all other sessions
+-- are the same before and after, and that the script is sound
+pub record OpensFor (selector server : ℕ) (session : SessionId) (ram caps : ℕ) (old new : Store) (before : Script) : Type 0 where
+  pub sound : IsSoundScript new (script_with before selector server session)
   pub does : (entry : Entry) (S S' : Sessions) (service text : List ℕ) (w : Wish) → HasSessions S before.caps.caps → wish entry.name entry.routes service text ≡ Ok w →
-      w.ram ≡ ram → w.caps ≡ caps → AgreeBut S S' server id.0 → S' server id.0 ≡ Some (new_session w) →
-      entry_step entry (Open service text) (own_at S old before) ≡ record { reply = Selected selector; lines = []; next = own_at S' new after }
+      w.ram ≡ ram → w.caps ≡ caps → AgreeBut S S' server session.0 → S' server session.0 ≡ Some (new_session w) →
+      entry_step entry (Open service text) (own_at S old before) ≡ record { reply = Selected selector; lines = []; next = own_at S' new (script_with before selector server session) }
 
 -- an open leaves what is lawful
 lawful_opened : (s : OwnState) (w : Wish) → donation_refusal s.account w.ram w.caps ≡ None → IsLawful s → IsLawful (session_opened w s).next
@@ -114,7 +109,7 @@ module _ (store store' : Store) (script : Script) (rows : NatMap (Row Labelled))
           (is_new ∙ sym (same_new_selector (part_at store script) script.caps script.regions (own_heap_at store script) (sliced_at store script) sound.own S ready))
           names_it is (ap account_of parted ∙ (λ i. parted_with (account_of (part_at store script)) (sym e i) (sym f i)))
 
-      pub opens_does : (entry : Entry) (S S' : Sessions) (service text : List ℕ) (w : Wish) → HasSessions S script.caps.caps → wish entry.name entry.routes service text ≡ Ok w → w.ram ≡ ram → w.caps ≡ caps → AgreeBut S S' server session.0 →
+      opens_does : (entry : Entry) (S S' : Sessions) (service text : List ℕ) (w : Wish) → HasSessions S script.caps.caps → wish entry.name entry.routes service text ≡ Ok w → w.ram ≡ ram → w.caps ≡ caps → AgreeBut S S' server session.0 →
           S' server session.0 ≡ Some (new_session w) →
           entry_step entry (Open service text) (own_at S store script) ≡ record { reply = Selected selector; lines = []; next = own_at S' store' (record script { caps = opened_space }) }
       opens_does entry S S' service text w ready asks e f agree is =
@@ -158,22 +153,8 @@ module _ (store store' : Store) (script : Script) (rows : NatMap (Row Labelled))
             ram = omega (arith, limit_within script.account.0 store' a (ap (λ (q : Part). q.account) parted), limits, sound.heaps.sliced.maps.pages, ap (λ (x : Account). x.ram_limit) account);
           }
 
-      pub opens_sound : IsSoundScript store' (record script { caps = opened_space })
+      opens_sound : IsSoundScript store' (record script { caps = opened_space })
       opens_sound = sound_still store store' script (Some a) sound parted refl limits opened_space selector opened_others opened_spaces counted opened_lawful
 
-      -- what the code's call does
-      pub opens_for : (space' : Space) (answer : Answer) (label : List ℕ) (rows' : NatMap (Row Labelled)) → space' ≡ opened_space → model_answer answer ≡ Selected selector →
-          OpensSession script.account.0 ram caps session.0 (record { label = label; state = Logging [] }) store store' rows rows' →
-          OpensFor answer server label ram caps store store' script (record script { caps = space' }) rows rows'
-      opens_for space' answer label rows' taken told_is opens = record {
-        id = session;
-        selector = selector;
-        told = told_is;
-        opens = opens;
-        free = fresh;
-        script = ap {B = Script} (λ s. record script { caps = s }) taken;
-        sound = subst (λ s. IsSoundScript store' (record script { caps = s })) (sym taken) opens_sound;
-        does = λ entry S S' service text w ready asks e f agree is.
-            subst (λ s. entry_step entry (Open service text) (own_at S store script) ≡ record { reply = Selected selector; lines = []; next = own_at S' store' (record script { caps = s }) }) (sym taken)
-            (opens_does entry S S' service text w ready asks e f agree is);
-      }
+      pub opens_for : OpensFor selector server session ram caps store store' script
+      opens_for = record { sound = opens_sound; does = opens_does }

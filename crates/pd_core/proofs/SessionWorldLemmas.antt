@@ -1,79 +1,48 @@
 -- A call of a session that is named: what is answered, the world that it leaves, and that the core stays sound.
-use Rattle.std.proofs.Common.{◌≡◌, ◌≢◌, ℕ, ◌<◌, List, [], Option, None, Some, Ok, Err, Result, length, get_or, set, refl, sym, ap, subst, ◌∙◌}
-use Rattle.std.proofs.lemmas.List.{set-get_or, get_or-map, get_or_read, length-set, get_or-set_other}
+use Rattle.std.proofs.Common.{◌≡◌, ◌≢◌, ℕ, ◌<◌, List, [], None, Some, is_some, length, get_or, set, refl, sym, ap, subst, ◌∙◌}
+use Rattle.std.proofs.lemmas.List.{get_or_read, length-set, get_or-set_other}
 use Rattle.std.proofs.lemmas.Grind.{get_or-set_at}
-use Rattle.std.specs.FinMap.{get, empty, insert}
-use Rattle.std.specs.List.{flat_map}
+use Rattle.std.specs.FinMap.{get, insert, remove}
+use Rattle.std.specs.Prelude.{IsSome}
 use Rattle.std.specs.Option.{option_map}
-use Rattle.std.specs.Prelude.{OnOk, OnErr}
-use Rattle.trade_base.specs.declared.id.AccountId.{AccountId}
 use Rattle.trade_base.specs.declared.id.SessionId.{SessionId}
 use Rattle.trade_base.specs.declared.refusal.Refusal.{Refusal}
-use Rattle.own_model.specs.Account.{Account, Fits}
+use Rattle.trade_base.specs.declared.refusal.Refusal.TheVariants.{BadArgs}
+use Rattle.own_model.specs.Account.{Account, shortage}
 use Rattle.own_model.specs.Call.{Call}
-use Rattle.own_model.specs.Call.Call.{Upgrade, CallSession}
+use Rattle.own_model.specs.Call.Call.{Upgrade, CallSession, Close}
 use Rattle.own_model.specs.Donation.{raised}
 use Rattle.own_model.specs.NatMap.{NatMap}
-use Rattle.own_model.specs.OwnState.{OwnState, session_named}
-use Rattle.own_model.specs.OwnStep.{Outcome, own_step, unless, upgraded_by, session_upgraded, unrouted}
-use Rattle.own_model.specs.Reply.{Reply, LogLine, reply_text, log_text}
-use Rattle.own_model.specs.Reply.Reply.{Refused, Told as AnswerTold}
-use Rattle.own_model.specs.Session.{Session as AnOpenSession, given, given_by, served, Labelled}
+use Rattle.own_model.specs.OwnStep.{entry_step, refused}
+use Rattle.own_model.specs.Reply.{reply_text}
+use Rattle.own_model.specs.Reply.Reply.{Done, Refused, Told as AnswerTold}
+use Rattle.own_model.specs.Session.{served, Labelled}
 use Rattle.own_model.specs.SessionArgs.{Arguments, arguments_of}
-use Rattle.own_model.specs.Transcript.{nothing, state_at}
-use Rattle.own_model.specs.World.{World, with_state}
 use Rattle.own_model.proofs.StepLemmas.{covers}
 use Rattle.own_model.proofs.LimitLemmas.{serve_keeps}
-use Rattle.own_model.proofs.NatMapLemmas.{get-insert_same}
-use Rattle.dataspace_core.specs.Store.{Store, account_of, account_in, root_in, ram_limits_in, IsOpenIn, RaisesPart}
-use Rattle.dataspace_core.proofs.PartLaws.{account_of-part}
-use Rattle.slab.specs.Slab.{Slab}
-use Rattle.region_map.specs.Regions.{Regions}
+use Rattle.own_model.proofs.NatMapLemmas.{get-insert_same, get-remove_same}
+use Rattle.dataspace_core.specs.Store.{Store, account_in, root_in, ram_limits_in, ClosesPart, RaisesPart}
 use Rattle.server_frame.specs.Frame.{Row, ServesSession}
 use Rattle.server_frame.specs.Session.{service_step}
-use Rattle.server_frame.specs.declared.server.Session.{Session as Kept}
-use Rattle.cap_space.specs.declared.cap.Cap.TheVariants.{Session}
 use Rattle.server_frame.specs.Told.{Told}
-use Rattle.server_frame.specs.declared.server.Server.{Server}
-use Rattle.log_service.specs.declared.service.LogService.{LogService}
-use Rattle.log_service.specs.Session.{LabelledLine}
-use Rattle.pd_core.specs.Answer.{told_alone, reply_of, model_answer}
-use Rattle.pd_core.specs.declared.answer.Answer.{Answer}
-use Rattle.pd_core.specs.declared.answer.Answer.TheVariants.{Selected, Attached, Done as DoneAnswer, Quotas}
-use Rattle.pd_core.specs.Component.{entry_of, kind_of, rows_in, rows_of, own, own_in}
-use Rattle.pd_core.specs.Core.{rows_at, sessions_in, world_of, IsCore}
-use Rattle.pd_core.specs.Own.{own_at, own_of, part_at}
-use Rattle.pd_core.specs.SessionCalls.{Answers}
-use Rattle.pd_core.proofs.SessionCore.{ReplacesTwo, IsAccountOf, ChangesSession}
-use Rattle.pd_core.specs.Sessions.{log_rows, row_session, IsLogServer, DoesSession, Moves, Serves}
+use Rattle.cap_space.specs.Space.{without_cap}
+use Rattle.cap_space.specs.declared.cap.Cap.TheVariants.{Session}
+use Rattle.pd_core.specs.Answer.{told_alone}
+use Rattle.pd_core.specs.Component.{entry_of, rows_of, own_in, IsSoundRole, StaysServer}
+use Rattle.pd_core.specs.Core.{Rules, rows_at, sessions_in}
+use Rattle.pd_core.specs.Own.{own_at}
+use Rattle.pd_core.specs.SessionCalls.{Answers, without_selector}
+use Rattle.pd_core.specs.Sessions.{row_session, NamesSession}
+use Rattle.pd_core.specs.Sound.{IsSoundScript}
 use Rattle.pd_core.specs.declared.component.Component.{Component}
-use Rattle.pd_core.specs.declared.component.Role.TheVariants.{Script as AScript, Log as ALog}
+use Rattle.pd_core.specs.declared.component.Role.TheVariants.{Script as AScript}
 use Rattle.pd_core.specs.declared.script.Script.{Script}
-use Rattle.pd_core.proofs.CoreLemmas.{outcome_is, state_is}
-use Rattle.pd_core.proofs.SessionDoneLemmas.{row_is, row_account}
-use Rattle.pd_core.proofs.SessionOwnLemmas.{is_step}
-use Rattle.pd_core.proofs.SessionCallLemmas.{some_sessions, some_same, with_session, with_session_same, with_session_other}
-use Rattle.pd_core.proofs.SessionCoreLemmas.{session_outcome, session_world, session_core, two_places}
-use Rattle.pd_core.proofs.SessionChangesLemmas.{account_of_row, changes_raised, changes_served, its}
-
--- what a call is answered and leaves, and that the core is sound after it
-pub record Goes (call : Call) (i : ℕ) (reply : Told) (store : Store) (components : List Component) (store' : Store) (components' : List Component) : Type 0 where
-  pub answers : Answers call i reply store components store' components'
-  pub core : IsCore store' components'
-
--- a call that leaves its caller's own state leaves the world
-pub stays_answers : (store : Store) (components : List Component) (i : ℕ) (caller : Component) (call : Call) (reply : Reply) → i < length components → caller ≡ get_or components i caller →
-    own_step (entry_of caller) call (own (sessions_in store components) store caller) ≡ record { reply = reply; lines = []; next = own (sessions_in store components) store caller } →
-    Answers call i (told_alone (reply_text reply)) store components store components
-stays_answers store components i caller call reply here read is =
-    let world : World = world_of store components in
-    let outcome = outcome_is store components i caller here read call ∙ is in
-    let same : own (sessions_in store components) store caller ≡ state_at world.states i = sym (state_is store components i caller here read) in
-    record {
-      answered = ap (λ o. reply_text o.reply) (sym outcome);
-      lines = ap (λ o. flat_map log_text o.lines) (sym outcome);
-      stepped = sym (ap (λ o. with_state world i o.next) outcome ∙ ap (with_state world i) same ∙ ap (λ states. record world { states = states }) (set-get_or world.states i nothing));
-    }
+use Rattle.pd_core.proofs.ServerLemmas.{paid_in}
+use Rattle.pd_core.proofs.SessionCallsLemmas.{refused_answers}
+use Rattle.pd_core.proofs.SessionChangesLemmas.{account_of_row, changes_closed, changes_raised, changes_served, names_session, row_paid, rows_are}
+use Rattle.pd_core.proofs.SessionCore.{AreTwo, Goes, ReplacesTwo, IsAccountOf}
+use Rattle.pd_core.proofs.SessionCoreLemmas.{caller_step, replaces_by_set, session_goes, two_places}
+use Rattle.pd_core.proofs.SessionDoneLemmas.{closes_done, upgrades_done, serves_done, upgrade_unread, upgrade_refused}
 
 -- one component is set, and another stays
 replaces_by_one : (components : List Component) (i s : ℕ) (caller host : Component) → caller ≡ get_or components i caller → i < length components → s < length components → s ≢ i → ReplacesTwo components (set components s host) i s caller host
@@ -84,178 +53,112 @@ replaces_by_one components i s caller host read here there apart = record {
   others = λ k d not_caller not_host. get_or-set_other components s k host d not_host;
 }
 
--- ---- an upgrade that isn't refused
+-- a script stands at one place of the components and a server at another
+module _ {store : Store} {components : List Component} {i s : ℕ} {caller host : Component} {script : Script} (two : AreTwo store components i s caller host script) where
+  open two use {here, there, caller_read, host_read, is_script, core}
 
-answer_stands : (answer : Answer) (refusal : Refusal) → model_answer answer ≢ Refused refusal
-answer_stands (Selected selector) refusal is = cc
-answer_stands (Attached address) refusal is = cc
-answer_stands DoneAnswer refusal is = cc
-answer_stands (Quotas quotas) refusal is = cc
+  -- the script is sound
+  pub script_sound : IsSoundScript store script
+  script_sound = subst (IsSoundRole store) (ap (λ (c : Component). c.role) (sym caller_read) ∙ is_script) (core.sound i caller here)
 
-none_short : (o : Option Refusal) (s : OwnState) (out : Outcome) (answer : Answer) → (unless o s out).reply ≡ model_answer answer → o ≡ None
-none_short None s out answer is = refl
-none_short (Some refusal) s out answer is = absurd (answer_stands answer refusal (sym is))
-
--- its client's account covers what is donated
-upgrade_fits : (selector : ℕ) (o : Option AnOpenSession) (more : Option Arguments) (s : OwnState) (answer : Answer) → (upgraded_by selector o more s).reply ≡ model_answer answer → Fits s.account (given_by more).ram (given_by more).caps
-upgrade_fits selector None more s answer is = absurd (answer_stands answer _ (sym is))
-upgrade_fits selector (Some session) None s answer is = absurd (answer_stands answer _ (sym is))
-upgrade_fits selector (Some session) (Some more) s answer is = covers s.account more.ram more.caps (none_short _ s (session_upgraded selector session more s) answer is)
-
--- the account of a session that is there is open
-row_is_open : (sessions : Slab (Kept LabelledLine)) (store : Store) (regions : Regions) → IsLogServer sessions store regions → (id : ℕ) (row : Row Labelled) → get (log_rows sessions store regions) id ≡ Some row → IsOpenIn store row.key
-row_is_open sessions store regions server id row there =
-    let found = row_is sessions store regions id row there in
-    let holds = server.each id found.session found.there in
-    subst (IsOpenIn store) (holds.payer ∙ ap (λ (r : Row Labelled). r.key) found.is) holds.heap.sound.opens
-
--- ---- the call
-
--- a script stands at one place of the components and a log server at another
-module _ (store : Store) (components : List Component) (i s : ℕ) (caller host : Component) (script : Script) (pays : AccountId) (server : Server LogService LabelledLine)
-    (here : i < length components) (there : s < length components) (caller_read : caller ≡ get_or components i caller) (host_read : host ≡ get_or components s host)
-    (is_script : caller.role ≡ AScript script) (is_log : host.role ≡ ALog pays server) (core : IsCore store components) where
-  abbrev rows : ℕ → NatMap (Row Labelled)
-  rows = rows_at store components
-
-  abbrev server_rows : NatMap (Row Labelled)
-  server_rows = log_rows server.sessions store server.map
-
-  -- the rows at the server's place are its own
-  rows_read : rows s ≡ server_rows
-  rows_read = get_or-map (rows_of store) components s host empty there ∙ ap (rows_of store) (sym host_read) ∙ ap (rows_in store) is_log
-
-  module _ (store' : Store) (components' : List Component) (script' : Script) (server' : Server LogService LabelledLine) (key account : ℕ)
-      (replaced : ReplacesTwo components components' i s (record caller { role = AScript script' }) (record host { role = ALog pays server' }))
-      (apart : IsAccountOf (root_in store) components (rows_at store components) s key account)
-      (changes : ChangesSession s key account store store' script script' (rows_at store components) (log_rows server'.sessions store' server'.map))
-      (serves : IsLogServer server'.sessions store' server'.map) (capacity : server'.sessions.capacity ≡ server.sessions.capacity) where
-    -- where it is told what it does to its session, it goes as the model's
-    pub session_goes : (call : Call) (reply : Reply) (lines : List LogLine) (was is : Option AnOpenSession) (written : Told) → DoesSession call reply lines s key was is store script store' script' →
-        option_map row_session (get (rows_at store components s) key) ≡ was → option_map row_session (get (log_rows server'.sessions store' server'.map) key) ≡ is →
-        written.text ≡ reply_text reply → written.lines ≡ flat_map log_text lines → Goes call i written store components store' components'
-    session_goes call reply lines was is written does before now text told =
-        let outcome = session_outcome store components i s caller host script pays server here there caller_read host_read is_script is_log core
-        store' components' script' server' key account replaced apart changes serves capacity call reply lines was is does before now in
-        let all = outcome_is store components i caller here caller_read call ∙ outcome in
-        let next = sym (ap (λ (o : Outcome). o.next) outcome) in
-        record {
-          answers = record {
-            answered = text ∙ sym (ap (λ (o : Outcome). reply_text o.reply) all);
-            lines = told ∙ sym (ap (λ (o : Outcome). flat_map log_text o.lines) all);
-            stepped = session_world store components i s caller host script pays server here there caller_read host_read is_script is_log core
-                store' components' script' server' key account replaced apart changes serves capacity call next;
-          };
-          core = session_core store components i s caller host script pays server here there caller_read host_read is_script is_log core
-              store' components' script' server' key account replaced apart changes serves capacity call next;
-        }
+  -- a refused call leaves the world
+  pub refused_step : (rules : Rules) (call : Call) (refusal : Refusal) →
+      entry_step (entry_of (rules i) caller) call (own_at (sessions_in store components) store script) ≡ refused (own_at (sessions_in store components) store script) refusal →
+      Answers rules call i (told_alone (reply_text (Refused refusal))) store components store components
+  refused_step rules call refusal is =
+      let S = sessions_in store components in
+      refused_answers rules store components i caller call refusal here caller_read
+      (caller_step two (rules i) call S ∙ is ∙ ap (λ o. refused o refusal) (sym (ap (own_in S store) is_script)))
 
   -- ---- the session that a selector names
 
   module _ (q : ℕ) (session : SessionId) (names : get script.caps.caps q ≡ Some (Session s session)) where
-    abbrev the_row : Row Labelled
-    the_row = (its store components i s caller host script pays server here there caller_read host_read is_script is_log core q session names).row
+    abbrev named : NamesSession script store (rows_of store host) q s session
+    named = names_session two q session names
 
-    is_there : get (rows s) session.0 ≡ Some the_row
-    is_there = (its store components i s caller host script pays server here there caller_read host_read is_script is_log core q session names).there
+    abbrev row : Row Labelled
+    row = named.row
 
-    is_kept : get server_rows session.0 ≡ Some the_row
-    is_kept = ap (λ (m : NatMap (Row Labelled)). get m session.0) (sym rows_read) ∙ is_there
+    is_there : get (rows_at store components s) session.0 ≡ Some row
+    is_there = ap (λ (m : NatMap (Row Labelled)). get m session.0) (rows_are two) ∙ named.there
 
-    its_account : IsAccountOf (root_in store) components rows s session.0 the_row.key
-    its_account = account_of_row store components i s caller host script pays server here there caller_read host_read is_script is_log core session.0 the_row is_there
+    -- the session is open
+    pub named_open : IsSome (get (rows_of store host) session.0)
+    named_open = ap is_some named.there
 
-    apart : s ≢ i
-    apart = two_places store components i s caller host script pays server here there caller_read host_read is_script is_log core
+    -- arguments that can't be read
+    pub unread_answers : (rules : Rules) (text : List ℕ) → arguments_of text ≡ None → Answers rules (Upgrade q text) i (told_alone (reply_text (Refused BadArgs))) store components store components
+    unread_answers rules text none =
+        refused_step rules (Upgrade q text) BadArgs
+        (upgrade_unread store script (rows_of store host) q s session named (entry_of (rules i) caller) (sessions_in store components) (ap (option_map row_session) is_there) text none)
 
-    -- its client's account is the script's
-    client_account : account_in store the_row.client ≡ account_of (part_at store script)
-    client_account = ap (account_in store) (its store components i s caller host script pays server here there caller_read host_read is_script is_log core q session names).client ∙ sym (account_of-part script.account.0 store)
+    -- more than its client covers
+    pub short_answers : (rules : Rules) (text : List ℕ) {more : Arguments} (refusal : Refusal) → arguments_of text ≡ Some more →
+        ((one : Row Labelled) → get (rows_of store host) session.0 ≡ Some one → Some refusal ≡ shortage (account_in store one.client) more.ram more.caps) →
+        Answers rules (Upgrade q text) i (told_alone (reply_text (Refused refusal))) store components store components
+    short_answers rules text {more} refusal reads short =
+        refused_step rules (Upgrade q text) refusal
+        (upgrade_refused store script (rows_of store host) q s session named (entry_of (rules i) caller) (sessions_in store components) (ap (option_map row_session) is_there) text more refusal reads (sym (short row named.there)))
 
-    -- the components after it
-    abbrev after_with : Server LogService LabelledLine → List Component
-    after_with server' = set components s (record host { role = ALog pays server' })
+    module _ (store' : Store) (host' : Component) (stays : StaysServer host store' host') (limits : ram_limits_in store' ≡ ram_limits_in store) where
+      its_account : IsAccountOf (root_in store) components (rows_at store components) s session.0 row.key
+      its_account = account_of_row two session.0 row is_there
 
-    same_caller : caller ≡ record caller { role = AScript script }
-    same_caller = ap {B = Component} (λ r. record caller { role = r }) is_script
+      same_caller : caller ≡ record caller { role = AScript script }
+      same_caller = ap {B = Component} (λ r. record caller { role = r }) is_script
 
-    replaced_with : (server' : Server LogService LabelledLine) → ReplacesTwo components (after_with server') i s (record caller { role = AScript script }) (record host { role = ALog pays server' })
-    replaced_with server' =
-        subst (λ c. ReplacesTwo components (after_with server') i s c (record host { role = ALog pays server' })) same_caller
-        (replaces_by_one components i s caller (record host { role = ALog pays server' }) caller_read here there apart)
+      replaced : ReplacesTwo components (set components s host') i s (record caller { role = AScript script }) host'
+      replaced = subst (λ c. ReplacesTwo components (set components s host') i s c host') same_caller (replaces_by_one components i s caller host' caller_read here there (two_places two))
 
-    after_same : (server' : Server LogService LabelledLine) → server' ≡ server → after_with server' ≡ components
-    after_same server' same =
-        ap after_with same ∙ ap {B = List Component} (λ r. set components s (record host { role = r })) (sym is_log)
-        ∙ ap (set components s) host_read ∙ set-get_or components s host
+      -- it is closed
+      pub close_goes : (rules : Rules) (client : Component) → client ≡ record caller { role = without_selector caller.role q } →
+          ((one : Row Labelled) → get (rows_of store host) session.0 ≡ Some one → ClosesPart one.key one.client store store') → rows_of store' host' ≡ remove (rows_of store host) session.0 →
+          Goes rules (Close q) i (told_alone (reply_text Done)) store components store' (set (set components i client) s host')
+      close_goes rules taken is closes written =
+          let script' : Script = record script { caps = without_cap script.caps q } in
+          let client : Component = record caller { role = AScript script' } in
+          let done = closes_done store store' script (rows_of store host) q s session script_sound named limits (row_paid two q session names).account (closes row named.there) in
+          subst (λ d. Goes rules (Close q) i (told_alone (reply_text Done)) store components store' (set (set components i d) s host')) (sym (is ∙ ap (λ r. record caller { role = without_selector r q }) is_script)) (
+          session_goes two store' (set (set components i client) s host') script' host' session.0 row.key (replaces_by_set components i s client host' here there (two_places two)) its_account
+          (changes_closed two q session names store' (rows_of store' host') written (closes row named.there) done.sound limits) stays
+          rules (Close q) refl Done [] (told_alone (reply_text Done)) refl refl (Some (row_session row)) None done.does (ap (option_map row_session) is_there)
+          (ap (λ (m : NatMap (Row Labelled)). option_map row_session (get m session.0)) written ∙ ap (option_map row_session) (get-remove_same (rows_of store host) session.0 session.0 refl)))
 
-    -- what the account covers
-    covered : (answer : Answer) (text : List ℕ) (store' : Store) (next : Row Labelled) →
-        DoesSession (Upgrade q text) (model_answer answer) [] s session.0 (Some (row_session the_row)) (Some (row_session next)) store script store' script → Fits (account_in store the_row.client) (given text).ram (given text).caps
-    unfolding own_of
-    covered answer text store' next does =
-        let S = some_sessions s session.0 (row_session the_row) in
-        let S' = with_session S s session.0 (row_session next) in
-        let step = does unrouted S S' refl (λ other at apart. with_session_other S s session.0 other at (row_session next) apart) (some_same s session.0 (row_session the_row)) (with_session_same S s session.0 (row_session next)) in
-        subst (λ a. Fits a (given text).ram (given text).caps) (sym client_account)
-        (upgrade_fits q (session_named (get (own_at S store script).selectors q)) (arguments_of text) (own_at S store script) answer (ap (λ (o : Outcome). o.reply) step))
-
-    -- a call that leaves the memory leaves the caller's own state
-    stays_own : (call : Call) (reply : Reply) → DoesSession call reply [] s session.0 (Some (row_session the_row)) (Some (row_session the_row)) store script store script →
-        own_step (entry_of caller) call (own (sessions_in store components) store caller) ≡ record { reply = reply; lines = []; next = own (sessions_in store components) store caller }
-    unfolding own_of
-    stays_own call reply does =
-        let S = sessions_in store components in
-        let kind = ap kind_of is_script in
-        let same = ap (own_in S store) is_script in
-        let before = ap (option_map row_session) is_there in
-        ap (own_step (entry_of caller) call) same
-        ∙ is_step (entry_of caller) call (own_at S store script) kind refl
-        ∙ does (entry_of caller) S S kind (λ _ _ _. refl) before before
-        ∙ ap {B = Outcome} (λ o. record { reply = reply; lines = []; next = o }) (sym same)
-
-    module _ (store' : Store) (server' : Server LogService LabelledLine) (serves : IsLogServer server'.sessions store' server'.map) (limits : ram_limits_in store' ≡ ram_limits_in store) where
-      abbrev rows' : NatMap (Row Labelled)
-      rows' = log_rows server'.sessions store' server'.map
-
-      -- more is donated for it, or nothing changes
-      pub upgrade_goes : (text : List ℕ) (r : Result Answer Refusal) → server' ≡ server → Moves (Upgrade q text) (reply_of r) s session.0 store store' script server_rows rows' →
-          ((one : Row Labelled) → get server_rows session.0 ≡ Some one → OnOk r (RaisesPart one.client one.key (given text).ram (given text).caps store store')) →
-          ((one : Row Labelled) → get server_rows session.0 ≡ Some one → OnOk r (rows' ≡ insert server_rows session.0 (record one { account = raised one.account (given text).ram (given text).caps }))) →
-          OnErr r (store' ≡ store) → Goes (Upgrade q text) i (told_alone (reply_text (reply_of r))) store components store' (after_with server')
-      upgrade_goes text (Ok answer) same moves raises written memory =
-          let next : Row Labelled = record the_row { account = raised the_row.account (given text).ram (given text).caps } in
-          let after = written the_row is_kept in
-          let now : get rows' session.0 ≡ Some next = ap (λ (m : NatMap (Row Labelled)). get m session.0) after ∙ get-insert_same server_rows session.0 next session.0 refl in
-          let does = moves.does the_row next is_kept now in
-          let changes = changes_raised store components i s caller host script pays server here there caller_read host_read is_script is_log core q session names store' next refl refl rows' after
-          (given text).ram (given text).caps (raises the_row is_kept) (covered answer text store' next does) moves.sound limits in
-          session_goes store' (after_with server') script server' session.0 the_row.key (replaced_with server') its_account changes serves (ap (λ (x : Server LogService LabelledLine). x.sessions.capacity) same)
-          (Upgrade q text) (model_answer answer) [] (Some (row_session the_row)) (Some (row_session next)) (told_alone (reply_text (model_answer answer))) does
-          (ap (option_map row_session) is_there) (ap (option_map row_session) now) refl refl
-      upgrade_goes text (Err refusal) same moves raises written memory =
-          let same_rows : rows' ≡ server_rows = λ j. log_rows (same j).sessions (memory j) (same j).map in
-          let does = moves.does the_row the_row is_kept (ap (λ (m : NatMap (Row Labelled)). get m session.0) same_rows ∙ is_kept) in
-          let still = subst (λ st. DoesSession (Upgrade q text) (Refused refusal) [] s session.0 (Some (row_session the_row)) (Some (row_session the_row)) store script st script) memory does in
-          let call = Upgrade q text in
-          let told = told_alone (reply_text (Refused refusal)) in
-          subst (λ st. Goes call i told store components st (after_with server')) (sym memory)
-          (subst (λ cs. Goes call i told store components store cs) (sym (after_same server' same))
-          (record { answers = stays_answers store components i caller call (Refused refusal) here caller_read (stays_own call (Refused refusal) still); core = core }))
+      -- more is donated for it
+      pub upgrade_goes : (rules : Rules) (text : List ℕ) {more : Arguments} → arguments_of text ≡ Some more →
+          ((one : Row Labelled) → get (rows_of store host) session.0 ≡ Some one → None ≡ shortage (account_in store one.client) more.ram more.caps) →
+          ((one : Row Labelled) → get (rows_of store host) session.0 ≡ Some one → RaisesPart one.client one.key more.ram more.caps store store') →
+          ((one : Row Labelled) → get (rows_of store host) session.0 ≡ Some one →
+          rows_of store' host' ≡ insert (rows_of store host) session.0 (record one { account = raised one.account more.ram more.caps })) →
+          Goes rules (Upgrade q text) i (told_alone (reply_text Done)) store components store' (set components s host')
+      upgrade_goes rules text {more} reads accepted raised_by written_by =
+          let enough = sym (accepted row named.there) in
+          let raises = raised_by row named.there in
+          let written = written_by row named.there in
+          let next : Row Labelled = record row { account = raised row.account more.ram more.caps } in
+          let done = upgrades_done store store' script (rows_of store host) q s session script_sound named limits text more reads enough raises in
+          let changes = changes_raised two q session names store' next refl refl (rows_of store' host') written more.ram more.caps raises (covers (account_in store row.client) more.ram more.caps enough) done.sound limits in
+          session_goes two store' (set components s host') script host' session.0 row.key replaced its_account changes stays
+          rules (Upgrade q text) refl Done [] (told_alone (reply_text Done)) refl refl (Some (row_session row)) (Some (row_session next)) done.does (ap (option_map row_session) is_there)
+          (ap (λ (m : NatMap (Row Labelled)). option_map row_session (get m session.0)) written ∙ ap (option_map row_session) (get-insert_same (rows_of store host) session.0 next session.0 refl))
 
       -- a request is served on it
-      pub call_goes : (request : List ℕ) (written : Told) → Serves q request written s session.0 store store' script server_rows →
-          ((one : Row Labelled) → get server_rows session.0 ≡ Some one → ServesSession one session.0 (service_step request one.account one.value) store store' server_rows rows') →
-          server'.sessions.capacity ≡ server.sessions.capacity → Goes (CallSession q request) i written store components store' (after_with server')
-      call_goes request written told does capacity =
-          let served_row = does the_row is_kept in
-          let step = service_step request the_row.account the_row.value in
-          let next : Row Labelled = record the_row { account = step.account; value = step.value } in
-          let limit = (serve_keeps (row_session the_row).state (row_session the_row) request).1 in
-          let now : get rows' session.0 ≡ Some next = ap (λ (m : NatMap (Row Labelled)). get m session.0) served_row.sessions ∙ get-insert_same server_rows session.0 next session.0 refl in
-          let changes = changes_served store components i s caller host script pays server here there caller_read host_read is_script is_log core q session names store' next refl refl rows' served_row.sessions
-          served_row.others served_row.root served_row.parents served_row.room (row_is_open server'.sessions store' server'.map serves session.0 next now) (ap (λ (a : Account). a.caps_limit) (row_account server'.sessions store' server'.map session.0 next now) ∙ limit)
-          told.sound limits in
-          session_goes store' (after_with server') script server' session.0 the_row.key (replaced_with server') its_account changes serves capacity
-          (CallSession q request) (AnswerTold written.text) (served (row_session the_row) request).lines (Some (row_session the_row)) (Some (row_session next)) written (told.does the_row is_kept)
-          (ap (option_map row_session) is_there) (ap (option_map row_session) now) refl (told.lines the_row is_kept)
+      pub call_goes : (rules : Rules) (request : List ℕ) (written : Told) →
+          ((one : Row Labelled) → get (rows_of store host) session.0 ≡ Some one → ServesSession one session.0 (service_step request one.account one.value) store store' (rows_of store host) (rows_of store' host')) →
+          ((one : Row Labelled) → get (rows_of store host) session.0 ≡ Some one → written.text ≡ (service_step request one.account one.value).text) →
+          ((one : Row Labelled) → get (rows_of store host) session.0 ≡ Some one → written.lines ≡ (service_step request one.account one.value).lines) →
+          Goes rules (CallSession q request) i written store components store' (set components s host')
+      call_goes rules request written served_by text lines =
+          let serves = served_by row named.there in
+          let step = service_step request row.account row.value in
+          let next : Row Labelled = record row { account = step.account; value = step.value } in
+          let now : get (rows_of store' host') session.0 ≡ Some next = ap (λ (m : NatMap (Row Labelled)). get m session.0) serves.sessions ∙ get-insert_same (rows_of store host) session.0 next session.0 refl in
+          let paid = paid_in store' host'.role stays.works session.0 next now in
+          let limit = (serve_keeps (row_session row).state (row_session row) request).1 in
+          let done = serves_done store store' script (rows_of store host) q s session script_sound named limits request
+          (serves.others script.account.0 (λ e. (row_paid two q session names).apart (named.client ∙ e))) in
+          let changes = changes_served two q session names store' next refl refl (rows_of store' host') serves.sessions
+          serves.others serves.root serves.parents serves.room paid.opens (ap (λ (a : Account). a.caps_limit) paid.account ∙ limit) done.sound limits in
+          session_goes two store' (set components s host') script host' session.0 row.key replaced its_account changes stays
+          rules (CallSession q request) refl (AnswerTold (served (row_session row) request).reply) (served (row_session row) request).lines written (text row named.there) (lines row named.there)
+          (Some (row_session row)) (Some (row_session next)) done.does (ap (option_map row_session) is_there) (ap (option_map row_session) now)

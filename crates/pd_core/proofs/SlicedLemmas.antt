@@ -138,7 +138,7 @@ module _ (store : Store) (script : Script) (sound : IsSoundScript store script) 
   module _ {store' : Store} {after : Regions} {sliced' : SlicedHeap} (sound' : IsSoundSliced sliced' store' after) (pays : payer_of sliced' ≡ payer_of script.sliced)
       (others : KeepsOthers (payer_of script.sliced) store store' script.regions after) where
     -- other accounts keep their parts
-    parts_stay : (other : ℕ) → other ≢ script.account.0 → part other store' ≡ part other store
+    pub parts_stay : (other : ℕ) → other ≢ script.account.0 → part other store' ≡ part other store
     unfolding share_in
     parts_stay other apart = ap (λ (s : Share). s.part) (others.shares other (λ e. apart (e ∙ sound.heaps.sliced_pays)))
 
@@ -169,7 +169,7 @@ module _ (store : Store) (script : Script) (sound : IsSoundScript store script) 
           ∙ sym (whole_standing (part_at store script) script.regions.heap script.regions.tags sound.own.blocks.held s)
 
       -- so the heap stays
-      heap_beside : HeapStays script.heap store store' script.regions after
+      pub heap_beside : HeapStays script.heap store store' script.regions after
       heap_beside =
           let pages : after.pages ≡ script.regions.pages = ap (λ (r : Regions). r.pages) others.rest in
           let window = sound.heaps.heap.window in

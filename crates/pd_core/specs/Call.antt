@@ -1,11 +1,11 @@
 -- A call as the model sees it.
 use Rattle.std.specs.Prelude.{◌≡◌, ℕ, false, List, [], IsSome}
 use Rattle.std.specs.Option.{unwrap_or}
-use Rattle.own_model.specs.Call.{Call as Modelled, is_of_session}
-use Rattle.own_model.specs.Call.Call.{Alloc as ModelledAlloc, Free as ModelledFree, Attach as ModelledAttach, AttachAt as ModelledAttachAt, Detach as ModelledDetach, Peek as ModelledPeek, Poke as ModelledPoke, Capalloc as ModelledCapalloc, Capfree as ModelledCapfree, New as ModelledNew, Del as ModelledDel, Snew as ModelledSnew, Sdel as ModelledSdel, Quota as ModelledQuota, Open as ModelledOpen, Upgrade as ModelledUpgrade, CallSession as ModelledCallSession, Close as ModelledClose}
+use Rattle.own_model.specs.Call.{Call as Modelled, is_of_session, is_exit}
+use Rattle.own_model.specs.Call.Call.{Alloc as ModelledAlloc, Free as ModelledFree, Attach as ModelledAttach, AttachAt as ModelledAttachAt, Detach as ModelledDetach, Peek as ModelledPeek, Poke as ModelledPoke, Capalloc as ModelledCapalloc, Capfree as ModelledCapfree, New as ModelledNew, Del as ModelledDel, Snew as ModelledSnew, Sdel as ModelledSdel, Quota as ModelledQuota, Open as ModelledOpen, Upgrade as ModelledUpgrade, CallSession as ModelledCallSession, Close as ModelledClose, Exit as ModelledExit}
 use Rattle.own_model.specs.Text.{bytes_of_hex}
 use Rattle.pd_core.specs.declared.call.Call.{Call}
-use Rattle.pd_core.specs.declared.call.Call.TheVariants.{Alloc, Free, Attach, AttachAt, Detach, Peek, Poke, Capalloc, Capfree, New, Del, Snew, Sdel, Quota, Open, Upgrade, CallSession, Close}
+use Rattle.pd_core.specs.declared.call.Call.TheVariants.{Alloc, Free, Attach, AttachAt, Detach, Peek, Poke, Capalloc, Capfree, New, Del, Snew, Sdel, Quota, Open, Upgrade, CallSession, Close, Exit}
 
 -- the bytes that a text of hexadecimal digits stands for
 abbrev pub bytes_in : List ℕ → List ℕ
@@ -31,10 +31,12 @@ model_call (Open service args) = ModelledOpen service.now args.now
 model_call (Upgrade selector args) = ModelledUpgrade selector args.now
 model_call (CallSession selector request) = ModelledCallSession selector request.now
 model_call (Close selector) = ModelledClose selector
+model_call Exit = ModelledExit
 
--- it is none of a session
-abbrev pub IsPlain : Call → Type 0
-IsPlain call = is_of_session (model_call call) ≡ false
+-- it is none of a session, and no exit
+pub record IsPlain (call : Call) : Type 0 where
+  pub of_no_session : is_of_session (model_call call) ≡ false
+  pub no_exit : is_exit (model_call call) ≡ false
 
 -- a poke's text is hexadecimal digits
 abbrev pub IsWellFormed : Call → Type 0

@@ -1,14 +1,15 @@
 -- A component as the model sees it.
-use Rattle.std.specs.Prelude.{◌≡◌, ◌≢◌, ℕ, ◌+◌, ◌*◌, ◌≤◌, Option, Some, None, IsSome, IfSome}
+use Rattle.std.specs.Prelude.{◌≡◌, ◌≢◌, ℕ, List, ◌+◌, ◌*◌, ◌<◌, ◌≤◌, Option, Some, None, IsSome, IfSome}
 use Rattle.std.specs.FinMap.{get, empty}
-use Rattle.slab.specs.Slab.{Slab}
+use Rattle.slab.specs.Slab.{Slab, slab_len}
 use Rattle.trade_base.specs.declared.id.SessionId.{SessionId}
 use Rattle.own_model.specs.Limits.{caps_limits}
 use Rattle.own_model.specs.NatMap.{NatMap}
 use Rattle.own_model.specs.OwnHeap.{no_heap}
 use Rattle.own_model.specs.OwnState.{OwnState}
-use Rattle.own_model.specs.Routes.{Service, fixed_routes}
-use Rattle.own_model.specs.Routes.Service.{Log as LogKind}
+use Rattle.own_model.specs.OwnStep.{gone_state}
+use Rattle.own_model.specs.Routes.{Rule, Service}
+use Rattle.own_model.specs.Routes.Service.{Log as LogKind, Files as FilesKind}
 use Rattle.own_model.specs.StartList.{Entry, Kind}
 use Rattle.own_model.specs.StartList.Kind.{Script as AScript, Server as AServer}
 use Rattle.own_model.specs.Session.{Labelled}
@@ -18,22 +19,33 @@ use Rattle.region_map.specs.Regions.{Regions}
 use Rattle.dataspace_core.specs.Store.{Store, part, account_of, root_in, parents_in, room_in, ram_limits_in, caps_limits_in}
 use Rattle.heap_core.specs.Heap.{payer_of as heap_payer}
 use Rattle.sliced_heap.specs.Heap.{payer_of as sliced_payer}
-use Rattle.server_frame.specs.Frame.{Row}
+use Rattle.dataspace_core.specs.Share.{Share}
+use Rattle.server_frame.specs.Frame.{Row, sessions_of, IsServer}
 use Rattle.server_frame.specs.declared.server.Session.{Session as Kept}
-use Rattle.log_service.specs.Session.{LabelledLine}
 use Rattle.pd_core.specs.Own.{Sessions, no_sessions, own_of, own_at}
-use Rattle.pd_core.specs.Sessions.{log_rows, IsLogServer}
+use Rattle.pd_core.specs.Sessions.{log_value, IsLogKept, files_value, IsFilesKept}
 use Rattle.pd_core.specs.Sound.{session_at, IsNewHeap, IsNewSliced, IsSoundScript}
 use Rattle.pd_core.specs.declared.component.Role.{Role}
-use Rattle.pd_core.specs.declared.component.Role.TheVariants.{Script, Server, Log}
+use Rattle.pd_core.specs.declared.component.Role.TheVariants.{Script, Log, Files, Gone}
 use Rattle.pd_core.specs.declared.component.Component.{Component}
 use Rattle.pd_core.specs.declared.script.Script.{Script as AnyScript}
 
--- the key of the account that a role is charged on
+-- a component that hasn't exited
+abbrev pub IsLiveRole : Role → Type 0
+IsLiveRole (Script script) = Unit {0}
+IsLiveRole (Log account server) = Unit {0}
+IsLiveRole (Files account server) = Unit {0}
+IsLiveRole Gone = ⊥
+
+abbrev pub IsLive : Component → Type 0
+IsLive component = IsLiveRole component.role
+
+-- the key of the account that a role is charged on: one that has exited has none
 abbrev pub payer_in : Role → ℕ
 payer_in (Script script) = script.account.0
-payer_in (Server account) = account.0
 payer_in (Log account server) = account.0
+payer_in (Files account server) = account.0
+payer_in Gone = 0
 
 -- that of a component
 abbrev pub payer_of : Component → ℕ
@@ -41,27 +53,30 @@ payer_of component = payer_in component.role
 
 abbrev pub kind_of : Role → Kind
 kind_of (Script script) = AScript
-kind_of (Server account) = AServer
 kind_of (Log account server) = AServer
+kind_of (Files account server) = AServer
+kind_of Gone = AScript
 
 -- a script's capabilities and regions
 abbrev pub tables_in : Role → Option (Space × Regions)
 tables_in (Script script) = Some (script.caps, script.regions)
-tables_in (Server account) = None
 tables_in (Log account server) = None
+tables_in (Files account server) = None
+tables_in Gone = None
 
 abbrev pub tables_of : Component → Option (Space × Regions)
 tables_of component = tables_in component.role
 
--- what a start list says of the component
-abbrev pub entry_of : Component → Entry
-entry_of component = record { name = component.name.now; kind = kind_of component.role; routes = fixed_routes }
+-- what a start list says of the component whose wishes lead by these rules
+abbrev pub entry_of : List Rule → Component → Entry
+entry_of rules component = record { name = component.name.items; kind = kind_of component.role; routes = rules }
 
 -- the service that a role serves to others
 abbrev pub served_by : Role → Option Service
 served_by (Script script) = None
-served_by (Server account) = None
 served_by (Log account server) = Some LogKind
+served_by (Files account server) = Some FilesKind
+served_by Gone = None
 
 abbrev pub service_of : Component → Option Service
 service_of component = served_by component.role
@@ -75,16 +90,18 @@ pub record HasNewHeaps (script : AnyScript) : Type 0 where
 
 abbrev pub HasNewHeap : Role → Type 0
 HasNewHeap (Script script) = HasNewHeaps script
-HasNewHeap (Server account) = Unit {0}
 HasNewHeap (Log account server) = Unit {0}
+HasNewHeap (Files account server) = Unit {0}
+HasNewHeap Gone = ⊥
 
 -- ---- sessions
 
 -- a script's capabilities, and none of a server
 abbrev pub caps_in : Role → NatMap Cap
 caps_in (Script script) = script.caps.caps
-caps_in (Server account) = empty
 caps_in (Log account server) = empty
+caps_in (Files account server) = empty
+caps_in Gone = empty
 
 abbrev pub caps_of : Component → NatMap Cap
 caps_of component = caps_in component.role
@@ -92,8 +109,9 @@ caps_of component = caps_in component.role
 -- how many capabilities find a place with a script
 abbrev pub places_in : Role → Option ℕ
 places_in (Script script) = Some script.caps.places
-places_in (Server account) = None
 places_in (Log account server) = None
+places_in (Files account server) = None
+places_in Gone = None
 
 abbrev pub places_of : Component → Option ℕ
 places_of component = places_in component.role
@@ -101,11 +119,33 @@ places_of component = places_in component.role
 -- the sessions that a component serves, by their keys
 abbrev pub rows_in : Store → Role → NatMap (Row Labelled)
 rows_in store (Script script) = empty
-rows_in store (Server account) = empty
-rows_in store (Log account server) = log_rows server.sessions store server.map
+rows_in store (Log account server) = sessions_of log_value server.sessions store server.map
+rows_in store (Files account server) = sessions_of files_value server.sessions store server.map
+rows_in store Gone = empty
 
 abbrev pub rows_of : Store → Component → NatMap (Row Labelled)
 rows_of store component = rows_in store component.role
+
+-- how many sessions find a place with a server
+abbrev pub capacity_in : Role → ℕ
+capacity_in (Script script) = 0
+capacity_in (Log account server) = server.sessions.capacity
+capacity_in (Files account server) = server.sessions.capacity
+capacity_in Gone = 0
+
+-- there is a place for one more
+abbrev pub HasPlace : Role → Type 0
+HasPlace (Script script) = ⊥
+HasPlace (Log account server) = slab_len server.sessions < server.sessions.capacity
+HasPlace (Files account server) = slab_len server.sessions < server.sessions.capacity
+HasPlace Gone = ⊥
+
+-- a server works on this memory
+abbrev pub Works : Store → Role → Type 0
+Works store (Script script) = Unit {0}
+Works store (Log account server) = IsServer IsLogKept server.sessions store server.map
+Works store (Files account server) = IsServer IsFilesKept server.sessions store server.map
+Works store Gone = Unit {0}
 
 -- a session is there, and its client's account is this one
 pub record IsSessionOf (account : ℕ) (session : Option (Row Labelled)) : Type 0 where
@@ -122,11 +162,12 @@ pub record NamesItsSessions (rows : ℕ → NatMap (Row Labelled)) (account : �
 
 -- ---- the own state
 
--- the own state of a role: a server has its account alone
+-- the own state of a role: a server has its account alone, and who is gone has nothing
 abbrev pub own_in : Sessions → Store → Role → OwnState
 own_in sessions store (Script script) = own_at sessions store script
-own_in sessions store (Server account) = own_of no_sessions (part account.0 store) empty empty no_heap empty
 own_in sessions store (Log account server) = own_of no_sessions (part account.0 store) empty empty no_heap empty
+own_in sessions store (Files account server) = own_of no_sessions (part account.0 store) empty empty no_heap empty
+own_in sessions store Gone = gone_state
 
 -- the component's own state
 abbrev pub own : Sessions → Store → Component → OwnState
@@ -136,27 +177,36 @@ own sessions store component = own_in sessions store component.role
 abbrev pub HasPlaces : Sessions → Store → Component → Type 0
 HasPlaces sessions store component = IfSome (places_of component) (λ places. caps_limits (own sessions store component) ≤ places)
 
--- a log server's account is open, it works on this memory, and it has a place for each two capabilities of the machine
-pub record IsSoundLog (store : Store) (account : ℕ) (sessions : Slab (Kept LabelledLine)) (regions : Regions) : Type 0 where
+-- a server's account is open, it works on this memory, and it has a place for each two capabilities of the machine
+pub record IsSoundServer {T : Type 0} (kept : T → Share → Type 0) (store : Store) (account : ℕ) (sessions : Slab (Kept T)) (regions : Regions) : Type 0 where
   pub is_open : IsSome (part account store).account
-  pub server : IsLogServer sessions store regions
+  pub server : IsServer kept sessions store regions
   pub places : caps_limits_in store ≤ sessions.capacity * 2 + 1
 
--- a script is sound, and a server has an account
+-- a script is sound, and so is a server
 abbrev pub IsSoundRole : Store → Role → Type 0
 IsSoundRole store (Script script) = IsSoundScript store script
-IsSoundRole store (Server account) = IsSome (part account.0 store).account
-IsSoundRole store (Log account server) = IsSoundLog store account.0 server.sessions server.map
+IsSoundRole store (Log account server) = IsSoundServer IsLogKept store account.0 server.sessions server.map
+IsSoundRole store (Files account server) = IsSoundServer IsFilesKept store account.0 server.sessions server.map
+IsSoundRole store Gone = Unit {0}
 
 abbrev pub IsSound : Store → Component → Type 0
 IsSound store component = IsSoundRole store component.role
 
--- what a call that is none of a session keeps: the component is sound after it; its entry, service and account, its limit of
+-- a server after a call of one of its sessions: it works on the memory, and is the same but for its sessions
+pub record StaysServer (before : Component) (new : Store) (after : Component) : Type 0 where
+  pub entry : (rules : List Rule) → entry_of rules after ≡ entry_of rules before
+  pub service : service_of after ≡ service_of before
+  pub account : payer_of after ≡ payer_of before
+  pub capacity : capacity_in after.role ≡ capacity_in before.role
+  pub works : Works new after.role
+
+-- what a script's call that is none of a session and no exit keeps: the component is sound after it; its entry, service and account, its limit of
 -- capabilities and its places for them, what sessions its selectors name and what it serves, the root's key, who is whose
 -- parent, the places for accounts, the parts of all other accounts and the sum of all limits of RAM stay
 pub record Keeps (old : Store) (before : Component) (new : Store) (after : Component) : Type 0 where
   pub sound : IsSound new after
-  pub entry : entry_of after ≡ entry_of before
+  pub entry : (rules : List Rule) → entry_of rules after ≡ entry_of rules before
   pub service : service_of after ≡ service_of before
   pub account : payer_of after ≡ payer_of before
   pub is_open : IsSome (part (payer_of before) new).account

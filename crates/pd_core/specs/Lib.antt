@@ -9,3 +9,5 @@ pub mod CodedWorld
 pub mod Core
 pub mod Fresh
 pub mod SessionCalls
+pub mod Release
+pub mod Exit

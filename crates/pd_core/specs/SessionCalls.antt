@@ -1,29 +1,29 @@
 -- A call of a session in the core: what it requires of the components, and what it does to the world.
-use Rattle.std.specs.Prelude.{◌≡◌, ℕ, ◌<◌, ◌≤◌, List, length, map, get_or, Option, Some, None, Result, Err}
-use Rattle.std.specs.FinMap.{get}
+use Rattle.std.specs.Prelude.{◌≡◌, ℕ, ◌<◌, ◌≤◌, List, length, map, get_or, Option, Some, None, IsSome, Result, Err}
+use Rattle.std.specs.FinMap.{get, len}
 use Rattle.std.specs.List.{All, flat_map}
 use Rattle.std.specs.Option.{ok_or, option_map}
 use Rattle.trade_base.specs.declared.id.SessionId.{SessionId}
 use Rattle.trade_base.specs.declared.refusal.Refusal.{Refusal}
-use Rattle.trade_base.specs.declared.refusal.Refusal.TheVariants.{InvalidSession, NotAScript}
+use Rattle.trade_base.specs.declared.refusal.Refusal.TheVariants.{Gone, InvalidSession, NotAScript}
 use Rattle.own_model.specs.Call.{Call}
 use Rattle.own_model.specs.Reply.{reply_text, log_text}
 use Rattle.own_model.specs.Routes.{Service, provider}
-use Rattle.own_model.specs.Routes.Service.{Log as LogKind}
 use Rattle.own_model.specs.World.{outcome_at, with_state}
-use Rattle.cap_space.specs.Space.{without_cap}
+use Rattle.cap_space.specs.Space.{with_cap, without_cap}
+use Rattle.cap_space.specs.declared.cap.Cap.TheVariants.{Session as ASession}
 use Rattle.dataspace_core.specs.Store.{Store}
 use Rattle.server_frame.specs.Told.{Told}
-use Rattle.pd_core.specs.Component.{entry_of, served_by, service_of}
-use Rattle.pd_core.specs.Core.{world_of}
+use Rattle.pd_core.specs.Component.{service_of}
+use Rattle.pd_core.specs.Core.{Rules, world_of}
 use Rattle.pd_core.specs.Sound.{session_at}
 use Rattle.pd_core.specs.declared.component.Role.{Role}
-use Rattle.pd_core.specs.declared.component.Role.TheVariants.{Script, Server, Log}
+use Rattle.pd_core.specs.declared.component.Role.TheVariants.{Script, Log, Files, Gone as GoneRole}
 use Rattle.pd_core.specs.declared.component.Component.{Component}
 
--- a role is the log server's
-abbrev pub IsLog : Role → Type 0
-IsLog role = served_by role ≡ Some LogKind
+-- a component serves sessions
+abbrev pub IsServing : Component → Type 0
+IsServing component = IsSome (service_of component)
 
 -- the place of the component that serves what the component at a place asks for: a service by its name, with a given label
 abbrev pub Leads : Type 0
@@ -33,28 +33,44 @@ Leads = ℕ → List ℕ → List ℕ → Option ℕ
 abbrev pub service_at : List Component → ℕ → Option Service
 service_at components place = get_or (map service_of components) place None
 
--- what a component asks for leads to one that serves what its routes say, and to none where they lead to none; and a label
+-- what a component asks for leads to one that serves what its rules say, and to none where they lead to none; and a label
 -- has room for the name of each component
-pub record Agrees (leads : Leads) (components : List Component) : Type 0 where
-  pub names : All (λ c. length c.name.now ≤ 32) components
-  pub each : (i : ℕ) (d : Component) (service label : List ℕ) → i < length components →
-      option_map (service_at components) (leads i service label)
-      ≡ option_map Some (provider (entry_of (get_or components i d)).routes service label)
+pub record Agrees (rules : Rules) (leads : Leads) (components : List Component) : Type 0 where
+  pub names : All (λ c. length c.name.items ≤ 32) components
+  pub each : (i : ℕ) (service label : List ℕ) → i < length components →
+      option_map (service_at components) (leads i service label) ≡ option_map Some (provider (rules i) service label)
 
 -- the session that a selector of a script names, by its server's entry and its key there, or why there is none
 abbrev pub named_in : Role → ℕ → Result (ℕ × SessionId) Refusal
 named_in (Script script) selector = ok_or (session_at (get script.caps.caps selector)) InvalidSession
-named_in (Server account) selector = Err NotAScript
 named_in (Log account server) selector = Err NotAScript
+named_in (Files account server) selector = Err NotAScript
+named_in GoneRole selector = Err Gone
 
 -- a role without a selector's capability
 abbrev pub without_selector : Role → ℕ → Role
 without_selector (Script script) selector = Script (record script { caps = without_cap script.caps selector })
-without_selector (Server account) selector = Server account
 without_selector (Log account server) selector = Log account server
+without_selector (Files account server) selector = Files account server
+without_selector GoneRole selector = GoneRole
+
+-- there is a selector for one capability more
+abbrev pub HasSelectorLeft : Role → Type 0
+HasSelectorLeft (Script script) = len script.caps.caps < script.caps.places
+HasSelectorLeft (Log account server) = ⊥
+HasSelectorLeft (Files account server) = ⊥
+HasSelectorLeft GoneRole = ⊥
+
+-- a role with a session under a selector
+abbrev pub with_session : Role → ℕ → ℕ → SessionId → Role
+with_session (Script script) selector server session =
+    Script (record script { caps = with_cap script.caps selector (ASession server session) })
+with_session (Log account server) selector entry session = Log account server
+with_session (Files account server) selector entry session = Files account server
+with_session GoneRole selector entry session = GoneRole
 
 -- a call of the component at a place is answered as the model's, and leaves the world that the model's leaves
-pub record Answers (call : Call) (i : ℕ) (reply : Told) (old : Store) (before : List Component) (new : Store) (after : List Component) : Type 0 where
-  pub answered : reply.text ≡ reply_text (outcome_at (world_of old before) i call).reply
-  pub lines : reply.lines ≡ flat_map log_text (outcome_at (world_of old before) i call).lines
-  pub stepped : world_of new after ≡ with_state (world_of old before) i (outcome_at (world_of old before) i call).next
+pub record Answers (rules : Rules) (call : Call) (i : ℕ) (reply : Told) (old : Store) (before : List Component) (new : Store) (after : List Component) : Type 0 where
+  pub answered : reply.text ≡ reply_text (outcome_at (world_of rules old before) i call).reply
+  pub lines : reply.lines ≡ flat_map log_text (outcome_at (world_of rules old before) i call).lines
+  pub stepped : world_of rules new after ≡ with_state (world_of rules old before) i (outcome_at (world_of rules old before) i call).next

@@ -1,42 +1,41 @@
 -- The sessions of servers, as their clients see them.
-use Rattle.std.specs.List.{flat_map}
-use Rattle.std.specs.Prelude.{◌≡◌, ℕ, ◌+◌, ◌≤◌, List, [], Option, Some}
+use Rattle.std.specs.Prelude.{◌≡◌, ℕ, ◌+◌, ◌≤◌, List, Option, Some}
 use Rattle.std.specs.FinMap.{get}
-use Rattle.slab.specs.Slab.{Slab}
 use Rattle.trade_base.specs.declared.id.SessionId.{SessionId}
 use Rattle.own_model.specs.Call.{Call}
-use Rattle.own_model.specs.Call.Call.{CallSession}
 use Rattle.own_model.specs.NatMap.{NatMap, total}
 use Rattle.own_model.specs.OwnStep.{entry_step}
-use Rattle.own_model.specs.Reply.{Reply, LogLine, log_text}
-use Rattle.own_model.specs.Reply.Reply.{Told as AnswerTold}
+use Rattle.own_model.specs.Reply.{Reply, LogLine}
 use Rattle.own_model.specs.StartList.{Entry}
 use Rattle.own_model.specs.StartList.Kind.{Script as AScript}
-use Rattle.own_model.specs.Session.{Session as AnOpenSession, Labelled, served, session_with}
-use Rattle.region_map.specs.Regions.{Regions}
+use Rattle.own_model.specs.Session.{Session as AnOpenSession, Labelled, session_with}
 use Rattle.cap_space.specs.declared.cap.Cap.TheVariants.{Session as ASession}
 use Rattle.dataspace_core.specs.Share.{Share}
 use Rattle.dataspace_core.specs.Store.{Store, account_in}
-use Rattle.server_frame.specs.Frame.{Row, sessions_of, IsServer}
+use Rattle.server_frame.specs.Frame.{Row}
 use Rattle.server_frame.specs.Session.{HasBlocksAlone}
-use Rattle.server_frame.specs.Told.{Told}
-use Rattle.server_frame.specs.declared.server.Session.{Session as Kept}
 use Rattle.log_service.specs.Session.{LabelledLine, as_kept}
+use Rattle.file_service.specs.Session.{value_of, IsSession as IsFileSession}
+use Rattle.file_service.specs.declared.session.FileSession.{FileSession}
 use Rattle.pd_core.specs.Own.{Sessions, own_at}
-use Rattle.pd_core.specs.Sound.{session_weight, IsSoundScript}
+use Rattle.pd_core.specs.Sound.{session_weight}
 use Rattle.pd_core.specs.declared.script.Script.{Script}
 
 -- what the log service keeps of a session is so to its client
 abbrev pub log_value : LabelledLine → Share → Labelled
 log_value line share = as_kept line
 
--- the sessions of a log server by their keys
-abbrev pub log_rows : Slab (Kept LabelledLine) → Store → Regions → NatMap (Row Labelled)
-log_rows sessions store regions = sessions_of log_value sessions store regions
+-- all that it keeps of a session in the memory is blocks
+abbrev pub IsLogKept : LabelledLine → Share → Type 0
+IsLogKept line share = HasBlocksAlone share
 
--- a log server works on this memory
-abbrev pub IsLogServer : Slab (Kept LabelledLine) → Store → Regions → Type 0
-IsLogServer sessions store regions = IsServer (λ line share. HasBlocksAlone share) sessions store regions
+-- what the file service keeps of a session to its client: its files, as its account's blocks hold them
+abbrev pub files_value : FileSession → Share → Labelled
+files_value session share = value_of session share
+
+-- all that it keeps of a session in the memory is blocks and nodes
+abbrev pub IsFilesKept : FileSession → Share → Type 0
+IsFilesKept session share = IsFileSession session share
 
 -- a session of a server as its client sees it
 abbrev pub row_session : Row Labelled → AnOpenSession
@@ -62,17 +61,3 @@ abbrev pub DoesSession : Call → Reply → List LogLine → ℕ → ℕ → Opt
 DoesSession call reply lines server key was is old before new after =
     (entry : Entry) (S S' : Sessions) → entry.kind ≡ AScript → AgreeBut S S' server key → S server key ≡ was → S' server key ≡ is →
     entry_step entry call (own_at S old before) ≡ record { reply = reply; lines = lines; next = own_at S' new after }
-
--- a script whose capabilities stay is told this of its session, is sound, and has the session as it is then
-pub record Moves (call : Call) (reply : Reply) (server key : ℕ) (old new : Store) (script : Script) (rows after : NatMap (Row Labelled)) : Type 0 where
-  pub sound : IsSoundScript new script
-  pub does : (row next : Row Labelled) → get rows key ≡ Some row → get after key ≡ Some next →
-      DoesSession call reply [] server key (Some (row_session row)) (Some (row_session next)) old script new script
-
--- the same of a request, which may finish lines
-pub record Serves (selector : ℕ) (request : List ℕ) (reply : Told) (server key : ℕ) (old new : Store) (script : Script) (rows : NatMap (Row Labelled)) : Type 0 where
-  pub sound : IsSoundScript new script
-  pub does : (row : Row Labelled) → get rows key ≡ Some row →
-      DoesSession (CallSession selector request) (AnswerTold reply.text) (served (row_session row) request).lines server key (Some (row_session row))
-      (Some (served (row_session row) request).session) old script new script
-  pub lines : (row : Row Labelled) → get rows key ≡ Some row → reply.lines ≡ flat_map log_text (served (row_session row) request).lines

@@ -22,11 +22,15 @@ pub(crate) enum Answer {
 
 /// What of an account is used, and its limits.
 #[derive(Clone, Copy)]
-pub(crate) struct Quotas {
-    pub(crate) ram_used: Ram,
-    pub(crate) ram_limit: Ram,
-    pub(crate) caps_used: Caps,
-    pub(crate) caps_limit: Caps,
+pub struct Quotas {
+    /// Bytes of RAM in use.
+    pub ram_used: Ram,
+    /// The most bytes of RAM that can be in use.
+    pub ram_limit: Ram,
+    /// Capabilities in use.
+    pub caps_used: Caps,
+    /// The most capabilities that can be in use.
+    pub caps_limit: Caps,
 }
 
 /// Writes what a call is answered in place of what the reply was. It finishes no log line.

@@ -39,4 +39,6 @@ pub enum Call<'a> {
     CallSession { selector: u64, request: &'a [u8] },
     /// The session that a selector names goes.
     Close(u64),
+    /// The component goes, with all that it has.
+    Exit,
 }

@@ -2,56 +2,66 @@
 
 use crate::answer::tell;
 use crate::call::Call;
+use crate::label::{LONGEST_NAME, name_of};
 use crate::script::Script;
+use arrayvec::ArrayVec;
 use cap_space::{Cap, CapSpace};
 use dataspace_core::Memory;
+use file_service::FileService;
 use heap_core::Heap;
 use log_service::LogService;
 use region_map::RegionMap;
 use server_frame::{Reply, Server};
 use sliced_heap::SlicedHeap;
-use trade_base::{AccountId, Refusal, SessionId};
+use std::mem;
+use trade_base::{AccountId, Refusal, Selector, SessionId};
 
-/// What a component is for.
+/// What a component is for. A server answers the calls of others, and is charged on the account.
 #[derive(Drop)]
 pub(crate) enum Role {
     /// It makes calls.
     Script(Script),
-    /// It answers the calls of others, and is charged on the account.
-    Server(AccountId),
-    /// The same, with the sessions of the log service.
+    /// The log server.
     Log(AccountId, Server<LogService>),
+    /// The file server.
+    Files(AccountId, Server<FileService>),
+    /// It made calls and has exited.
+    Gone,
 }
 
 /// A component: its name and its role.
 #[derive(Drop)]
 pub struct Component {
-    pub(crate) name: &'static [u8],
+    pub(crate) name: ArrayVec<u8, LONGEST_NAME>,
     pub(crate) role: Role,
 }
 
 impl Component {
-    ghost use Rattle.std.specs.Prelude.{◌≡◌, Some, None, IfOk, OnErr};
+    ghost use Rattle.std.specs.Prelude.{◌≡◌, ◌≤◌, ℕ, List, length, Some, None, IsSome, IfOk, OnErr};
+    ghost use Rattle.std.specs.FinMap.{get};
+    ghost use Rattle.std.specs.Option.{option_or};
+    ghost use Rattle.trade_base.specs.declared.refusal.Refusal.TheVariants.{NotAScript};
+    ghost use Rattle.own_model.specs.OwnState.{new_selector};
     ghost use Rattle.own_model.specs.OwnStep.{own_step};
-    ghost use Rattle.own_model.specs.Routes.{fixed_routes};
-    ghost use Rattle.own_model.specs.Routes.Service.{Log as LogKind};
+    ghost use Rattle.own_model.specs.Routes.{Rule};
+    ghost use Rattle.own_model.specs.Routes.Service.{Log as LogKind, Files as FilesKind};
     ghost use Rattle.own_model.specs.StartList.Kind.{Script as AScript, Server as AServer};
     ghost use Rattle.pd_core.specs.Answer.{told, told_of};
     ghost use Rattle.pd_core.specs.Call.{model_call, IsPlain, IsWellFormed};
-    ghost use Rattle.dataspace_core.specs.Store.{Store};
+    ghost use Rattle.dataspace_core.specs.Store.{Store, root_in, ram_limits_in, caps_limits_in, IsChildIn, IsLeafIn, ClosesPart};
+    ghost use Rattle.pd_core.specs.Exit.{places_told, refusal_of, IsScriptRole, HasSelectorsTo};
+    ghost use Rattle.pd_core.specs.Sound.{session_at};
+    ghost use Rattle.pd_core.specs.declared.component.Role.TheVariants.{Gone as GoneRole};
     ghost use Rattle.pd_core.specs.Component.{entry_of, payer_of, service_of, tables_of, caps_of, HasNewHeap, own, IsSound, Keeps};
-    ghost use Rattle.pd_core.specs.Fresh.{IsNewLog, IsNewServer};
+    ghost use Rattle.pd_core.specs.Fresh.{HasNoSessions, IsNewServer};
     ghost use Rattle.pd_core.specs.Own.{Sessions, HasSessions};
-    ghost use Rattle.pd_core.specs.SessionCalls.{named_in, without_selector};
+    ghost use Rattle.pd_core.specs.SessionCalls.{named_in, with_session, without_selector, HasSelectorLeft};
 
-    /// A script that is charged on the account, with these capabilities and regions, and with empty heaps.
-    pub fn script(
-        name: &'static [u8],
-        account: AccountId,
-        caps: CapSpace,
-        regions: RegionMap,
-    ) -> Component
-        ensures entry { entry_of result ≡ record { name = name.now; kind = AScript; routes = fixed_routes } }
+    /// A script of a name of at most 32 bytes that is charged on the account, with these capabilities and regions, and with
+    /// empty heaps.
+    pub fn script(name: &[u8], account: AccountId, caps: CapSpace, regions: RegionMap) -> Component
+        requires { length name.now ≤ 32 }
+        ensures entry { (rules : List Rule) → entry_of rules result ≡ record { name = name.now; kind = AScript; routes = rules } }
         ensures account { payer_of result ≡ account.0 }
         ensures tables { tables_of result ≡ Some (caps, regions) }
         ensures heap { HasNewHeap result.role }
@@ -59,7 +69,7 @@ impl Component {
         ensures service { service_of result ≡ None }
     {
         Component {
-            name,
+            name: name_of(name),
             role: Role::Script(Script {
                 account,
                 caps,
@@ -70,37 +80,40 @@ impl Component {
         }
     }
 
-    /// A server that is charged on the account.
-    pub fn server(name: &'static [u8], account: AccountId) -> Component
-        ensures entry { entry_of result ≡ record { name = name.now; kind = AServer; routes = fixed_routes } }
+    /// A log server of a name of at most 32 bytes that is charged on the account.
+    pub fn log(name: &[u8], account: AccountId, server: Server<LogService>) -> Component
+        requires { length name.now ≤ 32 }
+        ensures entry { (rules : List Rule) → entry_of rules result ≡ record { name = name.now; kind = AServer; routes = rules } }
         ensures account { payer_of result ≡ account.0 }
         ensures tables { tables_of result ≡ None }
         ensures heap { HasNewHeap result.role }
-        ensures server { (store : Store) → IsNewServer store result.role }
-        ensures service { service_of result ≡ None }
-    {
-        Component {
-            name,
-            role: Role::Server(account),
-        }
-    }
-
-    /// A server of the log service that is charged on the account.
-    pub fn log(name: &'static [u8], account: AccountId, server: Server<LogService>) -> Component
-        ensures entry { entry_of result ≡ record { name = name.now; kind = AServer; routes = fixed_routes } }
-        ensures account { payer_of result ≡ account.0 }
-        ensures tables { tables_of result ≡ None }
-        ensures heap { HasNewHeap result.role }
-        ensures server { (store : Store) → IsNewLog store server.sessions server.map → IsNewServer store result.role }
+        ensures server { (store : Store) → HasNoSessions store server.sessions server.map → IsNewServer store result.role }
         ensures service { service_of result ≡ Some LogKind }
     {
         Component {
-            name,
+            name: name_of(name),
             role: Role::Log(account, server),
         }
     }
 
-    /// The session that a selector names, or why not: `NotAScript`, then `InvalidSession`.
+    /// A file server of a name of at most 32 bytes that is charged on the account.
+    pub fn files(name: &[u8], account: AccountId, server: Server<FileService>) -> Component
+        requires { length name.now ≤ 32 }
+        ensures entry { (rules : List Rule) → entry_of rules result ≡ record { name = name.now; kind = AServer; routes = rules } }
+        ensures account { payer_of result ≡ account.0 }
+        ensures tables { tables_of result ≡ None }
+        ensures heap { HasNewHeap result.role }
+        ensures server { (store : Store) → HasNoSessions store server.sessions server.map → IsNewServer store result.role }
+        ensures service { service_of result ≡ Some FilesKind }
+    {
+        Component {
+            name: name_of(name),
+            role: Role::Files(account, server),
+        }
+    }
+
+    /// The session that a selector names, by its server's place and its key there, or why not: `NotAScript`, then
+    /// `Gone`, then `InvalidSession`.
     pub(crate) fn session(&self, selector: u64) -> Result<(usize, SessionId), Refusal>
         ensures { result ≡ named_in self.now.role selector }
     {
@@ -109,12 +122,13 @@ impl Component {
                 Some(Cap::Session { server, session }) => Ok((server, session)),
                 _ => Err(Refusal::InvalidSession),
             },
-            Role::Server(_) | Role::Log(..) => Err(Refusal::NotAScript),
+            Role::Log(..) | Role::Files(..) => Err(Refusal::NotAScript),
+            Role::Gone => Err(Refusal::Gone),
         }
     }
 
-    /// Takes the session that a selector names out, which frees the selector, or tells why not: `NotAScript`, then
-    /// `InvalidSession`.
+    /// Takes the session that a selector names out, which frees the selector, or tells why not: `NotAScript`,
+    /// then `Gone`, then `InvalidSession`.
     pub(crate) fn take_session(&mut self, selector: u64) -> Result<(usize, SessionId), Refusal>
         ensures named { result ≡ named_in self.old.role selector }
         ensures gone { IfOk result (λ _. self.new ≡ record self.old { role = without_selector self.old.role selector }) }
@@ -125,24 +139,78 @@ impl Component {
                 .caps
                 .take_session(selector)
                 .ok_or(Refusal::InvalidSession),
-            Role::Server(_) | Role::Log(..) => Err(Refusal::NotAScript),
+            Role::Log(..) | Role::Files(..) => Err(Refusal::NotAScript),
+            Role::Gone => Err(Refusal::Gone),
         }
     }
 
-    /// Carries a call of the component out that is none of a session, and writes what it is answered in place of what the
-    /// reply was.
+    /// The selector under which a script keeps a new session, which is told by its server's place and its key there.
+    pub(crate) fn keep_session(&mut self, server: usize, session: SessionId) -> Selector
+        requires room { HasSelectorLeft self.old.role }
+        ensures least { result.0 ≡ new_selector (caps_of self.old) }
+        ensures kept { self.new ≡ record self.old { role = with_session self.old.role result.0 server session } }
+    {
+        match &mut self.role {
+            Role::Script(script) => script.caps.insert(Cap::Session { server, session }),
+            Role::Log(..) | Role::Files(..) | Role::Gone => unreachable!(),
+        }
+    }
+
+    /// Why the calls of a component are refused that is no script, or no more.
+    pub(crate) fn refusal(&self) -> Refusal
+        ensures { Some result ≡ option_or (refusal_of self.now.role) (Some NotAScript) }
+    {
+        match &self.role {
+            Role::Gone => Refusal::Gone,
+            _ => Refusal::NotAScript,
+        }
+    }
+
+    /// For how many selectors a script has places, or why there are none: `NotAScript`, then `Gone`.
+    pub(crate) fn places(&self) -> Result<usize, Refusal>
+        ensures told { result ≡ places_told self.now.role }
+        ensures within { IfOk result (λ places. HasSelectorsTo places self.now.role) }
+    {
+        match &self.role {
+            Role::Script(script) => Ok(script.caps.places()),
+            _ => Err(self.refusal()),
+        }
+    }
+
+    /// A script without a session exits: all that it holds goes, its account closes, and its limits go back to init's.
+    pub(crate) fn end(&mut self, memory: &mut Memory)
+        requires sound { IsSound memory.old self.old }
+        requires script { IsScriptRole self.old.role }
+        requires none { (selector : ℕ) → session_at (get (caps_of self.old) selector) ≡ None }
+        requires child { IsChildIn memory.old (payer_of self.old) (root_in memory.old) }
+        requires leaf { IsLeafIn memory.old (payer_of self.old) }
+        ensures gone { self.new ≡ record self.old { role = GoneRole } }
+        ensures closes { ClosesPart (payer_of self.old) (root_in memory.old) memory.old memory.new }
+        ensures machine { ram_limits_in memory.new ≡ ram_limits_in memory.old }
+        ensures caps { caps_limits_in memory.new ≡ caps_limits_in memory.old }
+    {
+        match mem::replace(&mut self.role, Role::Gone) {
+            Role::Script(script) => script.end(memory),
+            _ => unreachable!(),
+        }
+    }
+
+    /// Carries a call of the component out that is none of a session and no exit, and writes what it is answered in place
+    /// of what the reply was.
     pub(crate) fn step(&mut self, memory: &mut Memory, call: Call<'_>, reply: &mut Reply)
         requires sound { IsSound memory.old self.old }
         requires call { IsWellFormed call }
         requires plain { IsPlain call }
-        ensures outcome { (sessions : Sessions) → HasSessions sessions (caps_of self.old) →
+        ensures outcome { (rules : List Rule) (sessions : Sessions) → HasSessions sessions (caps_of self.old) →
             told reply.new (own sessions memory.new self.new)
-            ≡ told_of (own_step (entry_of self.old) (model_call call.entry) (own sessions memory.old self.old)) }
-        ensures keeps { Keeps memory.old self.old memory.new self.new }
+            ≡ told_of (own_step (entry_of rules self.old) (model_call call.entry) (own sessions memory.old self.old)) }
+        ensures keeps { IsScriptRole self.old.role → Keeps memory.old self.old memory.new self.new }
+        ensures stays { IsSome (refusal_of self.old.role) → (memory.new ≡ memory.old) × (self.new ≡ self.old) }
     {
         match &mut self.role {
             Role::Script(script) => script.step(memory, call, reply),
-            Role::Server(_) | Role::Log(..) => tell(Err(Refusal::NotAScript), reply),
+            Role::Log(..) | Role::Files(..) => tell(Err(Refusal::NotAScript), reply),
+            Role::Gone => tell(Err(Refusal::Gone), reply),
         }
     }
 }

@@ -1,8 +1,21 @@
-//! The label of a session.
+//! The name of a component, and the label of a session.
 ghost use Rattle.std.specs.Prelude.{◌≡◌, ◌≤◌, length};
 ghost use Rattle.own_model.specs.Session.{label_with};
 
 use arrayvec::ArrayVec;
+
+/// The most bytes of a component's name.
+pub(crate) const LONGEST_NAME: usize = 32;
+
+/// A component's name.
+pub(crate) fn name_of(name: &[u8]) -> ArrayVec<u8, LONGEST_NAME>
+    requires { length name.now ≤ 32 }
+    ensures { result.items ≡ name.now }
+{
+    let mut copy = ArrayVec::<u8, LONGEST_NAME>::new();
+    let _ = copy.try_extend_from_slice(name);
+    copy
+}
 
 /// The most bytes of a session's label: those of a name, an arrow, and those of the label that its client gave.
 pub(crate) const LONGEST_LABEL: usize = 100;

@@ -1,18 +1,22 @@
 //! The core: the components, and what their calls do to the machine.
 #![tactic(auto)]
 
+mod accounts;
 mod answer;
 mod bytes;
 mod call;
 mod component;
+mod exiting;
+mod host;
 mod label;
 mod machine;
+mod release;
 mod router;
 mod script;
 mod session_calls;
-mod sessions;
 mod short_text;
 
+pub use answer::Quotas;
 pub use call::Call;
 pub use component::Component;
 pub use machine::Core;

@@ -1,12 +1,13 @@
 //! The core: the memory, and the components whose calls it carries out.
 ghost use Rattle.std.specs.Prelude.{◌≡◌, ◌<◌, ℕ, length};
 ghost use Rattle.pd_core.specs.Call.{model_call, IsWellFormed};
-ghost use Rattle.pd_core.specs.Core.{IsCore};
+ghost use Rattle.pd_core.specs.Core.{Rules, IsCore};
 ghost use Rattle.pd_core.specs.SessionCalls.{Agrees, Answers, Leads};
 
 use crate::answer::tell;
 use crate::call::Call;
 use crate::component::Component;
+use crate::exiting::exit;
 use crate::router::Router;
 use crate::session_calls::{self, close, open, upgrade};
 use dataspace_core::Memory;
@@ -18,9 +19,9 @@ use std::marker::Model;
 /// component's own state.
 #[derive(Drop)]
 pub struct Core<R: Router + Drop> {
-    memory: Memory,
+    pub(crate) memory: Memory,
     /// A boxed slice, so that no call makes it longer.
-    components: BoxedSlice<Component>,
+    pub(crate) components: BoxedSlice<Component>,
     /// It agrees with the components' routes.
     routes: R,
 }
@@ -37,17 +38,18 @@ impl<R: Router + Drop> Model for Core<R> {
     ghost use Rattle.pd_core.specs.SessionCalls.{Agrees};
     ghost use Rattle.std.specs.Box.{boxed_slice_items};
 
-    ghost view = { λ core. world_of core.memory (boxed_slice_items core.components) };
+    ghost view = { λ core. world_of (R.rules core.routes) core.memory (boxed_slice_items core.components) };
 
     ghost invariant = { λ core. IsCore core.memory (boxed_slice_items core.components)
-        × Agrees (R.leads core.routes) (boxed_slice_items core.components) };
+        × Agrees (R.rules core.routes) (R.leads core.routes) (boxed_slice_items core.components) };
 }
 
 impl<R: Router + Drop> Core<R> {
     ghost use Rattle.std.specs.Prelude.{◌≡◌, ◌<◌, ℕ, length};
     ghost use Rattle.std.specs.List.{flat_map};
     ghost use Rattle.own_model.specs.Reply.{reply_text, log_text};
-    ghost use Rattle.own_model.specs.World.{outcome_at, with_state, IsBalanced};
+    ghost use Rattle.own_model.specs.StartList.{StartList};
+    ghost use Rattle.own_model.specs.World.{outcome_at, with_state, IsBalanced, IsBalancedFor};
     ghost use Rattle.pd_core.specs.Call.{model_call, IsWellFormed};
     ghost use Rattle.dataspace_core.specs.Room.{HasRoom};
     ghost use Rattle.pd_core.specs.Fresh.{started_world, AreFresh};
@@ -59,8 +61,8 @@ impl<R: Router + Drop> Core<R> {
     pub fn from_parts(memory: Memory, components: Vec<Component>, routes: R) -> Core<R>
         requires fresh { AreFresh memory components.items }
         requires room { HasRoom memory }
-        requires leads { Agrees (R.leads routes) components.items }
-        ensures started { result ≡ started_world memory components.items }
+        requires leads { Agrees (R.rules routes) (R.leads routes) components.items }
+        ensures started { result ≡ started_world (R.rules routes) memory components.items }
     {
         Core {
             memory,
@@ -78,6 +80,7 @@ impl<R: Router + Drop> Core<R> {
         ensures lines { reply.new.lines ≡ flat_map log_text (outcome_at self.old component (model_call call.entry)).lines }
         ensures stepped { self.new ≡ with_state self.old component (outcome_at self.old component (model_call call.entry)).next }
         ensures balance { (pages caps : ℕ) → IsBalanced pages caps self.old → IsBalanced pages caps self.new }
+        ensures balance_for { (list : StartList) → IsBalancedFor list self.old → IsBalancedFor list self.new }
     {
         carry_out(
             &mut self.memory,
@@ -101,12 +104,12 @@ fn carry_out<R: Router>(
     reply: &mut Reply,
 )
     requires core { IsCore memory.old components.old }
-    requires routes { Agrees (R.leads routes.now) components.old }
+    requires routes { Agrees (R.rules routes.now) (R.leads routes.now) components.old }
     requires caller { caller < length components.old }
     requires call { IsWellFormed call }
-    ensures does { Answers (model_call call.entry) caller reply.new memory.old components.old memory.new components.new }
+    ensures does { Answers (R.rules routes.now) (model_call call.entry) caller reply.new memory.old components.old memory.new components.new }
     ensures core { IsCore memory.new components.new }
-    ensures leads { (leads : Leads) → Agrees leads components.old → Agrees leads components.new }
+    ensures leads { (rules : Rules) (leads : Leads) → Agrees rules leads components.old → Agrees rules leads components.new }
 {
     match call {
         Call::Open { service, args } => {
@@ -123,6 +126,10 @@ fn carry_out<R: Router>(
         Call::Close(selector) => {
             let closed = close(memory, components, caller, selector);
             tell(closed, reply);
+        }
+        Call::Exit => {
+            let gone = exit(memory, components, caller);
+            tell(gone, reply);
         }
         _ => components[caller].step(memory, call, reply),
     }

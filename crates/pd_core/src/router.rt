@@ -1,8 +1,12 @@
 //! Which component serves the sessions that are asked for.
 ghost use Rattle.std.specs.Prelude.{◌≡◌, ℕ, List, Option};
+ghost use Rattle.own_model.specs.Routes.{Rule};
 
 /// Which component serves what a component asks for.
 pub trait Router {
+    // The rules by which the wishes of the component at a place lead, as the model sees them.
+    ghost rules: { Self → ℕ → List Rule };
+
     // The place of the component that serves what the component at a place asks for: a service by its name, with a given
     // label.
     ghost leads: { Self → ℕ → List ℕ → List ℕ → Option ℕ };

@@ -1,5 +1,6 @@
 //! A script, and its calls: what each does to its account, its capabilities, its regions and the memory.
 
+use crate::accounts::quotas_of;
 use crate::answer::{Answer, Quotas, tell};
 use crate::bytes::{MOST_BYTES, decode, tell_range};
 use crate::call::Call;
@@ -37,7 +38,7 @@ impl Script {
     ghost use Rattle.pd_core.specs.Own.{part_at, own_heap_at, sliced_at, sized_at, range_refusal, IsFound};
     ghost use Rattle.pd_core.specs.Sound.{IsSoundScript, Keeps};
 
-    /// Carries a call out that is none of a session, and writes what it is answered in place of what the reply was.
+    /// Carries a call out that is none of a session and no exit, and writes what it is answered in place of what the reply was.
     pub(crate) fn step(&mut self, memory: &mut Memory, call: Call<'_>, reply: &mut Reply)
         requires sound { IsSoundScript memory.old self.old }
         requires call { IsWellFormed call }
@@ -62,8 +63,11 @@ impl Script {
             Call::Snew(bytes) => tell(self.snew(memory, bytes), reply),
             Call::Sdel(address) => tell(self.sdel(memory, address), reply),
             Call::Quota => tell(Ok(Answer::Quotas(self.quota(memory))), reply),
-            Call::Open { .. } | Call::Upgrade { .. } | Call::CallSession { .. } | Call::Close(_) =>
-                { unreachable!() }
+            Call::Open { .. }
+            | Call::Upgrade { .. }
+            | Call::CallSession { .. }
+            | Call::Close(_)
+            | Call::Exit => { unreachable!() }
         }
     }
 
@@ -78,7 +82,7 @@ impl Script {
     }
 
     /// The dataspace that the selector names goes with its regions, or `InvalidCap` where it names none.
-    fn free(&mut self, memory: &mut Memory, selector: u64) -> Result<Answer, Refusal>
+    pub(crate) fn free(&mut self, memory: &mut Memory, selector: u64) -> Result<Answer, Refusal>
         requires { IsSoundScript memory.old self.old }
         ensures outcome { Does (ModelledFree selector) result memory.old self.old memory.new self.new }
         ensures keeps { Keeps memory.old self.old memory.new self.new }
@@ -102,7 +106,7 @@ impl Script {
     }
 
     /// The RPC object that the selector names goes, or `InvalidCap` where it names none.
-    fn capfree(&mut self, memory: &mut Memory, selector: u64) -> Result<Answer, Refusal>
+    pub(crate) fn capfree(&mut self, memory: &mut Memory, selector: u64) -> Result<Answer, Refusal>
         requires { IsSoundScript memory.old self.old }
         ensures outcome { Does (ModelledCapfree selector) result memory.old self.old memory.new self.new }
         ensures keeps { Keeps memory.old self.old memory.new self.new }
@@ -222,14 +226,7 @@ impl Script {
         requires { IsSoundScript memory.now self.now }
         ensures { quotas_account result ≡ account_in memory.now self.now.account.0 }
     {
-        let (ram_used, caps_used) = memory.used(self.account);
-        let (ram_limit, caps_limit) = memory.limits(self.account);
-        Quotas {
-            ram_used,
-            ram_limit,
-            caps_used,
-            caps_limit,
-        }
+        quotas_of(memory, self.account)
     }
 
     /// The dataspace that a selector names and its pages, or `InvalidCap` where it names none.

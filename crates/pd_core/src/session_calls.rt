@@ -4,20 +4,20 @@ ghost use Rattle.own_model.specs.Call.Call.{Open as ModelledOpen, Upgrade as Mod
 ghost use Rattle.own_model.specs.Call.Call.{CallSession as ModelledCallSession, Close as ModelledClose};
 ghost use Rattle.own_model.specs.Reply.{reply_text};
 ghost use Rattle.pd_core.specs.Answer.{reply_of, told_alone};
-ghost use Rattle.pd_core.specs.Core.{IsCore};
+ghost use Rattle.pd_core.specs.Core.{Rules, IsCore};
 ghost use Rattle.pd_core.specs.SessionCalls.{Agrees, Answers, Leads};
 
 use crate::answer::{Answer, tell};
 use crate::component::{Component, Role};
 use crate::label::label_of;
 use crate::router::Router;
-use crate::sessions;
 use dataspace_core::Memory;
 use server_frame::Reply;
 use session_proto::SessionArgs;
 use trade_base::Refusal;
 
-/// The session that a selector of the component at a place names goes, or why not: `NotAScript`, then `InvalidSession`.
+/// The session that a selector of the component at a place names goes, or why not: `NotAScript`, then `Gone`, then
+/// `InvalidSession`.
 pub(crate) fn close(
     memory: &mut Memory,
     components: &mut [Component],
@@ -26,21 +26,18 @@ pub(crate) fn close(
 ) -> Result<Answer, Refusal>
     requires core { IsCore memory.old components.old }
     requires caller { caller < length components.old }
-    ensures does { Answers (ModelledClose selector) caller (told_alone (reply_text (reply_of result)))
+    ensures does { (rules : Rules) → Answers rules (ModelledClose selector) caller (told_alone (reply_text (reply_of result)))
         memory.old components.old memory.new components.new }
     ensures core { IsCore memory.new components.new }
-    ensures leads { (leads : Leads) → Agrees leads components.old → Agrees leads components.new }
+    ensures leads { (rules : Rules) (leads : Leads) → Agrees rules leads components.old → Agrees rules leads components.new }
 {
     let (entry, session) = components[caller].take_session(selector)?;
-    let Role::Log(_, server) = &mut components[entry].role else {
-        unreachable!()
-    };
-    server.close(memory, session);
+    components[entry].close_session(memory, session);
     Ok(Answer::Done)
 }
 
-/// More is donated for the session that a selector of the component at a place names, or why not: `NotAScript`, then
-/// `InvalidSession`, then `BadArgs`, then `OutOfRam`, then `OutOfCaps`.
+/// More is donated for the session that a selector of the component at a place names, or why not: `NotAScript`, then `Gone`,
+/// then `InvalidSession`, then `BadArgs`, then `OutOfRam`, then `OutOfCaps`.
 pub(crate) fn upgrade(
     memory: &mut Memory,
     components: &mut [Component],
@@ -50,20 +47,19 @@ pub(crate) fn upgrade(
 ) -> Result<Answer, Refusal>
     requires core { IsCore memory.old components.old }
     requires caller { caller < length components.old }
-    ensures does { Answers (ModelledUpgrade selector text.now) caller (told_alone (reply_text (reply_of result)))
+    ensures does { (rules : Rules) → Answers rules (ModelledUpgrade selector text.now) caller (told_alone (reply_text (reply_of result)))
         memory.old components.old memory.new components.new }
     ensures core { IsCore memory.new components.new }
-    ensures leads { (leads : Leads) → Agrees leads components.old → Agrees leads components.new }
+    ensures leads { (rules : Rules) (leads : Leads) → Agrees rules leads components.old → Agrees rules leads components.new }
 {
-    let named = components[caller].session(selector)?;
-    let Role::Log(_, server) = &mut components[named.0].role else {
-        unreachable!()
-    };
-    sessions::upgrade(server, memory, named.1, text)
+    let (entry, session) = components[caller].session(selector)?;
+    let more = SessionArgs::read(text)?;
+    components[entry].raise_session(memory, session, more.ram(), more.caps())?;
+    Ok(Answer::Done)
 }
 
 /// A request of the session that a selector of the component at a place names is answered, and the lines that it finishes
-/// are told before the answer. It is refused with `NotAScript` or else `InvalidSession`.
+/// are told before the answer. It is refused with `NotAScript`, `Gone` or else `InvalidSession`.
 pub(crate) fn call(
     memory: &mut Memory,
     components: &mut [Component],
@@ -74,24 +70,21 @@ pub(crate) fn call(
 )
     requires core { IsCore memory.old components.old }
     requires caller { caller < length components.old }
-    ensures does { Answers (ModelledCallSession selector request.now) caller reply.new
+    ensures does { (rules : Rules) → Answers rules (ModelledCallSession selector request.now) caller reply.new
         memory.old components.old memory.new components.new }
     ensures core { IsCore memory.new components.new }
-    ensures leads { (leads : Leads) → Agrees leads components.old → Agrees leads components.new }
+    ensures leads { (rules : Rules) (leads : Leads) → Agrees rules leads components.old → Agrees rules leads components.new }
 {
-    let named = match components[caller].session(selector) {
+    let (entry, session) = match components[caller].session(selector) {
         Ok(named) => named,
         Err(refusal) => return tell(Err(refusal), reply),
     };
-    let Role::Log(_, server) = &mut components[named.0].role else {
-        unreachable!()
-    };
     reply.clear();
-    sessions::call(server, memory, named.1, request, reply);
+    components[entry].serve_session(memory, session, request, reply);
 }
 
 /// A session of the service is opened for the component at a place, by the text of arguments, or why not: `NotAScript`, then
-/// `BadArgs`, then `ServiceDenied`, then `OutOfRam`, then `OutOfCaps`, then `InsufficientRamQuota`, then
+/// `Gone`, then `BadArgs`, then `ServiceDenied`, then `OutOfRam`, then `OutOfCaps`, then `InsufficientRamQuota`, then
 /// `InsufficientCapQuota`.
 pub(crate) fn open<R: Router>(
     memory: &mut Memory,
@@ -102,29 +95,24 @@ pub(crate) fn open<R: Router>(
     text: &[u8],
 ) -> Result<Answer, Refusal>
     requires core { IsCore memory.old components.old }
-    requires routes { Agrees (R.leads routes.now) components.old }
+    requires routes { Agrees (R.rules routes.now) (R.leads routes.now) components.old }
     requires caller { caller < length components.old }
-    ensures does { Answers (ModelledOpen service.now text.now) caller (told_alone (reply_text (reply_of result)))
+    ensures does { Answers (R.rules routes.now) (ModelledOpen service.now text.now) caller (told_alone (reply_text (reply_of result)))
         memory.old components.old memory.new components.new }
     ensures core { IsCore memory.new components.new }
-    ensures leads { (leads : Leads) → Agrees leads components.old → Agrees leads components.new }
+    ensures leads { (rules : Rules) (leads : Leads) → Agrees rules leads components.old → Agrees rules leads components.new }
 {
     let client = &components[caller];
     let Role::Script(script) = &client.role else {
-        return Err(Refusal::NotAScript);
+        return Err(client.refusal());
     };
     let account = script.account;
     let args = SessionArgs::read(text)?;
     let Some(entry) = routes.provider(caller, service, args.label()) else {
         return Err(Refusal::ServiceDenied);
     };
-    let label = label_of(client.name, args.label());
-    let Role::Log(_, server) = &mut components[entry].role else {
-        unreachable!()
-    };
-    let session = server.open(memory, account, label.as_slice(), args.ram(), args.caps())?;
-    let Role::Script(script) = &mut components[caller].role else {
-        unreachable!()
-    };
-    Ok(Answer::Selected(sessions::keep(script, entry, session)))
+    let label = label_of(client.name.as_slice(), args.label());
+    let server = &mut components[entry];
+    let session = server.open_session(memory, account, &label, args.ram(), args.caps())?;
+    Ok(Answer::Selected(components[caller].keep_session(entry, session)))
 }

@@ -1,6 +1,6 @@
 -- The hex is decoded whole.
 use Rattle.std.proofs.Common.{◌∙◌}
-use Rattle.pd_core.proofs.HexLemmas.{decode_is, half}
+use Rattle.session_proto.proofs.HexLemmas.{decode_is, half}
 use Rattle.pd_core.proofs.bytes.decode.Goals as goal
 
 pub returns : goal.returns

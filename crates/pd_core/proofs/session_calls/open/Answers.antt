@@ -1,205 +1,142 @@
 -- A refused call changes nothing; else a session is opened.
-use Rattle.std.proofs.Common.{◌≡◌, rules, Err, get_or, set, ap, sym, ◌∙◌}
+use Rattle.std.proofs.Common.{rules, Err, get_or, set, refl, ap, sym, ◌∙◌}
 use Rattle.trade_base.specs.declared.refusal.Refusal.TheVariants.{ServiceDenied}
 use Rattle.own_model.specs.Call.Call.{Open}
+use Rattle.own_model.specs.Reply.{reply_text}
 use Rattle.own_model.specs.Session.{label_with}
-use Rattle.pd_core.specs.Core.{sessions_in}
-use Rattle.pd_core.specs.declared.component.Role.TheVariants.{Log as ALog}
-use Rattle.pd_core.proofs.RouterLemmas.{agrees_server, agrees_script, denied_wish}
-use Rattle.pd_core.proofs.SessionCallsLemmas.{log_role, opened_none, unread_wish, refused_answers, refused_result}
-use Rattle.pd_core.proofs.SessionLedLemmas.{led_within, led_log, led_apart, led_server, led_free, led_place, led_room, led_refused, led_selector, led_opened}
-use Rattle.pd_core.proofs.SessionNamedLemmas.{read_beside}
+use Rattle.pd_core.specs.Answer.{told_alone, reply_of}
+use Rattle.pd_core.specs.Core.{IsCore}
+use Rattle.pd_core.specs.SessionCalls.{Answers}
+use Rattle.pd_core.proofs.RouterLemmas.{agrees_server, agrees_kept, denied_wish}
+use Rattle.pd_core.proofs.SessionCallsLemmas.{no_script_answers, unasked_answers, unread_wish, passed_on, unchanged, arguments_are}
+use Rattle.pd_core.proofs.SessionChangesLemmas.{server_sound, payer_open, no_session, has_place, has_room}
+use Rattle.pd_core.proofs.SessionLedLemmas.{led_by, led_stands, led_two, led_refused, led_selector, led_opened}
 use Rattle.pd_core.proofs.session_calls.open.Goals as goal
+
+pub returns-in_default-clause-does : goal.returns-in_default-clause-does
+returns-in_default-clause-does g c =
+    no_script_answers (g.R.Router.rules c.args.routes.now) c.requires.core c.requires.caller c.index-components-caller.is (Open c.args.service.now c.args.text.now) c.refusal.result c.in_default.not-Script c.refusal.ensures
 
 pub returns-in_err-args-clause-does : goal.returns-in_err-args-clause-does
 returns-in_err-args-clause-does g c =
-    let components = c.args.components.now in
-    let client = get_or components c.args.caller c.index-components-caller.result in
-    let client_read : client ≡ get_or components c.args.caller client = ap (get_or components c.args.caller) c.index-components-caller.is in
-    let memory = c.args.memory.now in
-    let refusal = c.in_err-args.field-0.0 in
-    refused_result memory components c.args.caller (Open c.args.service.now c.args.text.now) refusal c.from_residual.result c.from_residual.ensures.1
-    (refused_answers memory components c.args.caller client (Open c.args.service.now c.args.text.now) refusal c.requires.caller client_read
-    (opened_none (sessions_in memory components) memory client.name.now client.role c.in-Script.script c.args.service.now c.args.text.now refusal c.in-Script.is
-    (unread_wish client.name.now c.args.service.now c.args.text.now c.in_err-args.ensures.none ∙ ap Err (sym c.in_err-args.ensures.refused))))
+    let name = (get_or c.args.components.now c.args.caller c.index-components-caller.result).name.items in
+    let rules = g.R.Router.rules c.args.routes.now in
+    passed_on c.in_err-args.field-0.0 c.from_residual.result c.from_residual.ensures.1
+    (unasked_answers rules c.requires.core c.requires.caller c.index-components-caller.is c.in-Script.script c.args.service.now c.args.text.now c.in_err-args.field-0.0 c.in-Script.is
+    (unread_wish name (rules c.args.caller) c.args.service.now c.args.text.now c.in_err-args.ensures.none ∙ ap Err (sym c.in_err-args.ensures.refused)))
 
 pub returns-in_default-provider-clause-does : goal.returns-in_default-provider-clause-does
 returns-in_default-provider-clause-does g c =
-    let components = c.args.components.now in
-    let client = get_or components c.args.caller c.index-components-caller.result in
-    let client_read : client ≡ get_or components c.args.caller client = ap (get_or components c.args.caller) c.index-components-caller.is in
-    let memory = c.args.memory.now in
-    refused_answers memory components c.args.caller client (Open c.args.service.now c.args.text.now) ServiceDenied c.requires.caller client_read
-    (opened_none (sessions_in memory components) memory client.name.now client.role c.in-Script.script c.args.service.now c.args.text.now ServiceDenied c.in-Script.is
-    (denied_wish (g.R.Router.leads c.args.routes.now) components c.args.caller client c.args.service.now c.args.text.now c.label.result.now c.in_ok-args.args c.provider.result
-    c.requires.routes c.requires.caller client_read c.in_ok-args.ensures.value c.label.ensures c.provider.ensures c.in_default-provider.is))
+    let name = (get_or c.args.components.now c.args.caller c.index-components-caller.result).name.items in
+    let rules = g.R.Router.rules c.args.routes.now in
+    unasked_answers rules c.requires.core c.requires.caller c.index-components-caller.is c.in-Script.script c.args.service.now c.args.text.now ServiceDenied c.in-Script.is
+    (denied_wish rules (g.R.Router.leads c.args.routes.now) c.args.components.now c.args.caller c.args.service.now c.label.result.now c.requires.routes c.requires.caller
+    name c.args.text.now c.in_ok-args.args c.in_ok-args.ensures.value c.label.ensures (sym c.provider.ensures ∙ c.in_default-provider.is))
 
 pub bounds-components-entry : goal.bounds-components-entry
 bounds-components-entry g c =
-    let components = c.args.components.now in
-    let client = get_or components c.args.caller c.index-components-caller.result in
-    let client_read : client ≡ get_or components c.args.caller client = ap (get_or components c.args.caller) c.index-components-caller.is in
-    led_within (g.R.Router.leads c.args.routes.now) c.args.memory.now components c.args.caller c.in-Some.entry client c.requires.caller client_read c.requires.core
-    c.requires.routes c.in-Script.script c.in-Script.is c.args.service.now c.args.text.now c.label.result.now c.in_ok-args.args c.in_ok-args.ensures.value c.label.ensures c.provider.result c.provider.ensures c.in-Some.is
+    let is_led = led_by c.args.text.now c.requires.core c.requires.caller c.index-components-caller.is c.requires.routes c.in-Script.is
+    (arguments_are c.args.text.now c.in_ok-args.args.ram c.in_ok-args.args.caps c.label.result.now c.in_ok-args.ensures.value refl refl c.label.ensures) c.provider.ensures c.in-Some.is in
+    (led_stands is_led).within
 
 pub offset_bounds-components-entry : goal.offset_bounds-components-entry
 offset_bounds-components-entry g c =
-    let components = c.args.components.now in
-    let client = get_or components c.args.caller c.index-components-caller.result in
-    let client_read : client ≡ get_or components c.args.caller client = ap (get_or components c.args.caller) c.index-components-caller.is in
-    let within = led_within (g.R.Router.leads c.args.routes.now) c.args.memory.now components c.args.caller c.in-Some.entry client c.requires.caller client_read c.requires.core
-    c.requires.routes c.in-Script.script c.in-Script.is c.args.service.now c.args.text.now c.label.result.now c.in_ok-args.args c.in_ok-args.ensures.value c.label.ensures c.provider.result c.provider.ensures c.in-Some.is in
+    let is_led = led_by c.args.text.now c.requires.core c.requires.caller c.index-components-caller.is c.requires.routes c.in-Script.is
+    (arguments_are c.args.text.now c.in_ok-args.args.ram c.in_ok-args.args.caps c.label.result.now c.in_ok-args.ensures.value refl refl c.label.ensures) c.provider.ensures c.in-Some.is in
+    let within = (led_stands is_led).within in
     search rules
 
-pub unreachable-requires : goal.unreachable-requires
-unreachable-requires g c =
-    let components = c.args.components.now in
-    let client = get_or components c.args.caller c.index-components-caller.result in
-    let client_read : client ≡ get_or components c.args.caller client = ap (get_or components c.args.caller) c.index-components-caller.is in
-    let host = get_or components c.in-Some.entry c.index-components-entry.result in
-    let host_read : host ≡ get_or components c.in-Some.entry host = ap (get_or components c.in-Some.entry) c.index-components-entry.is in
-    log_role host.role (led_log (g.R.Router.leads c.args.routes.now) c.args.memory.now components c.args.caller c.in-Some.entry client c.requires.caller client_read c.requires.core
-    c.requires.routes c.in-Script.script c.in-Script.is c.args.service.now c.args.text.now c.label.result.now c.in_ok-args.args c.in_ok-args.ensures.value c.label.ensures c.provider.result c.provider.ensures c.in-Some.is c.index-components-entry.result) c.in_default-role.not-Log
+pub open_session-requires-clause-sound : goal.open_session-requires-clause-sound
+open_session-requires-clause-sound g c =
+    let is_led = led_by c.args.text.now c.requires.core c.requires.caller c.index-components-caller.is c.requires.routes c.in-Script.is
+    (arguments_are c.args.text.now c.ram.result.0 c.caps.result.0 c.label.result.now c.in_ok-args.ensures.value c.ram.ensures c.caps.ensures c.label.ensures) c.provider.ensures c.in-Some.is in
+    let two = led_two is_led c.index-components-entry.result in
+    server_sound two
 
-pub open-requires-clause-server : goal.open-requires-clause-server
-open-requires-clause-server g c =
-    let components = c.args.components.now in
-    let client = get_or components c.args.caller c.index-components-caller.result in
-    let client_read : client ≡ get_or components c.args.caller client = ap (get_or components c.args.caller) c.index-components-caller.is in
-    let host = get_or components c.in-Some.entry c.index-components-entry.result in
-    let host_read : host ≡ get_or components c.in-Some.entry host = ap (get_or components c.in-Some.entry) c.index-components-entry.is in
-    led_server (g.R.Router.leads c.args.routes.now) c.args.memory.now components c.args.caller c.in-Some.entry client c.requires.caller client_read c.requires.core
-    c.requires.routes c.in-Script.script c.in-Script.is c.args.service.now c.args.text.now c.label.result.now c.in_ok-args.args c.in_ok-args.ensures.value c.label.ensures c.provider.result c.provider.ensures c.in-Some.is
-    host host_read c.in-Log.field-0 c.in-Log.server c.in-Log.is c.ram.result.0 c.caps.result.0 c.ram.ensures c.caps.ensures
+pub open_session-requires-clause-serving : goal.open_session-requires-clause-serving
+open_session-requires-clause-serving g c =
+    let is_led = led_by c.args.text.now c.requires.core c.requires.caller c.index-components-caller.is c.requires.routes c.in-Script.is
+    (arguments_are c.args.text.now c.ram.result.0 c.caps.result.0 c.label.result.now c.in_ok-args.ensures.value c.ram.ensures c.caps.ensures c.label.ensures) c.provider.ensures c.in-Some.is in
+    (led_stands is_led).serving c.index-components-entry.result
 
-pub open-requires-clause-no_session : goal.open-requires-clause-no_session
-open-requires-clause-no_session g c =
-    let components = c.args.components.now in
-    let client = get_or components c.args.caller c.index-components-caller.result in
-    let client_read : client ≡ get_or components c.args.caller client = ap (get_or components c.args.caller) c.index-components-caller.is in
-    let host = get_or components c.in-Some.entry c.index-components-entry.result in
-    let host_read : host ≡ get_or components c.in-Some.entry host = ap (get_or components c.in-Some.entry) c.index-components-entry.is in
-    led_free (g.R.Router.leads c.args.routes.now) c.args.memory.now components c.args.caller c.in-Some.entry client c.requires.caller client_read c.requires.core
-    c.requires.routes c.in-Script.script c.in-Script.is c.args.service.now c.args.text.now c.label.result.now c.in_ok-args.args c.in_ok-args.ensures.value c.label.ensures c.provider.result c.provider.ensures c.in-Some.is
-    host host_read c.in-Log.field-0 c.in-Log.server c.in-Log.is c.ram.result.0 c.caps.result.0 c.ram.ensures c.caps.ensures
+pub open_session-requires-clause-client : goal.open_session-requires-clause-client
+open_session-requires-clause-client g c =
+    let is_led = led_by c.args.text.now c.requires.core c.requires.caller c.index-components-caller.is c.requires.routes c.in-Script.is
+    (arguments_are c.args.text.now c.ram.result.0 c.caps.result.0 c.label.result.now c.in_ok-args.ensures.value c.ram.ensures c.caps.ensures c.label.ensures) c.provider.ensures c.in-Some.is in
+    let two = led_two is_led c.index-components-entry.result in
+    payer_open two
 
-pub open-requires-clause-place : goal.open-requires-clause-place
-open-requires-clause-place g c =
-    let components = c.args.components.now in
-    let client = get_or components c.args.caller c.index-components-caller.result in
-    let client_read : client ≡ get_or components c.args.caller client = ap (get_or components c.args.caller) c.index-components-caller.is in
-    let host = get_or components c.in-Some.entry c.index-components-entry.result in
-    let host_read : host ≡ get_or components c.in-Some.entry host = ap (get_or components c.in-Some.entry) c.index-components-entry.is in
-    led_place (g.R.Router.leads c.args.routes.now) c.args.memory.now components c.args.caller c.in-Some.entry client c.requires.caller client_read c.requires.core
-    c.requires.routes c.in-Script.script c.in-Script.is c.args.service.now c.args.text.now c.label.result.now c.in_ok-args.args c.in_ok-args.ensures.value c.label.ensures c.provider.result c.provider.ensures c.in-Some.is
-    host host_read c.in-Log.field-0 c.in-Log.server c.in-Log.is c.ram.result.0 c.caps.result.0 c.ram.ensures c.caps.ensures
+pub open_session-requires-clause-no_session : goal.open_session-requires-clause-no_session
+open_session-requires-clause-no_session g c =
+    let is_led = led_by c.args.text.now c.requires.core c.requires.caller c.index-components-caller.is c.requires.routes c.in-Script.is
+    (arguments_are c.args.text.now c.ram.result.0 c.caps.result.0 c.label.result.now c.in_ok-args.ensures.value c.ram.ensures c.caps.ensures c.label.ensures) c.provider.ensures c.in-Some.is in
+    let two = led_two is_led c.index-components-entry.result in
+    no_session two
 
-pub open-requires-clause-room : goal.open-requires-clause-room
-open-requires-clause-room g c =
-    let components = c.args.components.now in
-    let client = get_or components c.args.caller c.index-components-caller.result in
-    let client_read : client ≡ get_or components c.args.caller client = ap (get_or components c.args.caller) c.index-components-caller.is in
-    let host = get_or components c.in-Some.entry c.index-components-entry.result in
-    let host_read : host ≡ get_or components c.in-Some.entry host = ap (get_or components c.in-Some.entry) c.index-components-entry.is in
-    led_room (g.R.Router.leads c.args.routes.now) c.args.memory.now components c.args.caller c.in-Some.entry client c.requires.caller client_read c.requires.core
-    c.requires.routes c.in-Script.script c.in-Script.is c.args.service.now c.args.text.now c.label.result.now c.in_ok-args.args c.in_ok-args.ensures.value c.label.ensures c.provider.result c.provider.ensures c.in-Some.is
-    host host_read c.in-Log.field-0 c.in-Log.server c.in-Log.is c.ram.result.0 c.caps.result.0 c.ram.ensures c.caps.ensures
+pub open_session-requires-clause-place : goal.open_session-requires-clause-place
+open_session-requires-clause-place g c =
+    let is_led = led_by c.args.text.now c.requires.core c.requires.caller c.index-components-caller.is c.requires.routes c.in-Script.is
+    (arguments_are c.args.text.now c.ram.result.0 c.caps.result.0 c.label.result.now c.in_ok-args.ensures.value c.ram.ensures c.caps.ensures c.label.ensures) c.provider.ensures c.in-Some.is in
+    let two = led_two is_led c.index-components-entry.result in
+    has_place two c.ram.result.0 c.caps.result.0
+
+pub open_session-requires-clause-room : goal.open_session-requires-clause-room
+open_session-requires-clause-room g c =
+    let is_led = led_by c.args.text.now c.requires.core c.requires.caller c.index-components-caller.is c.requires.routes c.in-Script.is
+    (arguments_are c.args.text.now c.ram.result.0 c.caps.result.0 c.label.result.now c.in_ok-args.ensures.value c.ram.ensures c.caps.ensures c.label.ensures) c.provider.ensures c.in-Some.is in
+    let two = led_two is_led c.index-components-entry.result in
+    has_room two c.ram.result.0 c.caps.result.0
 
 pub returns-in_err-session-clause-does : goal.returns-in_err-session-clause-does
 returns-in_err-session-clause-does g c =
-    let components = c.args.components.now in
-    let client = get_or components c.args.caller c.index-components-caller.result in
-    let client_read : client ≡ get_or components c.args.caller client = ap (get_or components c.args.caller) c.index-components-caller.is in
-    let host = get_or components c.in-Some.entry c.index-components-entry.result in
-    let host_read : host ≡ get_or components c.in-Some.entry host = ap (get_or components c.in-Some.entry) c.index-components-entry.is in
-    (led_refused (g.R.Router.leads c.args.routes.now) c.args.memory.now components c.args.caller c.in-Some.entry client c.requires.caller client_read c.requires.core
-    c.requires.routes c.in-Script.script c.in-Script.is c.args.service.now c.args.text.now c.label.result.now c.in_ok-args.args c.in_ok-args.ensures.value c.label.ensures c.provider.result c.provider.ensures c.in-Some.is
-    host host_read c.in-Log.field-0 c.in-Log.server c.in-Log.is c.ram.result.0 c.caps.result.0 c.ram.ensures c.caps.ensures c.open.new.memory c.open.new.self
-    c.in_err-session.field-0.0 c.from_residual-in_err-session.result c.from_residual-in_err-session.ensures.1 c.in_err-session.ensures.refusal c.in_err-session.ensures.err c.in_err-session.ensures.memory_err).answers
+    let is_led = led_by c.args.text.now c.requires.core c.requires.caller c.index-components-caller.is c.requires.routes c.in-Script.is
+    (arguments_are c.args.text.now c.ram.result.0 c.caps.result.0 c.label.result.now c.in_ok-args.ensures.value c.ram.ensures c.caps.ensures c.label.ensures) c.provider.ensures c.in-Some.is in
+    unchanged (Answers (g.R.Router.rules c.args.routes.now) (Open c.args.service.now c.args.text.now) c.args.caller (told_alone (reply_text (reply_of c.from_residual-in_err-session.result))) c.args.memory.now c.args.components.now)
+    c.args.components.now c.in-Some.entry c.index-components-entry.result c.in_err-session.ensures.memory_err c.in_err-session.ensures.err
+    (passed_on c.in_err-session.field-0.0 c.from_residual-in_err-session.result c.from_residual-in_err-session.ensures.1
+    (led_refused is_led c.index-components-entry.result c.in_err-session.field-0.0 c.in_err-session.ensures.refusal))
 
 pub returns-in_err-session-clause-core : goal.returns-in_err-session-clause-core
 returns-in_err-session-clause-core g c =
-    let components = c.args.components.now in
-    let client = get_or components c.args.caller c.index-components-caller.result in
-    let client_read : client ≡ get_or components c.args.caller client = ap (get_or components c.args.caller) c.index-components-caller.is in
-    let host = get_or components c.in-Some.entry c.index-components-entry.result in
-    let host_read : host ≡ get_or components c.in-Some.entry host = ap (get_or components c.in-Some.entry) c.index-components-entry.is in
-    (led_refused (g.R.Router.leads c.args.routes.now) c.args.memory.now components c.args.caller c.in-Some.entry client c.requires.caller client_read c.requires.core
-    c.requires.routes c.in-Script.script c.in-Script.is c.args.service.now c.args.text.now c.label.result.now c.in_ok-args.args c.in_ok-args.ensures.value c.label.ensures c.provider.result c.provider.ensures c.in-Some.is
-    host host_read c.in-Log.field-0 c.in-Log.server c.in-Log.is c.ram.result.0 c.caps.result.0 c.ram.ensures c.caps.ensures c.open.new.memory c.open.new.self
-    c.in_err-session.field-0.0 c.from_residual-in_err-session.result c.from_residual-in_err-session.ensures.1 c.in_err-session.ensures.refusal c.in_err-session.ensures.err c.in_err-session.ensures.memory_err).core
+    unchanged IsCore c.args.components.now c.in-Some.entry c.index-components-entry.result c.in_err-session.ensures.memory_err c.in_err-session.ensures.err c.requires.core
 
 pub returns-in_err-session-clause-leads : goal.returns-in_err-session-clause-leads
 returns-in_err-session-clause-leads g c =
-    let components = c.args.components.now in
-    let host = get_or components c.in-Some.entry c.index-components-entry.result in
-    let host_read : host ≡ get_or components c.in-Some.entry host = ap (get_or components c.in-Some.entry) c.index-components-entry.is in
-    agrees_server components c.in-Some.entry host c.in-Log.field-0 c.in-Log.server c.open.new.self host_read c.in-Log.is
+    agrees_server c.args.components.now c.in-Some.entry (get_or c.args.components.now c.in-Some.entry c.index-components-entry.result) c.open_session.new.memory c.open_session.new.self
+    c.open_session.ensures.stays (ap (get_or c.args.components.now c.in-Some.entry) c.index-components-entry.is)
 
-pub keep-requires : goal.keep-requires
-keep-requires g c =
-    let components = c.args.components.now in
-    let client = get_or components c.args.caller c.index-components-caller.result in
-    let client_read : client ≡ get_or components c.args.caller client = ap (get_or components c.args.caller) c.index-components-caller.is in
-    let host = get_or components c.in-Some.entry c.index-components-entry.result in
-    let host_read : host ≡ get_or components c.in-Some.entry host = ap (get_or components c.in-Some.entry) c.index-components-entry.is in
-    let again = get_or (set components c.in-Some.entry (record host { role = ALog c.in-Log.field-0 c.open.new.self })) c.args.caller c.index-components-caller-2.result in
-    let again_read : again ≡ get_or components c.args.caller again =
-    read_beside components c.in-Some.entry c.args.caller (record host { role = ALog c.in-Log.field-0 c.open.new.self }) c.index-components-caller-2.result
-    (λ e. led_apart (g.R.Router.leads c.args.routes.now) c.args.memory.now components c.args.caller c.in-Some.entry client c.requires.caller client_read c.requires.core
-    c.requires.routes c.in-Script.script c.in-Script.is c.args.service.now c.args.text.now c.label.result.now c.in_ok-args.args c.in_ok-args.ensures.value c.label.ensures c.provider.result c.provider.ensures c.in-Some.is (sym e)) c.index-components-caller-2.is in
+pub keep_session-requires : goal.keep_session-requires
+keep_session-requires g c =
+    let is_led = led_by c.args.text.now c.requires.core c.requires.caller c.index-components-caller.is c.requires.routes c.in-Script.is
+    (arguments_are c.args.text.now c.ram.result.0 c.caps.result.0 c.label.result.now c.in_ok-args.ensures.value c.ram.ensures c.caps.ensures c.label.ensures) c.provider.ensures c.in-Some.is in
+    let labelled = c.deref.ensures.0 ∙ c.label_of-label.ensures.label ∙ (λ j. label_with (c.as_slice.ensures.value j) ((c.label-2.ensures ∙ sym c.label.ensures) j)) in
     record {
-      room = led_selector (g.R.Router.leads c.args.routes.now) c.args.memory.now components c.args.caller c.in-Some.entry client c.requires.caller client_read c.requires.core
-          c.requires.routes c.in-Script.script c.in-Script.is c.args.service.now c.args.text.now c.label.result.now c.in_ok-args.args c.in_ok-args.ensures.value c.label.ensures c.provider.result c.provider.ensures c.in-Some.is
-          host host_read c.in-Log.field-0 c.in-Log.server c.in-Log.is c.ram.result.0 c.caps.result.0 c.ram.ensures c.caps.ensures c.open.new.memory c.open.new.self c.open.ensures.server c.open.ensures.places c.open.ensures.machine
-          c.in_ok-session.session c.in_ok-session.ensures.refusal c.as_slice.result.now (c.as_slice.ensures.value ∙ c.label_of-label.ensures.label ∙ ap (label_with client.name.now) (c.label-2.ensures ∙ sym c.label.ensures))
-          c.in_ok-session.ensures.opens again again_read c.in-Script-role.script c.in-Script-role.is;
+      room = led_selector is_led c.index-components-entry.result c.open_session.new.memory c.open_session.new.self c.open_session.ensures.stays c.open_session.ensures.machine
+          c.in_ok-session.ensures.refusal c.in_ok-session.session c.deref.result.now labelled c.in_ok-session.ensures.opens c.index-components-caller-2.result;
     }
 
 pub returns-clause-does : goal.returns-clause-does
 returns-clause-does g c =
-    let components = c.args.components.now in
-    let client = get_or components c.args.caller c.index-components-caller.result in
-    let client_read : client ≡ get_or components c.args.caller client = ap (get_or components c.args.caller) c.index-components-caller.is in
-    let host = get_or components c.in-Some.entry c.index-components-entry.result in
-    let host_read : host ≡ get_or components c.in-Some.entry host = ap (get_or components c.in-Some.entry) c.index-components-entry.is in
-    let again = get_or (set components c.in-Some.entry (record host { role = ALog c.in-Log.field-0 c.open.new.self })) c.args.caller c.index-components-caller-2.result in
-    let again_read : again ≡ get_or components c.args.caller again =
-    read_beside components c.in-Some.entry c.args.caller (record host { role = ALog c.in-Log.field-0 c.open.new.self }) c.index-components-caller-2.result
-    (λ e. led_apart (g.R.Router.leads c.args.routes.now) c.args.memory.now components c.args.caller c.in-Some.entry client c.requires.caller client_read c.requires.core
-    c.requires.routes c.in-Script.script c.in-Script.is c.args.service.now c.args.text.now c.label.result.now c.in_ok-args.args c.in_ok-args.ensures.value c.label.ensures c.provider.result c.provider.ensures c.in-Some.is (sym e)) c.index-components-caller-2.is in
-    (led_opened (g.R.Router.leads c.args.routes.now) c.args.memory.now components c.args.caller c.in-Some.entry client c.requires.caller client_read c.requires.core
-    c.requires.routes c.in-Script.script c.in-Script.is c.args.service.now c.args.text.now c.label.result.now c.in_ok-args.args c.in_ok-args.ensures.value c.label.ensures c.provider.result c.provider.ensures c.in-Some.is
-    host host_read c.in-Log.field-0 c.in-Log.server c.in-Log.is c.ram.result.0 c.caps.result.0 c.ram.ensures c.caps.ensures c.open.new.memory c.open.new.self c.open.ensures.server c.open.ensures.places c.open.ensures.machine
-    c.in_ok-session.session c.in_ok-session.ensures.refusal c.as_slice.result.now (c.as_slice.ensures.value ∙ c.label_of-label.ensures.label ∙ ap (label_with client.name.now) (c.label-2.ensures ∙ sym c.label.ensures))
-    c.in_ok-session.ensures.opens again again_read c.in-Script-role.script c.in-Script-role.is
-    c.keep.result c.keep.new.script c.keep.ensures.least c.keep.ensures.fresh c.keep.ensures.taken).answers
+    let is_led = led_by c.args.text.now c.requires.core c.requires.caller c.index-components-caller.is c.requires.routes c.in-Script.is
+    (arguments_are c.args.text.now c.ram.result.0 c.caps.result.0 c.label.result.now c.in_ok-args.ensures.value c.ram.ensures c.caps.ensures c.label.ensures) c.provider.ensures c.in-Some.is in
+    let labelled = c.deref.ensures.0 ∙ c.label_of-label.ensures.label ∙ (λ j. label_with (c.as_slice.ensures.value j) ((c.label-2.ensures ∙ sym c.label.ensures) j)) in
+    (led_opened is_led c.index-components-entry.result c.open_session.new.memory c.open_session.new.self c.open_session.ensures.stays c.open_session.ensures.machine
+    c.in_ok-session.ensures.refusal c.in_ok-session.session c.deref.result.now labelled c.in_ok-session.ensures.opens c.index-components-caller-2.result
+    c.keep_session.result c.keep_session.new.self c.keep_session.ensures.least c.keep_session.ensures.kept).answers
 
 pub returns-clause-core : goal.returns-clause-core
 returns-clause-core g c =
-    let components = c.args.components.now in
-    let client = get_or components c.args.caller c.index-components-caller.result in
-    let client_read : client ≡ get_or components c.args.caller client = ap (get_or components c.args.caller) c.index-components-caller.is in
-    let host = get_or components c.in-Some.entry c.index-components-entry.result in
-    let host_read : host ≡ get_or components c.in-Some.entry host = ap (get_or components c.in-Some.entry) c.index-components-entry.is in
-    let again = get_or (set components c.in-Some.entry (record host { role = ALog c.in-Log.field-0 c.open.new.self })) c.args.caller c.index-components-caller-2.result in
-    let again_read : again ≡ get_or components c.args.caller again =
-    read_beside components c.in-Some.entry c.args.caller (record host { role = ALog c.in-Log.field-0 c.open.new.self }) c.index-components-caller-2.result
-    (λ e. led_apart (g.R.Router.leads c.args.routes.now) c.args.memory.now components c.args.caller c.in-Some.entry client c.requires.caller client_read c.requires.core
-    c.requires.routes c.in-Script.script c.in-Script.is c.args.service.now c.args.text.now c.label.result.now c.in_ok-args.args c.in_ok-args.ensures.value c.label.ensures c.provider.result c.provider.ensures c.in-Some.is (sym e)) c.index-components-caller-2.is in
-    (led_opened (g.R.Router.leads c.args.routes.now) c.args.memory.now components c.args.caller c.in-Some.entry client c.requires.caller client_read c.requires.core
-    c.requires.routes c.in-Script.script c.in-Script.is c.args.service.now c.args.text.now c.label.result.now c.in_ok-args.args c.in_ok-args.ensures.value c.label.ensures c.provider.result c.provider.ensures c.in-Some.is
-    host host_read c.in-Log.field-0 c.in-Log.server c.in-Log.is c.ram.result.0 c.caps.result.0 c.ram.ensures c.caps.ensures c.open.new.memory c.open.new.self c.open.ensures.server c.open.ensures.places c.open.ensures.machine
-    c.in_ok-session.session c.in_ok-session.ensures.refusal c.as_slice.result.now (c.as_slice.ensures.value ∙ c.label_of-label.ensures.label ∙ ap (label_with client.name.now) (c.label-2.ensures ∙ sym c.label.ensures))
-    c.in_ok-session.ensures.opens again again_read c.in-Script-role.script c.in-Script-role.is
-    c.keep.result c.keep.new.script c.keep.ensures.least c.keep.ensures.fresh c.keep.ensures.taken).core
+    let is_led = led_by c.args.text.now c.requires.core c.requires.caller c.index-components-caller.is c.requires.routes c.in-Script.is
+    (arguments_are c.args.text.now c.ram.result.0 c.caps.result.0 c.label.result.now c.in_ok-args.ensures.value c.ram.ensures c.caps.ensures c.label.ensures) c.provider.ensures c.in-Some.is in
+    let labelled = c.deref.ensures.0 ∙ c.label_of-label.ensures.label ∙ (λ j. label_with (c.as_slice.ensures.value j) ((c.label-2.ensures ∙ sym c.label.ensures) j)) in
+    (led_opened is_led c.index-components-entry.result c.open_session.new.memory c.open_session.new.self c.open_session.ensures.stays c.open_session.ensures.machine
+    c.in_ok-session.ensures.refusal c.in_ok-session.session c.deref.result.now labelled c.in_ok-session.ensures.opens c.index-components-caller-2.result
+    c.keep_session.result c.keep_session.new.self c.keep_session.ensures.least c.keep_session.ensures.kept).core
 
 pub returns-clause-leads : goal.returns-clause-leads
-returns-clause-leads g c = λ leads agrees.
-    let components = c.args.components.now in
-    let host = get_or components c.in-Some.entry c.index-components-entry.result in
-    let host_read : host ≡ get_or components c.in-Some.entry host = ap (get_or components c.in-Some.entry) c.index-components-entry.is in
-    let served = set components c.in-Some.entry (record host { role = ALog c.in-Log.field-0 c.open.new.self }) in
-    let again = get_or served c.args.caller c.index-components-caller-2.result in
-    agrees_script served c.args.caller again c.in-Script-role.script c.keep.new.script (ap (get_or served c.args.caller) c.index-components-caller-2.is) c.in-Script-role.is leads
-    (agrees_server components c.in-Some.entry host c.in-Log.field-0 c.in-Log.server c.open.new.self host_read c.in-Log.is leads agrees)
+returns-clause-leads g c = λ rules leads agrees.
+    let served = set c.args.components.now c.in-Some.entry c.open_session.new.self in
+    agrees_kept served c.args.caller c.keep_session.result.0 c.in-Some.entry c.in_ok-session.session (get_or served c.args.caller c.index-components-caller-2.result) c.keep_session.new.self
+    (ap (get_or served c.args.caller) c.index-components-caller-2.is) c.keep_session.ensures.kept rules leads
+    (agrees_server c.args.components.now c.in-Some.entry (get_or c.args.components.now c.in-Some.entry c.index-components-entry.result) c.open_session.new.memory c.open_session.new.self
+    c.open_session.ensures.stays (ap (get_or c.args.components.now c.in-Some.entry) c.index-components-entry.is) rules leads agrees)

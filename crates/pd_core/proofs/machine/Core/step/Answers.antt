@@ -3,27 +3,35 @@ use Rattle.std.proofs.Common.{◌≡◌, List, length, subst, sym, ap, ◌∙◌
 use Rattle.std.proofs.lemmas.List.{with_items_is}
 use Rattle.std.specs.Global.{Vec}
 use Rattle.std.specs.Vec.{with_items}
-use Rattle.own_model.specs.World.{IsBalanced, outcome_at, with_state}
-use Rattle.own_model.proofs.LimitLemmas.{step_balanced}
+use Rattle.own_model.specs.World.{IsBalanced, IsBalancedFor, outcome_at, with_state}
+use Rattle.own_model.proofs.BalanceLemmas.{step_balanced, step_balanced_for}
 use Rattle.pd_core.specs.Call.{model_call}
 use Rattle.pd_core.specs.Core.{IsCore, world_of}
 use Rattle.pd_core.specs.SessionCalls.{Agrees}
 use Rattle.pd_core.specs.declared.component.Component.{Component}
-use Rattle.pd_core.proofs.CoreLemmas.{same_many}
+use Rattle.pd_core.proofs.CoreLemmas.{place_within, same_many}
 use Rattle.pd_core.proofs.machine.Core.step.Goals as goal
 
 -- components that are lent come back as they are then, where they are as many
 written : (v : Vec Component) (lent after : List Component) → lent ≡ v.items → length after ≡ length lent → (with_items v after).items ≡ after
 written v lent after is many = with_items_is v after (many ∙ ap length is ∙ sym v.ok.0)
 
+pub carry_out-requires-clause-caller : goal.carry_out-requires-clause-caller
+carry_out-requires-clause-caller g c =
+    let lent = c.as_mut_slice in
+    let rules = g.R.Router.rules c.self.inside.routes in
+    let memory = c.self.inside.memory in
+    place_within rules memory lent.result.now c.args.self.now c.args.component (ap (world_of rules memory) lent.ensures.value ∙ c.self.view_is) c.requires.component
+
 pub invariant_of-self : goal.invariant_of-self
 invariant_of-self g c =
     let lent = c.as_mut_slice in
     let done = c.carry_out in
+    let rules = g.R.Router.rules c.self.inside.routes in
     let leads = g.R.Router.leads c.self.inside.routes in
-    subst (λ items. IsCore done.new.memory items × Agrees leads items)
+    subst (λ items. IsCore done.new.memory items × Agrees rules leads items)
     (sym (written c.self.inside.components.items lent.result.now done.new.components lent.ensures.value (same_many done.ensures.does)))
-    (done.ensures.core, done.ensures.leads leads (subst (Agrees leads) (sym lent.ensures.value) c.self.invariant.1))
+    (done.ensures.core, done.ensures.leads rules leads (subst (Agrees rules leads) (sym lent.ensures.value) c.self.invariant.1))
 
 pub returns-clause-stepped : goal.returns-clause-stepped
 returns-clause-stepped g c =
@@ -31,10 +39,15 @@ returns-clause-stepped g c =
     let done = c.carry_out in
     let i = c.args.component in
     let call = model_call c.args.call in
-    ap (world_of done.new.memory) (written c.self.inside.components.items lent.result.now done.new.components lent.ensures.value (same_many done.ensures.does))
+    let rules = g.R.Router.rules c.self.inside.routes in
+    ap (world_of rules done.new.memory) (written c.self.inside.components.items lent.result.now done.new.components lent.ensures.value (same_many done.ensures.does))
     ∙ done.ensures.does.stepped
-    ∙ ap (λ w. with_state w i (outcome_at w i call).next) (ap (world_of c.self.inside.memory) lent.ensures.value ∙ c.self.view_is)
+    ∙ ap (λ w. with_state w i (outcome_at w i call).next) (ap (world_of rules c.self.inside.memory) lent.ensures.value ∙ c.self.view_is)
 
 pub returns-clause-balance : goal.returns-clause-balance
 returns-clause-balance g c = λ pages caps balanced.
     subst (IsBalanced pages caps) (sym (returns-clause-stepped g c)) (step_balanced pages caps c.args.self.now c.args.component (model_call c.args.call) balanced)
+
+pub returns-clause-balance_for : goal.returns-clause-balance_for
+returns-clause-balance_for g c = λ list balanced.
+    subst (IsBalancedFor list) (sym (returns-clause-stepped g c)) (step_balanced_for list c.args.self.now c.args.component (model_call c.args.call) balanced)

@@ -1,0 +1,160 @@
+-- The accounts of components and of their sessions, as own states tell them.
+use Rattle.std.proofs.Common.{◌≡◌, ℕ, ◌<◌, ◌≤◌, List, Some, IsSome, is_some, length, get_or, refl, sym, ap, subst, ◌∙◌, arith, true≢false}
+use Rattle.std.proofs.lemmas.List.{get_or-map}
+use Rattle.std.specs.Prelude.{Option, None, IfSome, Result, Ok, Err}
+use Rattle.std.specs.Option.{option_map, option_and_then, ok_or}
+use Rattle.std.specs.FinMap.{get, empty}
+use Rattle.trade_base.specs.declared.id.AccountId.{AccountId}
+use Rattle.trade_base.specs.declared.id.SessionId.{SessionId}
+use Rattle.trade_base.specs.declared.refusal.Refusal.{Refusal}
+use Rattle.trade_base.specs.declared.refusal.Refusal.TheVariants.{InvalidSession}
+use Rattle.own_model.specs.NatMap.{NatMap, picked}
+use Rattle.own_model.specs.OwnState.{OwnState, session_named}
+use Rattle.own_model.specs.OwnState.Object.{Dataspace as ADataspace, OpenSession}
+use Rattle.own_model.specs.Session.{Session as AnOpenSession, Labelled}
+use Rattle.own_model.specs.Transcript.{nothing, state_at}
+use Rattle.own_model.proofs.NatMapLemmas.{get-empty, get-picked, get-picked_none}
+use Rattle.cap_space.specs.declared.cap.Cap.{Cap}
+use Rattle.cap_space.specs.declared.cap.Cap.TheVariants.{Dataspace, RpcObject, Session}
+use Rattle.dataspace_core.specs.Store.{Store, Part, part, account_in}
+use Rattle.dataspace_core.proofs.PartLaws.{account_of-part}
+use Rattle.dataspace_core.specs.Share.{Share}
+use Rattle.region_map.specs.Regions.{Regions}
+use Rattle.slab.specs.Slab.{Slab}
+use Rattle.slab.specs.Slab as slab
+use Rattle.server_frame.specs.Frame.{Row, sessions_of}
+use Rattle.server_frame.specs.declared.server.Session.{Session as Kept}
+use Rattle.pd_core.specs.Own.{Sessions, no_sessions, object_of, own_of, part_at}
+use Rattle.pd_core.specs.Component.{IsLiveRole, payer_in, caps_in, own_in, own, rows_of}
+use Rattle.pd_core.specs.Core.{Rules, rows_at, sessions_in, world_of, IsCore}
+use Rattle.pd_core.specs.Exit.{HasSelectorsTo}
+use Rattle.pd_core.specs.SessionCalls.{named_in}
+use Rattle.pd_core.specs.Sound.{session_at}
+use Rattle.pd_core.proofs.ServerLemmas.{row_is}
+use Rattle.pd_core.proofs.SessionCallsLemmas.{Names, named_session, server_by_row}
+use Rattle.pd_core.specs.declared.component.Component.{Component}
+use Rattle.pd_core.specs.declared.component.Role.{Role}
+use Rattle.pd_core.specs.declared.component.Role.TheVariants.{Script as AScript, Log as ALog, Files as AFiles, Gone as AGone}
+
+-- ---- a component's account
+
+-- the account of an own state is the memory's, until its component exits
+account_of_role : (sessions : Sessions) (store : Store) (role : Role) → IsLiveRole role → (own_in sessions store role).account ≡ account_in store (payer_in role)
+unfolding own_of
+account_of_role sessions store (AScript script) live = account_of-part script.account.0 store
+account_of_role sessions store (ALog account server) live = account_of-part account.0 store
+account_of_role sessions store (AFiles account server) live = account_of-part account.0 store
+account_of_role sessions store AGone live = absurd live
+
+-- so it is where a role is known
+pub account_of_known : (sessions : Sessions) (store : Store) (role known : Role) → role ≡ known → IsLiveRole known → account_in store (payer_in known) ≡ (own_in sessions store role).account
+account_of_known sessions store role known is live =
+    sym (account_of_role sessions store known live) ∙ ap (λ r. (own_in sessions store r).account) (sym is)
+
+-- a component's own state is the one at its place of the world
+own_at_place : (rules : Rules) (store : Store) (components : List Component) (i : ℕ) (d : Component) → i < length components →
+    state_at (world_of rules store components).states i ≡ own (sessions_in store components) store (get_or components i d)
+own_at_place rules store components i d here = get_or-map (own (sessions_in store components) store) components i d nothing here
+
+-- and so is its account
+pub account_at_place : (rules : Rules) (store : Store) (components : List Component) (i : ℕ) (d : Component) → i < length components →
+    (state_at (world_of rules store components).states i).account ≡ (own (sessions_in store components) store (get_or components i d)).account
+account_at_place rules store components i d here = ap (λ (s : OwnState). s.account) (own_at_place rules store components i d here)
+
+-- ---- the last selector
+
+-- a capability space has nothing past the selectors in use
+none_past : (last : ℕ) (caps : NatMap Cap) → ((q : ℕ) → IsSome (get caps q) → (1 ≤ q) × (q ≤ last)) → (q : ℕ) → last < q → get caps q ≡ None
+none_past last caps to q past = elim (get caps q) as (λ o. get caps q ≡ o → get caps q ≡ None) [
+  | None ↦ λ free. free
+  | Some cap ↦ λ there. let within = to q (ap is_some there) in absurd (omega (arith, past, within.1))
+] refl
+
+-- without a capability no selector is in use
+pub no_caps : (role : Role) → caps_in role ≡ empty → HasSelectorsTo 0 role
+no_caps role none q taken = absurd (true≢false (sym taken ∙ ap is_some (ap (λ (m : NatMap Cap). get m q) none ∙ get-empty q)))
+
+-- a selector without a capability names nothing
+no_object : (sessions : Sessions) (store : Store) (role : Role) (q : ℕ) → get (caps_in role) q ≡ None → get (own_in sessions store role).selectors q ≡ None
+unfolding own_of
+no_object sessions store (AScript script) q none = get-picked_none (object_of sessions (part_at store script)) script.caps.caps q none
+no_object sessions store (ALog account server) q none = get-picked_none (object_of no_sessions (part account.0 store)) empty q none
+no_object sessions store (AFiles account server) q none = get-picked_none (object_of no_sessions (part account.0 store)) empty q none
+no_object sessions store AGone q none = get-empty q
+
+-- so at each place of the world none does past the selectors in use
+pub none_at_place : (rules : Rules) (store : Store) (components : List Component) (i : ℕ) (c : Component) (last : ℕ) → i < length components → c ≡ get_or components i c →
+    HasSelectorsTo last c.role → (q : ℕ) → last < q → get (state_at (world_of rules store components).states i).selectors q ≡ None
+none_at_place rules store components i c last here read to q past =
+    let sessions = sessions_in store components in
+    ap (λ (s : OwnState). get s.selectors q) (own_at_place rules store components i c here ∙ ap (own sessions store) (sym read))
+    ∙ no_object sessions store c.role q (none_past last (caps_in c.role) to q past)
+
+-- ---- the sessions that selectors name
+
+-- a dataspace is no session
+no_space : (o : Option (List ℕ)) → session_named (option_map ADataspace o) ≡ None
+no_space None = refl
+no_space (Some bytes) = refl
+
+-- an open session is itself
+itself : (o : Option AnOpenSession) → session_named (option_map OpenSession o) ≡ o
+itself None = refl
+itself (Some session) = refl
+
+-- the open session that a selector is found to name, if it names one
+abbrev pub found_in : Sessions → Result (ℕ × SessionId) Refusal → Option AnOpenSession
+found_in sessions (Ok named) = sessions named.0 named.1.0
+found_in sessions (Err refusal) = None
+
+-- what a selector has names this session
+by_cap : (sessions : Sessions) (part : Part) (o : Option Cap) → session_named (option_and_then (object_of sessions part) o) ≡ found_in sessions (ok_or (session_at o) InvalidSession)
+by_cap sessions part None = refl
+by_cap sessions part (Some (Dataspace ds)) = no_space (get part.spaces ds.0)
+by_cap sessions part (Some RpcObject) = refl
+by_cap sessions part (Some (Session server session)) = itself (sessions server session.0)
+
+-- a server's own state names none
+by_none : (part : Part) (q : ℕ) → session_named (get (picked (object_of no_sessions part) empty) q) ≡ None
+by_none part q = ap session_named (get-picked (object_of no_sessions part) empty q ∙ ap (option_and_then (object_of no_sessions part)) (get-empty q))
+
+by_role : (sessions : Sessions) (store : Store) (role : Role) (q : ℕ) → session_named (get (own_in sessions store role).selectors q) ≡ found_in sessions (named_in role q)
+unfolding own_of
+by_role sessions store (AScript script) q =
+    let part = part_at store script in
+    ap session_named (get-picked (object_of sessions part) script.caps.caps q) ∙ by_cap sessions part (get script.caps.caps q)
+by_role sessions store (ALog account server) q = by_none (part account.0 store) q
+by_role sessions store (AFiles account server) q = by_none (part account.0 store) q
+by_role sessions store AGone q = ap session_named (get-empty q)
+
+-- so it is at each place of the world
+pub session_at_place : (rules : Rules) (store : Store) (components : List Component) (i : ℕ) (caller : Component) (q : ℕ) → i < length components → caller ≡ get_or components i caller →
+    session_named (get (state_at (world_of rules store components).states i).selectors q) ≡ found_in (sessions_in store components) (named_in caller.role q)
+session_at_place rules store components i caller q here read =
+    let sessions = sessions_in store components in
+    ap (λ (s : OwnState). session_named (get s.selectors q)) (own_at_place rules store components i caller here ∙ ap (own sessions store) (sym read))
+    ∙ by_role sessions store caller.role q
+
+-- a session that is found is in its server's table
+pub record IsServed (store : Store) (components : List Component) (named : ℕ × SessionId) : Type 0 where
+  pub row : Row Labelled
+  pub there : get (rows_at store components named.0) named.1.0 ≡ Some row
+  pub within : named.0 < length components
+  pub its : (d : Component) → get (rows_of store (get_or components named.0 d)) named.1.0 ≡ Some row
+
+pub served_where : {store : Store} {components : List Component} {i : ℕ} {caller : Component} (q : ℕ) {found : Result (ℕ × SessionId) Refusal} {named : ℕ × SessionId} →
+    IsCore store components → i < length components → caller ≡ get_or components i caller → found ≡ named_in caller.role q → found ≡ Ok named → IsServed store components named
+served_where {store} {components} {i} {caller} q {named = named} core here read result was =
+    let names : Names store components i caller q named = record { core = core; here = here; read = read; is = sym result ∙ was } in
+    let session = named_session names in
+    let server = server_by_row store components named.0 named.1.0 session.row session.there in
+    record { row = session.row; there = session.there; within = server.0; its = server.1 }
+
+-- the account that a server tells of a session is its row's
+module _ {T : Type 0} (value : T → Share → Labelled) (sessions : Slab (Kept T)) (store : Store) (regions : Regions) (id : ℕ) (account : AccountId)
+    (is : IfSome (slab.get sessions id) (λ session. account ≡ session.account)) where
+  pub account_of_row : (row : Row Labelled) → get (sessions_of value sessions store regions) id ≡ Some row → account_in store account.0 ≡ row.account
+  account_of_row row there =
+      let its = row_is value sessions store regions id row there in
+      let same : account ≡ its.session.account = subst (λ o. IfSome o (λ session. account ≡ session.account)) its.there is in
+      ap (λ (a : AccountId). account_in store a.0) same ∙ ap (λ (r : Row Labelled). r.account) its.is

@@ -1,0 +1,93 @@
+-- What a call leaves of a role whose accounts it doesn't touch.
+use Rattle.std.proofs.Common.{◌≡◌, ℕ, ◌∙◌, Some, refl, sym, ap, is_some, arith}
+use Rattle.std.specs.Prelude.{Option, None}
+use Rattle.std.specs.Option.{option_map}
+use Rattle.std.specs.FinMap.{get, empty}
+use Rattle.slab.specs.Slab.{Slab}
+use Rattle.slab.specs.Slab as slab
+use Rattle.trade_base.specs.declared.id.SessionId.{SessionId}
+use Rattle.own_model.specs.NatMap.{NatMap}
+use Rattle.own_model.specs.OwnHeap.{no_heap}
+use Rattle.own_model.specs.Session.{Labelled}
+use Rattle.own_model.proofs.NatMapLemmas.{same}
+use Rattle.quota_core.specs.SlabMap.{map_of}
+use Rattle.quota_core.proofs.SlabMap.{get-map_of, get-map_of_at}
+use Rattle.region_map.specs.Regions.{Regions}
+use Rattle.dataspace_core.specs.Share.{Share}
+use Rattle.dataspace_core.specs.Store.{Store, Part, part, ram_limits_in, caps_limits_in}
+use Rattle.server_frame.specs.Frame.{Row, row_of, sessions_of}
+use Rattle.server_frame.specs.declared.server.Session.{Session as Kept}
+use Rattle.server_frame.proofs.FrameLemmas.{Stays, row_stays}
+use Rattle.server_frame.proofs.FrameLaws.{server_stays}
+use Rattle.pd_core.specs.Own.{Sessions, no_sessions, own_of}
+use Rattle.pd_core.specs.Sessions.{log_value, IsLogKept, files_value, IsFilesKept}
+use Rattle.pd_core.specs.Sound.{session_at}
+use Rattle.pd_core.specs.Component.{IsLiveRole, payer_in, caps_in, rows_in, own_in, IsSoundServer, IsSoundRole}
+use Rattle.pd_core.specs.declared.component.Role.{Role}
+use Rattle.pd_core.specs.declared.component.Role.TheVariants.{Script as AScript, Log as ALog, Files as AFiles, Gone as AGone}
+use Rattle.pd_core.proofs.ScriptLemmas.{stays_elsewhere}
+use Rattle.pd_core.proofs.SessionRowLemmas.{own_alike}
+
+-- what is read of an option stays where each value's reading does
+read_alike : {T X : Type 0} (f g : T → X) (o : Option T) → ((x : T) → o ≡ Some x → g x ≡ f x) → option_map g o ≡ option_map f o
+read_alike f g None alike = refl
+read_alike f g (Some x) alike = ap Some (alike x refl)
+
+-- a slab is read alike where each of its values is
+map_of_alike : {T X : Type 0} (f g : T → X) (s : Slab T) → ((q : ℕ) (x : T) → slab.get s q ≡ Some x → g x ≡ f x) → map_of g s ≡ map_of f s
+map_of_alike f g s alike = same _ _ (λ q. get-map_of g s q ∙ read_alike f g (slab.get s q) (alike q) ∙ sym (get-map_of f s q))
+
+-- all that is seen of some accounts stays, and so do all limits
+module _ (store store' : Store) (Beside : ℕ → Type 0) (stays : (regions : Regions) (account : ℕ) → Beside account → Stays account store store' regions regions)
+    (limits : ram_limits_in store' ≡ ram_limits_in store) (caps_limits : caps_limits_in store' ≡ caps_limits_in store) where
+  -- these sessions are on such accounts
+  abbrev AreBeside : NatMap (Row Labelled) → Type 0
+  AreBeside rows = (id : ℕ) (row : Row Labelled) → get rows id ≡ Some row → Beside row.key
+
+  -- a server, all of whose sessions are on such accounts
+  module _ {T : Type 0} (value : T → Share → Labelled) (kept : T → Share → Type 0) (sessions : Slab (Kept T)) (regions : Regions) (beside : AreBeside (sessions_of value sessions store regions)) where
+    session_stays : (id : ℕ) (session : Kept T) → slab.get sessions id ≡ Some session → Stays session.account.0 store store' regions regions
+    session_stays id session there =
+        stays regions session.account.0 (beside id (row_of value store regions session) (get-map_of_at (row_of value store regions) sessions id session there))
+
+    -- has the rows that it had
+    table_stays : sessions_of value sessions store' regions ≡ sessions_of value sessions store regions
+    table_stays =
+        map_of_alike (row_of value store regions) (row_of value store' regions) sessions
+        (λ id session there. row_stays store store' regions regions session value (session_stays id session there))
+
+    -- and is sound, if its own account is such a one
+    table_sound : (account : ℕ) → Beside account → IsSoundServer kept store account sessions regions → IsSoundServer kept store' account sessions regions
+    table_sound account apart sound = record {
+      is_open = ap (λ (p : Part). is_some p.account) (stays regions account apart).own ∙ sound.is_open;
+      server = server_stays kept sessions store store' regions sound.server limits session_stays;
+      places = omega (arith, sound.places, caps_limits);
+    }
+
+  -- a role has the rows that it had
+  pub rows_stay : (role : Role) → AreBeside (rows_in store role) → rows_in store' role ≡ rows_in store role
+  rows_stay (AScript script) beside = refl
+  rows_stay (ALog account server) beside = table_stays log_value IsLogKept server.sessions server.map beside
+  rows_stay (AFiles account server) beside = table_stays files_value IsFilesKept server.sessions server.map beside
+  rows_stay AGone beside = refl
+
+  -- it stays sound
+  pub role_sound : (role : Role) → IsSoundRole store role → (IsLiveRole role → Beside (payer_in role)) → AreBeside (rows_in store role) → IsSoundRole store' role
+  role_sound (AScript script) sound apart beside = (stays_elsewhere store script sound store' (stays script.regions script.account.0 (apart tt)).own limits).sound
+  role_sound (ALog account server) sound apart beside = table_sound log_value IsLogKept server.sessions server.map beside account.0 (apart tt) sound
+  role_sound (AFiles account server) sound apart beside = table_sound files_value IsFilesKept server.sessions server.map beside account.0 (apart tt) sound
+  role_sound AGone sound apart beside = tt
+
+  -- the own state of a server
+  server_own : (regions : Regions) (account : ℕ) → Beside account → own_of no_sessions (part account store') empty empty no_heap empty ≡ own_of no_sessions (part account store) empty empty no_heap empty
+  server_own regions account apart = ap (λ p. own_of no_sessions p empty empty no_heap empty) (stays regions account apart).own
+
+  -- and with the own state that it had, where the sessions that it names are the same
+  pub own_stays : (S S' : Sessions) (role : Role) → IsSoundRole store role → (IsLiveRole role → Beside (payer_in role)) →
+      ((q server : ℕ) (session : SessionId) → session_at (get (caps_in role) q) ≡ Some (server, session) → S' server session.0 ≡ S server session.0) → own_in S' store' role ≡ own_in S store role
+  own_stays S S' (AScript script) sound apart agrees =
+      own_alike S S' script (λ q server session is. agrees q server session (ap session_at is)) store'
+      ∙ (stays_elsewhere store script sound store' (stays script.regions script.account.0 (apart tt)).own limits).own S
+  own_stays S S' (ALog account server) sound apart agrees = server_own server.map account.0 (apart tt)
+  own_stays S S' (AFiles account server) sound apart agrees = server_own server.map account.0 (apart tt)
+  own_stays S S' AGone sound apart agrees = refl

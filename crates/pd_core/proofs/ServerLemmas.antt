@@ -1,0 +1,214 @@
+-- Servers, whichever their service is: their rows, and what is so of each that is sound.
+use Rattle.std.proofs.Common.{◌≡◌, ◌≢◌, ℕ, ◌+◌, ◌*◌, ◌<◌, ◌≤◌, Some, false, true, is_some, refl, sym, ap, subst, ◌∙◌}
+use Rattle.std.proofs.lemmas.Option.{none-some, same_Some}
+use Rattle.std.specs.Prelude.{None, IsSome}
+use Rattle.std.specs.Option.{option_map}
+use Rattle.std.specs.FinMap.{get, empty}
+use Rattle.slab.specs.Slab.{Slab, ContainsKey}
+use Rattle.slab.specs.Slab as slab
+use Rattle.trade_base.specs.declared.id.AccountId.{AccountId}
+use Rattle.trade_base.specs.declared.id.SessionId.{SessionId}
+use Rattle.trade_base.specs.declared.refusal.Refusal.TheVariants.{Gone as IsGone}
+use Rattle.own_model.specs.Account.{Fits}
+use Rattle.own_model.specs.OwnHeap.{no_heap}
+use Rattle.own_model.specs.Session.{Labelled}
+use Rattle.own_model.proofs.NatMapLemmas.{get-empty}
+use Rattle.quota_core.proofs.SlabMap.{get-map_of, get-map_of_at, ContainsKey-map_of}
+use Rattle.region_map.specs.Regions.{Regions}
+use Rattle.dataspace_core.specs.Room.{HasRoom}
+use Rattle.dataspace_core.specs.Share.{Share}
+use Rattle.dataspace_core.specs.Store.{Store, part, account_in, root_in, caps_limits_in, IsOpenIn, IsChildIn}
+use Rattle.server_frame.specs.Frame.{Row, row_of, sessions_of, IsServer, IsNoSession}
+use Rattle.server_frame.specs.declared.server.Session.{Session as Kept}
+use Rattle.server_frame.specs.declared.server.Server.{Server}
+use Rattle.server_frame.proofs.PlaceLaws.{table_has_place}
+use Rattle.server_frame.proofs.RowLaws.{IsNoRows, no_session_by_rows}
+use Rattle.log_service.specs.declared.service.LogService.{LogService}
+use Rattle.log_service.specs.Session.{LabelledLine}
+use Rattle.file_service.specs.declared.service.FileService.{FileService}
+use Rattle.file_service.specs.declared.session.FileSession.{FileSession}
+use Rattle.pd_core.specs.Component.{IsLiveRole, payer_in, caps_in, places_in, rows_in, capacity_in, served_by, own_in, HasPlace, Works, IsSoundRole}
+use Rattle.pd_core.specs.Exit.{IsScriptRole}
+use Rattle.pd_core.specs.Own.{Sessions, no_sessions, own_of}
+use Rattle.pd_core.specs.Sessions.{log_value, IsLogKept, files_value, IsFilesKept}
+use Rattle.pd_core.specs.Sound.{session_at}
+use Rattle.pd_core.specs.declared.component.Role.{Role}
+use Rattle.pd_core.specs.declared.component.Role.TheVariants.{Script as AScript, Log as ALog, Files as AFiles, Gone as AGone}
+use Rattle.pd_core.specs.declared.script.Script.{Script}
+
+-- ---- rows
+
+module _ {T : Type 0} (value : T → Share → Labelled) (sessions : Slab (Kept T)) (store : Store) (regions : Regions) (id : ℕ) where
+  -- a row that is there is an open session's
+  pub record IsRow (row : Row Labelled) : Type 0 where
+    pub session : Kept T
+    pub there : slab.get sessions id ≡ Some session
+    pub is : row_of value store regions session ≡ row
+
+  pub row_is : (row : Row Labelled) → get (sessions_of value sessions store regions) id ≡ Some row → IsRow row
+  row_is row there = elim (slab.get sessions id) as (λ o. slab.get sessions id ≡ o → IsRow row) [
+    | None ↦ λ e. absurd (none-some row (sym (get-map_of (row_of value store regions) sessions id ∙ ap (option_map (row_of value store regions)) e) ∙ there))
+    | Some session ↦ λ e. record {
+      session = session;
+      there = e;
+      is = same_Some _ _ (sym (get-map_of (row_of value store regions) sessions id ∙ ap (option_map (row_of value store regions)) e) ∙ there);
+    }
+  ] refl
+
+-- a row's account is its client's child and not its client's, it is open, and it is what the row tells
+pub record IsPaidRow (store : Store) (row : Row Labelled) : Type 0 where
+  pub child : IsChildIn store row.key row.client
+  pub apart : row.client ≢ row.key
+  pub opens : IsOpenIn store row.key
+  pub account : account_in store row.key ≡ row.account
+
+-- so each row of a server is
+row_paid : {T : Type 0} (value : T → Share → Labelled) (kept : T → Share → Type 0) (sessions : Slab (Kept T)) (store : Store) (regions : Regions) → IsServer kept sessions store regions →
+    (id : ℕ) (row : Row Labelled) → get (sessions_of value sessions store regions) id ≡ Some row → IsPaidRow store row
+row_paid value kept sessions store regions server id row there =
+    let its = row_is value sessions store regions id row there in
+    let holds = server.each id its.session its.there in
+    subst (IsPaidRow store) its.is (record {
+      child = holds.child;
+      apart = λ e. holds.leaf its.session.account.0 (holds.child ∙ ap Some e);
+      opens = subst (IsOpenIn store) holds.payer holds.heap.sound.opens;
+      account = refl;
+    })
+
+pub paid_in : (store : Store) (role : Role) → Works store role → (id : ℕ) (row : Row Labelled) → get (rows_in store role) id ≡ Some row → IsPaidRow store row
+paid_in store (AScript script) works id row there = absurd (none-some row (sym (get-empty id) ∙ there))
+paid_in store (ALog account server) works id row there = row_paid log_value IsLogKept server.sessions store server.map works id row there
+paid_in store (AFiles account server) works id row there = row_paid files_value IsFilesKept server.sessions store server.map works id row there
+paid_in store AGone works id row there = absurd (none-some row (sym (get-empty id) ∙ there))
+
+-- two sessions of a server have two accounts
+keys_differ : {T : Type 0} (value : T → Share → Labelled) (kept : T → Share → Type 0) (sessions : Slab (Kept T)) (store : Store) (regions : Regions) → IsServer kept sessions store regions →
+    (a b : ℕ) (row next : Row Labelled) → get (sessions_of value sessions store regions) a ≡ Some row → get (sessions_of value sessions store regions) b ≡ Some next → row.key ≡ next.key → a ≡ b
+keys_differ value kept sessions store regions server a b row next there at e =
+    let one = row_is value sessions store regions a row there in
+    let two = row_is value sessions store regions b next at in
+    server.apart a b one.session two.session one.there two.there (ap (λ (r : Row Labelled). r.key) one.is ∙ e ∙ sym (ap (λ (r : Row Labelled). r.key) two.is))
+
+pub keys_differ_in : (store : Store) (role : Role) → Works store role → (a b : ℕ) (row next : Row Labelled) → get (rows_in store role) a ≡ Some row → get (rows_in store role) b ≡ Some next →
+    row.key ≡ next.key → a ≡ b
+keys_differ_in store (AScript script) works a b row next there at e = absurd (none-some row (sym (get-empty a) ∙ there))
+keys_differ_in store (ALog account server) works a b row next there at e = keys_differ log_value IsLogKept server.sessions store server.map works a b row next there at e
+keys_differ_in store (AFiles account server) works a b row next there at e = keys_differ files_value IsFilesKept server.sessions store server.map works a b row next there at e
+keys_differ_in store AGone works a b row next there at e = absurd (none-some row (sym (get-empty a) ∙ there))
+
+-- ---- servers
+
+-- a sound role works
+pub sound_works : (store : Store) (role : Role) → IsSoundRole store role → Works store role
+sound_works store (AScript script) sound = tt
+sound_works store (ALog account server) sound = sound.server
+sound_works store (AFiles account server) sound = sound.server
+sound_works store AGone sound = tt
+
+-- a server has no capabilities, and no places for them
+pub caps_of_server : (role : Role) → IsSome (served_by role) → caps_in role ≡ empty
+caps_of_server (AScript script) serving = absurd (cc)
+caps_of_server (ALog account server) serving = refl
+caps_of_server (AFiles account server) serving = refl
+caps_of_server AGone serving = absurd (cc)
+
+pub places_of_server : (role : Role) → IsSome (served_by role) → places_in role ≡ None
+places_of_server (AScript script) serving = absurd (cc)
+places_of_server (ALog account server) serving = refl
+places_of_server (AFiles account server) serving = refl
+places_of_server AGone serving = absurd (cc)
+
+-- its own state is its account's
+pub own_of_server : (sessions : Sessions) (store : Store) (role : Role) → IsSome (served_by role) → own_in sessions store role ≡ own_of no_sessions (part (payer_in role) store) empty empty no_heap empty
+own_of_server sessions store (AScript script) serving = absurd (cc)
+own_of_server sessions store (ALog account server) serving = refl
+own_of_server sessions store (AFiles account server) serving = refl
+own_of_server sessions store AGone serving = absurd (cc)
+
+-- it has a place for each two capabilities of the machine
+pub enough_places : (store : Store) (role : Role) → IsSome (served_by role) → IsSoundRole store role → caps_limits_in store ≤ capacity_in role * 2 + 1
+enough_places store (AScript script) serving sound = absurd (cc)
+enough_places store (ALog account server) serving sound = sound.places
+enough_places store (AFiles account server) serving sound = sound.places
+enough_places store AGone serving sound = absurd (cc)
+
+-- it is sound where it works, its account is open and it has these places
+pub sound_server : (store : Store) (role : Role) → IsSome (served_by role) → Works store role → IsSome (part (payer_in role) store).account → caps_limits_in store ≤ capacity_in role * 2 + 1 → IsSoundRole store role
+sound_server store (AScript script) serving works is_open places = absurd (cc)
+sound_server store (ALog account server) serving works is_open places = record { is_open = is_open; server = works; places = places }
+sound_server store (AFiles account server) serving works is_open places = record { is_open = is_open; server = works; places = places }
+sound_server store AGone serving works is_open places = absurd (cc)
+
+-- ---- places
+
+-- the clients of its sessions aren't init
+abbrev pub AreClients : Store → Role → Type 0
+AreClients store role = (id : ℕ) (row : Row Labelled) → get (rows_in store role) id ≡ Some row → row.client ≢ root_in store
+
+module _ {T : Type 0} (value : T → Share → Labelled) (kept : T → Share → Type 0) (sessions : Slab (Kept T)) (store : Store) (regions : Regions) (server : IsServer kept sessions store regions)
+    (clients : (id : ℕ) (row : Row Labelled) → get (sessions_of value sessions store regions) id ≡ Some row → row.client ≢ root_in store) (room : HasRoom store)
+    (places : caps_limits_in store ≤ sessions.capacity * 2 + 1) (client ram caps : ℕ) (none : IsNoRows (sessions_of value sessions store regions) client) where
+  -- a table with so many places has one for a client that has no session
+  table_place : Fits (account_in store client) ram caps → 2 ≤ caps → slab.slab_len sessions < sessions.capacity
+  table_place fits least =
+      table_has_place kept sessions store regions client ram caps sessions.capacity server
+      (λ id session is. clients id (row_of value store regions session) (get-map_of_at (row_of value store regions) sessions id session is)) room
+      (no_session_by_rows value sessions store regions client none) fits least places
+
+-- a sound server has a place for one more session of a client that can pay for it
+pub place_in : (store : Store) (role : Role) → IsSome (served_by role) → IsSoundRole store role → AreClients store role → HasRoom store → (client ram caps : ℕ) → IsNoRows (rows_in store role) client →
+    Fits (account_in store client) ram caps → 2 ≤ caps → HasPlace role
+place_in store (AScript script) serving sound clients room client ram caps none fits least = absurd (cc)
+place_in store (ALog account server) serving sound clients room client ram caps none fits least =
+    table_place log_value IsLogKept server.sessions store server.map sound.server clients room sound.places client ram caps none fits least
+place_in store (AFiles account server) serving sound clients room client ram caps none fits least =
+    table_place files_value IsFilesKept server.sessions store server.map sound.server clients room sound.places client ram caps none fits least
+place_in store AGone serving sound clients room client ram caps none fits least = absurd (cc)
+
+-- ---- what its own calls ask for
+
+module _ {T : Type 0} (value : T → Share → Labelled) (sessions : Slab (Kept T)) (store : Store) (regions : Regions) (role : Role) (rows : rows_in store role ≡ sessions_of value sessions store regions) where
+  -- a session with a row is open
+  is_there : (id : ℕ) → IsSome (get (rows_in store role) id) → ContainsKey sessions id
+  is_there id there = ContainsKey-map_of (row_of value store regions) sessions id (ap (λ m. is_some (get m id)) (sym rows) ∙ there)
+
+  -- an account of no row is no session's
+  pub is_none : (client : ℕ) → IsNoRows (rows_in store role) client → IsNoSession sessions client
+  is_none client none = no_session_by_rows value sessions store regions client (subst (λ m. IsNoRows m client) rows none)
+
+pub log_open : (store : Store) (role : Role) (account : AccountId) (server : Server LogService LabelledLine) (id : ℕ) → role ≡ ALog account server → IsSome (get (rows_in store role) id) → ContainsKey server.sessions id
+log_open store role account server id is = is_there log_value server.sessions store server.map role (ap (rows_in store) is) id
+
+pub files_open : (store : Store) (role : Role) (account : AccountId) (server : Server FileService FileSession) (id : ℕ) → role ≡ AFiles account server → IsSome (get (rows_in store role) id) → ContainsKey server.sessions id
+files_open store role account server id is = is_there files_value server.sessions store server.map role (ap (rows_in store) is) id
+
+-- a script has no session
+pub script_open : (store : Store) (role : Role) (script : Script) (id : ℕ) → role ≡ AScript script → IsSome (get (rows_in store role) id) → ⊥
+script_open store role script id is there =
+    (let none : false ≡ true = sym (ap is_some (get-empty id)) ∙ ap (λ r. is_some (get (rows_in store r) id)) (sym is) ∙ there in cc)
+
+-- nor has one that has exited
+pub gone_open : (store : Store) (role : Role) (id : ℕ) → role ≡ AGone → IsSome (get (rows_in store role) id) → ⊥
+gone_open store role id is there =
+    (let none : false ≡ true = sym (ap is_some (get-empty id)) ∙ ap (λ r. is_some (get (rows_in store r) id)) (sym is) ∙ there in cc)
+
+-- a server hasn't exited
+pub live_server : (role : Role) → IsSome (served_by role) → IsLiveRole role
+live_server (AScript script) serving = tt
+live_server (ALog account server) serving = tt
+live_server (AFiles account server) serving = tt
+live_server AGone serving = absurd (cc)
+
+-- nor has a script
+pub live_script : (role : Role) → IsScriptRole role → IsLiveRole role
+live_script (AScript script) is = tt
+live_script (ALog account server) is = tt
+live_script (AFiles account server) is = tt
+live_script AGone is = absurd (none-some IsGone (sym is))
+
+-- or who names a session
+pub live_named : (role : Role) (q : ℕ) (named : ℕ × SessionId) → session_at (get (caps_in role) q) ≡ Some named → IsLiveRole role
+live_named (AScript script) q named is = tt
+live_named (ALog account server) q named is = tt
+live_named (AFiles account server) q named is = tt
+live_named AGone q named is = absurd (none-some named (sym (ap session_at (get-empty q)) ∙ is))

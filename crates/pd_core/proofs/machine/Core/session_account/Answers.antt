@@ -1,0 +1,24 @@
+-- The account is the one that the world has.
+use Rattle.std.proofs.Common.{ap, ◌∙◌}
+use Rattle.std.specs.FinMap.{get}
+use Rattle.std.specs.Option.{option_map}
+use Rattle.own_model.specs.OwnState.{session_named}
+use Rattle.own_model.specs.Session.{Session as AnOpenSession}
+use Rattle.own_model.specs.Transcript.{state_at}
+use Rattle.own_model.specs.World.{World}
+use Rattle.pd_core.specs.Core.{world_of}
+use Rattle.pd_core.proofs.CoreLemmas.{place_within}
+use Rattle.pd_core.proofs.machine.Core.session_account.Goals as goal
+
+pub session_quotas-requires-clause-place : goal.session_quotas-requires-clause-place
+session_quotas-requires-clause-place g c =
+    let rules = g.R.Router.rules c.self.inside.routes in
+    let memory = c.self.inside.memory in
+    place_within rules memory c.as_slice.result.now c.args.self.now c.args.component (ap (world_of rules memory) c.as_slice.ensures.value ∙ c.self.view_is) c.requires
+
+pub returns : goal.returns
+returns g c =
+    let rules = g.R.Router.rules c.self.inside.routes in
+    c.session_quotas.ensures rules
+    ∙ ap (λ (w : World). option_map (λ (s : AnOpenSession). s.account) (session_named (get (state_at w.states c.args.component).selectors c.args.selector)))
+    (ap (world_of rules c.self.inside.memory) c.as_slice.ensures.value ∙ c.self.view_is)

@@ -1,0 +1,46 @@
+-- How a component exits: what its sessions' closes leave, one after another.
+use Rattle.std.specs.Prelude.{◌≡◌, ◌≤◌, ℕ, slice_set, Option, Some, None, IsSome, Result, Ok, Err}
+use Rattle.std.specs.FinMap.{get}
+use Rattle.trade_base.specs.declared.refusal.Refusal.{Refusal}
+use Rattle.trade_base.specs.declared.refusal.Refusal.TheVariants.{Gone as IsGone, NotAScript}
+use Rattle.own_model.specs.Limits.{ram_limits, caps_limits}
+use Rattle.own_model.specs.OwnState.{OwnState, session_named}
+use Rattle.own_model.specs.Transcript.{state_at}
+use Rattle.own_model.specs.World.{World}
+use Rattle.pd_core.specs.Component.{caps_in}
+use Rattle.pd_core.specs.declared.component.Role.{Role}
+use Rattle.pd_core.specs.declared.component.Role.TheVariants.{Script, Log, Files, Gone}
+
+-- why a role's calls are refused, if they are
+abbrev pub refusal_of : Role → Option Refusal
+refusal_of (Script script) = None
+refusal_of (Log account server) = Some NotAScript
+refusal_of (Files account server) = Some NotAScript
+refusal_of Gone = Some IsGone
+
+abbrev pub IsScriptRole : Role → Type 0
+IsScriptRole role = refusal_of role ≡ None
+
+-- for how many selectors a role has places, or why for none
+abbrev pub places_told : Role → Result ℕ Refusal
+places_told (Script script) = Ok script.caps.places
+places_told (Log account server) = Err NotAScript
+places_told (Files account server) = Err NotAScript
+places_told Gone = Err IsGone
+
+-- each selector in use is one of 1 to so many
+abbrev pub HasSelectorsTo : ℕ → Role → Type 0
+HasSelectorsTo count role = (selector : ℕ) → IsSome (get (caps_in role) selector) → (1 ≤ selector) × (selector ≤ count)
+
+-- from one own state to another: the sessions of the selectors 1 to so many are closed, and their limits are the account's
+pub record HasClosed (count : ℕ) (old new : OwnState) : Type 0 where
+  pub ram : ram_limits new ≡ ram_limits old
+  pub caps : caps_limits new ≡ caps_limits old
+  pub here : new.gone ≡ old.gone
+  pub none : (selector : ℕ) → 1 ≤ selector → selector ≤ count → session_named (get new.selectors selector) ≡ None
+  pub no_more : (selector : ℕ) → session_named (get old.selectors selector) ≡ None → session_named (get new.selectors selector) ≡ None
+
+-- the same of the component at a place of a world, of which all else stays
+pub record HasClosedAt (i count : ℕ) (old new : World) : Type 0 where
+  pub closed : HasClosed count (state_at old.states i) (state_at new.states i)
+  pub others : new ≡ record old { states = slice_set old.states i (state_at new.states i) }

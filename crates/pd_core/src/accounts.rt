@@ -1,0 +1,162 @@
+//! The accounts of a core: their limits, and what of them is used.
+ghost use Rattle.std.specs.Prelude.{◌≡◌, ◌<◌, length};
+ghost use Rattle.std.specs.FinMap.{get};
+ghost use Rattle.std.specs.Option.{option_map};
+ghost use Rattle.own_model.specs.OwnState.{session_named};
+ghost use Rattle.own_model.specs.Session.{Session as AnOpenSession};
+ghost use Rattle.own_model.specs.Transcript.{state_at};
+ghost use Rattle.dataspace_core.specs.Store.{account_in, IsOpenIn};
+ghost use Rattle.pd_core.specs.Answer.{quotas_account};
+ghost use Rattle.pd_core.specs.Core.{Rules, world_of, IsCore};
+
+use crate::answer::Quotas;
+use crate::component::{Component, Role};
+use crate::machine::Core;
+use crate::router::Router;
+use dataspace_core::Memory;
+use trade_base::{AccountId, Caps, Ram, SessionId};
+
+/// The limits and the use of an account.
+pub(crate) fn quotas_of(memory: &Memory, account: AccountId) -> Quotas
+    requires { IsOpenIn memory.now account.0 }
+    ensures { quotas_account result ≡ account_in memory.now account.0 }
+{
+    let (ram_used, caps_used) = memory.used(account);
+    let (ram_limit, caps_limit) = memory.limits(account);
+    Quotas {
+        ram_used,
+        ram_limit,
+        caps_used,
+        caps_limit,
+    }
+}
+
+impl<R: Router + Drop> Core<R> {
+    ghost use Rattle.std.specs.Prelude.{◌≡◌, ◌<◌, ℕ, length, None};
+    ghost use Rattle.std.specs.FinMap.{get};
+    ghost use Rattle.std.specs.Option.{option_map};
+    ghost use Rattle.own_model.specs.OwnState.{session_named};
+    ghost use Rattle.own_model.specs.Session.{Session as AnOpenSession};
+    ghost use Rattle.own_model.specs.Transcript.{state_at};
+    ghost use Rattle.pd_core.specs.Answer.{quotas_account};
+
+    /// The limits and the use of the account of the component at a place.
+    pub fn account(&self, component: usize) -> Quotas
+        requires { component < length self.now.entries }
+        ensures { quotas_account result ≡ (state_at self.now.states component).account }
+    {
+        component_quotas(&self.memory, self.components.as_slice(), component)
+    }
+
+    /// The limits and the use of init's account.
+    pub fn init_account(&self) -> Quotas
+        ensures { quotas_account result ≡ self.now.init }
+    {
+        quotas_of(&self.memory, self.memory.root())
+    }
+
+    /// The limits and the use of the account of the session that a selector of the component at a place names, or `None`
+    /// where it names none.
+    pub fn session_account(&self, component: usize, selector: u64) -> Option<Quotas>
+        requires { component < length self.now.entries }
+        ensures { option_map quotas_account result
+            ≡ option_map (λ (s : AnOpenSession). s.account) (session_named (get (state_at self.now.states component).selectors selector)) }
+    {
+        session_quotas(
+            &self.memory,
+            self.components.as_slice(),
+            component,
+            selector,
+        )
+    }
+
+    /// No selector above this one names anything of the component at a place.
+    pub fn last_selector(&self, component: usize) -> u64
+        requires { component < length self.now.entries }
+        ensures { (selector : ℕ) → result < selector → get (state_at self.now.states component).selectors selector ≡ None }
+    {
+        let components = self.components.as_slice();
+        components[component].last_selector()
+    }
+}
+
+impl Component {
+    ghost use Rattle.std.specs.Prelude.{◌≡◌, Some, IsSome};
+    ghost use Rattle.std.specs.FinMap.{get};
+    ghost use Rattle.own_model.specs.Session.{Labelled};
+    ghost use Rattle.server_frame.specs.Frame.{Row};
+    ghost use Rattle.pd_core.specs.Answer.{quotas_account};
+    ghost use Rattle.pd_core.specs.Component.{rows_of, own, IsSound};
+    ghost use Rattle.pd_core.specs.Exit.{HasSelectorsTo};
+    ghost use Rattle.pd_core.specs.Own.{Sessions};
+
+    /// The limits and the use of the account that the component is charged on, all of them 0 once it has exited.
+    fn quotas(&self, memory: &Memory) -> Quotas
+        requires { IsSound memory.now self.now }
+        ensures { (sessions : Sessions) → quotas_account result ≡ (own sessions memory.now self.now).account }
+    {
+        match &self.role {
+            Role::Script(script) => quotas_of(memory, script.account),
+            Role::Log(account, _) => quotas_of(memory, *account),
+            Role::Files(account, _) => quotas_of(memory, *account),
+            Role::Gone => Quotas {
+                ram_used: Ram(0),
+                ram_limit: Ram(0),
+                caps_used: Caps(0),
+                caps_limit: Caps(0),
+            },
+        }
+    }
+
+    /// The greatest selector that the component has a place for, or 0 where it has none.
+    #[tactic(auto, using(crate::proofs::QuotaLemmas::no_caps))]
+    fn last_selector(&self) -> u64
+        ensures { HasSelectorsTo result self.now.role }
+    {
+        match &self.role {
+            Role::Script(script) => script.caps.places() as u64,
+            Role::Log(..) | Role::Files(..) | Role::Gone => 0,
+        }
+    }
+
+    /// The limits and the use of the account of a session that the component serves.
+    #[tactic(auto, using(crate::proofs::ServerLemmas::log_open, crate::proofs::ServerLemmas::files_open, crate::proofs::ServerLemmas::script_open, crate::proofs::ServerLemmas::gone_open))]
+    fn session_quotas(&self, memory: &Memory, id: SessionId) -> Quotas
+        requires sound { IsSound memory.now self.now }
+        requires there { IsSome (get (rows_of memory.now self.now) id.0) }
+        ensures { (row : Row Labelled) → get (rows_of memory.now self.now) id.0 ≡ Some row → quotas_account result ≡ row.account }
+    {
+        match &self.role {
+            Role::Log(_, server) => quotas_of(memory, server.account(id)),
+            Role::Files(_, server) => quotas_of(memory, server.account(id)),
+            Role::Script(_) | Role::Gone => unreachable!(),
+        }
+    }
+}
+
+// The limits and the use of the account of the component at a place.
+fn component_quotas(memory: &Memory, components: &[Component], place: usize) -> Quotas
+    requires core { IsCore memory.now components.now }
+    requires place { place < length components.now }
+    ensures { (rules : Rules) → quotas_account result ≡ (state_at (world_of rules memory.now components.now).states place).account }
+{
+    components[place].quotas(memory)
+}
+
+// The same of the session that a selector of the component names, or `None` where it names none.
+fn session_quotas(
+    memory: &Memory,
+    components: &[Component],
+    place: usize,
+    selector: u64,
+) -> Option<Quotas>
+    requires core { IsCore memory.now components.now }
+    requires place { place < length components.now }
+    ensures { (rules : Rules) → option_map quotas_account result
+        ≡ option_map (λ (s : AnOpenSession). s.account) (session_named (get (state_at (world_of rules memory.now components.now).states place).selectors selector)) }
+{
+    match components[place].session(selector) {
+        Ok((server, session)) => Some(components[server].session_quotas(memory, session)),
+        Err(_) => None,
+    }
+}

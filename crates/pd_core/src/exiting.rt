@@ -1,0 +1,50 @@
+//! How a component exits.
+ghost use Rattle.std.specs.Prelude.{◌<◌, length, get_or};
+ghost use Rattle.own_model.specs.Call.Call.{Exit as ModelledExit};
+ghost use Rattle.own_model.specs.Reply.{reply_text};
+ghost use Rattle.pd_core.specs.Answer.{reply_of, told_alone};
+ghost use Rattle.pd_core.specs.Core.{Rules, world_of, IsCore};
+ghost use Rattle.pd_core.specs.Exit.{HasClosedAt, IsScriptRole};
+ghost use Rattle.pd_core.specs.SessionCalls.{Agrees, Answers, Leads};
+ghost use Rattle.pd_core.specs.declared.component.Component.{Component as AnyComponent};
+
+use crate::answer::Answer;
+use crate::component::Component;
+use crate::session_calls::close;
+use dataspace_core::Memory;
+use trade_base::Refusal;
+
+/// The component at a place goes with all that it has, or why not: `NotAScript`, then `Gone`. Its sessions close, all that it
+/// holds is freed, its account closes, and its limits go back to init's. Its name stays.
+pub(crate) fn exit(
+    memory: &mut Memory,
+    components: &mut [Component],
+    caller: usize,
+) -> Result<Answer, Refusal>
+    requires core { IsCore memory.old components.old }
+    requires caller { caller < length components.old }
+    ensures does { (rules : Rules) → Answers rules ModelledExit caller (told_alone (reply_text (reply_of result)))
+        memory.old components.old memory.new components.new }
+    ensures core { IsCore memory.new components.new }
+    ensures leads { (rules : Rules) (leads : Leads) → Agrees rules leads components.old → Agrees rules leads components.new }
+{
+    let places = components[caller].places()?;
+    close_all(memory, components, caller, places);
+    components[caller].end(memory);
+    Ok(Answer::Done)
+}
+
+// The sessions of a script go that are named by so many selectors, from the first on.
+fn close_all(memory: &mut Memory, components: &mut [Component], caller: usize, selectors: usize)
+    requires core { IsCore memory.old components.old }
+    requires caller { caller < length components.old }
+    requires script { (d : AnyComponent) → IsScriptRole (get_or components.old caller d).role }
+    ensures closed { (rules : Rules) → HasClosedAt caller selectors (world_of rules memory.old components.old) (world_of rules memory.new components.new) }
+    ensures core { IsCore memory.new components.new }
+    ensures leads { (rules : Rules) (leads : Leads) → Agrees rules leads components.old → Agrees rules leads components.new }
+{
+    for place in 0..selectors {
+        // A selector that names no session is refused.
+        let _ = close(memory, components, caller, place as u64 + 1);
+    }
+}
