@@ -1,3 +1,7 @@
 pub mod MemberLemmas
 pub mod EntryLemmas
 pub mod JsonLemmas
+pub mod StartLemmas
+pub mod BootLemmas
+pub mod BootedLemmas
+pub mod ListLemmas

@@ -4,3 +4,4 @@ pub mod Entries
 pub mod StartText
 pub mod View
 pub mod Range
+pub mod Boot

@@ -1,5 +1,5 @@
 //! Entries of a start list.
-ghost use Rattle.std.specs.Prelude.{◌≡◌, ◌≢◌, [], length, map, vec_len, IfOk, IfErr};
+ghost use Rattle.std.specs.Prelude.{◌≡◌, ◌≢◌, ◌≤◌, [], length, map, vec_len, IfOk, IfErr};
 ghost use Rattle.std.specs.Option.{option_map};
 ghost use Rattle.std.specs.Result.{result_map_both};
 ghost use Rattle.own_model.specs.Listed.{offers, serves};
@@ -7,7 +7,7 @@ ghost use Rattle.serde_json.specs.View.{view};
 ghost use Rattle.init_core.specs.Entries.{binary_of, binary_told, entries_after, entry_of, is_service_of, is_taken, new_name, no_binary, own_route, provided, provided_in};
 ghost use Rattle.init_core.specs.Members.{name_in};
 ghost use Rattle.init_core.specs.View.{model_binary};
-ghost use Rattle.init_core.specs.declared.fault.BootFault.TheVariants.{NoMemory, BadConfig};
+ghost use Rattle.init_core.specs.declared.fault.BootFault.TheVariants.{NoMemory, BadConfig, QuotaExceeded};
 
 use crate::fault::{BootFault, Field};
 use crate::member::{amount_at, name_at, whole_at};
@@ -117,9 +117,17 @@ impl Entry {
 
     /// The component's name.
     pub fn name(&self) -> &[u8]
-        ensures { result.now ≡ self.now.name }
+        ensures name { result.now ≡ self.now.name }
+        ensures short { length result.now ≤ 32 }
     {
         self.name.as_bytes()
+    }
+
+    /// The fault of the entry where what init still has doesn't cover it.
+    pub(crate) fn quota_exceeded(&self) -> BootFault
+        ensures { result ≡ QuotaExceeded self.now.name }
+    {
+        BootFault::QuotaExceeded(self.name.copy())
     }
 
     /// What it runs.

@@ -6,6 +6,7 @@ use crate::name::Name;
 use std::alloc::{AllocError, AllocFailed};
 use std::fmt;
 use thiserror::Error;
+use trade_base::NoMemory as WantOfRoom;
 
 /// What a start list has a bad value of.
 #[derive(Clone, Copy, Debug, PartialEq, Eq)]
@@ -87,6 +88,14 @@ impl<T: Drop> From<AllocFailed<T>> for BootFault {
     ghost from_gives = { λ _ fault. fault ≡ NoMemory };
 
     fn from(_want: AllocFailed<T>) -> BootFault {
+        BootFault::NoMemory
+    }
+}
+
+impl From<WantOfRoom> for BootFault {
+    ghost from_gives = { λ _ fault. fault ≡ NoMemory };
+
+    fn from(_want: WantOfRoom) -> BootFault {
         BootFault::NoMemory
     }
 }

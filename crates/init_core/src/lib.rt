@@ -1,4 +1,5 @@
-//! Start lists: what a JSON text says of a machine and its components, and where their wishes for sessions lead.
+//! Start lists: what a JSON text says of a machine and its components, where their wishes for sessions lead, and how the
+//! machine starts.
 #![tactic(auto)]
 
 mod entry;
@@ -8,6 +9,8 @@ mod member;
 mod name;
 mod routing;
 mod rule;
+mod startup;
+mod table;
 #[cfg(test)]
 mod tests;
 
@@ -17,3 +20,5 @@ pub use list::StartList;
 pub use name::Name;
 pub use routing::route;
 pub use rule::{Rule, Target};
+pub use startup::boot;
+pub use table::RouteTable;

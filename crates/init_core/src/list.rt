@@ -5,7 +5,9 @@ ghost use Rattle.std.specs.List.{position, slice_get};
 ghost use Rattle.std.specs.Result.{result_map_both};
 ghost use Rattle.std.specs.Str.{bytes_eq};
 ghost use Rattle.serde_json.specs.View.{view};
-ghost use Rattle.own_model.specs.Listed.{rules_for};
+ghost use Rattle.own_model.specs.Listed.{rules_for, start_list_of};
+ghost use Rattle.own_model.specs.StartList.{entries_of};
+ghost use Rattle.own_model.specs.Transcript.{entry_at};
 ghost use Rattle.init_core.specs.StartText.{default_route, json_in, list_in, list_of, machine_of};
 ghost use Rattle.init_core.specs.declared.fault.BootFault.TheVariants.{NoMemory, BadConfig, BadJson};
 
@@ -113,6 +115,7 @@ impl StartList {
     /// How many components there are: at most 32.
     pub fn count(&self) -> usize
         ensures value { result ≡ length self.now.entries }
+        ensures listed { result ≡ length (entries_of (start_list_of self.now)) }
         ensures most { result ≤ 32 }
     {
         self.entries.len()
@@ -128,16 +131,18 @@ impl StartList {
     /// The name of a component by its number.
     pub fn name(&self, component: usize) -> &[u8]
         requires { component < length self.now.entries }
-        ensures { option_map (λ entry. entry.name) (slice_get self.now.entries component) ≡ Some result.now }
+        ensures value { option_map (λ entry. entry.name) (slice_get self.now.entries component) ≡ Some result.now }
+        ensures listed { result.now ≡ (entry_at (entries_of (start_list_of self.now)) component).name }
     {
         self.entries[component].name()
     }
 
     /// The number of the component of a name, if there is one.
     pub fn find(&self, name: &[u8]) -> Option<usize>
-        ensures { result ≡ position (λ entry. bytes_eq entry.name name.now) self.now.entries }
+        ensures value { result ≡ position (λ entry. bytes_eq entry.name name.now) self.now.entries }
+        ensures listed { result ≡ position (λ entry. bytes_eq entry.name name.now) (entries_of (start_list_of self.now)) }
     {
-        self.entries.iter().position(|entry| entry.name() == name)
+        place_of(self.entries.as_slice(), name)
     }
 
     /// The rules for a client by its number: its own route, or else the default route.
@@ -150,6 +155,13 @@ impl StartList {
             None => self.default_route.as_slice(),
         }
     }
+}
+
+/// The place of the first entry of a name, if there is one.
+fn place_of(entries: &[Entry], name: &[u8]) -> Option<usize>
+    ensures { result ≡ position (λ entry. bytes_eq entry.name name.now) entries.now }
+{
+    entries.iter().position(|entry| entry.name() == name)
 }
 
 /// The value that a text is.

@@ -1,5 +1,5 @@
 //! Names, which hold their own bytes.
-ghost use Rattle.std.specs.Prelude.{◌≡◌};
+ghost use Rattle.std.specs.Prelude.{◌≡◌, ◌≤◌, length};
 ghost use Rattle.init_core.specs.Members.{name_in};
 
 use arrayvec::ArrayString;
@@ -40,16 +40,25 @@ impl Name {
 
     /// The name as a text.
     pub fn as_str(&self) -> &str
-        ensures { result.now ≡ self.now }
+        ensures text { result.now ≡ self.now }
+        ensures short { length result.now ≤ 32 }
     {
         self.text.as_str()
     }
 
     /// The name's bytes.
     pub fn as_bytes(&self) -> &[u8]
-        ensures { result.now ≡ self.now }
+        ensures bytes { result.now ≡ self.now }
+        ensures short { length result.now ≤ 32 }
     {
         self.as_str().as_bytes()
+    }
+
+    /// The same name once more.
+    pub(crate) fn copy(&self) -> Name
+        ensures { result ≡ self.now }
+    {
+        Name { text: self.text }
     }
 }
 

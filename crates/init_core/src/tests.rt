@@ -1,4 +1,6 @@
 //! Start lists that are read, and those that aren't.
+mod boots;
+
 use crate::{BootFault, StartList, route};
 use std::alloc::{AllocError, Global};
 use std::test::Fail;
