@@ -5,9 +5,9 @@ use Rattle.std.specs.Str.{bytes_eq}
 use Rattle.clap.specs.Words.{App, Row, Rule, Text, new_app, new_rule, one_of, with_rule}
 use Rattle.clap.specs.declared.builder.ArgAction.TheVariants.{SetTrue}
 
--- the flag `--check`
-abbrev pub check_rule : Rule
-check_rule = record (new_rule (codes "check")) { long = Some (codes "check"); action = Some SetTrue }
+-- a flag of this name
+abbrev pub flag_rule : Text → Rule
+flag_rule name = record (new_rule name) { long = Some name; action = Some SetTrue }
 
 -- the path of a start list
 abbrev pub config_rule : Rule
@@ -15,7 +15,7 @@ config_rule = record (new_rule (codes "config")) { value_names = 1 }
 
 -- the command itself
 abbrev pub program : App
-program = with_rule (with_rule (new_app (codes "scenario_run")) check_rule) config_rule
+program = with_rule (with_rule (with_rule (new_app (codes "scenario_run")) (flag_rule (codes "check"))) (flag_rule (codes "accounts"))) config_rule
 
 -- a text says that a flag was used
 abbrev pub is_true : Option Text → Bool

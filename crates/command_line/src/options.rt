@@ -1,7 +1,7 @@
 //! The command line.
-ghost use Rattle.std.specs.Prelude.{◌≡◌, IfErr, IfOk, MatchResult, codes, map, option_map, true};
-ghost use Rattle.clap.specs.Words.{FailsBy, app_of, fault_of, first_of, found_of, kind_of, matches_of, rows_of, takes};
-ghost use Rattle.command_line.specs.Options.{is_set, program};
+ghost use Rattle.std.specs.Prelude.{◌≡◌, IfErr, IfOk, MatchResult, codes, map, option_map, false, true};
+ghost use Rattle.clap.specs.Words.{FailsBy, app_of, fault_of, first_of, found_of, kind_of, matches_of, rows_of, rule_of, takes};
+ghost use Rattle.command_line.specs.Options.{flag_rule, is_set, program};
 
 use clap::error::ErrorKind;
 use clap::{Arg, ArgAction, ArgMatches, Command, Error};
@@ -18,7 +18,7 @@ const FORMS: &str = "A line is NAME CALL, with one space between two words. CALL
   alloc N       capalloc      attach S        new N     open SERVICE ARGS
   free S        capfree S     attach_at S A   del A     upgrade S ARGS
   peek A LEN    quota         detach A        snew N    call S REQUEST
-  poke A HEX                                  sdel A    close S
+  poke A HEX    exit                          sdel A    close S
 N, S and LEN are decimal numbers, A is 0x and hexadecimal digits, HEX an even
 number of those digits. ARGS and REQUEST are the rest of the line, or nothing.
 
@@ -28,6 +28,7 @@ docs/FORMATS.md has the forms of lines, replies and start lists.";
 #[derive(Clone, Copy, Debug, PartialEq, Eq)]
 pub struct Options<'a> {
     check: bool,
+    accounts: bool,
     path: Option<&'a str>,
 }
 
@@ -36,6 +37,8 @@ impl<'a> Options<'a> {
     pub fn read<S: AsStr>(alloc: Global, words: &'a [S]) -> Result<Options<'a>, Error>
         ensures check { IfOk result (λ options.
             options.check ≡ is_set (codes "check") (matches_of program (map S.text words.entry.now))) }
+        ensures accounts { IfOk result (λ options.
+            options.accounts ≡ is_set (codes "accounts") (matches_of program (map S.text words.entry.now))) }
         ensures path { IfOk result (λ options. option_map (λ path. path.now) options.path
             ≡ first_of (codes "config") (matches_of program (map S.text words.entry.now))) }
         ensures refusals { FailsBy (fault_of program (map S.text words.entry.now)) result }
@@ -45,6 +48,7 @@ impl<'a> Options<'a> {
         let matches = command(alloc)?.try_get_matches_from(words)?;
         Ok(Options {
             check: is_set(&matches, "check"),
+            accounts: is_set(&matches, "accounts"),
             path: matches.get_str("config"),
         })
     }
@@ -54,6 +58,13 @@ impl<'a> Options<'a> {
         ensures { result ≡ self.now.check }
     {
         self.check
+    }
+
+    /// Whether the account list is told after the last reply.
+    pub fn accounts(&self) -> bool
+        ensures { result ≡ self.now.accounts }
+    {
+        self.accounts
     }
 
     /// The path of a start list, or none for the built-in machine.
@@ -68,10 +79,8 @@ impl<'a> Options<'a> {
 fn command<'a>(alloc: Global) -> Result<Command<'a>, Error>
     ensures { MatchResult result (λ made. app_of made ≡ program) (λ error. kind_of error ≡ ErrorKind.OutOfMemory) }
 {
-    let check = Arg::new(alloc, "check")
-        .long("check")
-        .action(ArgAction::SetTrue)
-        .help("Only read the start list and boot, print ok, and read no scenario");
+    let check = flag(alloc, "check", "Only boot, print ok and read no scenario");
+    let accounts = flag(alloc, "accounts", "Print all accounts after the last reply");
     let config = Arg::new(alloc, "config").value_name("CONFIG").help(
         "A start list in JSON; without it a built-in machine boots",
     );
@@ -79,8 +88,20 @@ fn command<'a>(alloc: Global) -> Result<Command<'a>, Error>
         .about(ABOUT)
         .after_help(FORMS)
         .arg(check)?
+        .arg(accounts)?
         .arg(config)?;
     Ok(command)
+}
+
+// A flag by its name.
+fn flag<'a>(alloc: Global, name: &'a str, help: &'a str) -> Arg<'a>
+    ensures rule { rule_of result ≡ flag_rule name.entry.now }
+    ensures local { result.global ≡ false }
+{
+    Arg::new(alloc, name)
+        .long(name)
+        .action(ArgAction::SetTrue)
+        .help(help)
 }
 
 // Whether a flag was used. `get_flag` says this only of a text that is `true` or `false`, this of any.

@@ -9,29 +9,65 @@ use std::test::Fail;
 #[test]
 fn words_that_are_read(rt: HostRuntime) -> Result<(), Fail> {
     let alloc = rt.alloc();
-    let lines: [(&[&str], bool, Option<&str>); 14] = [
-        (&[], false, None),
-        (&["scenario_run"], false, None),
-        (&["scenario_run", "--check"], true, None),
-        (&["scenario_run", "a.json"], false, Some("a.json")),
-        (&["scenario_run", "--check", "a.json"], true, Some("a.json")),
-        (&["scenario_run", "a.json", "--check"], true, Some("a.json")),
-        (&["scenario_run", "--"], false, None),
-        (&["scenario_run", "--", "--check"], false, Some("--check")),
-        (&["scenario_run", "--check", "--", "--"], true, Some("--")),
-        (&["scenario_run", ""], false, Some("")),
-        (&["scenario_run", "-"], false, Some("-")),
+    let lines: [(&[&str], bool, bool, Option<&str>); 18] = [
+        (&[], false, false, None),
+        (&["scenario_run"], false, false, None),
+        (&["scenario_run", "--check"], true, false, None),
+        (&["scenario_run", "a.json"], false, false, Some("a.json")),
+        (
+            &["scenario_run", "--check", "a.json"],
+            true,
+            false,
+            Some("a.json"),
+        ),
+        (
+            &["scenario_run", "a.json", "--check"],
+            true,
+            false,
+            Some("a.json"),
+        ),
+        (&["scenario_run", "--"], false, false, None),
+        (
+            &["scenario_run", "--", "--check"],
+            false,
+            false,
+            Some("--check"),
+        ),
+        (
+            &["scenario_run", "--check", "--", "--"],
+            true,
+            false,
+            Some("--"),
+        ),
+        (&["scenario_run", ""], false, false, Some("")),
+        (&["scenario_run", "-"], false, false, Some("-")),
         (
             &["scenario_run", "größe 1.json"],
             false,
+            false,
             Some("größe 1.json"),
         ),
-        (&["", "check"], false, Some("check")),
-        (&["--check"], false, None),
+        (&["", "check"], false, false, Some("check")),
+        (&["--check"], false, false, None),
+        (&["scenario_run", "--accounts"], false, true, None),
+        (
+            &["scenario_run", "--accounts", "a.json"],
+            false,
+            true,
+            Some("a.json"),
+        ),
+        (&["scenario_run", "--check", "--accounts"], true, true, None),
+        (
+            &["scenario_run", "--", "--accounts"],
+            false,
+            false,
+            Some("--accounts"),
+        ),
     ];
-    for (words, check, path) in lines {
+    for (words, check, accounts, path) in lines {
         let options = Options::read(alloc, words)?;
         assert!(rt; options.check() == check, "{words:?}");
+        assert!(rt; options.accounts() == accounts, "{words:?}");
         assert!(rt; options.path() == path, "{words:?}");
     }
     Ok(())
@@ -40,15 +76,16 @@ fn words_that_are_read(rt: HostRuntime) -> Result<(), Fail> {
 #[test]
 fn words_that_are_refused(rt: HostRuntime) -> Result<(), Fail> {
     let alloc = rt.alloc();
-    let lines: [(&[&str], ErrorKind); 14] = [
+    let lines: [(&[&str], ErrorKind); 15] = [
         (&["--chek"], ErrorKind::UnknownArgument),
         (&["--Check"], ErrorKind::UnknownArgument),
         (&["--che"], ErrorKind::UnknownArgument),
         (&["-c"], ErrorKind::UnknownArgument),
         (&["-1"], ErrorKind::UnknownArgument),
         (&["--version"], ErrorKind::UnknownArgument),
-        (&["--accounts"], ErrorKind::UnknownArgument),
+        (&["--account"], ErrorKind::UnknownArgument),
         (&["--check", "--check"], ErrorKind::ArgumentConflict),
+        (&["--accounts", "--accounts"], ErrorKind::ArgumentConflict),
         (&["--check=true"], ErrorKind::TooManyValues),
         (&["a.json", "b.json"], ErrorKind::UnknownArgument),
         (&["--", "a.json", "b.json"], ErrorKind::UnknownArgument),
@@ -106,7 +143,9 @@ fn help_fits_a_screen(rt: HostRuntime) -> Result<(), Fail> {
         for part in [
             "Usage: scenario_run [OPTIONS] [CONFIG]",
             "--check",
+            "--accounts",
             "attach_at S A",
+            "exit",
             "docs/FORMATS.md",
         ] {
             assert!(rt; text.contains(part), "{part}");

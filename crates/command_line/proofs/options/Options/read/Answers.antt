@@ -3,6 +3,7 @@ use Rattle.std.proofs.Common.{◌∙◌, ap, codes, map, sym}
 use Rattle.std.proofs.lemmas.Result.{err_from_is_err_and}
 use Rattle.clap.specs.Words.{App, fault_of, first_of, found_of, is_simple, is_simple_and_free, kind_of, matches_of, takes}
 use Rattle.clap.proofs.WalkLemmas.{first_value-rows}
+use Rattle.command_line.specs.Options.{is_set}
 use Rattle.command_line.proofs.options.Options.read.Goals as goal
 
 pub returns-in_err-matches-clause-takes : goal.returns-in_err-matches-clause-takes
@@ -11,6 +12,13 @@ returns-in_err-matches-clause-takes g c =
     let p = err_from_is_err_and c.from_residual-in_err-matches.result c.from_residual-in_err-matches.ensures.1 in
     let made = ap (λ (app : App). takes app words) c.in_ok-command.ensures in
     rw p.1 (λ taken. ap kind_of p.2 ∙ c.in_err-matches.ensures.passes (made ∙ taken))
+
+pub returns-clause-accounts : goal.returns-clause-accounts
+returns-clause-accounts g c =
+    let words = map g.S.AsStr.text c.args.words.now in
+    let made = c.in_ok-command.ensures in
+    let rows = (c.in_ok-matches.ensures.matches (ap is_simple made)).0 in
+    c.is_set-2.ensures ∙ ap (is_set (codes "accounts")) (rows ∙ ap (λ (app : App). matches_of app words) made)
 
 pub returns-clause-path : goal.returns-clause-path
 returns-clause-path g c =
