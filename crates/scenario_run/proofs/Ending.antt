@@ -3,10 +3,12 @@ use Rattle.std.proofs.Common.{◌≡◌, ℕ, ◌+◌, ◌<◌, ◌≤◌, Bool,
 use Rattle.std.proofs.lemmas.List.{get_or-append-add}
 use Rattle.std.specs.List.{All}
 use Rattle.std.specs.Io.KnownBytes.{Appends}
+use Rattle.own_model.specs.Running.{init_running}
 use Rattle.own_model.specs.Text.{lines_of}
 use Rattle.own_model.specs.Transcript.{transcript, told_after, calls_of, state_at, state_after}
-use Rattle.own_model.specs.World.{World, IsBalanced}
-use Rattle.own_model.proofs.LimitLemmas.{lines_balanced}
+use Rattle.own_model.specs.StartList.{StartList}
+use Rattle.own_model.specs.World.{World, IsBalanced, IsBalancedFor, world_running}
+use Rattle.own_model.proofs.BalanceLemmas.{lines_balanced, lines_balanced_for}
 use Rattle.own_model.proofs.RunningLemmas.{Tracks-none, told_after-running, length-states_running, states_running-at}
 use Rattle.scenario_run.specs.Answered.{told_of_all, after_all}
 use Rattle.scenario_run.specs.Lines.{longest_read}
@@ -34,6 +36,10 @@ module _ {result : Result ℕ RunFault} {max_lines : ℕ} {old new : World} {inp
   pub still_balanced : (pages caps : ℕ) → IsBalanced pages caps old → IsBalanced pages caps new
   still_balanced pages caps balanced = subst (IsBalanced pages caps) (sym serves.world) (lines_balanced pages caps old serves.answered balanced)
 
+  -- for a start list too
+  pub still_balanced_for : (list : StartList) → IsBalancedFor list old → IsBalancedFor list new
+  still_balanced_for list balanced = subst (IsBalancedFor list) (sym serves.world) (lines_balanced_for list old serves.answered balanced)
+
 -- where no line is left, those answered are all
 all_answered : (text : List ℕ) (answered left : List (List ℕ)) → lines_of text ≡ answered ++ left → left ≡ [] → answered ≡ lines_of text
 all_answered text answered left parts none = sym (parts ∙ ap (λ l. answered ++ l) none ∙ append-nil answered)
@@ -58,6 +64,22 @@ states_after_all {old = old} {new = new} {input = Some text} serves =
     ∙ ap (λ lines. state_after old.entries old.states (calls_of old.entries lines) component)
     (all_answered text serves.answered serves.lines.0 serves.lines.1 serves.lines.2)
 
+-- the world is that after all lines
+pub world_after_all : {count max_lines : ℕ} {old new : World} {input rest : Option (List ℕ)} {failed : Bool} {written now_written : Option (List ℕ)} →
+    Serves (Ok count) max_lines old new input rest failed written now_written → IfSome input (λ text. new ≡ world_running old (lines_of text))
+world_after_all {input = None} serves = tt
+world_after_all {old = old} {input = Some text} serves =
+    serves.world ∙ ap (world_running old) (all_answered text serves.answered serves.lines.0 serves.lines.1 serves.lines.2)
+
+-- and so is init's account
+pub init_after_all : {count max_lines : ℕ} {old new : World} {input rest : Option (List ℕ)} {failed : Bool} {written now_written : Option (List ℕ)} →
+    Serves (Ok count) max_lines old new input rest failed written now_written →
+    IfSome input (λ text. new.init ≡ init_running old.entries old.init old.states (lines_of text))
+init_after_all {input = None} serves = tt
+init_after_all {old = old} {input = Some text} serves =
+    ap (λ w. w.init) serves.world
+    ∙ ap (init_running old.entries old.init old.states) (all_answered text serves.answered serves.lines.0 serves.lines.1 serves.lines.2)
+
 -- what is written at a fault, by the history
 written_same : (fault : RunFault) (written now_written : Option (List ℕ)) (a b : List ℕ) → a ≡ b → IsWritten fault written now_written a → IsWritten fault written now_written b
 written_same fault written now_written a b same told = subst (IsWritten fault written now_written) same told
@@ -74,6 +96,7 @@ stops_at {fault = fault} {old = old} {new = new} {input = Some text} {written = 
   cause = serves.lines.2;
   told = written_same fault written now_written _ _ (told_same old serves.answered) serves.told;
   states = states_at old new serves.answered serves.world;
+  init = ap (λ w. w.init) serves.world;
 }
 
 -- a first line that is left is among all
@@ -105,4 +128,4 @@ not_stopped {fault = fault} {max_lines = max_lines} {input = Some text} {rest = 
     no_cause fault serves.answered serves.lines.0 max_lines text rest failed write_failed serves.lines.1 serves.lines.2 fails
 
 -- what each clause of a run says
-pub ruleset endings = (transcript_written, states_after_all, as_many_states, stops_at)
+pub ruleset endings = (transcript_written, states_after_all, world_after_all, init_after_all, as_many_states, stops_at)

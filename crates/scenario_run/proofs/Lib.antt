@@ -1,7 +1,5 @@
-pub mod BootLemmas
+pub mod AccountLemmas
 pub mod ConfigLemmas
-pub mod MachineLemmas
-pub mod LogFirstLemmas
 pub mod BlockLemmas
 pub mod LineLemmas
 pub mod GatheredLemmas
@@ -11,3 +9,4 @@ pub mod PassedLines
 pub mod Serving
 pub mod Ending
 pub mod AnsweringLemmas
+pub mod TaskLemmas

@@ -1,11 +1,11 @@
 -- What a world tells of lines, the world that they leave, and how far a run has come.
 use Rattle.std.specs.Prelude.{◌≡◌, ℕ, ◌<◌, Bool, true, false, List, [], ◌∷◌, ◌++◌, Option, IfSome, Result, Ok, Err, codes}
 use Rattle.trade_base.specs.declared.refusal.Refusal.TheVariants.{BadLine}
-use Rattle.own_model.specs.Running.{told_now, states_after_heard, told_running, states_running}
+use Rattle.own_model.specs.Running.{told_now, told_running}
 use Rattle.own_model.specs.Reply.Reply.{Refused}
 use Rattle.own_model.specs.Text.{lines_of}
 use Rattle.own_model.specs.Transcript.{heard, reply_line}
-use Rattle.own_model.specs.World.{World}
+use Rattle.own_model.specs.World.{World, world_after_heard, world_running}
 use Rattle.scenario_run.specs.Gathered.{Tells}
 use Rattle.scenario_run.specs.Lines.{line_length, longest_read, to_come, PassesSome, PassesLines}
 use Rattle.scenario_run.specs.Next.{TellsAt}
@@ -23,9 +23,7 @@ told_of world line = told_now world.entries world.states (heard world.entries li
 
 -- the world after a line
 abbrev pub after_one : World → List ℕ → World
-after_one world line = record world {
-  states = states_after_heard world.entries world.states (heard world.entries line);
-}
+after_one world line = world_after_heard world (heard world.entries line)
 
 -- what is told of each line in turn
 abbrev pub told_of_all : World → List (List ℕ) → List ℕ
@@ -33,7 +31,7 @@ told_of_all world lines = told_running world.entries world.states lines
 
 -- the world after these lines
 abbrev pub after_all : World → List (List ℕ) → World
-after_all world lines = record world { states = states_running world.entries world.states lines }
+after_all world lines = world_running world lines
 
 -- a run between two lines: the world, what is still to come, and what was told
 pub record Point : Type 0 where

@@ -1,4 +1,4 @@
-pub mod Boot
+pub mod Accounts
 pub mod Config
 pub mod Device
 pub mod Gathered

@@ -1,33 +1,124 @@
--- The built-in machine, from its start to the end of a scenario.
-use Rattle.std.specs.Prelude.{◌≡◌, ℕ, Bool, false, List, [], Option, Some, Result, Ok, Err, ⊤}
-use Rattle.own_model.specs.StartList.{machine_a, entries_of, start_states}
+-- What the program does, from the text of its start list to the end of its task.
+use Rattle.std.specs.Prelude.{◌≡◌, ◌≢◌, ℕ, ◌*◌, ◌≤◌, ◌⊎◌, ◌++◌, ◌∷◌, Bool, true, false, List, [], codes, length, Option, Some, IfSome, Result, Ok, Err}
+use Rattle.std.specs.Io.KnownBytes.{Appends}
+use Rattle.own_model.specs.AccountList.{account_list_text, total_line}
+use Rattle.own_model.specs.Listed.{Listed, start_list_of}
+use Rattle.own_model.specs.StartList.{StartList, Boots}
+use Rattle.own_model.specs.Text.{lines_of}
 use Rattle.own_model.specs.Transcript.{transcript}
-use Rattle.own_model.specs.World.{World, start_world}
-use Rattle.scenario_run.specs.Stops.{Stops}
+use Rattle.own_model.specs.World.{World, start_world, world_running, all_ram, all_caps}
+use Rattle.init_core.specs.Boot.{quota_fault}
+use Rattle.init_core.specs.StartText.{list_in}
+use Rattle.init_core.specs.declared.fault.BootFault.{BootFault}
+use Rattle.init_core.specs.declared.fault.BootFault.TheVariants.{NoMemory}
+use Rattle.scenario_run.specs.Stops.{Stops, AppendsPart}
 use Rattle.scenario_run.specs.declared.program.Failure.{Failure}
-use Rattle.scenario_run.specs.declared.program.Failure.TheVariants.{NoMemory, Run}
+use Rattle.scenario_run.specs.declared.program.Failure.TheVariants as failure
+use Rattle.scenario_run.specs.declared.program.Task.{Task}
+use Rattle.scenario_run.specs.declared.program.Task.TheVariants as task
+use Rattle.scenario_run.specs.declared.running.RunFault.{RunFault}
+use Rattle.scenario_run.specs.declared.running.RunFault.TheVariants.{WriteFault}
 use Rattle.scenario_run.specs.declared.running.Summary.{Summary}
 
--- the transcript of a scenario on machine A
-abbrev pub transcript_a : List ℕ → List ℕ
-transcript_a input = transcript (entries_of machine_a) (start_states machine_a) input
+-- a text is read as this start list, and the list boots
+pub record IsMachine (text : List ℕ) (list : StartList) : Type 0 where
+  pub listed : Listed
+  pub reads : list_in text ≡ Ok listed
+  pub list_is : list ≡ start_list_of listed
+  pub boots : Boots list
 
--- a run from the machine's start stopped, unless there was no room for the machine
-abbrev pub FailsFor : Failure → ℕ →
+-- the fault of a list that was read, or why none was
+abbrev fault_of : Result Listed BootFault → Option BootFault
+fault_of (Ok list) = quota_fault list
+fault_of (Err fault) = Some fault
+
+-- why a text boots no machine
+abbrev pub boot_fault : List ℕ → Option BootFault
+boot_fault text = fault_of (list_in text)
+
+-- what a task reads: a check reads nothing
+abbrev pub read_for : Task → Option (List ℕ) → Option (List ℕ)
+read_for task.Check input = Some []
+read_for (task.Run accounts) input = input
+
+-- what a check tells of a machine
+abbrev pub ok_line : List ℕ
+ok_line = codes "ok" ++ 10 ∷ []
+
+-- the account list, where it is asked for
+abbrev pub accounts_for : Bool → World → List ℕ
+accounts_for true world = account_list_text world
+accounts_for false world = []
+
+-- what a world is asked and told: the transcript, and the account list of the last states
+abbrev pub scenario_text : Bool → World → List ℕ → List ℕ
+scenario_text accounts world input =
+    transcript world.entries world.states input ++ accounts_for accounts (world_running world (lines_of input))
+
+-- what a task writes
+abbrev pub written_for : Task → StartList → List ℕ → List ℕ
+written_for task.Check list input = ok_line
+written_for (task.Run accounts) list input = scenario_text accounts (start_world list) input
+
+-- the sums that an account list tells of the last states are the machine's
+abbrev pub TotalsAre : StartList → List ℕ → Type 0
+TotalsAre list input =
+    total_line (all_ram (world_running (start_world list) (lines_of input))) (all_caps (world_running (start_world list) (lines_of input)))
+    ≡ total_line (list.pages * 4096) list.caps
+
+-- a task was done to its end, on the machine of a text
+pub record IsDone (asked : Task) (text : List ℕ) (input : Option (List ℕ)) (lines : ℕ) (written now_written : Option (List ℕ)) : Type 0 where
+  pub list : StartList
+  pub machine : IsMachine text list
+  pub lines_are : IfSome (read_for asked input) (λ bytes. lines ≡ length (lines_of bytes))
+  pub writes : IfSome (read_for asked input) (λ bytes. Appends written now_written (written_for asked list bytes))
+  pub totals : (bytes : List ℕ) → TotalsAre list bytes
+
+-- a write of the account list failed, once all lines were answered and told
+pub record StopsList (accounts : Bool) (fault : RunFault) (max_lines : ℕ) (world : World) (input : List ℕ)
+    (written now_written : Option (List ℕ)) : Type 0 where
+  pub asked : accounts ≡ true
+  pub fault_is : fault ≡ WriteFault
+  pub few : length (lines_of input) ≤ max_lines
+  pub part : List ℕ
+  pub left : List ℕ
+  pub parts : account_list_text (world_running world (lines_of input)) ≡ part ++ left
+  pub grows : Appends written now_written (transcript world.entries world.states input ++ part)
+
+-- a scenario was stopped: its run, and then no account list is told, or the account list
+abbrev pub StopsScenario : Bool → RunFault → ℕ → World →
     List ℕ → Option (List ℕ) → Bool → Option (List ℕ) → Option (List ℕ) → Type 0
-FailsFor NoMemory max_lines input rest failed written now_written = ⊤
-FailsFor (Run fault) max_lines input rest failed written now_written =
-    (new : World) × Stops fault max_lines (start_world machine_a) new input rest failed written now_written
+StopsScenario accounts fault max_lines world input rest failed written now_written =
+    ((new : World) × Stops fault max_lines world new input rest failed written now_written)
+    ⊎ StopsList accounts fault max_lines world input written now_written
+
+-- a task that had begun was stopped by a fault: the run from the machine's start, or the one write of a check
+abbrev pub StopsTask : Task → RunFault → ℕ → StartList →
+    List ℕ → Option (List ℕ) → Bool → Option (List ℕ) → Option (List ℕ) → Type 0
+StopsTask task.Check fault max_lines list input rest failed written now_written =
+    (fault ≡ WriteFault) × AppendsPart written now_written ok_line
+StopsTask (task.Run accounts) fault max_lines list input rest failed written now_written =
+    StopsScenario accounts fault max_lines (start_world list) input rest failed written now_written
+
+-- a task failed: the text boots no machine, or the task was stopped on its machine
+abbrev pub FailsFor : Failure → Task → List ℕ → ℕ →
+    Option (List ℕ) → Option (List ℕ) → Bool → Option (List ℕ) → Option (List ℕ) → Type 0
+FailsFor (failure.Boot fault) asked text max_lines input rest failed written now_written =
+    fault ≢ NoMemory → boot_fault text ≡ Some fault
+FailsFor (failure.Run fault) asked text max_lines input rest failed written now_written =
+    (list : StartList) × IsMachine text list
+    × IfSome (read_for asked input) (λ bytes. StopsTask asked fault max_lines list bytes rest failed written now_written)
 
 -- the same of bytes, which no read fails to give
-abbrev pub FailsIn : Failure → ℕ → List ℕ → List ℕ → Type 0
-FailsIn NoMemory max_lines input written = written ≡ []
-FailsIn (Run fault) max_lines input written =
-    (rest : Option (List ℕ)) × ((new : World) ×
-    Stops fault max_lines (start_world machine_a) new input rest false (Some []) (Some written))
+abbrev pub FailsIn : Failure → Task → List ℕ → ℕ → List ℕ → List ℕ → Type 0
+FailsIn (failure.Boot fault) asked text max_lines input written =
+    (written ≡ []) × (fault ≢ NoMemory → boot_fault text ≡ Some fault)
+FailsIn (failure.Run fault) asked text max_lines input written =
+    (list : StartList) × IsMachine text list
+    × ((rest : Option (List ℕ)) × StopsTask asked fault max_lines list input rest false (Some []) (Some written))
 
 -- the exit status
 abbrev pub status_of : Result Summary Failure → ℕ
 status_of (Ok summary) = 0
-status_of (Err (Run fault)) = 1
-status_of (Err NoMemory) = 2
+status_of (Err (failure.Run fault)) = 1
+status_of (Err (failure.Boot fault)) = 2

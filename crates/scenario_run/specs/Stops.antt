@@ -1,6 +1,7 @@
 -- When a run stops, and what it leaves.
 use Rattle.std.specs.Prelude.{◌≡◌, ℕ, ◌<◌, ◌⊎◌, Bool, true, false, List, [], ◌++◌, length, slice_index_or, Option, Result, Ok, Err, ⊤}
 use Rattle.std.specs.Io.KnownBytes.{Appends}
+use Rattle.own_model.specs.Running.{init_running}
 use Rattle.own_model.specs.Text.{lines_of}
 use Rattle.own_model.specs.Transcript.{told_after, calls_of, state_at, state_after}
 use Rattle.own_model.specs.World.{World}
@@ -43,6 +44,7 @@ pub record Stops (fault : RunFault) (max_lines : ℕ) (old new : World) (input :
   pub states : (component : ℕ) →
       state_at new.states component
       ≡ state_after old.entries old.states (calls_of old.entries answered) component
+  pub init : new.init ≡ init_running old.entries old.init old.states answered
 
 -- a write failed
 abbrev pub is_write_fault : {T : Type 0} → Result T RunFault → Bool

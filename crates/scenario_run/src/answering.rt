@@ -1,7 +1,8 @@
 //! The answer to a line.
 ghost use Rattle.std.specs.Prelude.{◌≡◌, ◌≤◌, false, length, is_err};
 ghost use Rattle.own_model.specs.Reply.Reply.{Refused};
-ghost use Rattle.own_model.specs.StartList.{entries_of, machine_a};
+ghost use Rattle.own_model.specs.Listed.{start_list_of};
+ghost use Rattle.own_model.specs.StartList.{entries_of};
 ghost use Rattle.own_model.specs.Transcript.{reply_line};
 ghost use Rattle.scenario_run.specs.Answered.{told_of, after_one, bad_line};
 ghost use Rattle.scenario_run.specs.Gathered.{TellsUnless};
@@ -10,9 +11,8 @@ use crate::block::LONGEST_LINE;
 use crate::device::{DeviceFault, Sink};
 use crate::gather::Gather;
 use crate::line::read_line;
-use crate::names::FixedNames;
-use crate::routes::FixedRoutes;
-use pd_core::{Core, Reply};
+use init_core::StartList;
+use pd_core::{Core, Reply, Router};
 use trade_base::Refusal;
 
 /// The name before the reply to what is no call.
@@ -20,9 +20,9 @@ const NOBODY: &[u8] = b"?";
 
 /// Answers a line of at most `LONGEST_LINE` bytes: its call is carried out, and what it is answered is gathered: the log
 /// lines that it finished, and then the reply with the caller's name. A fault leaves it answered, and told in part.
-pub fn answer_line<K: Sink>(
-    core: &mut Core<FixedRoutes>,
-    list: &FixedNames,
+pub fn answer_line<R: Router + Drop, K: Sink>(
+    core: &mut Core<R>,
+    list: &StartList,
     line: &[u8],
     reply: &mut Reply,
     gathered: &mut Gather,
@@ -30,7 +30,7 @@ pub fn answer_line<K: Sink>(
 ) -> Result<(), DeviceFault>
     requires short { length line.now ≤ LONGEST_LINE }
     requires writes { K.has_failed sink.old ≡ false }
-    requires listed { core.old.entries ≡ entries_of machine_a }
+    requires listed { core.old.entries ≡ entries_of (start_list_of list.now) }
     ensures world { core.new ≡ after_one core.old line.now }
     ensures told { TellsUnless result (K.contents sink.old) gathered.old (K.contents sink.new) gathered.new
         (told_of core.old line.now) }

@@ -138,9 +138,9 @@ impl Gather {
     }
 }
 
-// Writes bytes until all are written or a write fails, and answers how many were written.
+/// Writes bytes until all are written or a write fails, and answers how many were written.
 #[tactic(auto, using(crate::proofs::GatheredLemmas::written_on))]
-fn write_out<K: Sink>(sink: &mut K, bytes: &[u8]) -> usize
+pub fn write_out<K: Sink>(sink: &mut K, bytes: &[u8]) -> usize
     requires { K.has_failed sink.old ≡ false }
     ensures count { result ≤ length bytes.now }
     ensures written { Appends (K.contents sink.old) (K.contents sink.new) (take result bytes.now) }

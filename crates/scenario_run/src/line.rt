@@ -99,6 +99,9 @@ fn call_from<'a>(word: &[u8], arguments: Option<&'a [u8]>) -> Option<Call<'a>>
     if word == b"close".as_slice() {
         return Some(Call::Close(number(arguments)?));
     }
+    if word == b"exit".as_slice() {
+        return read_none(Call::Exit, arguments);
+    }
     if word == b"quota".as_slice() {
         return read_none(Call::Quota, arguments);
     }
@@ -233,6 +236,20 @@ mod tests {
                 Ok((b"no-one_1.x", Call::Quota))
             )
         );
+    }
+
+    #[test]
+    fn exits_are_read(rt: HostRuntime) {
+        assert!(rt; matches!(call_of_alice(b"alice exit"), Some(Call::Exit)));
+        for line in [
+            b"alice exit ".as_slice(),
+            b"alice exit 0",
+            b"alice exits",
+            b"alice EXIT",
+            b"exit",
+        ] {
+            assert!(rt; is_bad(line));
+        }
     }
 
     #[test]

@@ -2,10 +2,12 @@
 ghost use Rattle.std.specs.Prelude.{◌≡◌, ℕ, ◌+◌, ◌≤◌, ◌||◌, List, true, false, length, take, drop, is_err, IfSome, IfOk, IfErr, OnOk, Err, if◌then◌else◌};
 ghost use Rattle.std.specs.List.{All};
 ghost use Rattle.std.specs.Io.KnownBytes.{Appends};
-ghost use Rattle.own_model.specs.StartList.{entries_of, machine_a};
+ghost use Rattle.own_model.specs.Listed.{start_list_of};
+ghost use Rattle.own_model.specs.Running.{init_running};
+ghost use Rattle.own_model.specs.StartList.{StartList as Machine, entries_of};
 ghost use Rattle.own_model.specs.Text.{lines_of};
 ghost use Rattle.own_model.specs.Transcript.{transcript, calls_of, state_at, state_after};
-ghost use Rattle.own_model.specs.World.{IsBalanced};
+ghost use Rattle.own_model.specs.World.{IsBalanced, IsBalancedFor, world_running};
 ghost use Rattle.scenario_run.specs.Answered.{AnswersNext, point, told_of, after_one, more_unless_failed};
 ghost use Rattle.scenario_run.specs.Gathered.{TellsUnless};
 ghost use Rattle.scenario_run.specs.Lines.{longest_read};
@@ -18,9 +20,8 @@ use crate::answering::{answer_line, answer_long_line};
 use crate::block::LONGEST_LINE;
 use crate::device::{DeviceFault, Sink, Source};
 use crate::lines::{Buffers, LineFault, Next};
-use crate::names::FixedNames;
-use crate::routes::FixedRoutes;
-use pd_core::{Core, Reply};
+use init_core::StartList;
+use pd_core::{Core, Reply, Router};
 use thiserror::Error;
 
 /// What a run did.
@@ -63,15 +64,15 @@ impl From<LineFault> for RunFault {
 /// it answers it, whatever other components called. At a fault the same holds of the lines answered by then; after a
 /// write that failed, a part of their transcript is written.
 #[tactic(auto, using(crate::proofs::Ending::endings))]
-pub fn run<S: Source, K: Sink>(
-    core: &mut Core<FixedRoutes>,
-    list: &FixedNames,
+pub fn run<R: Router + Drop, S: Source, K: Sink>(
+    core: &mut Core<R>,
+    list: &StartList,
     reply: &mut Reply,
     reader: &mut S,
     writer: &mut K,
     max_lines: u64,
 ) -> Result<Summary, RunFault>
-    requires listed { core.old.entries ≡ entries_of machine_a }
+    requires listed { core.old.entries ≡ entries_of (start_list_of list.now) }
     ensures lines { IfOk result (λ summary. IfSome (S.remaining reader.old) (λ input.
         summary.lines ≡ length (lines_of input))) }
     ensures few { IfOk result (λ summary. summary.lines ≤ max_lines) }
@@ -82,9 +83,13 @@ pub fn run<S: Source, K: Sink>(
         state_at core.new.states component ≡ state_after core.old.entries core.old.states
         (calls_of core.old.entries (lines_of input)) component)) }
     ensures entries { core.new.entries ≡ core.old.entries }
-    ensures init { core.new.init ≡ core.old.init }
+    ensures init { OnOk result (IfSome (S.remaining reader.old) (λ input.
+        core.new.init ≡ init_running core.old.entries core.old.init core.old.states (lines_of input))) }
+    ensures world { OnOk result (IfSome (S.remaining reader.old) (λ input.
+        core.new ≡ world_running core.old (lines_of input))) }
     ensures count { length core.new.states ≡ length core.old.states }
     ensures balance { (pages caps : ℕ) → IsBalanced pages caps core.old → IsBalanced pages caps core.new }
+    ensures shares { (machine : Machine) → IsBalancedFor machine core.old → IsBalancedFor machine core.new }
     ensures writing { K.has_failed writer.new ≡ is_write_fault result }
     ensures reading { OnOk result (S.has_failed reader.new ≡ false) }
     ensures stops { IfErr result (λ fault. IfSome (S.remaining reader.old) (λ input.
@@ -111,15 +116,15 @@ pub fn run<S: Source, K: Sink>(
 }
 
 // Answers line after line, and tells how many there were.
-fn answer_all<S: Source, K: Sink>(
-    core: &mut Core<FixedRoutes>,
-    list: &FixedNames,
+fn answer_all<R: Router + Drop, S: Source, K: Sink>(
+    core: &mut Core<R>,
+    list: &StartList,
     reply: &mut Reply,
     reader: &mut S,
     writer: &mut K,
     max_lines: u64,
 ) -> Result<u64, RunFault>
-    requires listed { core.old.entries ≡ entries_of machine_a }
+    requires listed { core.old.entries ≡ entries_of (start_list_of list.now) }
     requires reads { S.has_failed reader.old ≡ false }
     requires writes { K.has_failed writer.old ≡ false }
     ensures serves { Serves result max_lines core.old core.new
@@ -141,15 +146,15 @@ fn answer_all<S: Source, K: Sink>(
 }
 
 // Answers the next line, or tells that there is none.
-fn answer_next<S: Source, K: Sink>(
-    core: &mut Core<FixedRoutes>,
-    list: &FixedNames,
+fn answer_next<R: Router + Drop, S: Source, K: Sink>(
+    core: &mut Core<R>,
+    list: &StartList,
     reply: &mut Reply,
     buffers: &mut Buffers,
     reader: &mut S,
     writer: &mut K,
 ) -> Result<bool, LineFault>
-    requires listed { core.old.entries ≡ entries_of machine_a }
+    requires listed { core.old.entries ≡ entries_of (start_list_of list.now) }
     requires reads { S.has_failed reader.old ≡ false }
     requires writes { K.has_failed writer.old ≡ false }
     ensures next { AnswersNext result
@@ -168,9 +173,9 @@ fn answer_next<S: Source, K: Sink>(
 }
 
 // Answers the line of so many bytes with which the bytes ahead begin, and passes it with its newline.
-fn answer_ahead<K: Sink>(
-    core: &mut Core<FixedRoutes>,
-    list: &FixedNames,
+fn answer_ahead<R: Router + Drop, K: Sink>(
+    core: &mut Core<R>,
+    list: &StartList,
     reply: &mut Reply,
     buffers: &mut Buffers,
     count: usize,
@@ -178,7 +183,7 @@ fn answer_ahead<K: Sink>(
 ) -> Result<(), DeviceFault>
     requires inside { count ≤ length buffers.old.ahead }
     requires short { count ≤ LONGEST_LINE }
-    requires listed { core.old.entries ≡ entries_of machine_a }
+    requires listed { core.old.entries ≡ entries_of (start_list_of list.now) }
     requires writes { K.has_failed writer.old ≡ false }
     ensures world { core.new ≡ after_one core.old (take count buffers.old.ahead) }
     ensures passed { buffers.new.ahead ≡ drop (count + 1) buffers.old.ahead }

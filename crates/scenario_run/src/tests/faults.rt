@@ -2,6 +2,7 @@
 
 use super::devices::{Counter, FailsOnce, Trickle, Unreadable, Unwritable};
 use super::*;
+use init_core::{BootFault, Field};
 use std::io::{ErrorKind, Read, repeat};
 
 const QUOTA: &[u8] = b"alice: ram 0/65536 caps 0/16\n";
@@ -81,7 +82,7 @@ fn trickled(
     size: usize,
     room: usize,
     max_lines: u64,
-) -> Result<(Result<Summary, RunFault>, bool, Trickle), NoMemory> {
+) -> Result<(Result<Summary, RunFault>, bool, Trickle), Failure> {
     let mut writer = Trickle {
         bytes: Vec::new(alloc),
         size,
@@ -261,11 +262,18 @@ fn failed_devices_are_not_tried(rt: HostRuntime) -> Result<(), Fail> {
 fn a_million_lines_and_no_more(rt: HostRuntime) -> Result<(), Fail> {
     for (lines, want) in [
         (1_000_000, Ok(Summary { lines: 1_000_000 })),
-        (1_000_001, Err(Failure::Run(RunFault::TooManyLines))),
+        (1_000_001, Err(Some(RunFault::TooManyLines))),
     ] {
         let mut source = Input::new(repeat(b'\n').take(lines));
         let mut sink = Output::new(Counter { bytes: 0 });
-        assert_eq!(rt; boot_and_run(rt.alloc(), &mut source, &mut sink), want);
+        let ended = boot_and_run(
+            rt.alloc(),
+            MACHINE_A.as_bytes(),
+            Task::Run { accounts: false },
+            &mut source,
+            &mut sink,
+        );
+        assert_eq!(rt; run_end(ended), want);
         assert_eq!(rt; sink.into_inner().bytes, 12_000_000, "?: Bad_line for each");
     }
     Ok(())
@@ -287,10 +295,15 @@ fn bytes_stop_at_an_endless_line(rt: HostRuntime) -> Result<(), Fail> {
     let mut input = Vec::new(rt.alloc());
     input.extend_from_slice(b"alice quota\n")?;
     input.resize(1_048_590, b'x')?;
-    match run_bytes(rt.alloc(), &input) {
+    match run_bytes(
+        rt.alloc(),
+        MACHINE_A.as_bytes(),
+        Task::Run { accounts: false },
+        &input,
+    ) {
         Ok(_) => assert!(rt; false, "the line has 1,048,578 bytes"),
         Err(stopped) => {
-            assert_eq!(rt; stopped.failure, Failure::Run(RunFault::ReadFault));
+            assert!(rt; matches!(stopped.failure, Failure::Run(RunFault::ReadFault)));
             assert_eq!(rt; stopped.written.as_slice(), QUOTA);
         }
     }
@@ -304,7 +317,11 @@ fn failures_have_texts(rt: HostRuntime) -> Result<(), Fail> {
         (Failure::Run(RunFault::ReadFault), "run: Read_fault"),
         (Failure::Run(RunFault::WriteFault), "run: Write_fault"),
         (Failure::Run(RunFault::TooManyLines), "run: Too_many_lines"),
-        (Failure::NoMemory, "boot: No_memory"),
+        (Failure::Boot(BootFault::NoMemory), "boot: No_memory"),
+        (
+            Failure::Boot(BootFault::BadConfig(Field::Pages)),
+            "boot: Bad_config pages",
+        ),
     ] {
         assert_eq!(rt; format!(in alloc; "{failure}")?.as_str(), text);
     }

@@ -1,5 +1,6 @@
 //! The scenario `examples/rounds`: both scripts, a stranger, a server and lines that are none, round after round.
 
+use super::rows::check_on;
 use super::*;
 
 // A round leaves each account as it found it.
@@ -32,9 +33,5 @@ fn rounds_example(rt: HostRuntime) -> Result<(), Fail> {
     let scenario = rounds(rt.alloc(), ROUND)?;
     assert!(rt; scenario.len() > 16384, "more than is read ahead");
     let transcript = rounds(rt.alloc(), ROUND_ANSWERED)?;
-    match run_bytes(rt.alloc(), &scenario) {
-        Ok(written) => assert_eq!(rt; written.as_slice(), transcript.as_slice()),
-        Err(_) => assert!(rt; false, "the run stopped"),
-    }
-    Ok(())
+    check_on(&rt, MACHINE_A.as_bytes(), &scenario, &transcript)
 }

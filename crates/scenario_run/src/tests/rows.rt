@@ -2,7 +2,6 @@
 
 use super::*;
 use std::alloc::AllocError;
-use std::process::Abort;
 
 // Each input is answered by its transcript, however it comes.
 pub(super) fn check<R: Abort + AllocGlobal>(
@@ -16,7 +15,17 @@ pub(super) fn check<R: Abort + AllocGlobal>(
         assert_eq!(rt; ran, Ok(Summary { lines }));
         assert_eq!(rt; written.as_slice(), transcript);
     }
-    match run_bytes(rt.alloc(), input) {
+    check_on(rt, MACHINE_A.as_bytes(), input, transcript)
+}
+
+// The same on the machine of a start list's text, from bytes to bytes.
+pub(super) fn check_on<R: Abort + AllocGlobal>(
+    rt: &R,
+    text: &[u8],
+    input: &[u8],
+    transcript: &[u8],
+) -> Result<(), Fail> {
+    match run_bytes(rt.alloc(), text, Task::Run { accounts: false }, input) {
         Ok(written) => assert_eq!(rt; written.as_slice(), transcript),
         Err(stopped) => assert!(rt; false, "{:?}", stopped.failure),
     }
@@ -232,9 +241,9 @@ fn freed_page_is_zero_for_the_next_owner(rt: HostRuntime) -> Result<(), Fail> {
     check(
         &rt,
         b"alice alloc 4096\nalice attach 1\nalice poke 0x10000000 736563726574\nalice free 1\n\
-          bob alloc 4096\nbob attach 1\nbob peek 0x10000000 8\n",
-        7,
-        b"alice: cap 1\nalice: at 0x10000000\nalice: ok\nalice: ok\n\
+          alice exit\nbob alloc 4096\nbob attach 1\nbob peek 0x10000000 8\n",
+        8,
+        b"alice: cap 1\nalice: at 0x10000000\nalice: ok\nalice: ok\nalice: ok\n\
           bob: cap 1\nbob: at 0x10000000\nbob: data 0000000000000000\n",
     )
 }
@@ -336,13 +345,6 @@ fn lines_of_script(alloc: Global, name: &[u8], places: usize) -> Result<Vec<u8>,
     Ok(lines)
 }
 
-// What a script is answered that calls alone.
-fn answers_alone<R: Abort + AllocGlobal>(rt: &R, lines: &[u8]) -> Result<Vec<u8>, Fail> {
-    let (ran, written) = run_in_pieces(rt.alloc(), lines, 1000, 1000)?;
-    assert_eq!(rt; ran, Ok(Summary { lines: 100 }));
-    Ok(written)
-}
-
 // The 100 lines of one text and of another in turn, with one of the others after each.
 fn in_turn(
     alloc: Global,
@@ -370,8 +372,8 @@ fn scripts_in_turn_are_answered_as_alone(rt: HostRuntime) -> Result<(), Fail> {
     let alloc = rt.alloc();
     let of_alice = lines_of_script(alloc, b"alice ", 1)?;
     let of_bob = lines_of_script(alloc, b"bob ", 7)?;
-    let alice_alone = answers_alone(&rt, &of_alice)?;
-    let bob_alone = answers_alone(&rt, &of_bob)?;
+    let alice_alone = answers(&rt, &of_alice, 100)?;
+    let bob_alone = answers(&rt, &of_bob, 100)?;
     let input = in_turn(alloc, &of_alice, &of_bob, OTHERS)?;
     let transcript = in_turn(alloc, &alice_alone, &bob_alone, OTHERS_ANSWERED)?;
     check(&rt, &input, 400, &transcript)

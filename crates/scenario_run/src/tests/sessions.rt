@@ -3,7 +3,6 @@
 use super::rows::{check, say};
 use super::*;
 use std::alloc::AllocError;
-use std::process::Abort;
 
 #[test]
 fn amounts_past_64_bits(rt: HostRuntime) -> Result<(), Fail> {
@@ -118,9 +117,9 @@ fn sessions_example(rt: HostRuntime) -> Result<(), Fail> {
         b"alice: cap 1\nalice: ram 0/57344 caps 0/13\nbob: cap 1\nalice: OK 5\n[bob] one\n[bob] two\n\
           bob: OK 9\n[alice -> main] hello, world\nalice: OK 8\nalice: ok\nalice: Out_of_ram\n\
           alice: cap 2\n[alice -> side] ..A\nalice: OK 4\nalice: ERR BAD_REQUEST\n\
-          alice: ram 0/49152 caps 0/11\nbob: ok\nbob: Invalid_session\nbob: Service_denied\n\
+          alice: ram 0/49152 caps 0/11\nbob: ok\nbob: Invalid_session\nbob: cap 1\n\
           bob: Insufficient_cap_quota\nalice: ok\nalice: ok\nalice: ram 0/65536 caps 0/16\n\
-          bob: ram 0/65536 caps 0/16\n",
+          bob: ram 0/61440 caps 0/14\n",
     )
 }
 
@@ -155,13 +154,6 @@ fn call(both: &mut Vec<u8>, own: &mut Vec<u8>, name: &[u8], call: &[u8]) -> Resu
     say(both, call)?;
     own.extend_from_slice(name)?;
     say(own, call)
-}
-
-// What so many lines are answered.
-fn answers<R: Abort + AllocGlobal>(rt: &R, input: &[u8], lines: u64) -> Result<Vec<u8>, Fail> {
-    let (ran, written) = run_in_pieces(rt.alloc(), input, 1000, 1000)?;
-    assert_eq!(rt; ran, Ok(Summary { lines }));
-    Ok(written)
 }
 
 // The lines of a transcript that are a script's: its answers, and the log lines of its sessions.

@@ -1,0 +1,26 @@
+-- A task is done, or was stopped, on the machine of its text.
+use Rattle.own_model.specs.Listed.{start_list_of}
+use Rattle.scenario_run.proofs.TaskLemmas.{balanced_at_start, done_check, stopped_check, done_run, stopped_run}
+use Rattle.scenario_run.proofs.program.boot_and_run.Goals as goal
+
+pub answer_scenario-requires-clause-balanced : goal.answer_scenario-requires-clause-balanced
+answer_scenario-requires-clause-balanced g c =
+    balanced_at_start (start_list_of c.in_ok-list.list) c.in_ok-core.core c.in_ok-core.ensures.covered c.in_ok-core.ensures.started
+
+pub returns-in-Ok-clause-done : goal.returns-in-Ok-clause-done
+returns-in-Ok-clause-done g c =
+    done_check c.in_ok-list.ensures.ok c.in_ok-core.ensures.covered c.args.task _ _ _ _ c.in-Check.is c.in-Ok.ensures.none c.in-Ok.ensures.told
+
+pub returns-in-Check-clause-fails : goal.returns-in-Check-clause-fails
+returns-in-Check-clause-fails g c =
+    stopped_check c.in_ok-list.ensures.ok c.in_ok-core.ensures.covered c.args.task c.in-Err.fault _ _ _ _ _ _ c.in-Check.is c.in-Err.ensures.fault c.in-Err.ensures.part
+
+pub returns-in-Ok-answer_scenario-clause-done : goal.returns-in-Ok-answer_scenario-clause-done
+returns-in-Ok-answer_scenario-clause-done g c =
+    done_run c.in_ok-list.ensures.ok c.in_ok-core.ensures.covered c.in_ok-core.ensures.started c.args.task c.in-Run.accounts _ _ _ _ c.in-Run.is
+    c.in-Ok-answer_scenario.ensures.lines c.in-Ok-answer_scenario.ensures.told
+
+pub returns-clause-fails : goal.returns-clause-fails
+returns-clause-fails g c =
+    stopped_run c.in_ok-list.ensures.ok c.in_ok-core.ensures.covered c.in_ok-core.ensures.started c.args.task c.in-Run.accounts c.in-Err-answer_scenario.fault _ _ _ _ _ _ c.in-Run.is
+    c.in-Err-answer_scenario.ensures.stops

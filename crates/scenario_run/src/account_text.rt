@@ -1,0 +1,58 @@
+//! The texts of accounts, in a fixed buffer.
+ghost use Rattle.std.specs.Prelude.{◌≡◌, ◌+◌, ◌≤◌, ◌++◌, length, decimal};
+ghost use Rattle.arrayvec.specs.ArrayVec.{array_vec_len};
+ghost use Rattle.own_model.specs.Reply.{quota_text, share_text};
+ghost use Rattle.pd_core.specs.Answer.{quotas_account};
+
+use arrayvec::ArrayVec;
+use itoa::Buffer;
+use pd_core::Quotas;
+
+/// The most digits of a number.
+const LONGEST_NUMBER: usize = 20;
+
+/// Appends use and limit of RAM and of capabilities.
+pub fn add_quotas<const N: usize>(text: &mut ArrayVec<u8, N>, quotas: Quotas)
+    requires { array_vec_len text.old + 100 ≤ N }
+    ensures items { text.new.items ≡ text.old.items ++ quota_text (quotas_account quotas) }
+    ensures len { array_vec_len text.new ≤ array_vec_len text.old + 100 }
+{
+    add(text, b"ram ");
+    add_share(text, quotas.ram_used.0, quotas.ram_limit.0);
+    add(text, b" caps ");
+    add_share(
+        text,
+        u64::from(quotas.caps_used.0),
+        u64::from(quotas.caps_limit.0),
+    );
+}
+
+// Appends a use and a limit.
+fn add_share<const N: usize>(text: &mut ArrayVec<u8, N>, used: u64, limit: u64)
+    requires { array_vec_len text.old + 41 ≤ N }
+    ensures items { text.new.items ≡ text.old.items ++ share_text used limit }
+    ensures len { array_vec_len text.new ≤ array_vec_len text.old + 41 }
+{
+    add_number(text, used);
+    add(text, b"/");
+    add_number(text, limit);
+}
+
+/// Appends a number in decimal digits.
+pub fn add_number<const N: usize>(text: &mut ArrayVec<u8, N>, number: u64)
+    requires { array_vec_len text.old + LONGEST_NUMBER ≤ N }
+    ensures items { text.new.items ≡ text.old.items ++ decimal number }
+    ensures len { array_vec_len text.new ≤ array_vec_len text.old + LONGEST_NUMBER }
+{
+    let mut digits = Buffer::new();
+    add(text, digits.format(number).as_bytes());
+}
+
+/// Appends bytes that still fit.
+pub fn add<const N: usize>(text: &mut ArrayVec<u8, N>, more: &[u8])
+    requires { array_vec_len text.old + length more.now ≤ N }
+    ensures items { text.new.items ≡ text.old.items ++ more.now }
+    ensures len { array_vec_len text.new ≡ array_vec_len text.old + length more.now }
+{
+    let _ = text.try_extend_from_slice(more);
+}

@@ -1,0 +1,10 @@
+//! The built-in machine.
+
+/// The text of its start list: two servers and two scripts.
+pub const MACHINE_A: &str = r#"{"machine":{"pages":64,"caps":64},
+ "default-route":[{"any-service":true,"any-child":true}],
+ "start":[
+  {"name":"log","quantum":"16K","caps":8,"provides":["LOG"]},
+  {"name":"files","quantum":"16K","caps":8,"provides":["File_system"]},
+  {"name":"alice","binary":"script","quantum":"64K","caps":16},
+  {"name":"bob","binary":"script","quantum":"64K","caps":16}]}"#;
