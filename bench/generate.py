@@ -7,7 +7,9 @@ same of 1 to 16 bytes), regions (attaches and detaches, up to 128 regions), full
 128 regions attached), caps (selectors taken and given back, up to 16), sliced (sliced blocks taken and given back, up to
 16), heap (small blocks of the heap taken and given back, up to 64), turns (a block of the heap and its release in turn, one
 at a time), holes (blocks taken and given back among 48 holes), sessions (sessions of the log service opened, written to and
-closed, up to 8), log (log lines of 1 to 200 bytes), hostile (lines that are refused, of all kinds).
+closed, up to 8), log (log lines of 1 to 200 bytes), files (small files made, written, read and dropped), contents (the same
+with writes of up to 1,000 bytes), eight (eight clients of the machine `eight.json` that use everything at once), hostile
+(lines that are refused, of all kinds).
 """
 import random
 import sys
@@ -240,6 +242,74 @@ def log(lines, rng):
         yield f"{'alice' if number % 2 == 0 else 'bob'} call 1 WRITE {text_in_hex(rng, 199)}"
 
 
+MOST_FILES = 4
+
+
+def files_of(name, lines, rng, most):
+    """Requests of a session with up to four files; of ten two make a file, one drops one, and the others write and read."""
+    held = {}
+    for _ in range(lines):
+        chance = rng.random()
+        if not held or (chance < 0.2 and len(held) < MOST_FILES):
+            number = next(n for n in range(MOST_FILES) if n not in held)
+            held[number] = 0
+            yield f"{name} call 1 CREATE f{number}"
+        elif chance < 0.3:
+            number = rng.choice(list(held))
+            del held[number]
+            yield f"{name} call 1 DROP f{number}"
+        elif chance < 0.65:
+            number = rng.choice(list(held))
+            size = held[number]
+            count = rng.randint(1, most)
+            offset = rng.randint(0, size) if size + count < 3000 else 0
+            held[number] = max(size, offset + count)
+            yield f"{name} call 1 WRITE f{number} {offset} {rng.randbytes(count).hex()}"
+        else:
+            number = rng.choice(list(held))
+            yield f"{name} call 1 READ f{number} {rng.randint(0, held[number])} {most}"
+
+
+def files(lines, rng, most=32):
+    yield "alice open File_system ram_quota=56K, cap_quota=12"
+    yield from files_of("alice", lines - 1, rng, most)
+
+
+def contents(lines, rng):
+    return files(lines, rng, 1000)
+
+
+CLIENTS = ["anna", "bert", "cleo", "dora", "emil", "fred", "gina", "mallory"]
+
+
+def eight(lines, rng):
+    """Each client has dataspaces, a heap, sliced blocks, a session of each service, and asks at random."""
+    streams = []
+    for name in CLIENTS:
+        yield f"{name} open File_system ram_quota=28K, cap_quota=6"
+        yield f"{name} open LOG ram_quota=4K, cap_quota=2"
+        yield f"{name} new 100"
+        streams.append(files_of(name, lines, rng, 32))
+    for _ in range(lines - 3 * len(CLIENTS)):
+        client = rng.randrange(len(CLIENTS))
+        name = CLIENTS[client]
+        chance = rng.random()
+        if chance < 0.4:
+            yield next(streams[client])
+        elif chance < 0.5:
+            yield f"{name} call 2 WRITE {text_in_hex(rng, 20)}"
+        elif chance < 0.6:
+            yield f"{name} {rng.choice(['alloc 4096', 'free 3', 'attach 3'])}"
+        elif chance < 0.7:
+            yield f"{name} {rng.choice(['snew 100', 'sdel 0x100004020', 'sdel 0x100005020'])}"
+        elif chance < 0.8:
+            yield f"{name} {rng.choice(['new 40', 'del 0x100000090', 'del 0x1000000d0'])}"
+        elif chance < 0.9:
+            yield f"{name} poke 0x100000010 {rng.randbytes(16).hex()}"
+        else:
+            yield f"{name} {rng.choice(['quota', 'peek 0x100000010 16', 'capalloc', 'capfree 4'])}"
+
+
 def hostile(lines, rng):
     bad = [
         "",
@@ -304,6 +374,9 @@ SHAPES = {
     "holes": holes,
     "sessions": sessions,
     "log": log,
+    "files": files,
+    "contents": contents,
+    "eight": eight,
     "hostile": hostile,
 }
 
