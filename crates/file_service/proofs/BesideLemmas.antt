@@ -99,15 +99,15 @@ pub whole_standing : (p : Part) (heap : NatMap Region) (tags : NatMap ℕ) → (
 whole_standing p heap tags held s = λ i. numbered (get (whole_tags p heap tags held i) s) (get (whole_share p heap tags held i) s)
 
 -- where no region is, none stands
-none_standing : (heap : NatMap Region) (tags : NatMap ℕ) (s : ℕ) → get heap s ≡ None → standing heap tags s ≡ None
+pub none_standing : (heap : NatMap Region) (tags : NatMap ℕ) (s : ℕ) → get heap s ≡ None → standing heap tags s ≡ None
 none_standing heap tags s free = ap (λ o. numbered o (get heap s)) (get-tags_of heap tags s ∙ ap (λ o. cond (is_some o) (get tags s) None) free)
 
 -- nor does one where a region keeps a sliced block's number
-sliced_standing : (heap : NatMap Region) (tags : NatMap ℕ) (s : ℕ) (r : Region) → get heap s ≡ Some r → get tags s ≡ Some sliced_tag → standing heap tags s ≡ None
+pub sliced_standing : (heap : NatMap Region) (tags : NatMap ℕ) (s : ℕ) (r : Region) → get heap s ≡ Some r → get tags s ≡ Some sliced_tag → standing heap tags s ≡ None
 sliced_standing heap tags s r there tag = ap (λ o. numbered o (get heap s)) (get-tags_of heap tags s ∙ ap (λ o. cond (is_some o) (get tags s) None) there ∙ tag)
 
 -- what stands elsewhere depends on what is there alone
-elsewhere_standing : (heap heap' : NatMap Region) (tags tags' : NatMap ℕ) (s : ℕ) → get heap' s ≡ get heap s → get tags' s ≡ get tags s → standing heap' tags' s ≡ standing heap tags s
+pub elsewhere_standing : (heap heap' : NatMap Region) (tags tags' : NatMap ℕ) (s : ℕ) → get heap' s ≡ get heap s → get tags' s ≡ get tags s → standing heap' tags' s ≡ standing heap tags s
 elsewhere_standing heap heap' tags tags' s there tag =
     ap (λ o. numbered o (get heap' s)) (get-tags_of heap' tags' s)
     ∙ (λ i. numbered (cond (is_some (there i)) (tag i) None) (there i))

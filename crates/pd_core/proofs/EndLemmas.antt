@@ -30,7 +30,7 @@ use Rattle.pd_core.specs.declared.script.Script.{Script}
 use Rattle.pd_core.specs.Own.{own_of, own_at, own_heap_at, part_at, sliced_at}
 use Rattle.pd_core.specs.Release.{IsCleared}
 use Rattle.pd_core.specs.Sound.{IsSoundScript, Keeps}
-use Rattle.pd_core.proofs.BesideLemmas.{standing, none_standing, sliced_standing, elsewhere_standing}
+use Rattle.file_service.proofs.BesideLemmas.{standing, none_standing, sliced_standing, elsewhere_standing}
 use Rattle.pd_core.proofs.OwnLemmas.{all_sessions, selects}
 use Rattle.pd_core.proofs.SlicedLemmas.{heap_beside, parts_stay}
 

@@ -24,10 +24,10 @@ use Rattle.heap_core.specs.Heap.{payer_of as heap_payer, heap_at, IsSound as IsS
 use Rattle.pd_core.specs.Own.{Sessions, own_of, own_at}
 use Rattle.pd_core.specs.Sound.{IsScript, IsSoundScript, rpc_weight}
 use Rattle.pd_core.specs.declared.script.Script.{Script}
-use Rattle.pd_core.proofs.BesideLemmas.{maps_memory}
+use Rattle.file_service.proofs.BesideLemmas.{maps_memory}
 use Rattle.pd_core.proofs.ScriptLemmas.{Finishes}
 use Rattle.pd_core.proofs.SlicedLemmas.{ChangesHeaps, finishes_heaps}
-use Rattle.pd_core.proofs.WindowLemmas.{IsTagged, IsOfEither, IsNoHeapBlock, of_either}
+use Rattle.file_service.proofs.WindowLemmas.{IsTagged, IsOfEither, IsNoHeapBlock, of_either}
 
 -- ---- a script in parts
 

@@ -22,8 +22,8 @@ use Rattle.sliced_heap.specs.Sliced.{sliced_tag}
 use Rattle.heap_core.specs.declared.heap.Heap.{Heap}
 use Rattle.heap_core.specs.Calls.{KeepsSpaces, AddsSpace, Attaches}
 use Rattle.heap_core.specs.Heap.{payer_of as heap_payer, large_tag, large_regions, IsSound as IsSoundHeap}
-use Rattle.pd_core.proofs.BesideLemmas.{gap_is_free}
-use Rattle.pd_core.proofs.WindowLemmas.{IsTagged, IsShownLarge, some_alike, blocks_in_place, blocks_attached, blocks_detached, no_chunk, shown_large, tagged}
+use Rattle.file_service.proofs.BesideLemmas.{gap_is_free}
+use Rattle.file_service.proofs.WindowLemmas.{IsTagged, IsShownLarge, some_alike, blocks_in_place, blocks_attached, blocks_detached, no_chunk, shown_large, tagged}
 use Rattle.pd_core.proofs.HeapCallLemmas.{Owns, Alone}
 
 -- a length that is picked is a length that is there

@@ -8,7 +8,6 @@ pub mod SessionDoneLemmas
 pub mod ServerLemmas
 pub mod RoleLemmas
 pub mod SessionOpenLemmas
-pub mod BesideLemmas
 pub mod OwnLemmas
 pub mod ScriptLemmas
 pub mod SessionRowLemmas
@@ -30,7 +29,6 @@ pub mod SessionWorldLemmas
 pub mod SessionOpenedLemmas
 pub mod SessionLedLemmas
 pub mod FreshLemmas
-pub mod WindowLemmas
 pub mod HeapCallLemmas
 pub mod HeapChangeLemmas
 pub mod HeapOutcomeLemmas

@@ -107,7 +107,7 @@ abbrev pub found_in : Sessions → Result (ℕ × SessionId) Refusal → Option 
 found_in sessions (Ok named) = sessions named.0 named.1.0
 found_in sessions (Err refusal) = None
 
--- what a selector has names this session
+-- what a selector has names the one that is found
 by_cap : (sessions : Sessions) (part : Part) (o : Option Cap) → session_named (option_and_then (object_of sessions part) o) ≡ found_in sessions (ok_or (session_at o) InvalidSession)
 by_cap sessions part None = refl
 by_cap sessions part (Some (Dataspace ds)) = no_space (get part.spaces ds.0)

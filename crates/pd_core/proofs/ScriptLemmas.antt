@@ -25,7 +25,7 @@ use Rattle.sliced_heap.proofs.HeapLaws.{map_stays_for_payer, heap_stays, heap_st
 use Rattle.pd_core.specs.Own.{Sessions, HasSessions, own_of, own_at, part_at, own_heap_at, sliced_at}
 use Rattle.pd_core.specs.Sound.{IsScript, IsSoundScript, Keeps}
 use Rattle.pd_core.specs.declared.script.Script.{Script}
-use Rattle.pd_core.proofs.BesideLemmas.{map_of, whole_share, whole_tags, region_of_block, stands_alike}
+use Rattle.file_service.proofs.BesideLemmas.{map_of, whole_share, whole_tags, region_of_block, stands_alike}
 use Rattle.heap_core.proofs.StayLemmas as heap_laws
 use Rattle.pd_core.proofs.OwnLemmas.{Settles}
 

@@ -40,7 +40,7 @@ use Rattle.sliced_heap.proofs.HeapLaws.{blocks_are_regions}
 use Rattle.pd_core.specs.Own.{Sessions, own_at, own_of, part_at, own_heap_at, sliced_at}
 use Rattle.pd_core.specs.Sound.{rpc_weight, HasHeaps, IsSoundScript}
 use Rattle.pd_core.specs.declared.script.Script.{Script}
-use Rattle.pd_core.proofs.BesideLemmas.{map_of, standing, whole_standing, sliced_no_block, stands_beside_more, stands_beside_less, ranges_alike, gap_is_free, lie_with, lie_without}
+use Rattle.file_service.proofs.BesideLemmas.{map_of, standing, whole_standing, sliced_no_block, stands_beside_more, stands_beside_less, ranges_alike, gap_is_free, lie_with, lie_without}
 use Rattle.heap_core.proofs.StayLemmas.{heap_stays}
 use Rattle.heap_core.proofs.BlockRangeLemmas.{blocks_are_regions as heap_blocks_are_regions}
 use Rattle.pd_core.proofs.OwnLemmas.{slices}
