@@ -45,3 +45,4 @@ pub mod CodedSession
 pub mod Listed
 pub mod AccountList
 pub mod Shortage
+pub mod SaidBy

@@ -1,5 +1,6 @@
 //! Laws of answers: what is told by history and from running states is the same, and hangs on the caller's own part alone.
 ghost use Rattle.own_model.specs.Laws.{TranscriptIsRunning, StatesAreOwnRuns, StatesOverFirst, StatesOverLast, StatesKeepLength, InitOverFirst, InitOverLast, ToldOverFirst, ToldOverLast, EqualPartsEqualStates, EqualPartsEqualAnswers};
+ghost use Rattle.own_model.specs.SaidBy.{PiecesAreTold, PiecesStandAlone, StateStandsAlone};
 
 /// The transcript, whose answers come from the history of calls, is what the running states tell.
 pub fn transcript_is_running()
@@ -38,4 +39,12 @@ pub fn equal_parts_equal_states()
 /// A component's call is answered alike after calls of all whose parts are equal for it.
 pub fn equal_parts_equal_answers()
     ensures { EqualPartsEqualAnswers }
+{}
+
+/// One component's lines alone are told what they are told among the lines of all: their pieces of the whole transcript,
+/// put together, are the transcript of those lines. So is the component's own state.
+pub fn lines_stand_alone()
+    ensures told { PiecesAreTold }
+    ensures alone { PiecesStandAlone }
+    ensures state { StateStandsAlone }
 {}

@@ -23,8 +23,8 @@ mod start;
 
 pub use accounts::totals_are_the_machine;
 pub use answers::{
-    equal_parts_equal_answers, equal_parts_equal_states, init_over_a_line, states_are_own_runs,
-    states_over_a_line, told_over_a_line, transcript_is_running,
+    equal_parts_equal_answers, equal_parts_equal_states, init_over_a_line, lines_stand_alone,
+    states_are_own_runs, states_over_a_line, told_over_a_line, transcript_is_running,
 };
 pub use calls::{
     addresses_are_read_back, calls_are_refused_in_order, hex_is_read_back,
