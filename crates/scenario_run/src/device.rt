@@ -1,5 +1,5 @@
 //! Where a run reads and where it writes.
-ghost use Rattle.std.specs.Prelude.{◌≡◌, ℕ, List, Bool, ◌||◌, Option, None, is_err};
+ghost use Rattle.std.specs.Prelude.{◌≡◌, ℕ, List, Bool, false, Option, None, is_err};
 ghost use Rattle.std.specs.Io.{ReadsAtMost, WritesAtMost};
 ghost use Rattle.std.specs.Io.KnownBytes.{ReadConsumes, WriteAppends};
 ghost use Rattle.scenario_run.specs.Device.{is_write_failure};
@@ -19,10 +19,12 @@ pub trait Source {
     ghost has_failed: { Self → Bool };
 
     /// Reads bytes into the front of `buffer`, and answers how many: none only at the end, or where `buffer` is empty.
+    /// A source that has failed isn't read again.
     fn read(&mut self, buffer: &mut [u8]) -> Result<usize, DeviceFault>
+        requires { has_failed self.old ≡ false }
         ensures bound { ReadsAtMost result buffer.new }
         ensures bytes { ReadConsumes (remaining self.old) (remaining self.new) result buffer.new }
-        ensures failing { has_failed self.new ≡ (has_failed self.old || is_err result) };
+        ensures failing { has_failed self.new ≡ is_err result };
 
     /// Whether a read has failed or was interrupted.
     fn failed(&self) -> bool
@@ -36,11 +38,12 @@ pub trait Sink {
 
     ghost has_failed: { Self → Bool };
 
-    /// Writes bytes from the front of `buffer`, and answers how many.
+    /// Writes bytes from the front of `buffer`, and answers how many. A sink that has failed isn't written to again.
     fn write(&mut self, buffer: &[u8]) -> Result<usize, DeviceFault>
+        requires { has_failed self.old ≡ false }
         ensures bound { WritesAtMost result buffer.now }
         ensures bytes { WriteAppends (contents self.old) (contents self.new) result buffer.now }
-        ensures failing { has_failed self.new ≡ (has_failed self.old || is_write_failure result buffer.now) };
+        ensures failing { has_failed self.new ≡ is_write_failure result buffer.now };
 
     /// Whether a write has failed, was interrupted or, of one byte or more, took none.
     fn failed(&self) -> bool
