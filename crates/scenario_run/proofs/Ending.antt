@@ -1,7 +1,6 @@
 -- What a run that has ended promises, whether at the end of its input or at a fault.
-use Rattle.std.proofs.Common.{◌≡◌, ℕ, ◌+◌, ◌<◌, ◌≤◌, Bool, true, false, List, [], ◌∷◌, ◌++◌, length, get_or, Option, Some, None, IfSome, Result, Ok, Err, ⊎_elim, arith, sym, ◌∙◌, ap, subst, append-nil, length-append}
+use Rattle.std.proofs.Common.{◌≡◌, ℕ, ◌+◌, ◌<◌, ◌≤◌, Bool, true, false, List, [], ◌∷◌, ◌++◌, length, get_or, Option, Some, None, IfSome, Result, Ok, Err, inl, ⊎_elim, arith, refl, sym, ◌∙◌, ap, subst, append-nil, length-append}
 use Rattle.std.proofs.lemmas.List.{get_or-append-add}
-use Rattle.std.specs.List.{All}
 use Rattle.std.specs.Io.KnownBytes.{Appends}
 use Rattle.own_model.specs.Running.{init_running}
 use Rattle.own_model.specs.Text.{lines_of}
@@ -11,10 +10,13 @@ use Rattle.own_model.specs.World.{World, IsBalanced, IsBalancedFor, world_runnin
 use Rattle.own_model.proofs.BalanceLemmas.{lines_balanced, lines_balanced_for}
 use Rattle.own_model.proofs.RunningLemmas.{Tracks-none, told_after-running, length-states_running, states_running-at}
 use Rattle.scenario_run.specs.Answered.{told_of_all, after_all}
-use Rattle.scenario_run.specs.Lines.{longest_read}
+use Rattle.scenario_run.specs.Lines.{longest_read, AreReadable}
 use Rattle.scenario_run.specs.Serves.{Serves}
 use Rattle.scenario_run.specs.Stops.{Stops, StopsFor, IsWritten, is_write_fault}
 use Rattle.scenario_run.specs.declared.running.RunFault.{RunFault}
+use Rattle.scenario_run.proofs.ReachLemmas.{keeps_up_as, keeps_up_none}
+use Rattle.scenario_run.proofs.GatheredLemmas.{Appends-none}
+use Rattle.std.proofs.lemmas.List.Elements.{All-nil}
 use Rattle.scenario_run.specs.declared.running.RunFault.TheVariants.{ReadFault, WriteFault, TooManyLines}
 
 -- what is told of lines by the running states is what is told of them by the history
@@ -80,6 +82,12 @@ init_after_all {old = old} {input = Some text} serves =
     ap (λ w. w.init) serves.world
     ∙ ap (init_running old.entries old.init old.states) (all_answered text serves.answered serves.lines.0 serves.lines.1 serves.lines.2)
 
+-- and each line was read to its end
+pub all_readable : {count max_lines : ℕ} {old new : World} {input rest : Option (List ℕ)} {failed : Bool} {written now_written : Option (List ℕ)} →
+    Serves (Ok count) max_lines old new input rest failed written now_written → IfSome input (λ text. AreReadable (lines_of text))
+all_readable {input = None} serves = tt
+all_readable {input = Some text} serves = subst AreReadable (all_answered text serves.answered serves.lines.0 serves.lines.1 serves.lines.2) serves.readable
+
 -- what is written at a fault, by the history
 written_same : (fault : RunFault) (written now_written : Option (List ℕ)) (a b : List ℕ) → a ≡ b → IsWritten fault written now_written a → IsWritten fault written now_written b
 written_same fault written now_written a b same told = subst (IsWritten fault written now_written) same told
@@ -94,10 +102,50 @@ stops_at {fault = fault} {old = old} {new = new} {input = Some text} {written = 
   left = serves.lines.0;
   lines = serves.lines.1;
   cause = serves.lines.2;
+  readable = serves.readable;
+  keeps_up = keeps_up_as (told_of_all old) (told_after old.entries old.states []) (told_same old) serves.keeps_up;
   told = written_same fault written now_written _ _ (told_same old serves.answered) serves.told;
   states = states_at old new serves.answered serves.world;
   init = ap (λ w. w.init) serves.world;
 }
+
+-- or none, where a device had failed before
+stops_unread : (fault : RunFault) (max_lines : ℕ) (world : World) (input written : Option (List ℕ)) (failed : Bool) →
+    IsWritten fault written written [] → IfSome input (λ text. StopsFor fault [] (lines_of text) max_lines text input failed) →
+    IfSome input (λ text. Stops fault max_lines world world text input failed written written)
+stops_unread fault max_lines world None written failed told cause = tt
+stops_unread fault max_lines world (Some text) written failed told cause = record {
+  answered = [];
+  left = lines_of text;
+  lines = refl;
+  cause = cause;
+  readable = All-nil (λ line. length line ≤ longest_read);
+  keeps_up = keeps_up_none (told_after world.entries world.states []) (Some text) written refl;
+  told = told;
+  states = λ component. refl;
+  init = refl;
+}
+
+-- what is still to come is all of the input
+unread_for : (input : Option (List ℕ)) (P : List ℕ → Option (List ℕ) → Type 0) → ((text : List ℕ) → P text (Some text)) → IfSome input (λ text. P text input)
+unread_for None P all = tt
+unread_for (Some text) P all = all text
+
+-- the writer
+pub stops_unwritten : (max_lines : ℕ) (world : World) (input written : Option (List ℕ)) (failed : Bool) →
+    IfSome input (λ text. Stops WriteFault max_lines world world text input failed written written)
+stops_unwritten max_lines world input written failed =
+    stops_unread WriteFault max_lines world input written failed (record { part = []; left = []; parts = refl; grows = Appends-none written })
+    (unread_for input (λ text rest. StopsFor WriteFault [] (lines_of text) max_lines text rest failed)
+    (λ text. (omega arith, record { read = []; left = text; is_left = refl; parts = refl; whole = inl (omega arith) })))
+
+-- or the reader
+pub stops_unreadable : (max_lines : ℕ) (world : World) (input written : Option (List ℕ)) (failed : Bool) → failed ≡ true →
+    IfSome input (λ text. Stops ReadFault max_lines world world text input failed written written)
+stops_unreadable max_lines world input written failed fails =
+    stops_unread ReadFault max_lines world input written failed (Appends-none written)
+    (unread_for input (λ text rest. StopsFor ReadFault [] (lines_of text) max_lines text rest failed)
+    (λ text. inl (fails, record { read = []; left = text; is_left = refl; parts = refl; ended = inl refl })))
 
 -- a first line that is left is among all
 first_inside : (all answered left : List (List ℕ)) (n : ℕ) → all ≡ answered ++ left → n < length (get_or left 0 []) → length answered + 0 < length all
@@ -107,7 +155,7 @@ first_inside all answered (line ∷ left) n parts long = omega (arith, ap length
 -- within the bounds, and with no failed device, there is no cause to stop
 no_cause : (fault : RunFault) (answered left : List (List ℕ)) (max_lines : ℕ) (text : List ℕ) (rest : Option (List ℕ)) (failed write_failed : Bool) →
     lines_of text ≡ answered ++ left → StopsFor fault answered left max_lines text rest failed → write_failed ≡ is_write_fault {T = ℕ} (Err fault) →
-    failed ≡ false → write_failed ≡ false → All (λ line. length line ≤ longest_read) (lines_of text) → length (lines_of text) ≤ max_lines → ⊥
+    failed ≡ false → write_failed ≡ false → AreReadable (lines_of text) → length (lines_of text) ≤ max_lines → ⊥
 no_cause ReadFault answered left max_lines text rest failed write_failed parts cause fails reads writes short few =
     ⊎_elim (λ cut. let e : failed ≡ true = cut.0 in cc)
     (λ long.
@@ -122,10 +170,10 @@ no_cause TooManyLines answered left max_lines text rest failed write_failed part
 -- so it answers Ok
 pub not_stopped : {fault : RunFault} {max_lines : ℕ} {old new : World} {input rest : Option (List ℕ)} {failed : Bool} {written now_written : Option (List ℕ)} (write_failed : Bool) →
     Serves (Err fault) max_lines old new input rest failed written now_written → write_failed ≡ is_write_fault {T = ℕ} (Err fault) →
-    IfSome input (λ text. failed ≡ false → write_failed ≡ false → All (λ line. length line ≤ longest_read) (lines_of text) → length (lines_of text) ≤ max_lines → ⊥)
+    IfSome input (λ text. failed ≡ false → write_failed ≡ false → AreReadable (lines_of text) → length (lines_of text) ≤ max_lines → ⊥)
 not_stopped {input = None} write_failed serves fails = tt
 not_stopped {fault = fault} {max_lines = max_lines} {input = Some text} {rest = rest} {failed = failed} write_failed serves fails =
     no_cause fault serves.answered serves.lines.0 max_lines text rest failed write_failed serves.lines.1 serves.lines.2 fails
 
 -- what each clause of a run says
-pub ruleset endings = (transcript_written, states_after_all, world_after_all, init_after_all, as_many_states, stops_at)
+pub ruleset endings = (transcript_written, states_after_all, world_after_all, init_after_all, as_many_states, all_readable, stops_at)

@@ -6,6 +6,7 @@ pub mod GatheredLemmas
 pub mod FaultLemmas
 pub mod ToCome
 pub mod PassedLines
+pub mod ReachLemmas
 pub mod Serving
 pub mod Ending
 pub mod AnsweringLemmas

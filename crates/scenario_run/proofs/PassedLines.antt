@@ -6,7 +6,7 @@ use Rattle.std.proofs.lemmas.Bool.Decides.{nat_tests}
 use Rattle.std.proofs.lemmas.List.{drop_all, take-append-drop}
 use Rattle.std.proofs.lemmas.List.Sums.{sum_by-cons, sum_by-append, count_by_more_yes, passes_at_first}
 use Rattle.own_model.specs.Text.{lines_of}
-use Rattle.scenario_run.specs.Lines.{is_newline, line_length, line_of, after_line, PassesSome, PassesLines, IsReadTo}
+use Rattle.scenario_run.specs.Lines.{is_newline, line_length, line_of, after_line, HasRead, PassesSome, PassesLines, IsReadTo, to_come}
 use Rattle.scenario_run.proofs.LineLemmas.{lines_of-cons}
 
 -- no newline stands within a line
@@ -80,5 +80,35 @@ read_to text mid rest xs n p cut = record {
   ended =
       ⊎_elim (λ e. inl (newlines-append p.passed (take n p.rest) _ _ e (no_newlines n p.rest cut.of_line) ∙ omega arith))
       (λ none. inr (ap (drop n) none ∙ drop_all n [] (omega arith), ap length (p.first ∙ ap (λ rest. xs ++ lines_of rest) none ∙ append-nil xs)))
+      p.ended;
+}
+
+-- of lines that were passed each was read whole
+pub has_passed : (text ahead : List ℕ) (rest : Option (List ℕ)) (xs : List (List ℕ)) → PassesLines text (to_come ahead rest) xs → HasRead (length xs) text rest
+has_passed text ahead None xs p = absurd (let e : None ≡ Some p.rest = p.is_rest in cc)
+has_passed text ahead (Some ys) xs p =
+    let behind : ahead ++ ys ≡ p.rest = let e : Some (ahead ++ ys) ≡ Some p.rest = p.is_rest in cc in
+    record {
+      read = p.passed ++ ahead;
+      left = ys;
+      is_left = refl;
+      parts = p.parts ∙ ap (λ back. p.passed ++ back) (sym behind) ∙ sym (append_assoc p.passed ahead ys);
+      whole =
+          ⊎_elim (λ e. inl (omega (arith, e, newlines-append p.passed ahead _ _ refl refl)))
+          (λ none. inr (nothing_left ahead ys (behind ∙ none)))
+          p.ended;
+    }
+
+-- and behind them others
+pub has_read_more : (text : List ℕ) (mid rest : Option (List ℕ)) (xs : List (List ℕ)) (n : ℕ) → (p : PassesLines text mid xs) → HasRead n p.rest rest → HasRead (length xs + n) text rest
+has_read_more text mid rest xs n p r = record {
+  read = p.passed ++ r.read;
+  left = r.left;
+  is_left = r.is_left;
+  parts = p.parts ∙ ap (λ back. p.passed ++ back) r.parts ∙ sym (append_assoc p.passed r.read r.left);
+  whole =
+      ⊎_elim
+      (λ e. ⊎_elim (λ f. inl (omega (arith, e, f, newlines-append p.passed r.read _ _ refl refl))) inr r.whole)
+      (λ none. inr (nothing_left r.read r.left (sym r.parts ∙ none)))
       p.ended;
 }

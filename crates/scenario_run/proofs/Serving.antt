@@ -1,5 +1,5 @@
 -- A run from line to line: what was answered, and what it leaves at its end.
-use Rattle.std.proofs.Common.{◌≡◌, ℕ, ◌+◌, ◌<◌, nat_lt, slice_index_or, take, drop, Bool, true, List, [], ◌∷◌, ◌++◌, length, Option, Some, None, IfSome, Result, Ok, Err, inl, inr, arith, refl, sym, ◌∙◌, ap, subst, append_assoc, append-nil}
+use Rattle.std.proofs.Common.{◌≡◌, ℕ, ◌+◌, ◌<◌, nat_lt, ◌≤◌, slice_index_or, take, drop, Bool, true, false, List, [], ◌∷◌, ◌++◌, length, Option, Some, None, IfSome, Result, Ok, Err, inl, inr, arith, refl, sym, ◌∙◌, ap, subst, append_assoc, append-nil, length-append}
 use Rattle.std.proofs.lemmas.Bool.Decides.{nat_tests}
 use Rattle.std.specs.Io.KnownBytes.{Appends}
 use Rattle.own_model.specs.StartList.{Entry}
@@ -7,9 +7,9 @@ use Rattle.own_model.specs.Text.{lines_of}
 use Rattle.own_model.specs.Transcript.{heard, longest_line}
 use Rattle.own_model.specs.Transcript.Heard.{NoCall}
 use Rattle.own_model.specs.World.{World}
-use Rattle.scenario_run.specs.Answered.{Point, Answers, Halts, HaltsFor, AnswersNext, told_of, told_of_all, after_one, after_all, bad_line, more_unless_failed}
+use Rattle.scenario_run.specs.Answered.{Point, Answers, Ended, Halts, HaltsFor, AnswersNext, ReadsOn, told_of, told_of_all, after_one, after_all, bad_line, more_unless_failed}
 use Rattle.scenario_run.specs.Gathered.{Tells, TellsUnless}
-use Rattle.scenario_run.specs.Lines.{line_of, longest_read, to_come, PassesLines}
+use Rattle.scenario_run.specs.Lines.{line_of, longest_read, to_come, AreReadable, HasRead, PassesLines}
 use Rattle.scenario_run.specs.Next.{BeginsWithLine, PassesLongLine, StopsBefore, TellsAt, is_read_fault}
 use Rattle.scenario_run.specs.Serves.{Serves, run_fault}
 use Rattle.scenario_run.specs.Stops.{IsWritten, StopsFor}
@@ -19,7 +19,10 @@ use Rattle.scenario_run.specs.declared.running.RunFault.TheVariants.{TooManyLine
 use Rattle.scenario_run.proofs.FaultLemmas.{told_at}
 use Rattle.scenario_run.proofs.GatheredLemmas.{Tells-none, Tells-more}
 use Rattle.scenario_run.proofs.LineLemmas.{line_length-le, lines_of-cons, length-line_of}
-use Rattle.scenario_run.proofs.PassedLines.{passes_line, passes_none, passes_more, read_to}
+use Rattle.scenario_run.proofs.PassedLines.{has_passed, has_read_more, passes_line, passes_none, passes_more, read_to}
+use Rattle.scenario_run.proofs.ReachLemmas.{Writes, keeps_up_more, writes_at}
+use Rattle.scenario_run.specs.Reach.{KeepsUp}
+use Rattle.std.proofs.lemmas.List.Elements.{All-append, All-cons, All-nil}
 
 -- what lines leave, and then others
 after_all-append : (world : World) (xs ys : List (List ℕ)) → after_all (after_all world xs) ys ≡ after_all world (xs ++ ys)
@@ -45,13 +48,21 @@ left_by_both world mid last xs ys left then = then ∙ ap (λ w. after_all w ys)
 abbrev pub start : World → Option (List ℕ) → Option (List ℕ) → Point
 start world rest written = record { world = world; ahead = []; rest = rest; written = written; gathered = [] }
 
+-- no line is too long to be read where there is none
+pub none_readable : AreReadable []
+none_readable = All-nil (λ line. length line ≤ longest_read)
+
+-- and where there is one that isn't
+one_readable : (line : List ℕ) → length line ≤ longest_read → AreReadable (line ∷ [])
+one_readable line short = All-cons (λ line. length line ≤ longest_read) line [] short none_readable
+
 -- no line is answered at first
 pub answers_none : (world : World) (rest written : Option (List ℕ)) (ahead gathered : List ℕ) → ahead ≡ [] → gathered ≡ [] →
     Answers [] (start world rest written) (record { world = world; ahead = ahead; rest = rest; written = written; gathered = gathered })
 answers_none world None written ahead gathered no_ahead no_gathered =
-    rw (no_ahead, no_gathered) (record { world = refl; tells = Tells-none written []; passes = tt })
+    rw (no_ahead, no_gathered) (record { world = refl; tells = Tells-none written []; passes = tt; readable = none_readable })
 answers_none world (Some text) written ahead gathered no_ahead no_gathered =
-    rw (no_ahead, no_gathered) (record { world = refl; tells = Tells-none written []; passes = passes_none text })
+    rw (no_ahead, no_gathered) (record { world = refl; tells = Tells-none written []; passes = passes_none text; readable = none_readable })
 
 -- lines are answered after lines
 pub answers_more : {p q r : Point} {xs ys : List (List ℕ)} → Answers xs p q → Answers ys q r → Answers (xs ++ ys) p r
@@ -59,25 +70,29 @@ answers_more {p = p} {q = q} {r = r} {xs = xs} {ys = ys} first then = record {
   world = left_by_both p.world q.world r.world xs ys first.world then.world;
   tells = rw (← told_of_both p.world q.world xs ys first.world) (Tells-more first.tells then.tells);
   passes = passes_more (to_come p.ahead p.rest) (to_come q.ahead q.rest) (to_come r.ahead r.rest) xs ys first.passes then.passes;
+  readable = All-append (λ line. length line ≤ longest_read) xs ys first.readable then.readable;
 }
 
 -- lines that were passed are the first, and others are left
-left_behind : (old come : Option (List ℕ)) (xs : List (List ℕ)) → IfSome old (λ text. PassesLines text come xs) → IfSome old (λ text. (left : List (List ℕ)) × (lines_of text ≡ xs ++ left))
-left_behind None come xs passes = tt
-left_behind (Some text) come xs passes = (lines_of passes.rest, passes.first)
+left_behind : (old rest : Option (List ℕ)) (ahead : List ℕ) (xs : List (List ℕ)) → IfSome old (λ text. PassesLines text (to_come ahead rest) xs) →
+    IfSome old (λ text. HaltsFor Write xs text rest)
+left_behind None rest ahead xs passes = tt
+left_behind (Some text) rest ahead xs passes = (lines_of passes.rest, passes.first, has_passed text ahead rest xs passes)
 
 -- a line is answered, unless a write fails
 pub answered_line : {E : Type 0} (p q : Point) (written : Option (List ℕ)) (gathered line : List ℕ) (answered : Result (Unit {0}) E) →
     Tells p.written p.gathered written gathered [] → TellsUnless answered written gathered q.written q.gathered (told_of p.world line) →
     q.world ≡ after_one p.world line → IfSome (to_come p.ahead p.rest) (λ text. PassesLines text (to_come q.ahead q.rest) (line ∷ [])) →
-    AnswersNext (more_unless_failed answered) p q
-answered_line p q written gathered line (Ok done) before tells world passes =
-    (line, record { world = world; tells = rw (append-nil (told_of p.world line)) (Tells-more before tells); passes = passes })
-answered_line p q written gathered line (Err fault) before tells world passes = record {
+    length line ≤ longest_read → AnswersNext (more_unless_failed answered) p q
+answered_line p q written gathered line (Ok done) before tells world passes short =
+    (line, record { world = world; tells = rw (append-nil (told_of p.world line)) (Tells-more before tells); passes = passes; readable = one_readable line short })
+answered_line p q written gathered line (Err fault) before tells world passes short = record {
   answered = line ∷ [];
   world = world;
   tells = (tells.0, rw (append-nil (told_of p.world line)) (Tells-more before (tells.1)));
-  lines = left_behind (to_come p.ahead p.rest) (to_come q.ahead q.rest) (line ∷ []) passes;
+  lines = left_behind (to_come p.ahead p.rest) q.rest q.ahead (line ∷ []) passes;
+  readable = one_readable line short;
+  one = omega arith;
 }
 
 -- the line that lies ahead is passed
@@ -100,25 +115,32 @@ unheard world line e = record { tells = rw e refl; leaves = rw e refl }
 
 -- a line that was too long, and is passed
 pub passes_long : (world : World) (old come : Option (List ℕ)) → IfSome old (λ before. PassesLongLine before come) →
-    (line : List ℕ) × IsUnheard world line × IfSome old (λ text. PassesLines text come (line ∷ []))
-passes_long world None come long = ([], unheard world [] refl, tt)
+    (line : List ℕ) × IsUnheard world line × IfSome old (λ text. PassesLines text come (line ∷ [])) × (length line ≤ longest_read)
+passes_long world None come long = ([], unheard world [] refl, tt, omega arith)
 passes_long world (Some text) come long = (
   line_of text,
   unheard world (line_of text) (heard_long world.entries (line_of text) (omega (arith, long.long, length-line_of text))),
   passes_line text come (omega (arith, long.long, line_length-le text)) long.after,
+  omega (arith, long.ends, length-line_of text),
 )
 
 -- a fault before a line is one before any is answered
-halts_for : (old rest : Option (List ℕ)) (fault : LineFault) → IfSome old (λ before. StopsBefore fault before rest) → IfSome old (λ text. HaltsFor fault [] text rest)
+pub halts_for : (old rest : Option (List ℕ)) (fault : LineFault) → IfSome old (λ before. StopsBefore fault before rest) → IfSome old (λ text. HaltsFor fault [] text rest)
 halts_for None rest fault stops = tt
 halts_for (Some text) rest Read stops = (refl, stops)
-halts_for (Some text) rest Write stops = (lines_of text, refl)
+halts_for (Some text) rest Write stops = (lines_of text, refl, stops)
 halts_for (Some text) rest Endless stops = (refl, stops)
 
 -- no line comes, so none is answered
-pub halts_before : (p q : Point) (fault : LineFault) → q.world ≡ p.world → TellsAt fault p.written p.gathered q.written [] →
+abbrev pub halts_before : (p q : Point) (fault : LineFault) → q.world ≡ p.world → TellsAt fault p.written p.gathered q.written [] →
     IfSome (to_come p.ahead p.rest) (λ before. StopsBefore fault before q.rest) → Halts fault p q
-halts_before p q fault world tells stops = record { answered = []; world = world; tells = tells; lines = halts_for (to_come p.ahead p.rest) q.rest fault stops }
+halts_before p q fault world tells stops = record { answered = []; world = world; tells = tells; lines = halts_for (to_come p.ahead p.rest) q.rest fault stops; readable = none_readable; one = omega arith }
+
+-- where no line begins nothing is to come
+pub none_begins : (come : Option (List ℕ)) → IfSome come (λ before. false ≡ nat_lt 0 (length before)) → IfSome come (λ text. text ≡ [])
+none_begins None none = tt
+none_begins (Some []) none = refl
+none_begins (Some (b ∷ bs)) none = let few : length (b ∷ bs) ≤ 0 = grind (arith, nat_tests) in absurd (omega (arith, few))
 
 -- all that was told is written
 all_written : {w w' : Option (List ℕ)} {told : List ℕ} → Tells w [] w' [] told → Appends w w' told
@@ -138,37 +160,73 @@ behind (Some text) come xs P Q passes holds then = then text passes (subst (λ (
 
 -- why the run stops, where a fault comes behind the lines answered
 stops_for : (fault : LineFault) (text : List ℕ) (come rest : Option (List ℕ)) (xs answered : List (List ℕ)) (max_lines : ℕ) (failed : Bool) →
-    failed ≡ is_read_fault {T = Bool} (Err fault) → (p : PassesLines text come xs) → HaltsFor fault answered p.rest rest →
+    failed ≡ is_read_fault {T = Bool} (Err fault) → length (xs ++ answered) ≤ max_lines → (p : PassesLines text come xs) → HaltsFor fault answered p.rest rest →
     (left : List (List ℕ)) × (lines_of text ≡ (xs ++ answered) ++ left) × StopsFor (run_fault fault) (xs ++ answered) left max_lines text rest failed
-stops_for Read text come rest xs answered max_lines failed fails p halts =
+stops_for Read text come rest xs answered max_lines failed fails few p halts =
     rw (halts.0, append-nil xs) (lines_of p.rest, p.first, inl (fails, read_to text come rest xs (halts.1.0) p (halts.1.1)))
-stops_for Write text come rest xs answered max_lines failed fails p halts =
-    (halts.0, p.first ∙ ap (λ lines. xs ++ lines) halts.1 ∙ sym (append_assoc xs answered halts.0), tt)
-stops_for Endless text come rest xs answered max_lines failed fails p halts =
+stops_for Write text come rest xs answered max_lines failed fails few p halts =
+    let whole : HasRead (length (xs ++ answered)) text rest =
+    subst (λ n. HasRead n text rest) (sym (length-append xs answered)) (has_read_more text come rest xs (length answered) p halts.2) in
+    (halts.0, p.first ∙ ap (λ lines. xs ++ lines) halts.1 ∙ sym (append_assoc xs answered halts.0), (few, whole))
+stops_for Endless text come rest xs answered max_lines failed fails few p halts =
     let long : longest_read < length (slice_index_or (lines_of p.rest) 0 []) =
     rw (lines_of-cons p.rest (omega (arith, halts.1, line_length-le p.rest))) (omega (arith, halts.1, length-line_of p.rest)) in
     rw (halts.0, append-nil xs) (lines_of p.rest, p.first, inr long)
 
 -- a run ends behind the lines answered
-module _ {world : World} {input written : Option (List ℕ)} {xs : List (List ℕ)} {q : Point} (answers : Answers xs (start world input written) q) where
+module _ {world : World} {input written : Option (List ℕ)} {xs : List (List ℕ)} {q : Point} (answers : Answers xs (start world input written) q)
+    (up : KeepsUp (told_of_all world) xs input q.rest written q.written) where
+  -- it keeps up until it ends
+  kept_up : (r : Point) (ys : List (List ℕ)) → ReadsOn q r → Writes q.written r.written → KeepsUp (told_of_all world) (xs ++ ys) input r.rest written r.written
+  kept_up r ys on more = keeps_up_more (told_of_all world) ys (to_come q.ahead q.rest) answers.tells (whole input answers.passes) up on more
+    where
+      whole : (o : Option (List ℕ)) → IfSome (to_come [] o) (λ text. PassesLines text (to_come q.ahead q.rest) xs) → IfSome o (λ text. PassesLines text (to_come q.ahead q.rest) xs)
+      whole None passes = tt
+      whole (Some text) passes = passes
+
+  -- one line more is answered
+  pub kept_up_next : (r : Point) (line : List ℕ) → ReadsOn q r → Answers (line ∷ []) q r → KeepsUp (told_of_all world) (xs ++ line ∷ []) input r.rest written r.written
+  kept_up_next r line on then = kept_up r (line ∷ []) on (record { out = then.tells.out; grows = then.tells.grows })
+
+  -- or none
+  kept_up_here : (r : Point) → ReadsOn q r → Writes q.written r.written → KeepsUp (told_of_all world) xs input r.rest written r.written
+  kept_up_here r on more = subst (λ lines. KeepsUp (told_of_all world) lines input r.rest written r.written) (append-nil xs) (kept_up r [] on more)
+
+  -- no line is left
+  pub serves_to_end : (r : Point) (max_lines count : ℕ) (failed : Bool) → length xs ≡ count → count ≤ max_lines → ReadsOn q r → Ended q r →
+      Serves (Ok count) max_lines world r.world input r.rest failed written r.written
+  serves_to_end r max_lines count failed full few on ended = record {
+    answered = xs;
+    world = ended.world ∙ answers.world;
+    told = all_written (subst (Tells written [] r.written []) (append-nil (told_of_all world xs)) (Tells-more answers.tells ended.tells));
+    count = (few, full);
+    lines = behind input (to_come q.ahead q.rest) xs _ _ answers.passes ended.none (λ text p none. (lines_of p.rest, p.first, ap lines_of none));
+    readable = answers.readable;
+    keeps_up = kept_up_here r on (record { out = ended.tells.out; grows = ended.tells.grows });
+  }
+
   -- a fault comes
-  pub serves_to_fault : (r : Point) (max_lines : ℕ) (failed : Bool) (fault : LineFault) → failed ≡ is_read_fault {T = Bool} (Err fault) → Halts fault q r →
-      Serves (Err (run_fault fault)) max_lines world r.world input r.rest failed written r.written
-  serves_to_fault r max_lines failed fault fails halts = record {
+  pub serves_to_fault : (r : Point) (max_lines : ℕ) (failed : Bool) (fault : LineFault) → failed ≡ is_read_fault {T = Bool} (Err fault) → (halts : Halts fault q r) →
+      length xs + length halts.answered ≤ max_lines → ReadsOn q r → Serves (Err (run_fault fault)) max_lines world r.world input r.rest failed written r.written
+  serves_to_fault r max_lines failed fault fails halts few on = record {
     answered = xs ++ halts.answered;
     world = left_by_both world q.world r.world xs halts.answered answers.world halts.world;
     told =
         written_at written r.written _ fault (subst (TellsAt fault written [] r.written) (told_of_both world q.world xs halts.answered answers.world)
         (told_at r.written (told_of_all q.world halts.answered) fault answers.tells halts.tells));
     count = tt;
-    lines = behind input (to_come q.ahead q.rest) xs _ _ answers.passes halts.lines (λ text p for. stops_for fault text _ r.rest xs halts.answered max_lines failed fails p for);
+    lines =
+        behind input (to_come q.ahead q.rest) xs _ _ answers.passes halts.lines
+        (λ text p for. stops_for fault text _ r.rest xs halts.answered max_lines failed fails (omega (arith, few, length-append xs halts.answered)) p for);
+    readable = All-append (λ line. length line ≤ longest_read) xs halts.answered answers.readable halts.readable;
+    keeps_up = kept_up r halts.answered on (writes_at fault q.written r.written q.gathered _ halts.tells);
   }
 
   -- there are more lines than are allowed
   pub serves_too_many : (r : Point) (max_lines : ℕ) (failed : Bool) → length xs ≡ max_lines → r.world ≡ q.world →
-      Tells q.written q.gathered r.written [] [] → IfSome (to_come q.ahead q.rest) (λ before. true ≡ nat_lt 0 (length before)) →
+      Tells q.written q.gathered r.written [] [] → IfSome (to_come q.ahead q.rest) (λ before. true ≡ nat_lt 0 (length before)) → ReadsOn q r →
       Serves (Err TooManyLines) max_lines world r.world input r.rest failed written r.written
-  serves_too_many r max_lines failed full same tells more = record {
+  serves_too_many r max_lines failed full same tells more on = record {
     answered = xs;
     world = same ∙ answers.world;
     told = all_written (subst (Tells written [] r.written []) (append-nil (told_of_all world xs)) (Tells-more answers.tells tells));
@@ -176,4 +234,6 @@ module _ {world : World} {input written : Option (List ℕ)} {xs : List (List �
     lines = behind input (to_come q.ahead q.rest) xs _ _ answers.passes more (λ text p some.
         let begun : 0 < length p.rest = grind (arith, nat_tests) in
         (lines_of p.rest, p.first, (full, omega (arith, ap length (lines_of-cons p.rest begun)))));
+    readable = answers.readable;
+    keeps_up = kept_up_here r on (record { out = tells.out; grows = tells.grows });
   }

@@ -14,6 +14,8 @@ use Rattle.init_core.specs.Boot.{quota_fault}
 use Rattle.init_core.specs.StartText.{list_in}
 use Rattle.init_core.specs.declared.fault.BootFault.{BootFault}
 use Rattle.init_core.specs.declared.fault.BootFault.TheVariants.{NoMemory}
+use Rattle.std.proofs.lemmas.List.Elements.{All-nil}
+use Rattle.scenario_run.specs.Lines.{AreReadable, longest_read}
 use Rattle.scenario_run.specs.Program.{IsMachine, IsDone, FailsFor, StopsScenario, TotalsAre, boot_fault, ok_line, scenario_text}
 use Rattle.scenario_run.specs.Stops.{Stops, AppendsPart}
 use Rattle.scenario_run.specs.declared.program.Failure.TheVariants as failure
@@ -64,7 +66,7 @@ module _ {text : List ℕ} {listed : Listed} (reads : list_in text ≡ Ok listed
   pub done_check : (asked : Task) (input written now_written : Option (List ℕ)) (lines : ℕ) → asked ≡ task.Check →
       lines ≡ 0 → Appends written now_written ok_line → IsDone asked text input lines written now_written
   done_check asked input written now_written lines is none tells =
-      rw is (record { list = start_list_of listed; machine = machine; lines_are = none; writes = tells; totals = totals_after (start_list_of listed) boots })
+      rw is (record { list = start_list_of listed; machine = machine; lines_are = none; readable = All-nil (λ line. length line ≤ longest_read); writes = tells; totals = totals_after (start_list_of listed) boots })
 
   -- or not all of it
   pub stopped_check : (asked : Task) (fault : RunFault) (max_lines : ℕ) (input rest written now_written : Option (List ℕ)) (failed : Bool) → asked ≡ task.Check →
@@ -74,13 +76,14 @@ module _ {text : List ℕ} {listed : Listed} (reads : list_in text ≡ Ok listed
   module _ {world : World} (starts : world ≡ start_world (start_list_of listed)) where
     -- the scenario is answered
     pub done_run : (asked : Task) (accounts : Bool) (input written now_written : Option (List ℕ)) (lines : ℕ) → asked ≡ task.Run accounts →
-        IfSome input (λ bytes. lines ≡ length (lines_of bytes)) → IfSome input (λ bytes. Appends written now_written (scenario_text accounts world bytes)) →
-        IsDone asked text input lines written now_written
-    done_run asked accounts input written now_written lines is counts tells =
+        IfSome input (λ bytes. lines ≡ length (lines_of bytes)) → IfSome input (λ bytes. AreReadable (lines_of bytes)) →
+        IfSome input (λ bytes. Appends written now_written (scenario_text accounts world bytes)) → IsDone asked text input lines written now_written
+    done_run asked accounts input written now_written lines is counts readable tells =
         rw is (record {
           list = start_list_of listed;
           machine = machine;
           lines_are = counts;
+          readable = readable;
           writes = subst (λ w. IfSome input (λ bytes. Appends written now_written (scenario_text accounts w bytes))) starts tells;
           totals = totals_after (start_list_of listed) boots;
         })
@@ -128,14 +131,15 @@ stopped_in_run world new accounts fault max_lines (Some bytes) rest written now_
 -- or the account list behind it
 pub stopped_in_list : (world last : World) (accounts : Bool) (fault : RunFault) (max_lines lines : ℕ) (input rest w w' w'' : Option (List ℕ)) (failed : Bool) →
     accounts ≡ true → fault ≡ WriteFault → lines ≤ max_lines →
-    IfSome input (λ bytes. lines ≡ length (lines_of bytes)) → IfSome input (λ bytes. last ≡ world_running world (lines_of bytes)) →
+    IfSome input (λ bytes. lines ≡ length (lines_of bytes)) → IfSome input (λ bytes. AreReadable (lines_of bytes)) → IfSome input (λ bytes. last ≡ world_running world (lines_of bytes)) →
     IfSome input (λ bytes. Appends w w' (transcript world.entries world.states bytes)) → AppendsPart w' w'' (account_list_text last) →
     IfSome input (λ bytes. StopsScenario accounts fault max_lines world bytes rest failed w w'')
-stopped_in_list world last accounts fault max_lines lines None rest w w' w'' failed asked fails few counts is tells part = tt
-stopped_in_list world last accounts fault max_lines lines (Some bytes) rest w w' w'' failed asked fails few counts is tells part = inr (record {
+stopped_in_list world last accounts fault max_lines lines None rest w w' w'' failed asked fails few counts readable is tells part = tt
+stopped_in_list world last accounts fault max_lines lines (Some bytes) rest w w' w'' failed asked fails few counts readable is tells part = inr (record {
   asked = asked;
   fault_is = fails;
   few = omega (arith, few, counts);
+  readable = readable;
   part = part.part;
   left = part.left;
   parts = ap account_list_text (sym is) ∙ part.parts;

@@ -1,8 +1,8 @@
 -- What was passed, and what is left to come.
-use Rattle.std.proofs.Common.{◌≡◌, ℕ, ◌+◌, ◌<◌, ◌≤◌, List, [], ◌∷◌, ◌++◌, length, take, drop, Option, Some, None, IfSome, Err, arith, sym, ◌∙◌, ap, length-append}
-use Rattle.std.proofs.lemmas.List.{drop-drop, drop_all, drop_at, drop-append-le, take-append-le}
+use Rattle.std.proofs.Common.{◌≡◌, ℕ, ◌+◌, ◌<◌, ◌≤◌, List, [], ◌∷◌, ◌++◌, length, take, drop, Option, Some, None, IfSome, Err, inl, arith, refl, sym, ◌∙◌, ap, subst, append_assoc, length-append}
+use Rattle.std.proofs.lemmas.List.{drop-drop, drop_all, drop_at, drop-append-le, take-append-drop, take-append-le}
 use Rattle.std.specs.Io.KnownBytes.{Keeps, IsAtEnd}
-use Rattle.scenario_run.specs.Lines.{line_length, after_line, longest_read, to_come, PassesSome}
+use Rattle.scenario_run.specs.Lines.{line_length, after_line, longest_read, to_come, HasRead, PassesSome}
 use Rattle.scenario_run.specs.Next.{BeginsWithLine, PassesLongLine, StopsBefore, GrowsOrStops}
 use Rattle.scenario_run.specs.declared.lines.LineFault.{LineFault}
 use Rattle.scenario_run.specs.declared.lines.LineFault.TheVariants.{Read, Write, Endless}
@@ -119,12 +119,29 @@ fails_within (Some before) (Some ys) (Some zs) ahead n passes whole keeps =
     sym (drop_at ahead ys (line_length ahead) (sym is)) ∙ ap (drop (line_length ahead)) (left_is before (ahead ++ ys) n passes) ∙ drop-drop (line_length ahead) n before in
     (k, record { of_line = omega (arith, left_length before (ahead ++ ys) n passes, line_length-append-le ahead ys); left = ap Some (keeps ∙ behind) })
 
+-- before a write that fails what was read lies ahead, or was passed
+unread : (old rest : Option (List ℕ)) (ahead : List ℕ) (n : ℕ) → Passes old (to_come ahead rest) n → IfSome old (λ before. HasRead 0 before rest)
+unread None rest ahead n passes = tt
+unread (Some before) None ahead n passes = absurd (let e : None ≡ Some (drop n before) = passes.left in cc)
+unread (Some before) (Some ys) ahead n passes = record {
+  read = take n before ++ ahead;
+  left = ys;
+  is_left = refl;
+  parts = sym (take-append-drop n before) ∙ ap (λ back. take n before ++ back) (sym (left_is before (ahead ++ ys) n passes)) ∙ sym (append_assoc (take n before) ahead ys);
+  whole = inl (omega arith);
+}
+
+-- and so where nothing was passed
+pub unread_ahead : (ahead : List ℕ) (rest : Option (List ℕ)) → IfSome (to_come ahead rest) (λ before. HasRead 0 before rest)
+unread_ahead ahead None = tt
+unread_ahead ahead (Some ys) = record { read = ahead; left = ys; is_left = refl; parts = refl; whole = inl (omega arith) }
+
 -- so no line comes where a read or a write fails
 pub no_line : (old rest now_rest : Option (List ℕ)) (ahead now_ahead : List ℕ) (n : ℕ) (fault : LineFault) → Passes old (to_come ahead rest) n → length ahead ≤ line_length ahead
     → GrowsOrStops (Err fault) ahead rest now_ahead now_rest → IfSome old (λ before. StopsBefore fault before now_rest)
 no_line old rest now_rest ahead now_ahead n Read passes whole stops = fails_within old rest now_rest ahead n passes whole (stops.1)
-no_line None rest now_rest ahead now_ahead n Write passes whole stops = tt
-no_line (Some before) rest now_rest ahead now_ahead n Write passes whole stops = tt
+no_line old rest now_rest ahead now_ahead n Write passes whole stops =
+    subst (λ r. IfSome old (λ before. HasRead 0 before r)) (sym stops.1) (unread old rest ahead n passes)
 no_line old rest now_rest ahead now_ahead n Endless passes whole stops = absurd stops
 
 -- a line that ends ahead is the next one

@@ -1,5 +1,5 @@
 -- What a world tells of lines, the world that they leave, and how far a run has come.
-use Rattle.std.specs.Prelude.{◌≡◌, ℕ, ◌<◌, Bool, true, false, List, [], ◌∷◌, ◌++◌, Option, IfSome, Result, Ok, Err, codes}
+use Rattle.std.specs.Prelude.{◌≡◌, ℕ, ◌<◌, ◌≤◌, Bool, true, false, List, [], ◌∷◌, ◌++◌, Option, IfSome, Result, Ok, Err, codes, length}
 use Rattle.trade_base.specs.declared.refusal.Refusal.TheVariants.{BadLine}
 use Rattle.own_model.specs.Running.{told_now, told_running}
 use Rattle.own_model.specs.Reply.Reply.{Refused}
@@ -7,8 +7,9 @@ use Rattle.own_model.specs.Text.{lines_of}
 use Rattle.own_model.specs.Transcript.{heard, reply_line}
 use Rattle.own_model.specs.World.{World, world_after_heard, world_running}
 use Rattle.scenario_run.specs.Gathered.{Tells}
-use Rattle.scenario_run.specs.Lines.{line_length, longest_read, to_come, PassesSome, PassesLines}
+use Rattle.scenario_run.specs.Lines.{line_length, longest_read, to_come, AreReadable, HasRead, PassesSome, PassesLines}
 use Rattle.scenario_run.specs.Next.{TellsAt}
+use Rattle.scenario_run.specs.Reach.{ReadsBehind, reach}
 use Rattle.scenario_run.specs.declared.lines.Buffers.{Buffers}
 use Rattle.scenario_run.specs.declared.lines.LineFault.{LineFault}
 use Rattle.scenario_run.specs.declared.lines.LineFault.TheVariants.{Read, Write, Endless}
@@ -57,6 +58,7 @@ pub record Answers (lines : List (List ℕ)) (old new : Point) : Type 0 where
   pub tells : Tells old.written old.gathered new.written new.gathered (told_of_all old.world lines)
   pub passes : IfSome (to_come old.ahead old.rest) (λ text.
       PassesLines text (to_come new.ahead new.rest) lines)
+  pub readable : AreReadable lines
 
 -- no line is left, and all that was told is written
 pub record Ended (old new : Point) : Type 0 where
@@ -67,7 +69,8 @@ pub record Ended (old new : Point) : Type 0 where
 -- why no more lines of a text are answered than these
 abbrev pub HaltsFor : LineFault → List (List ℕ) → List ℕ → Option (List ℕ) → Type 0
 HaltsFor Read answered text rest = (answered ≡ []) × ((n : ℕ) × PassesSome text rest n)
-HaltsFor Write answered text rest = (left : List (List ℕ)) × (lines_of text ≡ answered ++ left)
+HaltsFor Write answered text rest =
+    (left : List (List ℕ)) × (lines_of text ≡ answered ++ left) × HasRead (length answered) text rest
 HaltsFor Endless answered text rest = (answered ≡ []) × (longest_read < line_length text)
 
 -- a fault comes before a line is answered, or once it is
@@ -76,12 +79,18 @@ pub record Halts (fault : LineFault) (old new : Point) : Type 0 where
   pub world : new.world ≡ after_all old.world answered
   pub tells : TellsAt fault old.written old.gathered new.written (told_of_all old.world answered)
   pub lines : IfSome (to_come old.ahead old.rest) (λ text. HaltsFor fault answered text new.rest)
+  pub readable : AreReadable answered
+  pub one : length answered ≤ 1
 
 -- a line is answered, unless there is none or a fault comes
 abbrev pub AnswersNext : Result Bool LineFault → Point → Point → Type 0
 AnswersNext (Ok true) old new = (line : List ℕ) × Answers (line ∷ []) old new
 AnswersNext (Ok false) old new = Ended old new
 AnswersNext (Err fault) old new = Halts fault old new
+
+-- what is told before more is read is written
+abbrev pub ReadsOn : Point → Point → Type 0
+ReadsOn old new = ReadsBehind reach (to_come old.ahead old.rest) old.gathered old.written old.rest new.written new.rest
 
 -- there may be more lines, unless a write failed
 abbrev pub more_unless_failed : {T E : Type 0} → Result T E → Result Bool LineFault

@@ -3,6 +3,7 @@ pub mod Config
 pub mod Device
 pub mod Gathered
 pub mod Lines
+pub mod Reach
 pub mod Next
 pub mod Stops
 pub mod Answered

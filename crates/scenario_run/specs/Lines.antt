@@ -1,6 +1,6 @@
 -- The lines of what is still to come from a source.
 use Rattle.std.specs.Prelude.{◌≡◌, ℕ, ◌+◌, ◌≤◌, ◌==◌, ◌⊎◌, Bool, List, [], ◌++◌, Option, Result, Some, Ok, Err, drop, take, length}
-use Rattle.std.specs.List.{count_by, position_or_len}
+use Rattle.std.specs.List.{All, count_by, position_or_len}
 use Rattle.std.specs.Io.KnownBytes.{prepend_known, Keeps, IsAtEnd}
 use Rattle.own_model.specs.Text.{lines_of}
 
@@ -22,6 +22,10 @@ after_line bytes = drop (line_length bytes + 1) bytes
 -- the longest line that is read to its end, in bytes
 abbrev pub longest_read : ℕ
 longest_read = 1048576
+
+-- none of these lines is longer
+abbrev pub AreReadable : List (List ℕ) → Type 0
+AreReadable lines = All (λ line. length line ≤ longest_read) lines
 
 -- the bytes that were read ahead, and then what the source has left
 abbrev pub to_come : List ℕ → Option (List ℕ) → Option (List ℕ)
@@ -62,3 +66,11 @@ pub record IsReadTo (count : ℕ) (text : List ℕ) (rest : Option (List ℕ)) :
   pub is_left : rest ≡ Some left
   pub parts : text ≡ read ++ left
   pub ended : (count_by is_newline read ≡ count) ⊎ ((left ≡ []) × (length (lines_of text) ≡ count))
+
+-- a text was read so far that so many of its lines, or more, were read whole
+pub record HasRead (count : ℕ) (text : List ℕ) (rest : Option (List ℕ)) : Type 0 where
+  pub read : List ℕ
+  pub left : List ℕ
+  pub is_left : rest ≡ Some left
+  pub parts : text ≡ read ++ left
+  pub whole : (count ≤ count_by is_newline read) ⊎ (left ≡ [])

@@ -7,7 +7,7 @@ use Rattle.scenario_run.specs.declared.lines.Next.TheVariants.{Line, TooLong, En
 use Rattle.scenario_run.specs.declared.lines.LineFault.{LineFault}
 use Rattle.scenario_run.specs.declared.lines.LineFault.TheVariants.{Read, Write, Endless}
 use Rattle.scenario_run.specs.Gathered.{Tells, TellsPart}
-use Rattle.scenario_run.specs.Lines.{line_length, line_of, after_line, longest_read, to_come, Grows, PassesSome}
+use Rattle.scenario_run.specs.Lines.{line_length, line_of, after_line, longest_read, to_come, Grows, HasRead, PassesSome}
 
 -- the bytes ahead begin with the next line, of n bytes, and what comes after it is left
 pub record BeginsWithLine (before ahead : List ℕ) (rest : Option (List ℕ)) (n : ℕ) : Type 0 where
@@ -31,7 +31,7 @@ IsNext before ahead rest End = before ≡ []
 -- to its end
 abbrev pub StopsBefore : LineFault → List ℕ → Option (List ℕ) → Type 0
 StopsBefore Read before rest = (n : ℕ) × PassesSome before rest n
-StopsBefore Write before rest = ⊤
+StopsBefore Write before rest = HasRead 0 before rest
 StopsBefore Endless before rest = longest_read < line_length before
 
 -- the next line is found, or no line comes
@@ -63,7 +63,7 @@ IsReady End ahead gathered = gathered ≡ []
 abbrev pub GrowsOrStops : Result ℕ LineFault → List ℕ → Option (List ℕ) → List ℕ → Option (List ℕ) → Type 0
 GrowsOrStops (Ok n) ahead rest now_ahead now_rest = Grows ahead rest now_ahead now_rest n
 GrowsOrStops (Err Read) ahead rest now_ahead now_rest = (now_ahead ≡ ahead) × Keeps rest now_rest
-GrowsOrStops (Err Write) ahead rest now_ahead now_rest = ⊤
+GrowsOrStops (Err Write) ahead rest now_ahead now_rest = (now_ahead ≡ ahead) × (now_rest ≡ rest)
 GrowsOrStops (Err Endless) ahead rest now_ahead now_rest = ⊥
 
 -- a read failed

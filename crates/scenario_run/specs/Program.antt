@@ -11,6 +11,7 @@ use Rattle.init_core.specs.Boot.{quota_fault}
 use Rattle.init_core.specs.StartText.{list_in}
 use Rattle.init_core.specs.declared.fault.BootFault.{BootFault}
 use Rattle.init_core.specs.declared.fault.BootFault.TheVariants.{NoMemory}
+use Rattle.scenario_run.specs.Lines.{AreReadable}
 use Rattle.scenario_run.specs.Stops.{Stops, AppendsPart}
 use Rattle.scenario_run.specs.declared.program.Failure.{Failure}
 use Rattle.scenario_run.specs.declared.program.Failure.TheVariants as failure
@@ -71,6 +72,7 @@ pub record IsDone (asked : Task) (text : List ℕ) (input : Option (List ℕ)) (
   pub list : StartList
   pub machine : IsMachine text list
   pub lines_are : IfSome (read_for asked input) (λ bytes. lines ≡ length (lines_of bytes))
+  pub readable : IfSome (read_for asked input) (λ bytes. AreReadable (lines_of bytes))
   pub writes : IfSome (read_for asked input) (λ bytes. Appends written now_written (written_for asked list bytes))
   pub totals : (bytes : List ℕ) → TotalsAre list bytes
 
@@ -80,6 +82,7 @@ pub record StopsList (accounts : Bool) (fault : RunFault) (max_lines : ℕ) (wor
   pub asked : accounts ≡ true
   pub fault_is : fault ≡ WriteFault
   pub few : length (lines_of input) ≤ max_lines
+  pub readable : AreReadable (lines_of input)
   pub part : List ℕ
   pub left : List ℕ
   pub parts : account_list_text (world_running world (lines_of input)) ≡ part ++ left

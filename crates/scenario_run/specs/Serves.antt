@@ -4,6 +4,8 @@ use Rattle.std.specs.Io.KnownBytes.{Appends}
 use Rattle.own_model.specs.Text.{lines_of}
 use Rattle.own_model.specs.World.{World}
 use Rattle.scenario_run.specs.Answered.{told_of_all, after_all}
+use Rattle.scenario_run.specs.Lines.{AreReadable}
+use Rattle.scenario_run.specs.Reach.{KeepsUp}
 use Rattle.scenario_run.specs.Stops.{IsWritten, StopsFor}
 use Rattle.scenario_run.specs.declared.lines.LineFault.{LineFault}
 use Rattle.scenario_run.specs.declared.lines.LineFault.TheVariants.{Read, Write, Endless}
@@ -37,3 +39,5 @@ pub record Serves (result : Result ℕ RunFault) (max_lines : ℕ) (old new : Wo
   pub count : IfOk result (λ count. (count ≤ max_lines) × (length answered ≡ count))
   pub lines : IfSome input (λ text. (left : List (List ℕ)) × (lines_of text ≡ answered ++ left)
       × LeavesNone result answered left max_lines text rest failed)
+  pub readable : AreReadable answered
+  pub keeps_up : KeepsUp (told_of_all old) answered input rest written now_written

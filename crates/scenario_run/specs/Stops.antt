@@ -1,11 +1,12 @@
 -- When a run stops, and what it leaves.
-use Rattle.std.specs.Prelude.{◌≡◌, ℕ, ◌<◌, ◌⊎◌, Bool, true, false, List, [], ◌++◌, length, slice_index_or, Option, Result, Ok, Err, ⊤}
+use Rattle.std.specs.Prelude.{◌≡◌, ℕ, ◌<◌, ◌≤◌, ◌⊎◌, Bool, true, false, List, [], ◌++◌, length, slice_index_or, Option, Some, Result, Ok, Err}
 use Rattle.std.specs.Io.KnownBytes.{Appends}
 use Rattle.own_model.specs.Running.{init_running}
 use Rattle.own_model.specs.Text.{lines_of}
 use Rattle.own_model.specs.Transcript.{told_after, calls_of, state_at, state_after}
 use Rattle.own_model.specs.World.{World}
-use Rattle.scenario_run.specs.Lines.{longest_read, IsReadTo}
+use Rattle.scenario_run.specs.Lines.{longest_read, AreReadable, HasRead, IsReadTo}
+use Rattle.scenario_run.specs.Reach.{KeepsUp}
 use Rattle.scenario_run.specs.declared.running.RunFault.{RunFault}
 use Rattle.scenario_run.specs.declared.running.RunFault.TheVariants.{ReadFault, WriteFault, TooManyLines}
 
@@ -24,12 +25,14 @@ IsWritten TooManyLines old new told = Appends old new told
 
 -- why these lines of an input were answered and those left were not:
 -- the reader failed when just these had ended, or the next one is too long to be read to its end;
--- the writer failed; or these are as many as are allowed, and one more began
+-- the writer failed, and no line was answered that isn't allowed or wasn't read whole;
+-- or these are as many as are allowed, and one more began
 abbrev pub StopsFor : RunFault → List (List ℕ) → List (List ℕ) → ℕ → List ℕ → Option (List ℕ) → Bool → Type 0
 StopsFor ReadFault answered left max_lines input rest failed =
     ((failed ≡ true) × IsReadTo (length answered) input rest)
     ⊎ (longest_read < length (slice_index_or left 0 []))
-StopsFor WriteFault answered left max_lines input rest failed = ⊤
+StopsFor WriteFault answered left max_lines input rest failed =
+    (length answered ≤ max_lines) × HasRead (length answered) input rest
 StopsFor TooManyLines answered left max_lines input rest failed =
     (length answered ≡ max_lines) × (0 < length left)
 
@@ -40,6 +43,9 @@ pub record Stops (fault : RunFault) (max_lines : ℕ) (old new : World) (input :
   pub left : List (List ℕ)
   pub lines : lines_of input ≡ answered ++ left
   pub cause : StopsFor fault answered left max_lines input rest failed
+  pub readable : AreReadable answered
+  pub keeps_up :
+      KeepsUp (told_after old.entries old.states []) answered (Some input) rest written now_written
   pub told : IsWritten fault written now_written (told_after old.entries old.states [] answered)
   pub states : (component : ℕ) →
       state_at new.states component

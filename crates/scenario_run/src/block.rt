@@ -95,6 +95,7 @@ impl Block {
         requires reads { S.has_failed source.old ≡ false }
         ensures grows { GrowsUnless result
             self.old (S.remaining source.old) self.new (S.remaining source.new) }
+        ensures fits { length self.new ≤ CAPACITY }
         ensures failing { S.has_failed source.new ≡ is_err result }
     {
         (self.start, self.end) = move_to_front(&mut self.bytes, self.start, self.end);

@@ -1,7 +1,8 @@
 //! The lines of a source, one after another.
 ghost use Rattle.std.specs.Prelude.{◌≡◌, ◌<◌, ◌≤◌, false, [], length, IfOk, OnOk};
-ghost use Rattle.scenario_run.specs.Lines.{line_length};
+ghost use Rattle.scenario_run.specs.Lines.{line_length, to_come};
 ghost use Rattle.scenario_run.specs.Next.{FindsNextIn, BeginsIn, GrowsOrStops, TellsOrStops, IsReady, is_read_fault, is_write_fault};
+ghost use Rattle.scenario_run.specs.Reach.{ReadsBehind, longest_ahead, reach};
 
 use crate::block::{Block, LONGEST_LINE};
 use crate::device::{DeviceFault, Sink, Source};
@@ -65,6 +66,8 @@ impl Buffers {
         ensures told { TellsOrStops result
             (K.contents sink.old) self.old.gathered (K.contents sink.new) self.new.gathered [] }
         ensures empty { OnOk result (self.new.gathered ≡ []) }
+        ensures behind { ReadsBehind (λ _. longest_ahead) (to_come self.old.ahead (S.remaining source.old)) self.old.gathered
+            (K.contents sink.old) (S.remaining source.old) (K.contents sink.new) (S.remaining source.new) }
         ensures reading { S.has_failed source.new ≡ is_read_fault result }
         ensures writing { K.has_failed sink.new ≡ is_write_fault result }
     {
@@ -88,6 +91,8 @@ impl Buffers {
         ensures next { FindsNextIn result
             self.old.ahead (S.remaining source.old) self.new.ahead (S.remaining source.new) }
         ensures ready { IfOk result (λ next. IsReady next self.new.ahead self.new.gathered) }
+        ensures behind { ReadsBehind reach (to_come self.old.ahead (S.remaining source.old)) self.old.gathered
+            (K.contents sink.old) (S.remaining source.old) (K.contents sink.new) (S.remaining source.new) }
         ensures told { TellsOrStops result
             (K.contents sink.old) self.old.gathered (K.contents sink.new) self.new.gathered [] }
         ensures reading { S.has_failed source.new ≡ is_read_fault result }
@@ -121,6 +126,8 @@ impl Buffers {
         requires reads { S.has_failed source.old ≡ false }
         requires writes { K.has_failed sink.old ≡ false }
         ensures begins { BeginsIn result self.old.ahead (S.remaining source.old) (S.remaining source.new) }
+        ensures behind { ReadsBehind reach (to_come self.old.ahead (S.remaining source.old)) self.old.gathered
+            (K.contents sink.old) (S.remaining source.old) (K.contents sink.new) (S.remaining source.new) }
         ensures told { TellsOrStops result
             (K.contents sink.old) self.old.gathered (K.contents sink.new) [] [] }
         ensures reading { S.has_failed source.new ≡ is_read_fault result }
@@ -147,6 +154,8 @@ impl Buffers {
         ensures next { FindsNextIn result
             self.old.ahead (S.remaining source.old) self.new.ahead (S.remaining source.new) }
         ensures ready { IfOk result (λ next. IsReady next self.new.ahead self.new.gathered) }
+        ensures behind { ReadsBehind reach (to_come self.old.ahead (S.remaining source.old)) self.old.gathered
+            (K.contents sink.old) (S.remaining source.old) (K.contents sink.new) (S.remaining source.new) }
         ensures told { TellsOrStops result
             (K.contents sink.old) self.old.gathered (K.contents sink.new) self.new.gathered [] }
         ensures reading { S.has_failed source.new ≡ is_read_fault result }

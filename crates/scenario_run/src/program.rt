@@ -7,6 +7,7 @@ ghost use Rattle.own_model.specs.Text.{lines_of};
 ghost use Rattle.own_model.specs.World.{IsBalancedFor};
 ghost use Rattle.init_core.specs.declared.fault.BootFault.{BootFault as Unbooted};
 ghost use Rattle.init_core.specs.declared.fault.BootFault.TheVariants.{NoMemory as NoRoom};
+ghost use Rattle.scenario_run.specs.Lines.{AreReadable};
 ghost use Rattle.scenario_run.specs.Program.{FailsFor, FailsIn, IsDone, IsMachine, StopsScenario, ok_line, scenario_text, status_of, written_for};
 ghost use Rattle.scenario_run.specs.Stops.{AppendsPart, is_write_fault};
 ghost use Rattle.scenario_run.specs.declared.program.Failure.TheVariants.{Boot as Booting, Run as Running};
@@ -122,6 +123,7 @@ fn answer_scenario<R: Router + Drop, S: Source, K: Sink>(
     ensures lines { IfOk result (λ summary. IfSome (S.remaining reader.old) (λ input.
         summary.lines ≡ length (lines_of input))) }
     ensures few { IfOk result (λ summary. summary.lines ≤ MAX_LINES) }
+    ensures readable { OnOk result (IfSome (S.remaining reader.old) (λ input. AreReadable (lines_of input))) }
     ensures told { OnOk result (IfSome (S.remaining reader.old) (λ input.
         Appends (K.contents writer.old) (K.contents writer.new) (scenario_text accounts core.old input))) }
     ensures stops { IfErr result (λ fault. IfSome (S.remaining reader.old) (λ input.
@@ -176,7 +178,10 @@ pub struct Stopped {
 pub fn run_bytes(alloc: Global, text: &[u8], task: Task, input: &[u8]) -> Result<Vec<u8>, Stopped>
     ensures written { IfOk result (λ written. (list : Machine) × IsMachine text.now list
         × (written.items ≡ written_for task list input.now)) }
-    ensures few { OnOk result ((accounts : Bool) → task ≡ Answering accounts → length (lines_of input.now) ≤ MAX_LINES) }
+    ensures few { OnOk result ((accounts : Bool) → task ≡ Answering accounts →
+        length (lines_of input.now) ≤ MAX_LINES) }
+    ensures readable { OnOk result ((accounts : Bool) → task ≡ Answering accounts →
+        AreReadable (lines_of input.now)) }
     ensures fails { IfErr result (λ stopped.
         FailsIn stopped.failure task text.now MAX_LINES input.now stopped.written.items) }
 {

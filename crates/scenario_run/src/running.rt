@@ -1,6 +1,5 @@
 //! The run: lines are read, answered and written.
 ghost use Rattle.std.specs.Prelude.{◌≡◌, ℕ, ◌+◌, ◌≤◌, ◌||◌, List, true, false, length, take, drop, is_err, IfSome, IfOk, IfErr, OnOk, Err, if◌then◌else◌};
-ghost use Rattle.std.specs.List.{All};
 ghost use Rattle.std.specs.Io.KnownBytes.{Appends};
 ghost use Rattle.own_model.specs.Listed.{start_list_of};
 ghost use Rattle.own_model.specs.Running.{init_running};
@@ -8,9 +7,9 @@ ghost use Rattle.own_model.specs.StartList.{StartList as Machine, entries_of};
 ghost use Rattle.own_model.specs.Text.{lines_of};
 ghost use Rattle.own_model.specs.Transcript.{transcript, calls_of, state_at, state_after};
 ghost use Rattle.own_model.specs.World.{IsBalanced, IsBalancedFor, world_running};
-ghost use Rattle.scenario_run.specs.Answered.{AnswersNext, point, told_of, after_one, more_unless_failed};
+ghost use Rattle.scenario_run.specs.Answered.{AnswersNext, ReadsOn, point, told_of, after_one, more_unless_failed};
 ghost use Rattle.scenario_run.specs.Gathered.{TellsUnless};
-ghost use Rattle.scenario_run.specs.Lines.{longest_read};
+ghost use Rattle.scenario_run.specs.Lines.{AreReadable};
 ghost use Rattle.scenario_run.specs.Next.{is_read_fault, is_write_fault as is_line_write_fault};
 ghost use Rattle.scenario_run.specs.Serves.{Serves, run_fault};
 ghost use Rattle.scenario_run.specs.Stops.{Stops, is_write_fault};
@@ -76,6 +75,7 @@ pub fn run<R: Router + Drop, S: Source, K: Sink>(
     ensures lines { IfOk result (λ summary. IfSome (S.remaining reader.old) (λ input.
         summary.lines ≡ length (lines_of input))) }
     ensures few { IfOk result (λ summary. summary.lines ≤ max_lines) }
+    ensures readable { OnOk result (IfSome (S.remaining reader.old) (λ input. AreReadable (lines_of input))) }
     ensures transcript { OnOk result (IfSome (S.remaining reader.old) (λ input.
         Appends (K.contents writer.old) (K.contents writer.new)
         (transcript core.old.entries core.old.states input))) }
@@ -97,7 +97,7 @@ pub fn run<R: Router + Drop, S: Source, K: Sink>(
         (K.contents writer.old) (K.contents writer.new))) }
     ensures ok { IfErr result (λ fault. IfSome (S.remaining reader.old) (λ input.
         S.has_failed reader.new ≡ false → K.has_failed writer.new ≡ false
-        → All (λ line. length line ≤ longest_read) (lines_of input)
+        → AreReadable (lines_of input)
         → length (lines_of input) ≤ max_lines → ⊥)) }
     ensures before { (K.has_failed writer.old || S.has_failed reader.old) ≡ true →
         (result ≡ Err (if K.has_failed writer.old then WriteFault else ReadFault))
@@ -158,6 +158,9 @@ fn answer_next<R: Router + Drop, S: Source, K: Sink>(
     requires reads { S.has_failed reader.old ≡ false }
     requires writes { K.has_failed writer.old ≡ false }
     ensures next { AnswersNext result
+        (point core.old buffers.old (S.remaining reader.old) (K.contents writer.old))
+        (point core.new buffers.new (S.remaining reader.new) (K.contents writer.new)) }
+    ensures behind { ReadsOn
         (point core.old buffers.old (S.remaining reader.old) (K.contents writer.old))
         (point core.new buffers.new (S.remaining reader.new) (K.contents writer.new)) }
     ensures reading { S.has_failed reader.new ≡ is_read_fault result }

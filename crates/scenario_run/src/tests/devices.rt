@@ -77,6 +77,23 @@ impl Write for Unwritable {
     }
 }
 
+/// Takes nothing, with an error each time, and counts how often it was asked.
+#[derive(Drop)]
+pub struct Refuser {
+    pub writes: usize,
+}
+
+impl Write for Refuser {
+    fn write(&mut self, _buffer: &[u8]) -> io::Result<usize> {
+        self.writes = self.writes.saturating_add(1);
+        Err(Error::from(ErrorKind::Other))
+    }
+
+    fn flush(&mut self) -> io::Result<()> {
+        Ok(())
+    }
+}
+
 /// Takes a few bytes at a time, until it has all it takes. Then it takes nothing once, and after that all.
 #[derive(Drop)]
 pub struct Trickle {

@@ -1,6 +1,6 @@
 //! Runs over readers and writers that fail, or take and give little at a time.
 
-use super::devices::{Counter, FailsOnce, Trickle, Unreadable, Unwritable};
+use super::devices::{Counter, FailsOnce, Refuser, Trickle, Unreadable, Unwritable};
 use super::*;
 use init_core::{BootFault, Field};
 use std::io::{ErrorKind, Read, repeat};
@@ -71,6 +71,31 @@ fn failing_writer_is_a_write_fault(rt: HostRuntime) -> Result<(), Fail> {
         let ran = run_over(rt.alloc(), &mut source, &mut sink, 10)?;
         assert_eq!(rt; ran, Err(RunFault::WriteFault));
         assert!(rt; sink.failed());
+    }
+    Ok(())
+}
+
+// A write that fails is not tried again, whatever was to be written: replies, an account list or `ok`.
+#[test]
+fn failing_writer_is_tried_once(rt: HostRuntime) -> Result<(), Fail> {
+    let many = cap_quotas_cap(rt.alloc(), 400)?;
+    for (task, input) in [
+        (Task::Run { accounts: false }, b"alice quota\n".as_slice()),
+        (Task::Run { accounts: false }, many.as_slice()),
+        (Task::Run { accounts: true }, b"".as_slice()),
+        (Task::Check, b"".as_slice()),
+    ] {
+        let mut writer = Refuser { writes: 0 };
+        let mut source = input;
+        let ended = boot_and_run(
+            rt.alloc(),
+            MACHINE_A.as_bytes(),
+            task,
+            &mut source,
+            &mut Output::new(&mut writer),
+        );
+        assert_eq!(rt; run_end(ended), Err(Some(RunFault::WriteFault)));
+        assert_eq!(rt; writer.writes, 1);
     }
     Ok(())
 }

@@ -13,4 +13,4 @@ returns-in-Ok-write_accounts-clause-told g c =
 pub returns-in-Err-write_accounts-clause-stops : goal.returns-in-Err-write_accounts-clause-stops
 returns-in-Err-write_accounts-clause-stops g c =
     stopped_in_list c.args.core.now c.run.new.core c.args.accounts c.in-Err-write_accounts.fault _ c.in-Ok.summary.lines _ _ _ _ _ _ c.if-accounts.true
-    c.in-Err-write_accounts.ensures.fault c.in-Ok.ensures.few c.in-Ok.ensures.lines c.in-Ok.ensures.world c.in-Ok.ensures.transcript c.in-Err-write_accounts.ensures.part
+    c.in-Err-write_accounts.ensures.fault c.in-Ok.ensures.few c.in-Ok.ensures.lines c.in-Ok.ensures.readable c.in-Ok.ensures.world c.in-Ok.ensures.transcript c.in-Err-write_accounts.ensures.part

@@ -18,7 +18,7 @@ returns-in-Check-clause-fails g c =
 pub returns-in-Ok-answer_scenario-clause-done : goal.returns-in-Ok-answer_scenario-clause-done
 returns-in-Ok-answer_scenario-clause-done g c =
     done_run c.in_ok-list.ensures.ok c.in_ok-core.ensures.covered c.in_ok-core.ensures.started c.args.task c.in-Run.accounts _ _ _ _ c.in-Run.is
-    c.in-Ok-answer_scenario.ensures.lines c.in-Ok-answer_scenario.ensures.told
+    c.in-Ok-answer_scenario.ensures.lines c.in-Ok-answer_scenario.ensures.readable c.in-Ok-answer_scenario.ensures.told
 
 pub returns-clause-fails : goal.returns-clause-fails
 returns-clause-fails g c =

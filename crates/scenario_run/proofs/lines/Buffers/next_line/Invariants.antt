@@ -2,6 +2,7 @@
 use Rattle.std.proofs.Common.{◌≡◌, ◌-◌, ◌≤◌, [], false, length}
 use Rattle.scenario_run.specs.Gathered.{Tells}
 use Rattle.scenario_run.specs.Lines.{line_length, to_come}
+use Rattle.scenario_run.specs.Reach.{ReadsBehind, longest_ahead}
 use Rattle.scenario_run.proofs.ToCome.{Passes}
 use Rattle.scenario_run.proofs.lines.Buffers.next_line.Given as goal
 
@@ -10,6 +11,8 @@ invariant-loop-seen g l = record {
   seen : l.seen ≤ line_length l.self.ahead;
   come : Passes (to_come l.initial.self.ahead (g.S.Source.remaining l.initial.source)) (to_come l.self.ahead (g.S.Source.remaining l.source)) 0;
   told : Tells (g.K.Sink.contents l.initial.sink) l.initial.self.gathered (g.K.Sink.contents l.sink) l.self.gathered [];
+  behind : ReadsBehind (λ _. longest_ahead) (to_come l.initial.self.ahead (g.S.Source.remaining l.initial.source)) l.initial.self.gathered
+      (g.K.Sink.contents l.initial.sink) (g.S.Source.remaining l.initial.source) (g.K.Sink.contents l.sink) (g.S.Source.remaining l.source);
   reads : g.S.Source.has_failed l.source ≡ false;
   writes : g.K.Sink.has_failed l.sink ≡ false;
 }

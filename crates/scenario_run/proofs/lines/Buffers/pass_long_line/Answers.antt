@@ -4,6 +4,8 @@ use Rattle.std.proofs.lemmas.Result.{err_from_is_err_and}
 use Rattle.scenario_run.specs.Lines.{line_length}
 use Rattle.scenario_run.proofs.FaultLemmas.{told_at}
 use Rattle.scenario_run.proofs.GatheredLemmas.{Tells-more}
+use Rattle.scenario_run.proofs.ReachLemmas.{behind_passed, behind_wider, passed_within, writes_at}
+use Rattle.scenario_run.specs.Reach.{reach}
 use Rattle.scenario_run.proofs.ToCome.{Passes-kept, IsLong-ahead, passed_on, long_line-within, long_line-end, is_endless, no_line}
 use Rattle.scenario_run.proofs.lines.Buffers.pass_long_line.Goals as goal
 
@@ -43,6 +45,35 @@ loop-passed-preserved g c = record {
   bounded = omega arith;
   told = Tells-more c.loop-passed.invariant.told c.in_ok-read_more.ensures.told;
   flushed = λ _. c.in_ok-read_more.ensures.empty;
+  behind =
+      behind_passed _ _ _ _ c.loop-passed.passed _ _ (omega arith)
+      (passed_on _ _ _ _ _ c.loop-passed.invariant.come c.line_length-length.ensures.value (omega arith) c.pass.ensures)
+      c.loop-passed.invariant.told c.loop-passed.invariant.behind
+      (record { out = c.in_ok-read_more.ensures.told.out; grows = c.in_ok-read_more.ensures.told.grows }) c.in_ok-read_more.ensures.behind;
   reads = c.in_ok-read_more.ensures.reading;
   writes = c.in_ok-read_more.ensures.writing;
 }
+
+pub returns-then-is_whole-clause-behind : goal.returns-then-is_whole-clause-behind
+returns-then-is_whole-clause-behind g c =
+    behind_wider _ _ _ _ _ reach _ _ (passed_within _ _ _ (IsLong-ahead _ _ c.requires.long)
+    c.loop-passed.invariant.come)
+    (c.loop-passed.invariant.behind)
+
+pub returns-in_err-read_more-clause-behind : goal.returns-in_err-read_more-clause-behind
+returns-in_err-read_more-clause-behind g c =
+    behind_wider _ _ _ _ _ reach _ _ (passed_within _ _ _ (IsLong-ahead _ _ c.requires.long)
+    (passed_on _ _ _ _ _ c.loop-passed.invariant.come c.line_length-length.ensures.value (omega arith) c.pass.ensures))
+    (behind_passed _ _ _ _ c.loop-passed.passed _ _ (omega arith)
+    (passed_on _ _ _ _ _ c.loop-passed.invariant.come c.line_length-length.ensures.value (omega arith) c.pass.ensures)
+    c.loop-passed.invariant.told c.loop-passed.invariant.behind
+    (writes_at c.in_err-read_more.field-0.0 _ _ _ _ c.in_err-read_more.ensures.told) c.in_err-read_more.ensures.behind)
+
+pub returns-then-branch-eq0-clause-behind : goal.returns-then-branch-eq0-clause-behind
+returns-then-branch-eq0-clause-behind g c =
+    behind_wider _ _ _ _ _ reach _ _ (passed_within _ _ _ (IsLong-ahead _ _ c.requires.long)
+    (passed_on _ _ _ _ _ c.loop-passed.invariant.come c.line_length-length.ensures.value (omega arith) c.pass.ensures))
+    (behind_passed _ _ _ _ c.loop-passed.passed _ _ (omega arith)
+    (passed_on _ _ _ _ _ c.loop-passed.invariant.come c.line_length-length.ensures.value (omega arith) c.pass.ensures)
+    c.loop-passed.invariant.told c.loop-passed.invariant.behind
+    (record { out = c.in_ok-read_more.ensures.told.out; grows = c.in_ok-read_more.ensures.told.grows }) c.in_ok-read_more.ensures.behind)

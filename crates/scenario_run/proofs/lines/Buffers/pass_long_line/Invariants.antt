@@ -2,6 +2,7 @@
 use Rattle.std.proofs.Common.{◌≡◌, ◌+◌, ◌-◌, ◌<◌, ◌≤◌, [], false, length}
 use Rattle.scenario_run.specs.Gathered.{Tells}
 use Rattle.scenario_run.specs.Lines.{longest_read, to_come}
+use Rattle.scenario_run.specs.Reach.{ReadsBehind, longest_ahead}
 use Rattle.scenario_run.proofs.ToCome.{Passes}
 use Rattle.scenario_run.proofs.lines.Buffers.pass_long_line.Given as goal
 
@@ -12,6 +13,8 @@ invariant-loop-passed g l = record {
   bounded : l.passed ≤ longest_read;
   told : Tells (g.K.Sink.contents l.initial.sink) l.initial.self.gathered (g.K.Sink.contents l.sink) l.self.gathered [];
   flushed : 0 < l.passed → l.self.gathered ≡ [];
+  behind : ReadsBehind (λ _. longest_ahead + l.passed) (to_come l.initial.self.ahead (g.S.Source.remaining l.initial.source)) l.initial.self.gathered
+      (g.K.Sink.contents l.initial.sink) (g.S.Source.remaining l.initial.source) (g.K.Sink.contents l.sink) (g.S.Source.remaining l.source);
   reads : g.S.Source.has_failed l.source ≡ false;
   writes : g.K.Sink.has_failed l.sink ≡ false;
 }
