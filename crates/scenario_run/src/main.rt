@@ -2,6 +2,7 @@
 #![tactic(auto)]
 
 mod account_list;
+mod account_sums;
 mod account_text;
 mod answering;
 mod block;
