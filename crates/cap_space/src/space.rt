@@ -145,9 +145,10 @@ impl CapSpace {
         self.used -= 1;
     }
 
-    /// How many places there are. Each selector in use is one of 1 to so many.
+    /// How many places there are: at most 4096. Each selector in use is one of 1 to so many.
     pub fn places(&self) -> usize
         ensures count { result ≡ self.now.places }
+        ensures most { result ≤ 4096 }
         ensures within { (selector : ℕ) → IsSome (get self.now.caps selector) → (1 ≤ selector) × (selector ≤ self.now.places) }
     {
         self.slots.len()

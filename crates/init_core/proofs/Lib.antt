@@ -5,3 +5,4 @@ pub mod StartLemmas
 pub mod BootLemmas
 pub mod BootedLemmas
 pub mod ListLemmas
+mod MachineLemmas

@@ -5,3 +5,4 @@ pub mod StartText
 pub mod View
 pub mod Range
 pub mod Boot
+pub mod MachineA

@@ -5,6 +5,7 @@
 mod entry;
 mod fault;
 mod list;
+mod machine_a;
 mod member;
 mod name;
 mod routing;
@@ -17,6 +18,7 @@ mod tests;
 pub use entry::{Binary, Entry};
 pub use fault::{BootFault, Field};
 pub use list::StartList;
+pub use machine_a::{MACHINE_A, machine_a_is_read};
 pub use name::Name;
 pub use routing::route;
 pub use rule::{Rule, Target};

@@ -1,18 +1,9 @@
 //! Start lists that are read, and those that aren't.
 mod boots;
 
-use crate::{BootFault, StartList, route};
+use crate::{BootFault, MACHINE_A, StartList, route};
 use std::alloc::{AllocError, Global};
 use std::test::Fail;
-
-/// The start list of machine A.
-const MACHINE_A: &str = r#"{"machine":{"pages":64,"caps":64},
- "default-route":[{"any-service":true,"any-child":true}],
- "start":[
-  {"name":"log","quantum":"16K","caps":8,"provides":["LOG"]},
-  {"name":"files","quantum":"16K","caps":8,"provides":["File_system"]},
-  {"name":"alice","binary":"script","quantum":"64K","caps":16},
-  {"name":"bob","binary":"script","quantum":"64K","caps":16}]}"#;
 
 /// What reading a text comes to, as it is told.
 fn told(alloc: Global, text: &[u8]) -> Result<String, AllocError> {

@@ -1,12 +1,12 @@
 -- Sums over two maps: key by key, and by payers of which each pays once.
-use Rattle.std.proofs.Common.{◌≡◌, ℕ, ◌+◌, ◌*◌, ◌≤◌, is_some, Some, unwrap_or, refl, sym, ap, subst, ◌∙◌, arith, add-mul, inl, inr}
+use Rattle.std.proofs.Common.{◌≡◌, ℕ, zero, suc, ◌+◌, ◌*◌, ◌<◌, ◌≤◌, is_some, Some, unwrap_or, refl, sym, ap, subst, ◌∙◌, arith, add-mul, inl, inr}
 use Rattle.std.proofs.lemmas.Bool.{cases_eq}
 use Rattle.std.proofs.lemmas.Bool.Decides.{nat_tests}
 use Rattle.std.specs.Prelude.{Option, None}
 use Rattle.std.specs.Option.{option_map}
-use Rattle.std.specs.FinMap.{get, insert, remove}
+use Rattle.std.specs.FinMap.{get, insert, remove, empty}
 use Rattle.own_model.specs.NatMap.{NatMap, total, owed}
-use Rattle.own_model.proofs.NatMapLemmas.{by_insertions, apart_from_free, get-insert_same, get-insert_other, get-remove_other, remove_free}
+use Rattle.own_model.proofs.NatMapLemmas.{by_insertions, same, apart_from_free, get-empty, get-insert_same, get-insert_other, get-remove_same, get-remove_other, remove_free}
 use Rattle.own_model.proofs.Totals.{total-empty, total-insert_new, total-remove, owed-empty, owed-insert_new, owed_nothing}
 
 -- what a map has under a key, measured; nothing counts for 0
@@ -25,6 +25,31 @@ taken_by g m k (Some a) there = total-remove g m k a there
 
 pub total-taken : {A : Type 0} (g : A → ℕ) (m : NatMap A) (k : ℕ) → total g (remove m k) + measured g (get m k) ≡ total g m
 total-taken g m k = taken_by g m k (get m k) refl
+
+-- the sum of what a map has under the keys below n
+abbrev pub sum_below : {A : Type 0} → (A → ℕ) → NatMap A → ℕ → ℕ
+sum_below g m zero = 0
+sum_below g m (suc n) = sum_below g m n + measured g (get m n)
+
+-- it hangs on these keys alone
+sum_below_alike : {A : Type 0} (g : A → ℕ) (m others : NatMap A) (n : ℕ) → ((k : ℕ) → k < n → get m k ≡ get others k) → sum_below g m n ≡ sum_below g others n
+sum_below_alike g m others zero alike = refl
+sum_below_alike g m others (suc n) alike =
+    let before = sum_below_alike g m others n (λ k less. alike k (omega (arith, less))) in
+    let here = ap (measured g) (alike n (omega arith)) in
+    omega (arith, before, here)
+
+-- a map with no key from n on is summed key by key
+pub total_below : {A : Type 0} (g : A → ℕ) (m : NatMap A) (n : ℕ) → ((k : ℕ) → n ≤ k → get m k ≡ None) → total g m ≡ sum_below g m n
+total_below g m zero none = ap (total g) (same m empty (λ q. none q (omega arith) ∙ sym (get-empty q))) ∙ total-empty g
+total_below g m (suc n) none =
+    let rest = total_below g (remove m n) n (λ k more. elim (cases_eq k n) [
+      | inl here ↦ get-remove_same m n k here
+      | inr apart ↦ get-remove_other m n k apart ∙ none k (grind (arith, nat_tests))
+    ]) in
+    let alike = sum_below_alike g (remove m n) m n (λ k less. get-remove_other m n k (grind (arith, nat_tests))) in
+    let taken = total-taken g m n in
+    omega (arith, rest, alike, taken)
 
 -- where each size, so many times, is within what another map has under its key, so are the sums
 pub total_keys_le : {X A : Type 0} (f : X → ℕ) (g : A → ℕ) (n : ℕ) (m : NatMap X) (others : NatMap A) → ((k : ℕ) (x : X) → get m k ≡ Some x → f x * n ≤ measured g (get others k)) → total f m * n ≤ total g others

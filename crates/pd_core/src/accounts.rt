@@ -32,13 +32,21 @@ pub(crate) fn quotas_of(memory: &Memory, account: AccountId) -> Quotas
 }
 
 impl<R: Router + Drop> Core<R> {
-    ghost use Rattle.std.specs.Prelude.{◌≡◌, ◌<◌, ℕ, length, None};
+    ghost use Rattle.std.specs.Prelude.{◌≡◌, ◌<◌, ◌≤◌, ℕ, length, None};
     ghost use Rattle.std.specs.FinMap.{get};
     ghost use Rattle.std.specs.Option.{option_map};
     ghost use Rattle.own_model.specs.OwnState.{session_named};
     ghost use Rattle.own_model.specs.Session.{Session as AnOpenSession};
     ghost use Rattle.own_model.specs.Transcript.{state_at};
     ghost use Rattle.pd_core.specs.Answer.{quotas_account};
+
+    /// How many components there are: each has an entry and an own state.
+    pub fn count(&self) -> usize
+        ensures entries { result ≡ length self.now.entries }
+        ensures states { result ≡ length self.now.states }
+    {
+        self.components.as_slice().len()
+    }
 
     /// The limits and the use of the account of the component at a place.
     pub fn account(&self, component: usize) -> Quotas
@@ -70,10 +78,11 @@ impl<R: Router + Drop> Core<R> {
         )
     }
 
-    /// No selector above this one names anything of the component at a place.
+    /// No selector above this one, which is at most 4096, names anything of the component at a place.
     pub fn last_selector(&self, component: usize) -> u64
         requires { component < length self.now.entries }
-        ensures { (selector : ℕ) → result < selector → get (state_at self.now.states component).selectors selector ≡ None }
+        ensures most { result ≤ 4096 }
+        ensures none { (selector : ℕ) → result < selector → get (state_at self.now.states component).selectors selector ≡ None }
     {
         let components = self.components.as_slice();
         components[component].last_selector()
@@ -81,7 +90,7 @@ impl<R: Router + Drop> Core<R> {
 }
 
 impl Component {
-    ghost use Rattle.std.specs.Prelude.{◌≡◌, Some, IsSome};
+    ghost use Rattle.std.specs.Prelude.{◌≡◌, ◌≤◌, Some, IsSome};
     ghost use Rattle.std.specs.FinMap.{get};
     ghost use Rattle.own_model.specs.Session.{Labelled};
     ghost use Rattle.server_frame.specs.Frame.{Row};
@@ -111,7 +120,8 @@ impl Component {
     /// The greatest selector that the component has a place for, or 0 where it has none.
     #[tactic(auto, using(crate::proofs::QuotaLemmas::no_caps))]
     fn last_selector(&self) -> u64
-        ensures { HasSelectorsTo result self.now.role }
+        ensures all { HasSelectorsTo result self.now.role }
+        ensures most { result ≤ 4096 }
     {
         match &self.role {
             Role::Script(script) => script.caps.places() as u64,

@@ -18,12 +18,11 @@ use Rattle.own_model.proofs.EntryLemmas.{value_of, value_of_first, value_of_late
 use Rattle.own_model.proofs.NatMapLemmas.{both_parts, is_less}
 use Rattle.own_model.specs.AccountList.{object_line, session_lines}
 use Rattle.own_model.specs.OwnState.{OwnState}
-use Rattle.own_model.specs.StartList.{Entry, StartList, entries_of}
+use Rattle.own_model.specs.StartList.{Entry}
 use Rattle.own_model.specs.Transcript.{entry_at, state_at, nobody, nothing}
-use Rattle.own_model.specs.World.{World, IsBalancedFor}
 use Rattle.scenario_run.specs.Gathered.{Tells, TellsPart, TellsUnless}
 use Rattle.scenario_run.specs.Stops.{AppendsPart}
-use Rattle.scenario_run.proofs.GatheredLemmas.{Tells-more, Tells-front, told_more}
+use Rattle.scenario_run.proofs.GatheredLemmas.{Tells-more, Tells-front}
 
 -- ---- keys one after another
 
@@ -180,10 +179,6 @@ module _ (f : Entry × OwnState → List ℕ) (es : List Entry) (ss : List OwnSt
   pub component_all : (n : ℕ) → length es ≤ n → flat_map f (take n (zip es ss)) ≡ flat_map f (zip es ss)
   component_all n enough = ap (flat_map f) (take_all n (zip es ss) (omega (arith, enough, length_both)))
 
--- the world of a start list has as many own states as entries
-pub as_many : (list : StartList) (world : World) → world.entries ≡ entries_of list → IsBalancedFor list world → length world.states ≡ length world.entries
-as_many list world listed balanced = balanced.count ∙ sym (length-map list.starts (λ start. start.entry)) ∙ ap length (sym listed)
-
 -- ---- what is told
 
 module _ {w w' w'' : Option (List ℕ)} {g g' xs line whole : List ℕ} where
@@ -224,9 +219,3 @@ pub flushed_in_part : {T E : Type 0} (r : Result T E) {w w' : Option (List ℕ)}
     TellsUnless r w' g' w'' g'' [] → OnErr r (AppendsPart w w'' text)
 flushed_in_part (Ok done) w'' g'' none first then = tt
 flushed_in_part (Err fault) w'' g'' none first then = list_cut none first then
-
--- a last text, by another word for it
-pub told_last : {T E : Type 0} {w w' : Option (List ℕ)} {g g' xs ys ys' : List ℕ} (w'' : Option (List ℕ)) (g'' : List ℕ) (r : Result T E) → ys ≡ ys' → Tells w g w' g' xs →
-    TellsUnless r w' g' w'' g'' ys → TellsUnless r w g w'' g'' (xs ++ ys')
-told_last {w = w} {g = g} {xs = xs} {ys = ys} w'' g'' r is first then =
-    subst (λ line. TellsUnless r w g w'' g'' (xs ++ line)) is (told_more w'' g'' ys r first then)

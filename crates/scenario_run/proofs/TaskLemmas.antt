@@ -7,7 +7,7 @@ use Rattle.own_model.specs.StartList.{StartList, Boots, entries_of}
 use Rattle.own_model.specs.Text.{lines_of}
 use Rattle.own_model.specs.Transcript.{transcript}
 use Rattle.own_model.specs.AccountList.{account_list_text}
-use Rattle.own_model.specs.World.{World, start_world, world_running, IsBalancedFor}
+use Rattle.own_model.specs.World.{World, start_world, world_running}
 use Rattle.own_model.proofs.BalanceLemmas.{totals, lines_balanced}
 use Rattle.own_model.proofs.StartLemmas.{start_balanced_for}
 use Rattle.init_core.specs.Boot.{quota_fault}
@@ -98,11 +98,7 @@ module _ {text : List ℕ} {listed : Listed} (reads : list_in text ≡ Ok listed
 
 -- ---- a scenario and its account list
 
--- the world of a start list is balanced for it
-pub balanced_at_start : (list : StartList) (world : World) → Boots list → world ≡ start_world list → IsBalancedFor list world
-balanced_at_start list world covered starts = subst (IsBalancedFor list) (sym starts) (start_balanced_for list covered)
-
--- and has its entries
+-- the world of a start list has its entries
 pub listed_at_start : (list : StartList) (world : World) → world ≡ start_world list → world.entries ≡ entries_of list
 listed_at_start list world starts = ap (λ w. w.entries) starts
 
@@ -146,7 +142,7 @@ stopped_in_list world last accounts fault max_lines lines (Some bytes) rest w w'
   grows = Appends-more w w' w'' _ _ _ tells part.grows refl;
 })
 
-pub ruleset tasks = (fault_of_text, fault_of_list, balanced_at_start, listed_at_start)
+pub ruleset tasks = (fault_of_text, fault_of_list, listed_at_start)
 
 -- what a scenario promises
 pub ruleset scenarios = (told_alone, stopped_in_run)

@@ -1,18 +1,19 @@
 //! The account list: use and limits of every account, and the sums of all limits.
-ghost use Rattle.std.specs.Prelude.{◌≡◌, ◌*◌, ◌<◌, ◌++◌, false, true, length, codes, Err, IfErr, OnErr, OnOk, is_err};
+ghost use Rattle.std.specs.Prelude.{◌≡◌, ◌<◌, ◌++◌, false, true, length, codes, Err, IfErr, OnErr, OnOk, is_err};
 ghost use Rattle.std.specs.List.{flat_map, zip};
 ghost use Rattle.std.specs.Io.KnownBytes.{Appends};
 ghost use Rattle.own_model.specs.AccountList.{account_line, account_list_text, session_line, session_lines, total_line};
 ghost use Rattle.own_model.specs.Listed.{start_list_of};
 ghost use Rattle.own_model.specs.StartList.{entries_of};
 ghost use Rattle.own_model.specs.Transcript.{entry_at, state_at};
-ghost use Rattle.own_model.specs.World.{IsBalancedFor};
+ghost use Rattle.own_model.specs.World.{all_ram, all_caps};
 ghost use Rattle.pd_core.specs.Answer.{quotas_account};
 ghost use Rattle.scenario_run.specs.Accounts.{selected_line};
 ghost use Rattle.scenario_run.specs.Gathered.{TellsUnless};
 ghost use Rattle.scenario_run.specs.Stops.{AppendsPart, is_write_fault};
 ghost use Rattle.scenario_run.specs.declared.running.RunFault.TheVariants.{WriteFault};
 
+use crate::account_sums::sum_all;
 use crate::account_text::{add, add_number, add_quotas};
 use crate::device::{DeviceFault, Sink};
 use crate::gather::Gather;
@@ -20,21 +21,19 @@ use crate::running::RunFault;
 use arrayvec::ArrayVec;
 use init_core::StartList;
 use pd_core::{Core, Quotas, Router};
-use trade_base::PAGE;
 
 /// Room for what follows the name in a line.
 const LONGEST_REST: usize = 160;
 
 /// Writes the account list: init's account, those of the components in the order of the list, those of each one's open
-/// sessions by rising selector, and the sums of all limits, which are the machine's. A write that fails leaves a part of
-/// it, and a writer that had failed before is not tried again.
+/// sessions by rising selector, and the sums of all these limits. A write that fails leaves a part of it, and a writer that
+/// had failed before is not tried again. The components may have any own states, on a machine of any size.
 pub fn write_accounts<R: Router + Drop, K: Sink>(
     core: &Core<R>,
     list: &StartList,
     writer: &mut K,
 ) -> Result<(), RunFault>
     requires listed { core.now.entries ≡ entries_of (start_list_of list.now) }
-    requires balanced { IsBalancedFor (start_list_of list.now) core.now }
     ensures told { OnOk result (Appends (K.contents writer.old) (K.contents writer.new) (account_list_text core.now)) }
     ensures fault { IfErr result (λ fault. fault ≡ WriteFault) }
     ensures part { OnErr result (AppendsPart (K.contents writer.old) (K.contents writer.new) (account_list_text core.now)) }
@@ -57,7 +56,6 @@ fn write_list<R: Router + Drop, K: Sink>(
     sink: &mut K,
 ) -> Result<(), DeviceFault>
     requires listed { core.now.entries ≡ entries_of (start_list_of list.now) }
-    requires balanced { IsBalancedFor (start_list_of list.now) core.now }
     requires writes { K.has_failed sink.old ≡ false }
     ensures told { OnOk result (Appends (K.contents sink.old) (K.contents sink.new) (account_list_text core.now)) }
     ensures part { OnErr result (AppendsPart (K.contents sink.old) (K.contents sink.new) (account_list_text core.now)) }
@@ -69,7 +67,6 @@ fn write_list<R: Router + Drop, K: Sink>(
 }
 
 // Gathers the account list.
-#[tactic(auto, using(crate::proofs::AccountLemmas::as_many))]
 fn put_list<R: Router + Drop, K: Sink>(
     core: &Core<R>,
     list: &StartList,
@@ -77,7 +74,6 @@ fn put_list<R: Router + Drop, K: Sink>(
     sink: &mut K,
 ) -> Result<(), DeviceFault>
     requires listed { core.now.entries ≡ entries_of (start_list_of list.now) }
-    requires balanced { IsBalancedFor (start_list_of list.now) core.now }
     requires writes { K.has_failed sink.old ≡ false }
     ensures told { TellsUnless result (K.contents sink.old) gathered.old (K.contents sink.new) gathered.new
         (account_list_text core.now) }
@@ -86,7 +82,7 @@ fn put_list<R: Router + Drop, K: Sink>(
     put_init(core, gathered, sink)?;
     put_components(core, list, gathered, sink)?;
     put_sessions(core, list, gathered, sink)?;
-    put_total(list, gathered, sink)
+    put_total(core, list, gathered, sink)
 }
 
 // Gathers init's line.
@@ -111,13 +107,12 @@ fn put_components<R: Router + Drop, K: Sink>(
     sink: &mut K,
 ) -> Result<(), DeviceFault>
     requires listed { core.now.entries ≡ entries_of (start_list_of list.now) }
-    requires count { length core.now.states ≡ length core.now.entries }
     requires writes { K.has_failed sink.old ≡ false }
     ensures told { TellsUnless result (K.contents sink.old) gathered.old (K.contents sink.new) gathered.new
         (flat_map (λ p. account_line p.0.name p.1.account) (zip core.now.entries core.now.states)) }
     ensures failing { K.has_failed sink.new ≡ is_err result }
 {
-    for component in 0..list.count() {
+    for component in 0..core.count() {
         put_component(core, list, component, gathered, sink)?;
     }
     Ok(())
@@ -154,13 +149,12 @@ fn put_sessions<R: Router + Drop, K: Sink>(
     sink: &mut K,
 ) -> Result<(), DeviceFault>
     requires listed { core.now.entries ≡ entries_of (start_list_of list.now) }
-    requires count { length core.now.states ≡ length core.now.entries }
     requires writes { K.has_failed sink.old ≡ false }
     ensures told { TellsUnless result (K.contents sink.old) gathered.old (K.contents sink.new) gathered.new
         (flat_map (λ p. session_lines p.0.name p.1) (zip core.now.entries core.now.states)) }
     ensures failing { K.has_failed sink.new ≡ is_err result }
 {
-    for component in 0..list.count() {
+    for component in 0..core.count() {
         put_sessions_of(core, list, component, gathered, sink)?;
     }
     Ok(())
@@ -268,22 +262,27 @@ fn put_named<K: Sink>(
     gathered.put(sink, rest)
 }
 
-// Gathers the line of the machine's RAM and capabilities.
-fn put_total<K: Sink>(
+// Gathers the line of the sums of all limits.
+fn put_total<R: Router + Drop, K: Sink>(
+    core: &Core<R>,
     list: &StartList,
     gathered: &mut Gather,
     sink: &mut K,
 ) -> Result<(), DeviceFault>
-    requires { K.has_failed sink.old ≡ false }
+    requires listed { core.now.entries ≡ entries_of (start_list_of list.now) }
+    requires writes { K.has_failed sink.old ≡ false }
     ensures told { TellsUnless result (K.contents sink.old) gathered.old (K.contents sink.new) gathered.new
-        (total_line (list.now.pages * 4096) list.now.caps) }
+        (total_line (all_ram core.now) (all_caps core.now)) }
     ensures failing { K.has_failed sink.new ≡ is_err result }
 {
+    // A list has at most 32 components.
+    let _components = list.count();
+    let sums = sum_all(core);
     let mut text: ArrayVec<u8, LONGEST_REST> = ArrayVec::new();
     add(&mut text, b"total ram ");
-    add_number(&mut text, u64::from(list.pages()) * PAGE);
+    add_number(&mut text, sums.ram);
     add(&mut text, b" caps ");
-    add_number(&mut text, u64::from(list.caps()));
+    add_number(&mut text, sums.caps);
     add(&mut text, b"\n");
     gathered.put(sink, text.as_slice())
 }

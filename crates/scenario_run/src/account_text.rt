@@ -1,15 +1,12 @@
 //! The texts of accounts, in a fixed buffer.
-ghost use Rattle.std.specs.Prelude.{◌≡◌, ◌+◌, ◌≤◌, ◌++◌, length, decimal};
+ghost use Rattle.std.specs.Prelude.{◌≡◌, ◌+◌, ◌≤◌, ◌++◌, length};
 ghost use Rattle.arrayvec.specs.ArrayVec.{array_vec_len};
 ghost use Rattle.own_model.specs.Reply.{quota_text, share_text};
 ghost use Rattle.pd_core.specs.Answer.{quotas_account};
 
 use arrayvec::ArrayVec;
-use itoa::Buffer;
+use itoa::{Buffer, Integer};
 use pd_core::Quotas;
-
-/// The most digits of a number.
-const LONGEST_NUMBER: usize = 20;
 
 /// Appends use and limit of RAM and of capabilities.
 pub fn add_quotas<const N: usize>(text: &mut ArrayVec<u8, N>, quotas: Quotas)
@@ -39,10 +36,10 @@ fn add_share<const N: usize>(text: &mut ArrayVec<u8, N>, used: u64, limit: u64)
 }
 
 /// Appends a number in decimal digits.
-pub fn add_number<const N: usize>(text: &mut ArrayVec<u8, N>, number: u64)
-    requires { array_vec_len text.old + LONGEST_NUMBER ≤ N }
-    ensures items { text.new.items ≡ text.old.items ++ decimal number }
-    ensures len { array_vec_len text.new ≤ array_vec_len text.old + LONGEST_NUMBER }
+pub fn add_number<I: Integer, const N: usize>(text: &mut ArrayVec<u8, N>, number: I)
+    requires { array_vec_len text.old + I.MAX_STR_LEN ≤ N }
+    ensures items { text.new.items ≡ text.old.items ++ I.text number }
+    ensures len { array_vec_len text.new ≤ array_vec_len text.old + I.MAX_STR_LEN }
 {
     let mut digits = Buffer::new();
     add(text, digits.format(number).as_bytes());

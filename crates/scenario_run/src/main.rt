@@ -2,6 +2,7 @@
 #![tactic(auto)]
 
 mod account_list;
+mod account_sums;
 mod account_text;
 mod answering;
 mod block;
@@ -12,7 +13,6 @@ mod gather;
 mod input;
 mod line;
 mod lines;
-mod machine_a;
 mod output;
 mod program;
 mod running;
@@ -26,7 +26,6 @@ pub use config::{ConfigFault, LONGEST_CONFIG_READ, read_config, read_config_at};
 pub use device::{DeviceFault, Sink, Source};
 pub use input::Input;
 pub use line::read_line;
-pub use machine_a::MACHINE_A;
 pub use output::Output;
 pub use program::{Failure, MAX_LINES, Stopped, Task, boot_and_run, exit_status, run_bytes};
 pub use running::{RunFault, Summary, run};

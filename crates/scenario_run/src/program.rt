@@ -4,7 +4,6 @@ ghost use Rattle.std.specs.Io.KnownBytes.{Appends};
 ghost use Rattle.own_model.specs.Listed.{start_list_of};
 ghost use Rattle.own_model.specs.StartList.{StartList as Machine, entries_of};
 ghost use Rattle.own_model.specs.Text.{lines_of};
-ghost use Rattle.own_model.specs.World.{IsBalancedFor};
 ghost use Rattle.init_core.specs.declared.fault.BootFault.{BootFault as Unbooted};
 ghost use Rattle.init_core.specs.declared.fault.BootFault.TheVariants.{NoMemory as NoRoom};
 ghost use Rattle.scenario_run.specs.Lines.{AreReadable};
@@ -119,7 +118,6 @@ fn answer_scenario<R: Router + Drop, S: Source, K: Sink>(
     writer: &mut K,
 ) -> Result<Summary, RunFault>
     requires listed { core.old.entries ≡ entries_of (start_list_of list.now) }
-    requires balanced { IsBalancedFor (start_list_of list.now) core.old }
     ensures lines { IfOk result (λ summary. IfSome (S.remaining reader.old) (λ input.
         summary.lines ≡ length (lines_of input))) }
     ensures few { IfOk result (λ summary. summary.lines ≤ MAX_LINES) }

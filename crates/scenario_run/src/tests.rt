@@ -1,11 +1,13 @@
 //! Worked scenarios over readers and writers in memory, on the built-in machine and on others.
 mod boots;
+mod bounds;
 mod configs;
 mod devices;
 mod exits;
 mod faults;
 mod files;
 mod heap;
+mod hostile;
 mod lists;
 mod rounds;
 mod rows;

@@ -1,6 +1,6 @@
 //! Machines that boot, and the first entry of those that don't.
-use super::{LOG, MACHINE, MACHINE_A, RULE, scripts};
-use crate::{BootFault, StartList, boot};
+use super::{LOG, MACHINE, RULE, scripts};
+use crate::{BootFault, MACHINE_A, StartList, boot};
 use std::alloc::{AllocError, Global};
 use std::test::Fail;
 

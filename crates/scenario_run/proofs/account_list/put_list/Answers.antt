@@ -1,9 +1,5 @@
--- A write that fails in one part of the list loses the parts after it. The sums are the machine's.
-use Rattle.std.proofs.Common.{sym}
-use Rattle.own_model.specs.Listed.{start_list_of}
-use Rattle.own_model.proofs.BalanceLemmas.{totals}
-use Rattle.scenario_run.proofs.AccountLemmas.{told_last}
-use Rattle.scenario_run.proofs.GatheredLemmas.{Tells-more, Tells-front, told_err}
+-- A write that fails in one part of the list loses the parts after it.
+use Rattle.scenario_run.proofs.GatheredLemmas.{Tells-more, Tells-front, told_err, told_more}
 use Rattle.scenario_run.proofs.account_list.put_list.Goals as goal
 
 pub returns-in_err-put_init-clause-told : goal.returns-in_err-put_init-clause-told
@@ -22,5 +18,5 @@ returns-in_err-put_sessions-clause-told g c =
 
 pub returns-clause-told : goal.returns-clause-told
 returns-clause-told g c =
-    told_last _ _ _ (sym (totals (start_list_of c.args.list.now).pages (start_list_of c.args.list.now).caps c.args.core.now c.requires.balanced.balanced))
+    told_more _ _ _ _
     (Tells-more (Tells-more c.in_ok-put_init.ensures.told c.in_ok-put_components.ensures.told) c.in_ok-put_sessions.ensures.told) c.put_total.ensures.told

@@ -21,11 +21,11 @@ pub returns-in_err-put_selected-clause-told : goal.returns-in_err-put_selected-c
 returns-in_err-put_selected-clause-told g c =
     told_err _ _ _ c.from_residual.ensures.1
     (told_cut _ (sessions_cut (entry_at c.args.core.now.entries c.args.component).name (state_at c.args.core.now.states c.args.component) (c.last_selector-selector-end.result + 1) c.loop-selector.selector (omega arith)
-    (λ k more. c.last_selector-selector-end.ensures k (omega (arith, more))))
+    (λ k more. c.last_selector-selector-end.ensures.none k (omega (arith, more))))
     c.loop-selector.invariant.told (c.in_err-put_selected.ensures.told.1))
 
 pub returns-in_ok-put_selected-clause-told : goal.returns-in_ok-put_selected-clause-told
 returns-in_ok-put_selected-clause-told g c =
     told_on (sessions_last (entry_at c.args.core.now.entries c.args.component).name (state_at c.args.core.now.states c.args.component) c.loop-selector.selector
-    (λ k more. c.last_selector-selector-end.ensures k (omega (arith, more))))
+    (λ k more. c.last_selector-selector-end.ensures.none k (omega (arith, more))))
     c.loop-selector.invariant.told c.in_ok-put_selected.ensures.told

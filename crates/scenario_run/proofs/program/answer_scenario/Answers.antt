@@ -1,10 +1,6 @@
 -- The account list of the last states is told behind the transcript.
-use Rattle.own_model.specs.Listed.{start_list_of}
 use Rattle.scenario_run.proofs.TaskLemmas.{told_with_list, stopped_in_list}
 use Rattle.scenario_run.proofs.program.answer_scenario.Goals as goal
-
-pub write_accounts-requires-clause-balanced : goal.write_accounts-requires-clause-balanced
-write_accounts-requires-clause-balanced g c = c.in-Ok.ensures.shares (start_list_of c.args.list.now) c.requires.balanced
 
 pub returns-in-Ok-write_accounts-clause-told : goal.returns-in-Ok-write_accounts-clause-told
 returns-in-Ok-write_accounts-clause-told g c =

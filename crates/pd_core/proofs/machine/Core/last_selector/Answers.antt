@@ -18,8 +18,8 @@ pub offset_bounds-components-component : goal.offset_bounds-components-component
 offset_bounds-components-component g c =
     let within = bounds-components-component g c in search rules
 
-pub returns : goal.returns
-returns g c = λ q past.
+pub returns-clause-none : goal.returns-clause-none
+returns-clause-none g c = λ q past.
     let routed = g.R.Router.rules c.self.inside.routes in
     let memory = c.self.inside.memory in
     let components = c.as_slice-components.result.now in
@@ -27,4 +27,4 @@ returns g c = λ q past.
     let at = c.index-components-component in
     let same = ap (world_of routed memory) c.as_slice-components.ensures.value ∙ c.self.view_is in
     sym (ap (λ (w : World). get (state_at w.states i).selectors q) same)
-    ∙ none_at_place routed memory components i at.result c.last_selector.result (place_within routed memory components c.args.self.now i same c.requires) at.is c.last_selector.ensures q past
+    ∙ none_at_place routed memory components i at.result c.last_selector.result (place_within routed memory components c.args.self.now i same c.requires) at.is c.last_selector.ensures.all q past

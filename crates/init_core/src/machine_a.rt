@@ -1,4 +1,7 @@
 //! The built-in machine.
+ghost use Rattle.std.specs.Prelude.{◌≡◌, Ok};
+ghost use Rattle.init_core.specs.StartText.{list_in};
+ghost use Rattle.init_core.specs.MachineA.{machine_a};
 
 /// The text of its start list: two servers and two scripts.
 pub const MACHINE_A: &str = r#"{"machine":{"pages":64,"caps":64},
@@ -8,3 +11,8 @@ pub const MACHINE_A: &str = r#"{"machine":{"pages":64,"caps":64},
   {"name":"files","quantum":"16K","caps":8,"provides":["File_system"]},
   {"name":"alice","binary":"script","quantum":"64K","caps":16},
   {"name":"bob","binary":"script","quantum":"64K","caps":16}]}"#;
+
+/// The text is read as the start list that the model has for the machine.
+pub fn machine_a_is_read()
+    ensures { list_in MACHINE_A.now ≡ Ok machine_a }
+{}

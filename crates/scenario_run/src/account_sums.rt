@@ -1,0 +1,77 @@
+//! The sums of all limits, which the account list tells last.
+ghost use Rattle.std.specs.Prelude.{◌≡◌, ◌+◌, ◌*◌, ◌^◌, ◌<◌, ◌≤◌, length};
+ghost use Rattle.own_model.specs.Limits.{ram_limits, caps_limits};
+ghost use Rattle.own_model.specs.Transcript.{state_at};
+ghost use Rattle.own_model.specs.World.{all_ram, all_caps};
+ghost use Rattle.pd_core.specs.Answer.{quotas_account};
+
+use pd_core::{Core, Quotas, Router};
+
+/// Limits of several accounts together: RAM in bytes, and capabilities. They are wider than an account's, so that no sum
+/// is too large for them, whatever the accounts have.
+#[derive(Clone, Copy, Debug, PartialEq, Eq)]
+pub struct Sums {
+    pub ram: u128,
+    pub caps: u128,
+}
+
+impl Sums {
+    ghost use Rattle.std.specs.Prelude.{◌≡◌, ◌+◌, ◌*◌, ◌^◌, ◌<◌, ◌≤◌};
+    ghost use Rattle.pd_core.specs.Answer.{quotas_account};
+
+    // The limits of one account.
+    fn of(account: Quotas) -> Sums
+        ensures ram { result.ram ≡ (quotas_account account).ram_limit }
+        ensures caps { result.caps ≡ (quotas_account account).caps_limit }
+        ensures ram_fits { result.ram < 2 ^ 64 }
+        ensures caps_fits { result.caps < 2 ^ 64 }
+    {
+        Sums {
+            ram: u128::from(account.ram_limit.0),
+            caps: u128::from(account.caps_limit.0),
+        }
+    }
+
+    // These limits and others together.
+    fn plus(self, more: Sums) -> Sums
+        requires ram { self.ram + more.ram < 2 ^ 128 }
+        requires caps { self.caps + more.caps < 2 ^ 128 }
+        ensures ram { result.ram ≡ self.ram + more.ram }
+        ensures caps { result.caps ≡ self.caps + more.caps }
+    {
+        Sums {
+            ram: self.ram + more.ram,
+            caps: self.caps + more.caps,
+        }
+    }
+}
+
+/// The limits of all accounts of at most 32 components, of their open sessions and of init.
+pub fn sum_all<R: Router + Drop>(core: &Core<R>) -> Sums
+    requires few { length core.now.entries ≤ 32 }
+    ensures ram { result.ram ≡ all_ram core.now }
+    ensures caps { result.caps ≡ all_caps core.now }
+{
+    let mut sums = Sums::of(core.init_account());
+    for component in 0..core.count() {
+        sums = sums.plus(sum_of(core, component));
+    }
+    sums
+}
+
+// The limits of a component's account and of its open sessions.
+fn sum_of<R: Router + Drop>(core: &Core<R>, component: usize) -> Sums
+    requires { component < length core.now.entries }
+    ensures ram { result.ram ≡ ram_limits (state_at core.now.states component) }
+    ensures caps { result.caps ≡ caps_limits (state_at core.now.states component) }
+    ensures ram_fits { result.ram < 2 ^ 80 }
+    ensures caps_fits { result.caps < 2 ^ 80 }
+{
+    let mut sums = Sums::of(core.account(component));
+    for selector in 0..core.last_selector(component) + 1 {
+        if let Some(account) = core.session_account(component, selector) {
+            sums = sums.plus(Sums::of(account));
+        }
+    }
+    sums
+}
