@@ -1,1 +1,2 @@
 pub mod SlotsLemmas
+pub mod PlacesLemmas

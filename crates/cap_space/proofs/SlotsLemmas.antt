@@ -1,5 +1,5 @@
 -- What the slots hold, and what a change of one slot does to it.
-use Rattle.std.proofs.Common.{◌≡◌, ℕ, zero, suc, ◌+◌, ◌-◌, ◌<◌, ◌≤◌, ◌≢◌, min, true, true≢false, cond, eqb, List, [], ◌∷◌, length, replicate, get_or, ◌⊎◌, set, Some, is_some, IsSome, count_by, subst, refl, sym, ap, ◌∙◌, arith, inl, inr}
+use Rattle.std.proofs.Common.{◌≡◌, ℕ, zero, suc, ◌+◌, ◌-◌, ◌<◌, ◌≤◌, ◌^◌, ◌≢◌, true, true≢false, cond, eqb, List, [], ◌∷◌, length, replicate, get_or, ◌⊎◌, set, Some, is_some, IsSome, count_by, subst, refl, sym, ap, ◌∙◌, arith, inl, inr}
 use Rattle.std.proofs.lemmas.Bool.{cases_eq, cases_lt}
 use Rattle.std.proofs.lemmas.Bool.Decides.{nat_tests}
 use Rattle.std.proofs.lemmas.List.{get_or-set_same, get_or-set_other, get_or-replicate, get_or_past, length-replicate, length-set}
@@ -14,6 +14,8 @@ use Rattle.own_model.proofs.NatMapLemmas.{same, get-insert, get-remove, get-empt
 use Rattle.own_model.proofs.NewSelector.{new_selector_is}
 use Rattle.own_model.proofs.SlotLemmas.{get-held_from, get-held_from_below, len-held_from}
 use Rattle.cap_space.specs.Slots.{held, space_of, IsTakenBefore, IsKept}
+use Rattle.cap_space.specs.Places.{mark_at, AreSummed, IsMarked}
+use Rattle.cap_space.proofs.PlacesLemmas.{taken-full, IsLeast}
 use Rattle.cap_space.specs.Space.{Space, fresh_space, with_cap, without_cap}
 use Rattle.cap_space.specs.declared.cap.Cap.{Cap}
 
@@ -87,6 +89,12 @@ module _ {X : Type 0} where
       let one : cond (is_some (get_or slots (selector - 1) None)) 1 0 ≡ 1 = ap {B = ℕ} (λ b. cond b 1 0) (ap is_some (sym (get-held slots selector positive)) ∙ taken) in
       omega (arith, one, sum_by-set (λ o. cond (is_some o) 1 0) slots (selector - 1) None None within)
 
+  -- to fill a free slot is to count one more
+  pub count-filled : (slots : List (Option X)) (place : ℕ) (x : X) → place < length slots → get_or slots place None ≡ None → count_by is_some (set slots place (Some x)) ≡ count_by is_some slots + 1
+  count-filled slots place x within free =
+      let none : cond (is_some (get_or slots place None)) 1 0 ≡ 0 = ap {B = ℕ} (λ o. cond (is_some o) 1 0) free in
+      omega (arith, none, sum_by-set (λ o. cond (is_some o) 1 0) slots place (Some x) None within)
+
   -- a selector has nothing, or a place that is taken. The first part gives `grind` the term to match
   pub held_cases : (slots : List (Option X)) (selector : ℕ) → (get (held slots) selector ≡ get (held slots) selector) × ((get (held slots) selector ≡ None) ⊎ ((1 ≤ selector) × (selector - 1 < length slots) × (1 ≤ count_by is_some slots)))
   held_cases slots selector = (
@@ -112,9 +120,16 @@ module _ {X : Type 0} where
   held_le slots = count_by-le-length is_some slots
 
 -- the equations by which `grind` reads slots
-pub ruleset slots = (nat_tests, get-held_zero, get-held, len-held, new_selector-held, held-replicate, held_cases, held_le, taken_le)
+pub ruleset slots = (nat_tests, get-held_zero, get-held, len-held, new_selector-held, held-replicate, held_cases, held_le)
 
 -- ---- the space that the slots keep
+
+-- a place has the mark and the slot that were written, or is another, with the mark and the slot that it had
+marks-set : (slots : List (Option Cap)) (place : ℕ) (slot : Option Cap) → place < length slots → (capacity used : ℕ) (words new_words : List ℕ) (mark : ℕ) → IsKept slots capacity words used → IsMarked words new_words place mark → (other : ℕ) → ((mark_at new_words other ≡ mark) × (get_or (set slots place slot) other None ≡ slot)) ⊎ ((mark_at new_words other ≡ mark_at words other) × (get_or (set slots place slot) other None ≡ get_or slots other None))
+marks-set slots place slot within capacity used words new_words mark kept marked other = elim (cases_eq other place) [
+  | inl same ↦ inl (ap (mark_at new_words) same ∙ marked.here, ap (λ p. get_or (set slots place slot) p None) same ∙ get_or-set_same slots place slot None within)
+  | inr differs ↦ inr (marked.others other differs, get_or-set_other slots place other slot None differs)
+]
 
 -- spaces that agree in each part are equal
 same_space : {m n : NatMap Cap} {places more : ℕ} → m ≡ n → places ≡ more → ◌≡◌ {A = Space} (record { caps = m; places = places }) (record { caps = n; places = more })
@@ -125,6 +140,10 @@ pub space_fresh : (slots : List (Option Cap)) (places : ℕ) → slots ≡ repli
 space_fresh slots places free = same_space (ap held free ∙ held-replicate places) (ap length free ∙ length-replicate places None)
 
 module _ (slots : List (Option Cap)) (space : Space) (keeps : space_of slots ≡ space) where
+  -- a place is free where the space has room
+  pub has_room : len space.caps < space.places → count_by is_some slots < length slots
+  has_room room = rw (len-held slots) at (subst (λ (s : Space). len s.caps < s.places) (sym keeps) room)
+
   -- a slot that is filled
   pub space_filled : (place : ℕ) (cap : Cap) → place < length slots → space_of (set slots place (Some cap)) ≡ with_cap space (place + 1) cap
   space_filled place cap within =
@@ -144,14 +163,62 @@ module _ (slots : List (Option Cap)) (space : Space) (keeps : space_of slots ≡
         (length-set slots (selector - 1) None ∙ ap (λ s. s.places) keeps)
 
     -- the slots are kept so
-    pub kept_emptied : (capacity first_free used hint : ℕ) → IsKept slots capacity first_free used → hint ≡ min first_free (selector - 1) → IsKept (set slots (selector - 1) None) capacity hint (used - 1)
-    kept_emptied capacity first_free used hint kept least =
+    pub kept_emptied : (capacity used : ℕ) (words new_words : List ℕ) → IsKept slots capacity words used → IsMarked words new_words (selector - 1) 0 → IsKept (set slots (selector - 1) None) capacity new_words (used - 1)
+    kept_emptied capacity used words new_words kept marked =
         let at = in_use slots selector here in
         let same = length-set slots (selector - 1) None in
+        let marks = marks-set slots (selector - 1) None at.1 capacity used words new_words 0 kept marked in
         record {
           reserved = kept.reserved ∙ sym same;
           few = omega (arith, same, kept.few);
-          before = λ place below. let other : place ≢ selector - 1 = omega arith in
-              ap is_some (get_or-set_other slots (selector - 1) place None None other) ∙ kept.before place (omega arith);
+          taken = λ place bit. elim (marks place) [
+            | inl there ↦ absurd (omega (arith, there.0, bit))
+            | inr other ↦ ap is_some other.1 ∙ kept.taken place (sym other.0 ∙ bit)
+          ];
+          free = λ place bit. elim (marks place) [
+            | inl there ↦ there.1
+            | inr other ↦ other.1 ∙ kept.free place (sym other.0 ∙ bit)
+          ];
           counted = omega (arith, count-vacated slots selector here at.0 at.1, kept.counted);
+        }
+
+-- ---- the least free place
+
+module _ (slots : List (Option Cap)) (capacity used : ℕ) (words : List ℕ) (full : ℕ) (kept : IsKept slots capacity words used) (summed : AreSummed words full) (room : count_by is_some slots < length slots) where
+  -- some word isn't full
+  pub room_above : full < 2 ^ 64 → full + 1 < 2 ^ 64
+  room_above fits = elim (cases_eq (full + 1) (2 ^ 64)) as (λ _. full + 1 < 2 ^ 64) [
+    | inl all ↦ absurd (omega (arith, kept.few, room, taken_le slots (length slots) (λ place below. kept.taken place (taken-full words full summed all place (omega (arith, kept.few))))))
+    | inr some ↦ omega arith
+  ]
+
+  module _ (place : ℕ) (least : IsLeast words full summed place) where
+    -- none before it is free
+    pub taken_before : IsTakenBefore slots place
+    taken_before other before = kept.taken other (least.first other before)
+
+    -- it is one of the places
+    pub least_within : place < length slots
+    least_within = elim (cases_lt place (length slots)) as (λ _. place < length slots) [
+      | inl below ↦ below
+      | inr past ↦ absurd (omega (arith, room, taken_le slots (length slots) (λ other before. taken_before other (omega arith))))
+    ]
+
+    -- and when it is filled the slots are kept so
+    pub kept_filled : (cap : Cap) (new_words : List ℕ) → IsMarked words new_words place 1 → IsKept (set slots place (Some cap)) capacity new_words (used + 1)
+    kept_filled cap new_words marked =
+        let same = length-set slots place (Some cap) in
+        let marks = marks-set slots place (Some cap) least_within capacity used words new_words 1 kept marked in
+        record {
+          reserved = kept.reserved ∙ sym same;
+          few = omega (arith, same, kept.few);
+          taken = λ other bit. elim (marks other) [
+            | inl there ↦ ap is_some there.1
+            | inr apart ↦ ap is_some apart.1 ∙ kept.taken other (sym apart.0 ∙ bit)
+          ];
+          free = λ other bit. elim (marks other) [
+            | inl there ↦ absurd (omega (arith, there.0, bit))
+            | inr apart ↦ apart.1 ∙ kept.free other (sym apart.0 ∙ bit)
+          ];
+          counted = omega (arith, count-filled slots place cap least_within (kept.free place least.free), kept.counted);
         }

@@ -4,6 +4,7 @@ use Rattle.own_model.specs.NatMap.{NatMap}
 use Rattle.own_model.specs.Slots.{held_from}
 use Rattle.cap_space.specs.declared.cap.Cap.{Cap}
 use Rattle.cap_space.specs.Space.{Space}
+use Rattle.cap_space.specs.Places.{mark_at}
 
 -- what the slots hold, by selectors
 abbrev pub held : {X : Type 0} → List (Option X) → NatMap X
@@ -17,10 +18,11 @@ space_of slots = record { caps = held slots; places = length slots }
 abbrev pub IsTakenBefore : {X : Type 0} → List (Option X) → ℕ → Type 0
 IsTakenBefore slots end = (place : ℕ) → place < end → IsSome (slice_index_or slots place None)
 
--- what is true of the slots between calls: no memory is reserved beyond them, the hint and the count are right, and
+-- what is true of the slots between calls: no memory is reserved beyond them, the marks and the count are right, and
 -- selectors fit 32 bits
-pub record IsKept (slots : List (Option Cap)) (capacity first_free used : ℕ) : Type 0 where
+pub record IsKept (slots : List (Option Cap)) (capacity : ℕ) (words : List ℕ) (used : ℕ) : Type 0 where
   pub reserved : capacity ≡ length slots
   pub few : length slots ≤ 4096
-  pub before : IsTakenBefore slots first_free
+  pub taken : (place : ℕ) → mark_at words place ≡ 1 → IsSome (slice_index_or slots place None)
+  pub free : (place : ℕ) → mark_at words place ≡ 0 → slice_index_or slots place None ≡ None
   pub counted : count_by is_some slots ≡ used

@@ -2,6 +2,7 @@
 #![tactic(auto)]
 
 mod cap;
+mod places;
 mod space;
 #[cfg(test)]
 mod tests;

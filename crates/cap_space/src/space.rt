@@ -1,11 +1,11 @@
 //! The capability space: a table with a place for each selector.
-ghost use Rattle.std.specs.Prelude.{◌≡◌, ℕ, ◌<◌, ◌≤◌, ◌↔◌, None, IsTrue, IsFalse, IsSome, IfOk, IfSome, IfNone, count_by, is_some, length, slice_index_or};
+ghost use Rattle.std.specs.Prelude.{◌≡◌, ℕ, ◌<◌, ◌≤◌, ◌↔◌, None, IsTrue, IsFalse, IsSome, IfOk, IfSome, IfNone};
 ghost use Rattle.std.specs.FinMap.{get, len};
 ghost use Rattle.own_model.specs.OwnState.{new_selector, IsLeastUnused};
 ghost use Rattle.cap_space.specs.Space.{dataspace_of, is_rpc_object, session_of, fresh_space, with_cap, without_cap};
-ghost use Rattle.cap_space.specs.Slots.{IsTakenBefore};
 
 use crate::cap::Cap;
+use crate::places::Places;
 use std::alloc::Global;
 use std::marker::Model;
 use trade_base::{DsId, NoMemory, Selector, SessionId};
@@ -17,8 +17,8 @@ use trade_base::{DsId, NoMemory, Selector, SessionId};
 pub struct CapSpace {
     // The place of a selector is one less.
     slots: Vec<Option<Cap>>,
-    // No place before this one is free.
-    first_free: usize,
+    // Which of them are taken. Places past the last one are free.
+    taken: Places,
     // How many places are taken.
     used: usize,
 }
@@ -35,7 +35,7 @@ impl Model for CapSpace {
 
     ghost view = { λ s. space_of s.slots.items };
 
-    ghost invariant = { λ s. IsKept s.slots.items (vec_capacity s.slots) s.first_free s.used };
+    ghost invariant = { λ s. IsKept s.slots.items (vec_capacity s.slots) s.taken.words s.used };
 }
 
 #[tactic(auto, using(crate::proofs::SlotsLemmas::slots))]
@@ -53,7 +53,7 @@ impl CapSpace {
         }
         Ok(CapSpace {
             slots,
-            first_free: 0,
+            taken: Places::all_free(),
             used: 0,
         })
     }
@@ -66,9 +66,9 @@ impl CapSpace {
         ensures fresh { get self.old.caps result.0 ≡ None }
         ensures taken { self.new ≡ with_cap self.old result.0 cap }
     {
-        let place = free_place(&self.slots, self.first_free);
+        let place = self.taken.least_free();
         self.slots[place] = Some(cap);
-        self.first_free = place + 1;
+        self.taken.take(place);
         self.used += 1;
         Selector((place + 1) as u32)
     }
@@ -141,7 +141,7 @@ impl CapSpace {
         let slots = &mut self.slots;
         let place = (selector - 1) as usize;
         slots[place] = None;
-        self.first_free = self.first_free.min(place);
+        self.taken.free(place);
         self.used -= 1;
     }
 
@@ -161,20 +161,4 @@ impl CapSpace {
     {
         self.used == self.slots.len()
     }
-}
-
-// The first free place, where none before `from` is free.
-#[tactic(auto, using(crate::proofs::SlotsLemmas::taken_le))]
-fn free_place(slots: &[Option<Cap>], from: usize) -> usize
-    requires room { count_by is_some slots.now < length slots.now }
-    requires before { IsTakenBefore slots.now from }
-    ensures within { result < length slots.now }
-    ensures free { slice_index_or slots.now result None ≡ None }
-    ensures first { IsTakenBefore slots.now result }
-{
-    let mut place = from;
-    while slots[place].is_some() {
-        place += 1;
-    }
-    place
 }

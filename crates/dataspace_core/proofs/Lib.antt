@@ -6,7 +6,6 @@ pub mod WriteLemmas
 pub mod WalkLemmas
 pub mod ReadLemmas
 pub mod TestLemmas
-pub mod RetainLemmas
 pub mod GapLemmas
 pub mod LaidOutLemmas
 pub mod MemoryLemmas
@@ -17,3 +16,4 @@ pub mod ShareLaws
 pub mod WindowLaws
 pub mod LimitLaws
 pub mod RoomLaws
+pub mod SpacesLemmas

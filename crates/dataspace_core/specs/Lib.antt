@@ -3,3 +3,4 @@ pub mod Layout
 pub mod Paid
 pub mod Share
 pub mod Room
+pub mod Spaces

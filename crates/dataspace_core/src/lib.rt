@@ -5,6 +5,7 @@ mod dataspace;
 mod laws;
 mod memory;
 mod runs;
+mod spaces;
 #[cfg(test)]
 #[tactic(auto, using(crate::proofs::TestLemmas::store_laws))]
 mod tests;

@@ -12,13 +12,13 @@ ghost use Rattle.dataspace_core.specs.Store.{Exists, space_at, with_space, witho
 ghost use Rattle.dataspace_core.specs.Store.{parents_in, parent_in, IsChildIn, IsLeafIn, AreRelatedIn, with_moved_in, without_account_in, RaisesPart, ClosesPart};
 ghost use Rattle.dataspace_core.specs.Store.{part, PartBecomes, OpensPart, part_with_space, part_without_space, part_with_bytes, charged_part, credited_part};
 
-use crate::dataspace::{Dataspace, move_down, no_spaces, size_of, space_under};
+use crate::dataspace::{Dataspace, size_of, space_under};
 use crate::runs::{
     close_gap, give_run, load_run, no_pages, read_run, store_run, take_run, write_run,
 };
+use crate::spaces::Spaces;
 use page_pool::{PageNo, Pool};
 use quota_core::Books;
-use slab::Slab;
 use std::alloc::Global;
 use std::marker::Model;
 use trade_base::{AccountId, Caps, DsId, NoMemory, PAGE, Ram, Refusal, page_round};
@@ -32,7 +32,7 @@ use trade_base::{AccountId, Caps, DsId, NoMemory, PAGE, Ram, Refusal, page_round
 pub struct Memory {
     pool: Pool,
     books: Books,
-    spaces: Slab<Dataspace>,
+    spaces: Spaces,
     /// The pages of all dataspaces, those of each one after another.
     table: Vec<PageNo>,
 }
@@ -73,7 +73,7 @@ impl Memory {
         let pool = Pool::boot(alloc, pages)?;
         let books = Books::boot(alloc, Ram(pages as u64 * PAGE), caps, accounts)?;
         // Each dataspace has a page at least, and a capability.
-        let spaces = no_spaces(alloc, pages.min(caps.0 as usize))?;
+        let spaces = Spaces::boot(alloc, pages.min(caps.0 as usize))?;
         let table = no_pages(alloc, pages)?;
         Ok(Memory {
             pool,
@@ -124,7 +124,7 @@ impl Memory {
         let space = self.spaces.remove(ds.0);
         give_run(&mut self.pool, &self.table, space.run);
         close_gap(&mut self.table, space.run);
-        move_down(&mut self.spaces, space.run, self.table.len());
+        self.spaces.move_down(space.run, self.table.len());
         self.books.credit(space.payer, Ram(size_of(space)), Caps(1));
     }
 

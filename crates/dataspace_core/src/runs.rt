@@ -1,5 +1,5 @@
 //! Runs of pages: one table has the page numbers of all dataspaces, those of each one after another.
-ghost use Rattle.std.specs.Prelude.{◌≡◌, ◌+◌, ◌-◌, ◌*◌, ◌%◌, ◌^◌, ◌<◌, ◌≤◌, nat_le, [], length, slice_range, vec_len, vec_capacity, IfOk, if◌then◌else◌};
+ghost use Rattle.std.specs.Prelude.{◌≡◌, ◌+◌, ◌*◌, ◌%◌, ◌^◌, ◌<◌, ◌≤◌, [], length, slice_range, vec_len, vec_capacity, IfOk};
 ghost use Rattle.page_pool.specs.Pages.{free_count};
 ghost use Rattle.trade_base.specs.Word.{word_of, word_bytes};
 ghost use Rattle.dataspace_core.specs.Layout.{IsRun, IsNewRun, IsGiven, IsClosed, IsWritten, run_bytes};
@@ -59,17 +59,6 @@ pub(crate) fn close_gap(table: &mut Vec<PageNo>, gap: Run)
 {
     table.copy_within(gap.start + gap.count.., gap.start);
     table.truncate(table.len() - gap.count);
-}
-
-/// Where a run starts once the gap is closed.
-pub(crate) fn start_after(start: usize, gap: Run) -> usize
-    ensures { result ≡ (if nat_le start gap.start then start else start - gap.count) }
-{
-    if start <= gap.start {
-        start
-    } else {
-        start.saturating_sub(gap.count)
-    }
 }
 
 /// Fills `buffer` with the bytes at `offset` of a run.

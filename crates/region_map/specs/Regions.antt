@@ -56,6 +56,10 @@ all_detached regions ds = record regions { user = without ds regions.user }
 
 -- ---- the heap window
 
+-- the number kept with a heap region that is no heap's
+abbrev pub of_no_heap : ℕ
+of_no_heap = 65
+
 -- a heap region more: of a dataspace, with so many pages, from an address on, and a number kept with it
 abbrev pub heap_attached : Regions → ℕ → ℕ → ℕ → ℕ → Regions
 heap_attached regions ds pages tag address = record regions {

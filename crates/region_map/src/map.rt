@@ -5,7 +5,7 @@ ghost use Rattle.std.specs.Result.{result_err};
 ghost use Rattle.std.specs.FinMap.{get, len};
 ghost use Rattle.own_model.specs.HeapWindow.{largest_machine, heap_gap, pages_of_all};
 ghost use Rattle.own_model.specs.Region.{user_low, user_high, first_gap, resolved, IsFirstGap, attach_refusal, attach_at_refusal, detach_refusal};
-ghost use Rattle.region_map.specs.Regions.{fresh_regions, attached, detached, all_detached, heap_attached, heap_detached, heap_found, either_resolved, AreSound};
+ghost use Rattle.region_map.specs.Regions.{fresh_regions, attached, detached, all_detached, of_no_heap, heap_attached, heap_detached, heap_found, either_resolved, AreSound};
 
 use super::table::Table;
 use std::alloc::Global;
@@ -20,6 +20,10 @@ const USER_HIGH: u64 = 0x2000_0000;
 
 /// The first address of the heap window.
 const HEAP_LOW: u64 = 0x1_0000_0000;
+
+/// The number kept with a heap region that is no heap's: neither that of a chunk (below 64) nor of a large block (64) nor
+/// of a sliced block (2^64 - 1).
+const OF_NO_HEAP: u64 = 65;
 
 /// The user regions of a component, and the heap regions beside them. Contracts see both by their start addresses,
 /// each of a dataspace's key, the number kept with each heap region, how many regions there are at most in each
@@ -148,17 +152,17 @@ impl RegionMap {
         start
     }
 
-    /// The same with the number 0.
+    /// The same of a region that is no heap's: the number kept with it is 65, which no heap takes for one of its own.
     pub fn attach_heap(&mut self, ds: DsId, pages: u64) -> u64
         requires some { 1 ≤ pages }
         requires room { len self.old.heap < self.old.heap_most }
         requires fits { pages_of_all self.old.heap + pages ≤ self.old.pages }
         ensures gap { heap_gap self.old.pages self.old.heap pages ≡ Some result }
-        ensures attached { self.new ≡ heap_attached self.old ds.0 pages 0 result }
+        ensures attached { self.new ≡ heap_attached self.old ds.0 pages of_no_heap result }
         ensures free { get self.old.heap result ≡ None }
         ensures lowest { heap_gap largest_machine self.old.heap pages ≡ Some result }
     {
-        self.attach_block(ds, pages, 0)
+        self.attach_block(ds, pages, OF_NO_HEAP)
     }
 
     /// Detaches the heap region that starts at an address.

@@ -159,4 +159,8 @@ fn lowest_heap_gap_is_taken_again(rt: HostRuntime) {
     assert_eq!(rt; map.resolve(0x1_0000_4010, 0x2ff1), None);
     assert_eq!(rt; map.resolve_user(0x1_0000_4010, 1), None);
     assert_eq!(rt; map.attach_heap(FIRST, 2), 0x1_0000_7000);
+    assert_eq!(rt;
+        map.heap_region(0x1_0000_8000),
+        Some((0x1_0000_7000, FIRST, 65))
+    );
 }

@@ -1,6 +1,27 @@
--- The slot at the first free place is filled.
-use Rattle.cap_space.proofs.SlotsLemmas.{space_filled}
+-- The slot at the least free place is filled.
+use Rattle.std.proofs.Common.{◌<◌, arith, length, rules}
+use Rattle.cap_space.proofs.PlacesLemmas.{IsLeast}
+use Rattle.cap_space.proofs.SlotsLemmas.{has_room, room_above, least_within, kept_filled, space_filled}
 use Rattle.cap_space.proofs.space.CapSpace.insert.Goals as goal
 
+pub least_free-place-requires : goal.least_free-place-requires
+least_free-place-requires c = record {
+  room = room_above _ _ _ _ _ c.self.invariant c.self.inside.taken.summed (has_room _ _ c.self.view_is c.requires.room) (search rules);
+}
+
+pub index_mut-requires : goal.index_mut-requires
+index_mut-requires c =
+    let least : IsLeast c.self.inside.taken.words c.self.inside.taken.full c.self.inside.taken.summed c.least_free-place.result =
+    record { within = c.least_free-place.ensures.within; free = c.least_free-place.ensures.free; first = c.least_free-place.ensures.first } in
+    omega (arith, c.self.inside.slots.ok, least_within _ _ _ _ _ c.self.invariant c.self.inside.taken.summed (has_room _ _ c.self.view_is c.requires.room) _ least)
+
+-- the least place is found
+is_least : (c : goal.After-self-2-1) → IsLeast c.self.inside.taken.words c.self.inside.taken.full c.self.inside.taken.summed c.least_free-place.result
+is_least c = record { within = c.least_free-place.ensures.within; free = c.least_free-place.ensures.free; first = c.least_free-place.ensures.first }
+
+pub invariant_of-self : goal.invariant_of-self
+invariant_of-self c = kept_filled _ _ _ _ _ c.self.invariant c.self.inside.taken.summed (has_room _ _ c.self.view_is c.requires.room) _ (is_least c) _ _ c.take.ensures.taken
+
 pub returns-clause-taken : goal.returns-clause-taken
-returns-clause-taken c = space_filled _ _ c.self.view_is _ _ (rw c.deref.ensures.value at c.free_place-place.ensures.within)
+returns-clause-taken c =
+    space_filled _ _ c.self.view_is _ _ (least_within _ _ _ _ _ c.self.invariant c.self.inside.taken.summed (has_room _ _ c.self.view_is c.requires.room) _ (is_least c))

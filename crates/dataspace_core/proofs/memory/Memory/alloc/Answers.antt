@@ -23,11 +23,18 @@ take_run-run-requires-clause-room c =
           (rw (← c.self.view_is) at c.requires) c.in_ok-charge.ensures.refusal,
     )
 
-pub insert_reserved-key-requires : goal.insert_reserved-key-requires
-insert_reserved-key-requires c =
+pub insert_reserved-key-requires-clause-room : goal.insert_reserved-key-requires-clause-room
+insert_reserved-key-requires-clause-room c =
     place_free c.self.invariant c.args.account.0 c.args.bytes c.in_ok-size.size
     (rw c.in_ok-size.ensures.ok_part at c.valid_size.ensures.rounded) (rw c.in_ok-size.ensures.ok_part at c.valid_size.ensures.some)
     (rw (← c.self.view_is) at c.requires) c.in_ok-charge.ensures.refusal
+
+pub insert_reserved-key-requires-clause-small : goal.insert_reserved-key-requires-clause-small
+insert_reserved-key-requires-clause-small c =
+    let start = c.take_run-run.ensures.run.at_end in
+    let entries = c.self.invariant.counted in
+    let few = c.self.invariant.paid.few in
+    omega arith
 
 pub invariant_of-self-2 : goal.invariant_of-self-2
 invariant_of-self-2 c =

@@ -16,9 +16,16 @@ pub close_gap-requires : goal.close_gap-requires
 close_gap-requires c =
     omega (arith, (is_found c.self.invariant c.args.ds.0 c.remove-space.result c.remove-space.ensures.value c.self.view_is).run.within, c.self.inside.table.ok)
 
-pub move_down-requires : goal.move_down-requires
-move_down-requires c = λ last.
+pub move_down-requires-clause-none : goal.move_down-requires-clause-none
+move_down-requires-clause-none c = λ last.
     none_behind c.self.invariant c.args.ds.0 c.remove-space.result c.remove-space.ensures.value c.remove-space.ensures.updates c.close_gap.ensures.closed (omega (arith, last, c.close_gap.new.table.ok))
+
+pub move_down-requires-clause-small : goal.move_down-requires-clause-small
+move_down-requires-clause-small c =
+    let run = (is_found c.self.invariant c.args.ds.0 c.remove-space.result c.remove-space.ensures.value c.self.view_is).run.within in
+    let entries = c.self.invariant.counted in
+    let few = c.self.invariant.paid.few in
+    omega arith
 
 pub size_of-requires : goal.size_of-requires
 size_of-requires c = (is_found c.self.invariant c.args.ds.0 c.remove-space.result c.remove-space.ensures.value c.self.view_is).small

@@ -1,0 +1,145 @@
+-- Dataspaces and their starts, read as one slab.
+use Rattle.std.proofs.Common.{◌≡◌, ◌≢◌, ℕ, zero, suc, ◌+◌, ◌<◌, ◌≤◌, cond, max, List, [], ◌∷◌, drop, length, get_or, set, Some, is_some, count_by, true≢false, refl, sym, ap, subst, ◌∙◌, inl, inr, arith, length-set, get_or-set_same, get_or-set_other}
+use Rattle.std.specs.Prelude.{Option, None}
+use Rattle.std.specs.Option.{option_map}
+use Rattle.std.proofs.lemmas.Bool.{cases_eq}
+use Rattle.std.proofs.lemmas.Grind.{get_or_after_one}
+use Rattle.std.proofs.lemmas.List.Sums.{sum_by-cons}
+use Rattle.slab.specs.Slab.{Slab, ContainsKey, Updates, HasRoomFor, slab_len}
+use Rattle.slab.specs.Slab as slab
+use Rattle.dataspace_core.specs.Layout.{moved_down, HasMovedDown}
+use Rattle.dataspace_core.specs.Spaces.{placed_at, placed_slots, placed, IsPlaced, start_after, HaveMoved}
+use Rattle.dataspace_core.specs.declared.dataspace.Dataspace.{Dataspace}
+use Rattle.dataspace_core.specs.declared.runs.Run.{Run}
+use Rattle.dataspace_core.specs.declared.spaces.Kept.{Kept}
+
+-- ---- slots and starts
+
+-- a slot, with the start at its place
+get_or-placed : (slots : List (Option Kept)) (starts : List ℕ) (key : ℕ) → get_or (placed_slots slots starts) key None ≡ option_map (placed_at (get_or starts key 0)) (get_or slots key None)
+get_or-placed [] starts key = refl
+get_or-placed (slot ∷ slots) starts zero = refl
+get_or-placed (slot ∷ slots) starts (suc key) =
+    get_or-placed slots (drop 1 starts) key
+    ∙ ap (λ start. option_map (placed_at start) (get_or slots key None)) (get_or_after_one starts key 0 ∙ ap (λ k. get_or starts k 0) (omega arith))
+
+-- whether there is a dataspace hangs on no start
+is_some-placed : (start : ℕ) (slot : Option Kept) → is_some (option_map (placed_at start) slot) ≡ is_some slot
+is_some-placed start None = refl
+is_some-placed start (Some kept) = refl
+
+-- so there are as many
+count-placed : (slots : List (Option Kept)) (starts : List ℕ) → count_by is_some (placed_slots slots starts) ≡ count_by is_some slots
+count-placed [] starts = refl
+count-placed (slot ∷ slots) starts =
+    let here = ap {B = ℕ} (λ b. cond b 1 0) (is_some-placed (get_or starts 0 0) slot) in
+    let rest = count-placed slots (drop 1 starts) in
+    sum_by-cons (λ o. cond (is_some o) 1 0) (option_map (placed_at (get_or starts 0 0)) slot) (placed_slots slots (drop 1 starts))
+    ∙ ap {B = ℕ} (λ n. n + count_by is_some (placed_slots slots (drop 1 starts))) here
+    ∙ ap {B = ℕ} (λ n. cond (is_some slot) 1 0 + n) rest
+    ∙ sym (sum_by-cons (λ o. cond (is_some o) 1 0) slot slots)
+
+-- ---- starts that move
+
+module _ (from by key : ℕ) (old starts : List ℕ) (so_far : HaveMoved from by key old starts) (rest : (k : ℕ) → key ≤ k → get_or starts k 0 ≡ get_or old k 0) (within : key < length starts) (start : ℕ) (is : start ≡ start_after from by (get_or starts key 0)) where
+  -- one more has moved
+  pub HaveMoved-more : HaveMoved from by (key + 1) old (set starts key start)
+  HaveMoved-more = record {
+    size = length-set starts key start ∙ so_far.size;
+    each = λ k below. elim (cases_eq k key) as (λ _. get_or (set starts key start) k 0 ≡ start_after from by (get_or old k 0)) [
+      | inl here ↦
+          ap (λ n. get_or (set starts key start) n 0) here ∙ get_or-set_same starts key start 0 within ∙ is
+          ∙ ap (start_after from by) (rest key (omega arith) ∙ ap (λ n. get_or old n 0) (sym here))
+      | inr differs ↦ get_or-set_other starts key k start 0 differs ∙ so_far.each k (omega arith)
+    ];
+  }
+
+  -- and those behind it have not
+  pub rest-more : (k : ℕ) → key + 1 ≤ k → get_or (set starts key start) k 0 ≡ get_or old k 0
+  rest-more k past = let differs : k ≢ key = omega arith in get_or-set_other starts key k start 0 differs ∙ rest k (omega arith)
+
+-- ---- the slab
+
+module _ (kept : Slab Kept) (starts : List ℕ) where
+  -- what stands under a key
+  pub get-placed : (key : ℕ) → slab.get (placed kept starts) key ≡ option_map (placed_at (get_or starts key 0)) (slab.get kept key)
+  get-placed key = get_or-placed kept.slots starts key
+
+  -- where nothing is kept there is no dataspace
+  pub get-placed_none : (key : ℕ) → slab.get kept key ≡ None → slab.get (placed kept starts) key ≡ None
+  get-placed_none key none = get-placed key ∙ ap (option_map (placed_at (get_or starts key 0))) none
+
+  -- where something is, there is one
+  pub get-placed_some : (key : ℕ) (k : Kept) → slab.get kept key ≡ Some k → slab.get (placed kept starts) key ≡ Some (placed_at (get_or starts key 0) k)
+  get-placed_some key k there = get-placed key ∙ ap (option_map (placed_at (get_or starts key 0))) there
+
+  -- a key that has a dataspace is kept
+  pub kept_there : {value : Slab Dataspace} (key : ℕ) → placed kept starts ≡ value → ContainsKey value key → ContainsKey kept key
+  kept_there key view there = sym (is_some-placed (get_or starts key 0) (slab.get kept key)) ∙ sym (ap is_some (get-placed key)) ∙ subst (λ (s : Slab Dataspace). ContainsKey s key) (sym view) there
+
+  -- there is room for one more
+  pub room_there : {value : Slab Dataspace} → placed kept starts ≡ value → HasRoomFor value 1 → HasRoomFor kept 1
+  room_there view room =
+      let is = subst (λ (s : Slab Dataspace). HasRoomFor s 1) (sym view) room in
+      let same = count-placed kept.slots starts in
+      omega arith
+
+  module _ (new : Slab Kept) (used : ℕ) (is : IsPlaced kept starts used) (same : new.capacity ≡ kept.capacity) where
+    -- a dataspace comes
+    pub placed-inserted : (key start : ℕ) (k : Kept) → Updates kept new key (Some k) → key < kept.capacity → Updates (placed kept starts) (placed new (set starts key start)) key (Some (placed_at start k))
+    placed-inserted key start k updates within = record {
+      changed =
+          get_or-placed new.slots (set starts key start) key
+          ∙ ap (option_map (placed_at (get_or (set starts key start) key 0))) updates.changed
+          ∙ ap (λ s. Some (placed_at s k)) (get_or-set_same starts key start 0 (omega (arith, is.roomy)));
+      others = λ other differs.
+          get_or-placed new.slots (set starts key start) other
+          ∙ ap (λ s. option_map (placed_at s) (slab.get new other)) (get_or-set_other starts key other start 0 differs)
+          ∙ ap (option_map (placed_at (get_or starts other 0))) (updates.others other differs)
+          ∙ sym (get-placed other);
+    }
+
+    -- its start is kept too
+    pub IsPlaced-inserted : (key start : ℕ) (k : Kept) → Updates kept new key (Some k) → key < kept.capacity → (more : ℕ) → more ≡ max used (key + 1) → IsPlaced new (set starts key start) more
+    IsPlaced-inserted key start k updates within more most = record {
+      roomy = length-set starts key start ∙ is.roomy ∙ sym same;
+      within = omega (arith, length-set starts key start, is.roomy, is.within);
+      below = λ other there. elim (cases_eq other key) as (λ _. other < more) [
+        | inl here ↦ omega arith
+        | inr differs ↦ omega (arith, is.below other (sym (ap is_some (updates.others other differs)) ∙ there))
+      ];
+    }
+
+    -- a dataspace goes
+    pub placed-removed : (key : ℕ) → Updates kept new key None → Updates (placed kept starts) (placed new starts) key None
+    placed-removed key updates = record {
+      changed = get_or-placed new.slots starts key ∙ ap (option_map (placed_at (get_or starts key 0))) updates.changed;
+      others = λ other differs. get_or-placed new.slots starts other ∙ ap (option_map (placed_at (get_or starts other 0))) (updates.others other differs) ∙ sym (get-placed other);
+    }
+
+    -- the others' starts stay
+    pub IsPlaced-removed : (key : ℕ) → Updates kept new key None → IsPlaced new starts used
+    IsPlaced-removed key updates = record {
+      roomy = is.roomy ∙ sym same;
+      within = is.within;
+      below = λ other there. elim (cases_eq other key) as (λ _. other < used) [
+        | inl here ↦ absurd (true≢false (sym there ∙ ap is_some (ap (slab.get new) here ∙ updates.changed)))
+        | inr differs ↦ is.below other (sym (ap is_some (updates.others other differs)) ∙ there)
+      ];
+    }
+
+  -- the starts move
+  module _ (used from by : ℕ) (is : IsPlaced kept starts used) (new_starts : List ℕ) (moved : HaveMoved from by used starts new_starts) where
+    -- what stands under a key that is kept
+    moved_at : (key : ℕ) (slot : Option Kept) → slab.get kept key ≡ slot → (gap : Run) → from ≡ gap.start → by ≡ gap.count → option_map (placed_at (get_or new_starts key 0)) slot ≡ option_map (moved_down gap) (option_map (placed_at (get_or starts key 0)) slot)
+    moved_at key None there gap start count = refl
+    moved_at key (Some k) there gap start count =
+        ap (λ s. Some (placed_at s k)) (moved.each key (is.below key (ap is_some there)) ∙ ap (λ f. start_after f by (get_or starts key 0)) start ∙ ap (λ b. start_after gap.start b (get_or starts key 0)) count)
+
+    pub placed-moved : (gap : Run) → from ≡ gap.start → by ≡ gap.count → HasMovedDown gap (placed kept starts) (placed kept new_starts)
+    placed-moved gap start count = record {
+      each = λ key. get_or-placed kept.slots new_starts key ∙ moved_at key (slab.get kept key) refl gap start count ∙ ap (option_map (moved_down gap)) (sym (get-placed key));
+    }
+
+    pub IsPlaced-moved : IsPlaced kept new_starts used
+    IsPlaced-moved = record { roomy = moved.size ∙ is.roomy; within = omega (arith, is.within, moved.size); below = is.below }

@@ -1,0 +1,151 @@
+//! The dataspaces by their keys.
+ghost use Rattle.std.specs.Prelude.{◌≡◌, ◌+◌, ◌^◌, ◌<◌, ◌≤◌, [], Some, None, IfOk, length};
+ghost use Rattle.slab.specs.Slab.{ContainsKey, HasRoomFor, Updates, get};
+ghost use Rattle.dataspace_core.specs.Layout.{HasMovedDown, NoneLiesBehind};
+ghost use Rattle.dataspace_core.specs.Spaces.{HaveMoved, start_after as after};
+
+use crate::dataspace::Dataspace;
+use crate::runs::Run;
+use slab::Slab;
+use std::alloc::Global;
+use std::marker::Model;
+use trade_base::{AccountId, NoMemory};
+
+/// What is kept of a dataspace beside its start.
+#[derive(Clone, Copy)]
+struct Kept {
+    payer: AccountId,
+    count: usize,
+}
+
+/// The dataspaces, which contracts see as one slab. Where each starts in the table of pages stands apart, small and side
+/// by side: all behind a gap move when it is closed, and that is one pass over these numbers.
+#[derive(Drop)]
+pub(crate) struct Spaces {
+    kept: Slab<Kept>,
+    /// Where the run of each dataspace starts, by its key.
+    starts: Vec<u16>,
+    /// No key from this one on has been in use.
+    used: usize,
+}
+
+impl Model for Spaces {
+    ghost use Rattle.slab.specs.Slab.{Slab, slab_code};
+    ghost use Rattle.dataspace_core.specs.contracts.dataspace.Dataspace as dataspace;
+    ghost use Rattle.dataspace_core.specs.declared.dataspace.Dataspace.{Dataspace as Placed};
+    ghost use Rattle.dataspace_core.specs.Spaces.{placed, IsPlaced};
+
+    ghost Value = { Slab Placed };
+
+    ghost coded = { slab_code dataspace.the_row.coded };
+
+    ghost view = { λ s. placed s.kept s.starts.items };
+
+    ghost invariant = { λ s. IsPlaced s.kept s.starts.items s.used };
+}
+
+impl Spaces {
+    /// No dataspace, and places for so many.
+    pub(crate) fn boot(alloc: Global, places: usize) -> Result<Spaces, NoMemory>
+        ensures none { IfOk result (λ spaces. spaces.slots ≡ []) }
+        ensures room { IfOk result (λ spaces. places ≤ spaces.capacity) }
+    {
+        let kept = Slab::with_capacity(alloc, places).map_err(|_| NoMemory)?;
+        let starts = Vec::from_elem(alloc, 0, kept.capacity()).map_err(|_| NoMemory)?;
+        Ok(Spaces {
+            kept,
+            starts,
+            used: 0,
+        })
+    }
+
+    /// How many places there are.
+    pub(crate) fn capacity(&self) -> usize
+        ensures value { result ≡ self.now.capacity }
+    {
+        self.kept.capacity()
+    }
+
+    /// The dataspace under a key.
+    pub(crate) fn under(&self, key: usize) -> Dataspace
+        requires { ContainsKey self.now key }
+        ensures { get self.now key ≡ Some result }
+    {
+        let kept = kept_under(&self.kept, key);
+        Dataspace {
+            payer: kept.payer,
+            run: Run {
+                start: self.starts[key] as usize,
+                count: kept.count,
+            },
+        }
+    }
+
+    /// Enters a dataspace under a new key.
+    pub(crate) fn insert_reserved(&mut self, space: Dataspace) -> usize
+        requires room { HasRoomFor self.old 1 }
+        requires small { space.run.start < 2 ^ 16 }
+        ensures was_vacant { get self.old result ≡ None }
+        ensures updates { Updates self.old self.new result (Some space) }
+        ensures key_in_range { result < self.new.capacity }
+        ensures capacity { self.new.capacity ≡ self.old.capacity }
+    {
+        let key = self.kept.insert_reserved(Kept {
+            payer: space.payer,
+            count: space.run.count,
+        });
+        self.starts[key] = space.run.start as u16;
+        self.used = self.used.max(key + 1);
+        key
+    }
+
+    /// Takes a dataspace out, and tells it.
+    pub(crate) fn remove(&mut self, key: usize) -> Dataspace
+        requires { ContainsKey self.old key }
+        ensures value { get self.old key ≡ Some result }
+        ensures updates { Updates self.old self.new key None }
+        ensures capacity { self.new.capacity ≡ self.old.capacity }
+    {
+        let space = self.under(key);
+        let _kept = self.kept.remove(key);
+        space
+    }
+
+    /// Moves the starts of the runs that lie behind a gap, now that the table has so many entries.
+    pub(crate) fn move_down(&mut self, gap: Run, entries: usize)
+        requires none { entries ≤ gap.start → NoneLiesBehind gap self.old }
+        requires small { gap.start + gap.count < 2 ^ 16 }
+        ensures moved { HasMovedDown gap self.old self.new }
+        ensures capacity { self.new.capacity ≡ self.old.capacity }
+    {
+        let used = self.used;
+        if gap.start < entries {
+            move_starts(&mut self.starts, used, gap.start as u16, gap.count as u16);
+        }
+    }
+}
+
+/// What is kept under a key.
+fn kept_under(kept: &Slab<Kept>, key: usize) -> Kept
+    requires { ContainsKey kept.now key }
+    ensures { get kept.now key ≡ Some result }
+{
+    *kept.get(key).unwrap()
+}
+
+/// Moves those of the first so many starts that lie behind a start down by so much.
+fn move_starts(starts: &mut [u16], used: usize, from: u16, by: u16)
+    requires { used ≤ length starts.old }
+    ensures { HaveMoved from by used starts.old starts.new }
+{
+    for key in 0..used {
+        starts[key] = start_after(from, by, starts[key]);
+    }
+}
+
+/// Where a run starts once a gap is closed. It has no branch, so that the compiler moves eight starts at once.
+fn start_after(from: u16, by: u16, start: u16) -> u16
+    ensures { result ≡ after from by start }
+{
+    start.saturating_sub(if start > from { by } else { 0 })
+}
