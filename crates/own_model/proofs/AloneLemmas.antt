@@ -1,10 +1,10 @@
 -- A session stays as it is but for the calls that are of it.
-use Rattle.std.proofs.Common.{◌≡◌, ◌≢◌, ℕ, ◌==◌, Bool, true, false, List, Some, refl, sym, ap, ◌∙◌, true≢false, eqb-true, eqb}
+use Rattle.std.proofs.lemmas.Bool.Decides.{nat_tests}
+use Rattle.std.proofs.Common.{arith, rules, ◌≡◌, ◌≢◌, ℕ, ◌==◌, Bool, true, false, List, Some, refl, sym, ap, ◌∙◌, true≢false, eqb-true}
 use Rattle.std.proofs.lemmas.Bool.{eqb-false}
 use Rattle.std.proofs.lemmas.Option.{none-some, same_Some}
 use Rattle.std.specs.Prelude.{Option, None, Result, Ok, Err}
 use Rattle.std.specs.FinMap.{get, insert, remove}
-use Rattle.trade_base.specs.Page.{page_of}
 use Rattle.trade_base.specs.declared.refusal.Refusal.{Refusal}
 use Rattle.own_model.proofs.NatMapLemmas.{get-insert_same, get-insert_other, get-remove_other}
 use Rattle.own_model.proofs.NewSelector.{new_selector_free}
@@ -13,11 +13,11 @@ use Rattle.own_model.proofs.TableLemmas.{others_go_on}
 use Rattle.own_model.specs.Account.{shortage}
 use Rattle.own_model.specs.Call.{Call, is_of_session, is_exit}
 use Rattle.own_model.specs.Call.Call.{Alloc, Free, Attach, AttachAt, Detach, Peek, Poke, Capalloc, Capfree, New, Del, Snew, Sdel, Quota, Open, Upgrade, CallSession, Close, Exit}
-use Rattle.own_model.specs.OwnState.{OwnState, Object, new_selector, zeros, object_with, session_named}
+use Rattle.own_model.specs.OwnState.{OwnState, Object, new_selector, object_with}
 use Rattle.own_model.specs.OwnState.Object.{Dataspace, RpcObject, OpenSession}
 use Rattle.own_model.specs.OwnStep.{Outcome, own_step, unless, turned_away, opened_by, session_opened, upgraded_by, session_upgraded, session_called, session_closed}
 use Rattle.own_model.specs.Session.{Session, Wish, wish, donation_refusal, new_session, upgraded, served}
-use Rattle.own_model.specs.SessionArgs.{Arguments, arguments_of}
+use Rattle.own_model.specs.SessionArgs.{Arguments}
 use Rattle.own_model.specs.SessionLaws.{is_of, SessionsStandAlone}
 use Rattle.own_model.specs.StartList.{Entry}
 
@@ -29,10 +29,7 @@ module _ (selector : ℕ) (session : Session) where
   module _ (s : OwnState) (there : IsThere s) where
     -- what another selector names is of no matter
     beside_new : (object : Object) → get (insert s.selectors (new_selector s.selectors) object) selector ≡ Some (OpenSession session)
-    beside_new object =
-        get-insert_other s.selectors (new_selector s.selectors) object selector (λ at.
-        none-some (OpenSession session) (sym (new_selector_free s.selectors) ∙ ap (get s.selectors) (sym at) ∙ there))
-        ∙ there
+    beside_new object = search (rules, get-insert_other, none-some, new_selector_free)
 
     -- nor what another kind of object becomes
     apart : (k : ℕ) (object : Object) → get s.selectors k ≡ Some object → ¬ (object ≡ OpenSession session) → selector ≢ k
@@ -54,32 +51,11 @@ module _ (selector : ℕ) (session : Session) where
     poked : (k offset : ℕ) (bytes : List ℕ) (object : Object) → get s.selectors k ≡ Some object → get (insert s.selectors k (object_with object offset bytes)) selector ≡ Some (OpenSession session)
     poked k offset bytes (Dataspace old) named = replaced k _ (apart k (Dataspace old) named (dataspace_is_none old))
     poked k offset bytes RpcObject named = replaced k _ (apart k RpcObject named rpc_is_none)
-    poked k offset bytes (OpenSession other) named =
-        elim (eqb selector k) as (λ t. eqb selector k ≡ t → get (insert s.selectors k (OpenSession other)) selector ≡ Some (OpenSession session)) [
-          | true ↦ λ e. let at = eqb-true selector k e in get-insert_same s.selectors k (OpenSession other) selector at ∙ sym named ∙ ap (get s.selectors) (sym at) ∙ there
-          | false ↦ λ e. replaced k (OpenSession other) (eqb-false selector k e)
-        ] refl
+    poked k offset bytes (OpenSession other) named = grind (arith, nat_tests, eqb-true, get-insert_same, replaced, eqb-false)
 
     -- so calls that are of no session leave it
     effects_leave : KeptByEffects IsThere s
-    effects_leave = record {
-      allocates = λ n accepted. beside_new (Dataspace (zeros (page_of n)));
-      frees = λ k bytes named. left k (apart k (Dataspace bytes) named (dataspace_is_none bytes));
-      attaches = λ k address bytes named stands room. there;
-      detaches = λ address. there;
-      pokes = λ k offset bytes object named. poked k offset bytes object named;
-      pokes_payload = λ address offset bytes payload named. there;
-      pokes_block = λ address offset bytes payload named. there;
-      takes = λ n hole best. there;
-      grows = λ n start accepted gap. there;
-      takes_large = λ n start large accepted gap. there;
-      gives = λ address payload named small. there;
-      gives_large = λ address bytes named. there;
-      slices = λ n start accepted gap. there;
-      unslices = λ address payload named. there;
-      allocates_cap = λ accepted. beside_new RpcObject;
-      frees_cap = λ k named. left k (apart k RpcObject named rpc_is_none);
-    }
+    effects_leave = search (rules, beside_new, left, apart, poked, rpc_is_none)
 
     -- what is refused leaves it, and what is accepted where it does
     unless_leaves : (why : Option Refusal) (o : Outcome) → IsThere o.next → IsThere (unless why s o).next
@@ -111,12 +87,9 @@ module _ (selector : ℕ) (session : Session) where
   -- calls of other sessions leave it
   stays_by : (entry : Entry) (call : Call) (s : OwnState) → IsThere s → is_of_session call ≡ true → is_of selector call ≡ false → IsThere (own_step entry call s).next
   stays_by entry (Open service text) s there is other = unless_leaves s there (turned_away entry.kind s) _ (opens s there (wish entry.name entry.routes service text))
-  stays_by entry (Upgrade of text) s there is other =
-      unless_leaves s there (turned_away entry.kind s) _ (upgrades s there of (otherwise of other) (session_named (get s.selectors of)) (arguments_of text))
-  stays_by entry (CallSession of request) s there is other =
-      unless_leaves s there (turned_away entry.kind s) _ (serves s there of (otherwise of other) (session_named (get s.selectors of)) request)
-  stays_by entry (Close of) s there is other =
-      unless_leaves s there (turned_away entry.kind s) _ (closes s there of (otherwise of other) (session_named (get s.selectors of)))
+  stays_by entry (Upgrade of text) s there is other = grind (arith, nat_tests, unless_leaves, upgrades, otherwise)
+  stays_by entry (CallSession of request) s there is other = grind (arith, nat_tests, unless_leaves, serves, otherwise)
+  stays_by entry (Close of) s there is other = grind (arith, nat_tests, unless_leaves, closes, otherwise)
   stays_by entry (Alloc n) s there is other = absurd (true≢false (sym is))
   stays_by entry (Free of) s there is other = absurd (true≢false (sym is))
   stays_by entry (Attach of) s there is other = absurd (true≢false (sym is))

@@ -1,5 +1,6 @@
 -- A call moves limits between its caller, the caller's sessions and init, so what was balanced stays so.
-use Rattle.std.proofs.Common.{refl, ◌≡◌, ℕ, ◌+◌, ◌-◌, ◌≤◌, Bool, true, false, cond, List, [], ◌∷◌, length, sum_by, sym, ap, ◌∙◌, arith, inl, inr, set, get_or, zero, suc}
+use Rattle.std.proofs.lemmas.Bool.Decides.{nat_tests}
+use Rattle.std.proofs.Common.{rules, ◌≡◌, ℕ, ◌+◌, ◌-◌, ◌≤◌, Bool, true, false, cond, List, [], ◌∷◌, length, sum_by, ap, ◌∙◌, arith, set, get_or, zero, suc}
 use Rattle.std.proofs.lemmas.Bool.{cases_lt}
 use Rattle.std.proofs.lemmas.List.{set_past, get_or_past, length-set, set-get_or}
 use Rattle.std.proofs.lemmas.List.Sums.{sum_by-set, sum_by-cons, get_or-le-sum_by}
@@ -13,7 +14,7 @@ use Rattle.own_model.specs.Call.{Call, is_exit}
 use Rattle.own_model.specs.Laws.{StepKeepsBalance, LinesKeepBalance, StepKeepsBalanceFor, LinesKeepBalanceFor, LimitsFitTheMachine}
 use Rattle.own_model.specs.Limits.{ram_limits, caps_limits, init_after, AreWithinLimits}
 use Rattle.own_model.specs.OwnState.{OwnState}
-use Rattle.own_model.specs.OwnStep.{own_step, exits, gone_state}
+use Rattle.own_model.specs.OwnStep.{own_step, gone_state}
 use Rattle.own_model.specs.StartList.{Entry, StartEntry, StartList, machine_account, init_keeps}
 use Rattle.own_model.specs.Transcript.{Heard, heard, entry_at, state_at, nothing}
 use Rattle.own_model.specs.Transcript.Heard.{NoCall, Stranger, Caller}
@@ -22,10 +23,7 @@ use Rattle.own_model.specs.Donation.{raised}
 
 -- a sum, where an element gives way to one that counts no more: with what is lost it is what it was
 sum_after : {X : Type 0} (f : X → ℕ) (xs : List X) (i : ℕ) (y d : X) → f d ≡ 0 → f y ≤ f (get_or xs i d) → (f (get_or xs i d) - f y) + sum_by f (set xs i y) ≡ sum_by f xs
-sum_after f xs i y d none less = elim (cases_lt i (length xs)) [
-  | inl within ↦ omega (arith, less, sum_by-set f xs i y d within)
-  | inr beyond ↦ rw (set_past xs i y beyond) (omega (arith, none, ap f (get_or_past xs i d beyond)))
-]
+sum_after f xs i y d none less = search (rules, cases_lt, sum_by-set, set_past, get_or_past)
 
 -- what is left is no more than there was
 left_le : (ends : Bool) (n m : ℕ) → n ≡ cond ends 0 m → n ≤ m
@@ -35,10 +33,7 @@ left_le false n m is = omega (arith, is)
 -- a call leaves no more limits than there were
 pub limits_le : (entry : Entry) (call : Call) (s : OwnState) →
     (ram_limits (own_step entry call s).next ≤ ram_limits s) × (caps_limits (own_step entry call s).next ≤ caps_limits s)
-limits_le entry call s =
-    let next : OwnState = (own_step entry call s).next in
-    let left = limits_left entry call s in
-    (left_le (exits entry call s) (ram_limits next) (ram_limits s) left.0, left_le (exits entry call s) (caps_limits next) (caps_limits s) left.1)
+limits_le entry call s = grind (arith, nat_tests, limits_left, left_le)
 
 -- a component's call leaves a balanced world balanced
 pub step_balanced : StepKeepsBalance
@@ -73,56 +68,34 @@ lines_balanced pages caps world (line ∷ lines) h =
 
 -- what stands somewhere in a list counts no more than all
 at_most : {X : Type 0} (f : X → ℕ) (xs : List X) (i : ℕ) (d : X) → f d ≡ 0 → f (get_or xs i d) ≤ sum_by f xs
-at_most f xs i d none = elim (cases_lt i (length xs)) [
-  | inl within ↦ get_or-le-sum_by f xs i d within
-  | inr beyond ↦ omega (arith, none, ap f (get_or_past xs i d beyond))
-]
+at_most f xs i d none = search (rules, cases_lt, get_or-le-sum_by, get_or_past)
 
 -- so a component's limits fit the machine
 pub limits_fit : LimitsFitTheMachine
-limits_fit pages caps world component h = (
-  omega (arith, h.ram_adds_up, at_most ram_limits world.states component nothing none_left.0),
-  omega (arith, h.caps_add_up, at_most caps_limits world.states component nothing none_left.1),
-)
+limits_fit pages caps world component h = search (rules, at_most, none_left)
 
 -- ---- the world after a call
 
 -- the same own state changes nothing
 pub with_state_same : (world : World) (component : ℕ) → with_state world component (state_at world.states component) ≡ world
-with_state_same world component =
-    let s : OwnState = state_at world.states component in
-    λ i. record world { init = init_stays world.init s s (refl, refl) i; states = set-get_or world.states component nothing i }
+with_state_same world component = grind (arith, nat_tests, init_stays, set-get_or)
 
 -- a call that isn't an exit leaves init's account
 pub world_on : (world : World) (component : ℕ) (call : Call) → is_exit call ≡ false →
     with_state world component (outcome_at world component call).next ≡ record world { states = set world.states component (outcome_at world component call).next }
-world_on world component call on =
-    let before : OwnState = state_at world.states component in
-    let after : OwnState = (outcome_at world component call).next in
-    let init = init_stays world.init before after (limits_move (entry_at world.entries component) call before on) in
-    λ i. record world { init = init i; states = set world.states component after }
+world_on world component call on = grind (arith, nat_tests, init_stays, limits_move)
 
 -- an exit gives it all that its caller had
 pub world_exited : (world : World) (component : ℕ) →
     with_state world component gone_state
     ≡ record world { init = raised world.init (ram_limits (state_at world.states component)) (caps_limits (state_at world.states component)); states = set world.states component gone_state }
-world_exited world component =
-    let init = init_gains world.init (state_at world.states component) in
-    λ i. record world { init = init i; states = set world.states component gone_state }
+world_exited world component = grind (arith, nat_tests, init_gains world.init (state_at world.states component))
 
 -- ---- the balance of a start list
 
 -- a component keeps its budget, or is gone
 budget_after : (entry : Entry) (call : Call) (s : OwnState) (start : StartEntry) → HasItsBudget start s → HasItsBudget start (own_step entry call s).next
-budget_after entry call s start h =
-    by_exit (λ ends t. HasItsBudget start t) entry call s (λ on.
-    let same = limits_move entry call s on in
-    let alike = alike_on entry call s on in
-    record {
-      ram = same.0 ∙ h.ram ∙ ap (λ b. cond b 0 start.ram) (sym alike);
-      caps = same.1 ∙ h.caps ∙ ap (λ b. cond b 0 start.caps) (sym alike);
-    })
-    (record { ram = none_left.0; caps = none_left.1 }) h
+budget_after entry call s start h = search (rules, by_exit, limits_move, alike_on, none_left)
 
 -- where one does, all do that did
 budgets_set : (starts : List StartEntry) (states : List OwnState) (i : ℕ) (y : OwnState) → ((start : StartEntry) → HasItsBudget start (get_or states i nothing) → HasItsBudget start y) →
@@ -203,9 +176,7 @@ heard_balanced_for list world (Caller made) h = step_balanced_for list world mad
 -- lines leave it
 pub lines_balanced_for : LinesKeepBalanceFor
 lines_balanced_for list world [] h = h
-lines_balanced_for list world (line ∷ lines) h =
-    let what : Heard = heard world.entries line in
-    lines_balanced_for list (world_after_heard world what) lines (heard_balanced_for list world what h)
+lines_balanced_for list world (line ∷ lines) h = let what : Heard = heard world.entries line in lines_balanced_for list (world_after_heard world what) lines (heard_balanced_for list world what h)
 
 -- the sums of the account list are the machine's
 pub totals : TotalsAreTheMachine

@@ -1,15 +1,14 @@
 -- The best hole: it is there, a new chunk's is best where no other is large enough, and giving back undoes taking.
-use Rattle.std.proofs.Common.{suc, ◌≡◌, ℕ, ◌+◌, ◌-◌, ◌<◌, ◌≤◌, ◌++◌, ◌==◌, true, false, cond, List, [], ◌∷◌, length, nat_lt, nat_le, Some, refl, sym, ap, subst, ◌∙◌, arith, append_assoc, set, get_or, zero}
+use Rattle.std.proofs.Common.{rules, suc, ◌≡◌, ℕ, ◌+◌, ◌-◌, ◌<◌, ◌≤◌, ◌++◌, ◌==◌, true, false, cond, List, [], ◌∷◌, length, nat_lt, nat_le, Some, refl, sym, ap, subst, ◌∙◌, arith, append_assoc, set, get_or, zero}
 use Rattle.std.proofs.lemmas.Bool.{ltb-true, ltb-false, false_from_ne_true}
 use Rattle.std.proofs.lemmas.Bool.Decides.{nat_tests}
 use Rattle.std.proofs.lemmas.Option.{none-some, same_Some, some_pair_parts}
 use Rattle.std.specs.Prelude.{Option, None}
 use Rattle.std.specs.List.{AllByRecursion}
 use Rattle.own_model.specs.BestFit.{Spot, holes_in, holes_from, holes_of, best_hole, earlier, comes_before, block_size, cut, taken_in, before, given_in, used_at, payload_at, chunk_of}
-use Rattle.own_model.proofs.ListLemmas.{all_append, all_then}
-use Rattle.own_model.specs.Heap.{Heap, Block, Used, Hole, size_of, least_block, IsBlockSize, AreBlocks}
+use Rattle.own_model.proofs.ListLemmas.{all_append, all_then, all_within}
+use Rattle.own_model.specs.Heap.{Heap, Block, Used, Hole, size_of, IsBlockSize, AreBlocks}
 use Rattle.own_model.specs.Growth.{Shape, Growth, hole_for, shape_taken, shape_given, shape_grown, new_hole}
-use Rattle.own_model.proofs.ListLemmas.{all_within}
 use Rattle.std.proofs.lemmas.List.{get_or-set_same}
 use Rattle.own_model.proofs.BlockLemmas.{StartUsed, hole_parts, hole_at, later, not_first}
 
@@ -66,9 +65,7 @@ further chunk offset (Hole n) rest size x h = record {
 -- each hole that is told of blocks is one
 holes_are_in : (chunk offset : ℕ) (blocks : List Block) → AreBlocks blocks → AllByRecursion (IsIn chunk offset blocks) (holes_in chunk offset blocks)
 holes_are_in chunk offset [] sizes = tt
-holes_are_in chunk offset (Used n ∷ rest) sizes =
-    all_then (IsIn chunk (offset + n) rest) (IsIn chunk offset (Used n ∷ rest)) (holes_in chunk (offset + n) rest) (further chunk offset (Used n) rest sizes.0)
-    (holes_are_in chunk (offset + n) rest sizes.1)
+holes_are_in chunk offset (Used n ∷ rest) sizes = grind (arith, nat_tests, all_then, further, holes_are_in chunk (offset + n) rest sizes.1)
 holes_are_in chunk offset (Hole n ∷ rest) sizes =
     let parts = hole_parts n rest sizes in (
       record { same = refl; past = 0; at = omega arith; there = refl },
@@ -97,11 +94,7 @@ holes_are_from number (blocks ∷ rest) sizes =
 
 -- the best hole is a hole of the heap, and large enough
 pub best_is_hole : (size : ℕ) (heap : Heap) (x : Spot) → AllByRecursion AreBlocks heap → best_hole size (holes_of heap) ≡ Some x → IsHoleOf heap x × (size ≤ x.size)
-best_is_hole size heap x sizes is =
-    best_of (IsHoleOf heap) size (holes_of heap) x
-    (all_then (IsFrom 0 heap) (IsHoleOf heap) (holes_of heap)
-    (λ y h. let e : y.chunk ≡ h.place = omega (arith, h.same) in record { within = omega (arith, h.within, e); there = ap (λ k. hole_at y.offset (chunk_of heap k)) e ∙ h.there })
-    (holes_are_from 0 heap sizes)) is
+best_is_hole size heap x sizes is = search (rules, best_of, all_then, hole_at, holes_are_from)
 
 -- a list changed at a place and back is the list
 set_back : {X : Type 0} (xs : List X) (i : ℕ) (y d : X) → set (set xs i y) i (get_or xs i d) ≡ xs
@@ -114,10 +107,7 @@ set_back (x ∷ xs) (suc i) y d = ap (λ ys. x ∷ ys) (set_back xs i y d)
 -- holes of chunks one after another
 holes-append : (number : ℕ) (xs ys : Heap) → holes_from number (xs ++ ys) ≡ holes_from number xs ++ holes_from (number + length xs) ys
 holes-append number [] ys = ap (λ n. holes_from n ys) (omega arith)
-holes-append number (x ∷ xs) ys =
-    let e : number + 1 + length xs ≡ number + length (x ∷ xs) = omega arith in
-    ap (λ hs. holes_in number 0 x ++ hs) (holes-append (number + 1) xs ys ∙ ap (λ n. holes_from (number + 1) xs ++ holes_from n ys) e)
-    ∙ sym (append_assoc (holes_in number 0 x) (holes_from (number + 1) xs) (holes_from (number + length (x ∷ xs)) ys))
+holes-append number (x ∷ xs) ys = grind (arith, nat_tests, append_assoc, holes-append (number + 1) xs ys)
 
 -- the best of holes, where none of the first is large enough
 best-append : (size : ℕ) (xs ys : List Spot) → best_hole size xs ≡ None → best_hole size (xs ++ ys) ≡ best_hole size ys
@@ -130,13 +120,7 @@ best-append size (x ∷ xs) ys none =
 
 -- where no hole is large enough, a new chunk's is the best
 pub new_hole_best : (n : ℕ) (shape : Shape) (growth : Growth) → hole_for n shape ≡ None → block_size n ≤ growth.bytes → hole_for n (shape_grown growth shape) ≡ Some (new_hole growth shape)
-new_hole_best n shape growth none fits =
-    let enough : nat_le (block_size n) growth.bytes ≡ true = grind (arith, nat_tests) in
-    let e : 0 + length shape.chunks ≡ length shape.chunks = omega arith in
-    let new : ℕ → Spot = λ chunk. record { size = growth.bytes; chunk = chunk; offset = 0 } in
-    ap (best_hole (block_size n)) (holes-append 0 shape.chunks ((Hole growth.bytes ∷ []) ∷ []))
-    ∙ best-append (block_size n) (holes_of shape.chunks) (holes_from (0 + length shape.chunks) ((Hole growth.bytes ∷ []) ∷ [])) none
-    ∙ ap (λ b. cond b (Some (new (0 + length shape.chunks))) None) enough ∙ ap (λ c. Some (new c)) e
+new_hole_best n shape growth none fits = grind (arith, nat_tests, holes-append, best-append)
 
 -- ---- giving back undoes taking
 
@@ -149,18 +133,12 @@ before-used n (Hole m ∷ rest) first = absurd first
 -- what doesn't start with a hole has none first
 no_hole_first : (rest : List Block) (h : ℕ) → AreBlocks rest → StartUsed rest → ¬ (hole_at 0 rest ≡ Some h)
 no_hole_first [] h sizes first at = none-some h at
-no_hole_first (Used n ∷ rest) h sizes first at =
-    let far = later 0 n (hole_at 0 (Used n ∷ rest)) (hole_at (0 - n) rest) h refl at in
-    let least = sizes.0.least in
-    absurd (omega (arith, far.0, least))
+no_hole_first (Used n ∷ rest) h sizes first at = grind (arith, nat_tests, later, hole_at)
 no_hole_first (Hole n ∷ rest) h sizes first at = absurd first
 
 -- a hole that was cut is whole again
 given-cut : (size n : ℕ) (rest : List Block) → StartUsed rest → given_in 0 (cut size n ++ rest) ≡ Hole n ∷ rest
-given-cut size n rest first = elim (nat_lt (n - size) least_block) as (λ b. nat_lt (n - size) least_block ≡ b → given_in 0 (cond b (Used n ∷ []) (Used size ∷ Hole (n - size) ∷ []) ++ rest) ≡ Hole n ∷ rest) [
-  | true ↦ λ _. before-used n rest first
-  | false ↦ λ h. let far = ltb-false (n - size) least_block h in let e : size + (n - size) ≡ n = omega arith in ap (λ m. Hole m ∷ rest) e
-] refl
+given-cut size n rest first = search (rules, before-used, ltb-false)
 
 -- so is a hole that was taken
 given-taken : (size h offset : ℕ) (blocks : List Block) → AreBlocks blocks → hole_at offset blocks ≡ Some h → given_in offset (taken_in size offset blocks) ≡ blocks
@@ -261,11 +239,7 @@ pub record HasOffset (blocks : List Block) (offset x n : ℕ) : Type 0 where
 
 -- the same with a block before
 behind_one : (b : Block) (rest : List Block) (offset x n : ℕ) → IsBlockSize (size_of b) → size_of b ≤ offset → HasOffset rest (offset - size_of b) x n → HasOffset (b ∷ rest) offset (size_of b + x) n
-behind_one b rest offset x n size far h = record {
-  used = used_behind b rest x size ∙ h.used;
-  low = omega (arith, far, h.low);
-  high = omega (arith, far, h.high);
-}
+behind_one b rest offset x n size far h = search rules
 
 -- the block that is told of an offset has it in its payload
 pub payload_has : (from offset : ℕ) (blocks : List Block) (at : ℕ × ℕ) → AreBlocks blocks → payload_at from offset blocks ≡ Some at → (x : ℕ) × (at.0 ≡ from + x) × HasOffset blocks offset x at.1

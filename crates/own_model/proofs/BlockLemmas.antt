@@ -1,5 +1,5 @@
 -- What taking a hole and giving a block back do to the blocks of a chunk.
-use Rattle.std.proofs.Common.{◌≡◌, ℕ, ◌+◌, ◌-◌, ◌<◌, ◌≤◌, ◌++◌, ◌==◌, true, false, cond, eqb, List, [], ◌∷◌, nat_lt, Some, refl, sym, ap, subst, ◌∙◌, arith}
+use Rattle.std.proofs.Common.{rules, ◌≡◌, ℕ, ◌+◌, ◌-◌, ◌<◌, ◌≤◌, ◌++◌, ◌==◌, true, false, cond, eqb, List, [], ◌∷◌, nat_lt, Some, refl, sym, ap, subst, ◌∙◌, arith}
 use Rattle.std.proofs.lemmas.Bool.{ltb-true, ltb-false}
 use Rattle.std.proofs.lemmas.Bool.Decides.{nat_tests}
 use Rattle.std.proofs.lemmas.Option.{none-some, same_Some}
@@ -17,18 +17,12 @@ bytes-append (x ∷ xs) ys = omega (arith, bytes-append xs ys)
 
 -- a hole that is cut keeps its bytes
 bytes-cut : (size n : ℕ) → bytes_in (cut size n) ≡ n
-bytes-cut size n = elim (nat_lt (n - size) least_block) as (λ b. nat_lt (n - size) least_block ≡ b → bytes_in (cond b (Used n ∷ []) (Used size ∷ Hole (n - size) ∷ [])) ≡ n) [
-  | true ↦ λ _. omega arith
-  | false ↦ λ h. omega (arith, ltb-false (n - size) least_block h)
-] refl
+bytes-cut size n = search (rules, ltb-false)
 
 -- taking leaves the bytes of a chunk
 pub bytes-taken : (size offset : ℕ) (blocks : List Block) → bytes_in (taken_in size offset blocks) ≡ bytes_in blocks
 bytes-taken size offset [] = refl
-bytes-taken size offset (b ∷ rest) = elim (offset == 0) as (λ t. bytes_in (cond t (cut size (size_of b) ++ rest) (b ∷ taken_in size (offset - size_of b) rest)) ≡ size_of b + bytes_in rest) [
-  | true ↦ bytes-append (cut size (size_of b)) rest ∙ ap (λ n. n + bytes_in rest) (bytes-cut size (size_of b))
-  | false ↦ ap (λ n. size_of b + n) (bytes-taken size (offset - size_of b) rest)
-]
+bytes-taken size offset (b ∷ rest) = grind (arith, nat_tests, bytes-append, bytes-cut, bytes-taken size (offset - size_of b) rest)
 
 -- so does joining
 bytes-before : (n : ℕ) (rest : List Block) → bytes_in (before n rest) ≡ n + bytes_in rest
@@ -39,14 +33,8 @@ bytes-before n (Hole m ∷ rest) = omega arith
 -- and giving back
 pub bytes-given : (offset : ℕ) (blocks : List Block) → bytes_in (given_in offset blocks) ≡ bytes_in blocks
 bytes-given offset [] = refl
-bytes-given offset (Used n ∷ rest) = elim (offset == 0) as (λ t. bytes_in (cond t (before n rest) (Used n ∷ given_in (offset - n) rest)) ≡ n + bytes_in rest) [
-  | true ↦ bytes-before n rest
-  | false ↦ ap (λ m. n + m) (bytes-given (offset - n) rest)
-]
-bytes-given offset (Hole n ∷ rest) = elim (offset == n) as (λ t. bytes_in (cond t (before n (given_in 0 rest)) (Hole n ∷ given_in (offset - n) rest)) ≡ n + bytes_in rest) [
-  | true ↦ bytes-before n (given_in 0 rest) ∙ ap (λ m. n + m) (bytes-given 0 rest)
-  | false ↦ ap (λ m. n + m) (bytes-given (offset - n) rest)
-]
+bytes-given offset (Used n ∷ rest) = grind (arith, nat_tests, bytes-before, bytes-given (offset - n) rest)
+bytes-given offset (Hole n ∷ rest) = grind (arith, nat_tests, bytes-before, bytes-given 0 rest, bytes-given (offset - n) rest)
 
 -- ---- sizes
 
@@ -76,9 +64,7 @@ both_sizes n m x y = record { least = omega (arith, x.least); even = omega (arit
 pub AreBlocks-before : (n : ℕ) (rest : List Block) → IsBlockSize n → AreBlocks rest → AreBlocks (before n rest)
 AreBlocks-before n [] size h = size
 AreBlocks-before n (Used m ∷ rest) size h = (size, h)
-AreBlocks-before n (Hole m ∷ rest) size h =
-    let parts = hole_parts m rest h in
-    hole_first (n + m) rest (both_sizes n m size parts.0) parts.1 parts.2
+AreBlocks-before n (Hole m ∷ rest) size h = grind (arith, nat_tests, hole_parts m rest h)
 
 -- the size of the hole that starts at an offset
 abbrev pub hole_at : ℕ → List Block → Option ℕ
@@ -88,10 +74,7 @@ hole_at offset (Hole n ∷ rest) = cond (offset == 0) (Some n) (cond (nat_lt off
 
 -- where a block starts that is before an offset, it starts before the offset
 pub later : (offset n : ℕ) (o p : Option ℕ) (x : ℕ) → o ≡ cond (nat_lt offset n) None p → o ≡ Some x → (n ≤ offset) × (p ≡ Some x)
-later offset n o p x is there = elim (nat_lt offset n) as (λ b. nat_lt offset n ≡ b → o ≡ cond b None p → (n ≤ offset) × (p ≡ Some x)) [
-  | true ↦ λ _ e. absurd (none-some x (sym e ∙ there))
-  | false ↦ λ h e. (ltb-false offset n h, sym e ∙ there)
-] refl is
+later offset n o p x is there = search (rules, none-some, ltb-false)
 
 -- ---- which used blocks there are
 
@@ -102,9 +85,7 @@ module _ (y : ℕ) where
 
   -- behind two blocks
   behind_both : (n m : ℕ) (rest : List Block) → cond (nat_lt y (n + m)) None (used_at (y - (n + m)) rest) ≡ cond (nat_lt y n) None (cond (nat_lt (y - n) m) None (used_at (y - n - m) rest))
-  behind_both n m rest =
-      let e : y - (n + m) ≡ y - n - m = omega arith in
-      rw e (grind (arith, nat_tests))
+  behind_both n m rest = grind (arith, nat_tests)
 
   -- a hole that is joined hides nothing
   used-before : (n : ℕ) (rest : List Block) → used_at y (before n rest) ≡ used_at y (Hole n ∷ rest)
@@ -127,10 +108,7 @@ module _ (y : ℕ) where
 
 -- a choice by a number's place, with a block of n bytes before both numbers
 moved : {X : Type 0} (y offset n : ℕ) (a : X) (none p q : X) → 0 < n → n ≤ offset → p ≡ cond (eqb (y - n) (offset - n)) a q → cond (nat_lt y n) none p ≡ cond (eqb y offset) a (cond (nat_lt y n) none q)
-moved y offset n a none p q some far is = elim (nat_lt y n) as (λ b. nat_lt y n ≡ b → cond b none p ≡ cond (eqb y offset) a (cond b none q)) [
-  | true ↦ λ h. let near = ltb-true y n h in let e : eqb y offset ≡ false = grind (arith, nat_tests) in ap (λ b. cond b a none) (sym e)
-  | false ↦ λ h. let beyond = ltb-false y n h in let e : eqb (y - n) (offset - n) ≡ eqb y offset = grind (arith, nat_tests) in is ∙ ap (λ b. cond b a q) e
-] refl
+moved y offset n a none p q some far is = search (rules, ltb-true, ltb-false)
 
 -- blocks without the first one
 pub tail_blocks : (b : Block) (rest : List Block) → AreBlocks (b ∷ rest) → IsBlockSize (size_of b) × AreBlocks rest
@@ -144,10 +122,7 @@ not_first offset n size far = let least = size.least in grind (arith, nat_tests)
 -- the same of a used block, which starts the blocks
 moved_used : (y offset n : ℕ) (a p q : Option ℕ) → 0 < n → n ≤ offset → p ≡ cond (eqb (y - n) (offset - n)) a q →
     cond (y == 0) (Some n) (cond (nat_lt y n) None p) ≡ cond (eqb y offset) a (cond (y == 0) (Some n) (cond (nat_lt y n) None q))
-moved_used y offset n a p q some far is = elim (y == 0) as (λ b. (y == 0) ≡ b → cond b (Some n) (cond (nat_lt y n) None p) ≡ cond (eqb y offset) a (cond b (Some n) (cond (nat_lt y n) None q))) [
-  | true ↦ λ h. let e : eqb y offset ≡ false = grind (arith, nat_tests) in ap (λ b. cond b a (Some n)) (sym e)
-  | false ↦ λ _. moved y offset n a None p q some far is
-] refl
+moved_used y offset n a p q some far is = search (rules, moved)
 
 -- after a hole is taken, the block that took it is used, and all that were
 pub used-taken : (size h y offset : ℕ) (blocks : List Block) → AreBlocks blocks → hole_at offset blocks ≡ Some h →
@@ -207,21 +182,12 @@ used-given n y offset (Hole m ∷ rest) sizes at =
 
 -- a hole that is cut leaves sizes that blocks can have
 AreBlocks-cut : (size n : ℕ) (rest : List Block) → IsBlockSize size → IsBlockSize n → size ≤ n → StartUsed rest → AreBlocks rest → AreBlocks (cut size n ++ rest)
-AreBlocks-cut size n rest one all fits first h = elim (nat_lt (n - size) least_block) as (λ b. nat_lt (n - size) least_block ≡ b → AreBlocks (cond b (Used n ∷ []) (Used size ∷ Hole (n - size) ∷ []) ++ rest)) [
-  | true ↦ λ _. (all, h)
-  | false ↦ λ far.
-      let big = ltb-false (n - size) least_block far in
-      let even = one.even in
-      let whole = all.even in
-      (one, hole_first (n - size) rest (record { least = big; even = omega arith }) first h)
-] refl
+AreBlocks-cut size n rest one all fits first h = search (rules, ltb-false, hole_first)
 
 -- taking leaves no hole first where there was none
 StartUsed-taken : (size offset h : ℕ) (blocks : List Block) → AreBlocks blocks → hole_at offset blocks ≡ Some h → StartUsed blocks → StartUsed (taken_in size offset blocks)
 StartUsed-taken size offset h [] sizes at first = first
-StartUsed-taken size offset h (Used n ∷ rest) sizes at first =
-    let far = later offset n (hole_at offset (Used n ∷ rest)) (hole_at (offset - n) rest) h refl at in
-    subst (λ t. StartUsed (cond t (cut size n ++ rest) (Used n ∷ taken_in size (offset - n) rest))) (sym (not_first offset n sizes.0 far.0)) tt
+StartUsed-taken size offset h (Used n ∷ rest) sizes at first = grind (arith, nat_tests, later, not_first)
 StartUsed-taken size offset h (Hole n ∷ rest) sizes at first = absurd first
 
 -- after a hole is taken, blocks are blocks
@@ -245,9 +211,7 @@ AreBlocks-taken size h offset (Hole n ∷ rest) sizes at one fits =
 -- giving back further on leaves no hole first where there was none
 StartUsed-given : (offset n : ℕ) (rest : List Block) → (offset == n) ≡ false → n ≤ offset → StartUsed rest → StartUsed (given_in (offset - n) rest)
 StartUsed-given offset n [] other past first = first
-StartUsed-given offset n (Used m ∷ rest) other past first =
-    let e : (offset - n == 0) ≡ false = grind (arith, nat_tests) in
-    subst (λ t. StartUsed (cond t (before m rest) (Used m ∷ given_in (offset - n - m) rest))) (sym e) tt
+StartUsed-given offset n (Used m ∷ rest) other past first = grind (arith, nat_tests)
 StartUsed-given offset n (Hole m ∷ rest) other past first = absurd first
 
 -- after a block is given back, blocks are blocks

@@ -1,16 +1,16 @@
 -- What a peek and a poke do, by what their lookups find.
-use Rattle.std.proofs.Common.{◌≡◌, ℕ, ◌+◌, List, [], Some, length, ap, ◌∙◌, slice_range}
+use Rattle.std.proofs.Common.{rules, ◌≡◌, ℕ, ◌+◌, List, [], Some, length, ap, slice_range}
 use Rattle.std.specs.Prelude.{Option, None}
-use Rattle.std.specs.Option.{option_map, option_or, unwrap_or}
+use Rattle.std.specs.Option.{option_map, option_or}
 use Rattle.std.specs.FinMap.{get}
 use Rattle.trade_base.specs.declared.refusal.Refusal.TheVariants.{PageFault}
 use Rattle.own_model.specs.Call.Call.{Peek, Poke}
-use Rattle.own_model.specs.OwnState.{OwnState, Object, bytes_named}
+use Rattle.own_model.specs.OwnState.{OwnState, Object}
 use Rattle.own_model.specs.Place.{Place, found, in_dataspace, in_payload, in_block}
 use Rattle.own_model.specs.Place.Place.{InDataspace, InPayload, InBlock}
 use Rattle.own_model.specs.Sliced.{block_found}
 use Rattle.own_model.specs.OwnState.Object.{Dataspace}
-use Rattle.own_model.specs.OwnStep.{refused, unless, count_refusal, peeked, poked, poked_at, payload_poked, block_poked, script_step}
+use Rattle.own_model.specs.OwnStep.{refused, count_refusal, poked_at, payload_poked, block_poked, script_step}
 use Rattle.own_model.specs.Region.{resolved}
 use Rattle.own_model.specs.Reply.Reply.{Bytes}
 
@@ -25,76 +25,53 @@ module _ (s : OwnState) where
 
   -- one that no region holds is found in a sliced block's payload, if one holds it
   pub found_payload : (address count : ℕ) (at : ℕ × ℕ) → resolved s.regions address count ≡ None → block_found s.sliced address count ≡ Some at → found s address count ≡ Some (in_payload at)
-  found_payload address count at none is =
-      ap (λ o. found_by o (block_found s.sliced address count) (block_found s.heap.payloads address count)) none ∙ ap (λ p. found_by None p (block_found s.heap.payloads address count)) is
+  found_payload address count at none is = cc
 
   -- and else in a payload of the heap, if one holds it
   pub found_block : (address count : ℕ) (o : Option (ℕ × ℕ)) → resolved s.regions address count ≡ None → block_found s.sliced address count ≡ None → block_found s.heap.payloads address count ≡ o →
       found s address count ≡ option_map in_block o
-  found_block address count o none free is =
-      ap (λ o. found_by o (block_found s.sliced address count) (block_found s.heap.payloads address count)) none
-      ∙ ap (λ p. found_by None p (block_found s.heap.payloads address count)) free ∙ ap (option_map in_block) is
+  found_block address count o none free is = cc
 
   -- a peek tells the bytes of the dataspace of the region that holds the range
   pub peeks : (address count selector offset : ℕ) (bytes : List ℕ) → count_refusal count ≡ None → resolved s.regions address count ≡ Some (selector, offset) →
       get s.selectors selector ≡ Some (Dataspace bytes) →
       script_step (Peek address count) s ≡ record { reply = Bytes (slice_range bytes offset (offset + count)); lines = []; next = s }
-  peeks address count selector offset bytes some at there =
-      ap (λ r. unless r s (peeked count (found s address count) s)) some
-      ∙ ap (λ o. peeked count o s) (found_region address count selector offset at)
-      ∙ ap (λ o. record { reply = Bytes (slice_range (bytes_named o) offset (offset + count)); lines = []; next = s }) there
+  peeks address count selector offset bytes some at there = search (rules, found_region)
 
   -- or those of the payload that holds it
   pub peeks_payload : (address count block offset : ℕ) (payload : List ℕ) → count_refusal count ≡ None → found s address count ≡ Some (InPayload block offset) →
       get s.sliced block ≡ Some payload →
       script_step (Peek address count) s ≡ record { reply = Bytes (slice_range payload offset (offset + count)); lines = []; next = s }
-  peeks_payload address count block offset payload some at there =
-      ap (λ r. unless r s (peeked count (found s address count) s)) some
-      ∙ ap (λ o. peeked count o s) at
-      ∙ ap (λ o. record { reply = Bytes (slice_range (unwrap_or o []) offset (offset + count)); lines = []; next = s }) there
+  peeks_payload address count block offset payload some at there = cc
 
   -- or those of the payload of the heap that holds it
   pub peeks_block : (address count block offset : ℕ) (payload : List ℕ) → count_refusal count ≡ None → found s address count ≡ Some (InBlock block offset) →
       get s.heap.payloads block ≡ Some payload →
       script_step (Peek address count) s ≡ record { reply = Bytes (slice_range payload offset (offset + count)); lines = []; next = s }
-  peeks_block address count block offset payload some at there =
-      ap (λ r. unless r s (peeked count (found s address count) s)) some
-      ∙ ap (λ o. peeked count o s) at
-      ∙ ap (λ o. record { reply = Bytes (slice_range (unwrap_or o []) offset (offset + count)); lines = []; next = s }) there
+  peeks_block address count block offset payload some at there = cc
 
   -- nothing holds the range
   pub peeks_none : (address count : ℕ) → count_refusal count ≡ None → found s address count ≡ None → script_step (Peek address count) s ≡ refused s PageFault
-  peeks_none address count some none =
-      ap (λ r. unless r s (peeked count (found s address count) s)) some ∙ ap (λ o. peeked count o s) none
+  peeks_none address count some none = cc
 
   -- a poke puts bytes over those of the dataspace
   pub pokes : (address selector offset : ℕ) (bytes : List ℕ) (object : Object) → count_refusal (length bytes) ≡ None →
       resolved s.regions address (length bytes) ≡ Some (selector, offset) → get s.selectors selector ≡ Some object →
       script_step (Poke address bytes) s ≡ poked_at selector offset bytes (Some object) s
-  pokes address selector offset bytes object some at there =
-      ap (λ r. unless r s (poked bytes (found s address (length bytes)) s)) some
-      ∙ ap (λ o. poked bytes o s) (found_region address (length bytes) selector offset at)
-      ∙ ap (λ o. poked_at selector offset bytes o s) there
+  pokes address selector offset bytes object some at there = search (rules, found_region)
 
   -- or over those of the payload
   pub pokes_payload : (address block offset : ℕ) (bytes payload : List ℕ) → count_refusal (length bytes) ≡ None →
       found s address (length bytes) ≡ Some (InPayload block offset) → get s.sliced block ≡ Some payload →
       script_step (Poke address bytes) s ≡ payload_poked block offset bytes (Some payload) s
-  pokes_payload address block offset bytes payload some at there =
-      ap (λ r. unless r s (poked bytes (found s address (length bytes)) s)) some
-      ∙ ap (λ o. poked bytes o s) at
-      ∙ ap (λ o. payload_poked block offset bytes o s) there
+  pokes_payload address block offset bytes payload some at there = cc
 
   -- or over those of the payload of the heap
   pub pokes_block : (address block offset : ℕ) (bytes payload : List ℕ) → count_refusal (length bytes) ≡ None →
       found s address (length bytes) ≡ Some (InBlock block offset) → get s.heap.payloads block ≡ Some payload →
       script_step (Poke address bytes) s ≡ block_poked block offset bytes (Some payload) s
-  pokes_block address block offset bytes payload some at there =
-      ap (λ r. unless r s (poked bytes (found s address (length bytes)) s)) some
-      ∙ ap (λ o. poked bytes o s) at
-      ∙ ap (λ o. block_poked block offset bytes o s) there
+  pokes_block address block offset bytes payload some at there = cc
 
   -- nothing holds the range
   pub pokes_none : (address : ℕ) (bytes : List ℕ) → count_refusal (length bytes) ≡ None → found s address (length bytes) ≡ None → script_step (Poke address bytes) s ≡ refused s PageFault
-  pokes_none address bytes some none =
-      ap (λ r. unless r s (poked bytes (found s address (length bytes)) s)) some ∙ ap (λ o. poked bytes o s) none
+  pokes_none address bytes some none = cc

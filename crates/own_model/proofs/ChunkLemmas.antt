@@ -1,5 +1,5 @@
 -- The chunks of a heap by their numbers, and which one an address lies in.
-use Rattle.std.proofs.Common.{zero, suc, ◌≡◌, ◌≢◌, ℕ, ◌+◌, ◌-◌, ◌<◌, ◌≤◌, ◌++◌, ◌&&◌, true, false, cond, List, [], ◌∷◌, length, nat_lt, nat_le, Some, refl, sym, ap, ◌∙◌, inl, inr, ◌⊎◌, arith, set, get_or}
+use Rattle.std.proofs.Common.{zero, suc, ◌≡◌, ◌≢◌, ℕ, ◌+◌, ◌-◌, ◌<◌, ◌≤◌, ◌++◌, ◌&&◌, true, false, cond, List, [], ◌∷◌, length, nat_lt, nat_le, Some, refl, ap, ◌∙◌, inl, inr, ◌⊎◌, arith, set, get_or}
 use Rattle.std.proofs.lemmas.Bool.Decides.{nat_tests}
 use Rattle.std.proofs.lemmas.Option.{none-some}
 use Rattle.own_model.proofs.EntryLemmas.{value_of_first, later_value}
@@ -20,9 +20,7 @@ pub chunk_there : (starts : List ℕ) (chunks : Heap) (i : ℕ) → length start
 chunk_there starts [] i e differ within = absurd (omega (arith, within))
 chunk_there [] (c ∷ chunks) i e differ within = absurd (omega (arith, e))
 chunk_there (s ∷ starts) (c ∷ chunks) zero e differ within = value_of_first s (s, range_of_bytes (bytes_in c)) (chunk_ranges starts chunks) (grind (arith, nat_tests))
-chunk_there (s ∷ starts) (c ∷ chunks) (suc i) e differ within =
-    later_value (get_or starts i 0) (range_of_bytes (bytes_in (chunk_of chunks i))) (s, range_of_bytes (bytes_in c)) (chunk_ranges starts chunks) differ.0
-    (chunk_there starts chunks i (omega (arith, e)) differ.1 (omega (arith, within)))
+chunk_there (s ∷ starts) (c ∷ chunks) (suc i) e differ within = grind (arith, nat_tests, later_value, range_of_bytes, chunk_there starts chunks i (omega (arith, e)) differ.1 (omega (arith, within)))
 
 -- no chunk starts where an earlier one does
 pub starts_differ : (starts : List ℕ) (chunks : Heap) (j i : ℕ) → length starts ≡ length chunks → KeysDiffer (chunk_ranges starts chunks) → j < i → i < length chunks →
@@ -30,9 +28,7 @@ pub starts_differ : (starts : List ℕ) (chunks : Heap) (j i : ℕ) → length s
 starts_differ starts [] j i e differ less within same = absurd (omega (arith, within))
 starts_differ [] (c ∷ chunks) j i e differ less within same = absurd (omega (arith, e))
 starts_differ (s ∷ starts) (c ∷ chunks) j zero e differ less within same = absurd (omega (arith, less))
-starts_differ (s ∷ starts) (c ∷ chunks) zero (suc i) e differ less within same =
-    none-some (range_of_bytes (bytes_in (chunk_of chunks i)))
-    (sym differ.0 ∙ ap (λ k. value_of k (chunk_ranges starts chunks)) same ∙ chunk_there starts chunks i (omega (arith, e)) differ.1 (omega (arith, within)))
+starts_differ (s ∷ starts) (c ∷ chunks) zero (suc i) e differ less within same = grind (arith, nat_tests, none-some, range_of_bytes, chunk_there)
 starts_differ (s ∷ starts) (c ∷ chunks) (suc j) (suc i) e differ less within same =
     starts_differ starts chunks j i (omega (arith, e)) differ.1 (omega (arith, less)) (omega (arith, within)) same
 
@@ -41,11 +37,7 @@ pub chunk_from_is : (number : ℕ) (starts : List ℕ) (chunks : Heap) (i addres
     ((j : ℕ) → j < i → ¬ Lies starts chunks j address) → chunk_from number starts chunks address ≡ number + i
 chunk_from_is number starts [] i address e within lies before = absurd (omega (arith, within))
 chunk_from_is number [] (c ∷ chunks) i address e within lies before = absurd (omega (arith, e))
-chunk_from_is number (s ∷ starts) (c ∷ chunks) zero address e within lies before =
-    let low = lies.low in
-    let high = lies.high in
-    let here : nat_le s address && nat_lt address (s + bytes_in c) ≡ true = grind (arith, nat_tests) in
-    ap (λ b. cond b number (chunk_from (number + 1) starts chunks address)) here ∙ omega arith
+chunk_from_is number (s ∷ starts) (c ∷ chunks) zero address e within lies before = grind (arith, nat_tests)
 chunk_from_is number (s ∷ starts) (c ∷ chunks) (suc i) address e within lies before =
     let first = before 0 (omega arith) in
     elim (nat_le s address && nat_lt address (s + bytes_in c)) as (λ b. nat_le s address && nat_lt address (s + bytes_in c) ≡ b → cond b number (chunk_from (number + 1) starts chunks address) ≡ number + suc i) [
@@ -116,5 +108,4 @@ pub chunk_from-set : (number : ℕ) (starts : List ℕ) (chunks : Heap) (i : ℕ
 chunk_from-set number [] chunks i blocks address e = refl
 chunk_from-set number (s ∷ starts) [] i blocks address e = refl
 chunk_from-set number (s ∷ starts) (c ∷ chunks) zero blocks address e = ap (λ n. cond (nat_le s address && nat_lt address (s + n)) number (chunk_from (number + 1) starts chunks address)) e
-chunk_from-set number (s ∷ starts) (c ∷ chunks) (suc i) blocks address e =
-    ap (cond (nat_le s address && nat_lt address (s + bytes_in c)) number) (chunk_from-set (number + 1) starts chunks i blocks address e)
+chunk_from-set number (s ∷ starts) (c ∷ chunks) (suc i) blocks address e = grind (arith, nat_tests, chunk_from-set (number + 1) starts chunks i blocks address e)

@@ -1,5 +1,6 @@
 -- The limits of a session's account are what its client donated for it.
-use Rattle.std.proofs.Common.{◌≡◌, ◌≢◌, ℕ, ◌==◌, Bool, true, false, cond, List, [], ◌∷◌, Some, refl, sym, ap, ◌∙◌, subst, true≢false, eqb-true, arith}
+use Rattle.std.proofs.lemmas.Bool.Decides.{nat_tests}
+use Rattle.std.proofs.Common.{rules, ◌≡◌, ℕ, ◌==◌, Bool, true, false, cond, List, [], ◌∷◌, Some, refl, sym, ap, ◌∙◌, subst, true≢false, eqb-true, arith}
 use Rattle.std.proofs.lemmas.Bool.{eqb-false}
 use Rattle.std.proofs.lemmas.Option.{same_Some}
 use Rattle.std.specs.Prelude.{Option, None}
@@ -13,7 +14,7 @@ use Rattle.trade_base.specs.declared.refusal.Refusal.TheVariants.{InvalidSession
 use Rattle.own_model.specs.Account.{Account, shortage, parted_with}
 use Rattle.own_model.specs.Call.{Call, is_of_session}
 use Rattle.own_model.specs.Call.Call.{Alloc, Free, Attach, AttachAt, Detach, Peek, Poke, Capalloc, Capfree, New, Del, Snew, Sdel, Quota, Open, Upgrade, CallSession, Close, Exit}
-use Rattle.own_model.specs.Donated.{Donation, donation_in, more_of, counted, donated_after, donated}
+use Rattle.own_model.specs.Donated.{Donation, donation_in, more_of, counted, donated_after}
 use Rattle.own_model.specs.Donation.{raised}
 use Rattle.own_model.specs.OwnState.{OwnState, new_selector, session_named}
 use Rattle.own_model.specs.OwnState.Object.{OpenSession}
@@ -43,14 +44,8 @@ module _ (selector : ℕ) where
   puts : (t : Bool) (k : ℕ) → (k == selector) ≡ t → (there sum : Donation) (s : OwnState) (account : Account) (x : Session) →
       (k ≡ selector → (x.account.ram_limit ≡ there.ram) × (x.account.caps_limit ≡ there.caps)) → AreCounted sum s →
       AreCounted (cond t there sum) (record s { account = account; selectors = insert s.selectors k (OpenSession x) })
-  puts true k e there sum s account x limits h q y is at =
-      let named : k ≡ selector = eqb-true k selector e in
-      let same : OpenSession x ≡ OpenSession y = same_Some (OpenSession x) (OpenSession y) (sym (get-insert_same s.selectors k (OpenSession x) q (at ∙ sym named)) ∙ is) in
-      let session : x ≡ y = cc in
-      subst (λ z. (z.account.ram_limit ≡ there.ram) × (z.account.caps_limit ≡ there.caps)) session (limits named)
-  puts false k e there sum s account x limits h q y is at =
-      let other : k ≢ selector = eqb-false k selector e in
-      h q y (sym (get-insert_other s.selectors k (OpenSession x) q (λ same. other (sym same ∙ at))) ∙ is) at
+  puts true k e there sum s account x limits h q y is at = grind (arith, nat_tests, eqb-true, same_Some, get-insert_same)
+  puts false k e there sum s account x limits h q y is at = grind (arith, nat_tests, eqb-false, get-insert_other)
 
   -- the same donation, whether the key is the selector or not
   either : (t : Bool) (sum : Donation) → cond t sum sum ≡ sum
@@ -123,10 +118,8 @@ module _ (selector : ℕ) where
 
   -- one of a session
   of_session : (entry : Entry) (call : Call) (sum : Donation) (s : OwnState) → AreCounted sum s → is_of_session call ≡ true → IsCounted call sum (own_step entry call s)
-  of_session entry (Open service text) sum s h is =
-      turned (Open service text) sum s (turned_away entry.kind s) _ (λ refusal. refl) h (opens sum s h service text entry.name entry.routes (arguments_of text) refl)
-  of_session entry (Upgrade of text) sum s h is =
-      turned (Upgrade of text) sum s (turned_away entry.kind s) _ (λ refusal. refl) h (upgrades sum s h of text (session_named (get s.selectors of)) (named_there (get s.selectors of)) (arguments_of text) refl)
+  of_session entry (Open service text) sum s h is = grind (arith, nat_tests, turned, opens)
+  of_session entry (Upgrade of text) sum s h is = grind (arith, nat_tests, turned, upgrades, named_there)
   of_session entry (CallSession of request) sum s h is =
       turned (CallSession of request) sum s (turned_away entry.kind s) _ (λ refusal. refl) h (serves sum s h of request (session_named (get s.selectors of)) (named_there (get s.selectors of)))
   of_session entry (Close of) sum s h is =
@@ -185,8 +178,7 @@ module _ (selector : ℕ) where
 -- ---- laws
 
 pub limits_donated : LimitsAreDonations
-limits_donated entry calls s selector session none there =
-    run selector entry calls (record { ram = 0; caps = 0 }) s (λ q x is at. absurd (none q x is)) selector session there refl
+limits_donated entry calls s selector session none there = search (rules, run)
 
 -- a refusal isn't done
 not_done : (refusal : Refusal) → ¬ (Refused refusal ≡ Done)
@@ -201,7 +193,4 @@ closed s selector sum None None limits done = absurd (not_done InvalidSession do
 closed s selector sum None (Some x) limits done = let here = limits x refl in λ i. raised s.account (here.0 i) (here.1 i)
 
 pub closes_returned : ClosesReturnDonations
-closes_returned entry calls s selector none done =
-    let after = own_run entry calls s in
-    closed after selector (donated entry selector calls s) (turned_away entry.kind after) (session_named (get after.selectors selector))
-    (λ x is. limits_donated entry calls s selector x none (named_there (get after.selectors selector) x is)) done
+closes_returned entry calls s selector none done = grind (arith, nat_tests, closed, limits_donated, named_there)

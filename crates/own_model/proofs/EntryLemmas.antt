@@ -1,5 +1,5 @@
 -- A search by a test among entries whose keys differ, and in a finite map.
-use Rattle.std.proofs.Common.{◌≡◌, ℕ, Bool, true, false, cond, eqb, ◌||◌, T, List, [], ◌∷◌, is_some, Some, refl, sym, ap, subst, ◌∙◌, eqb-true, true≢false, nat_cmp, map, length, is_lt, ◌&&◌, ◌++◌, arith}
+use Rattle.std.proofs.Common.{rules, ◌≡◌, ℕ, Bool, true, false, cond, eqb, ◌||◌, T, List, [], ◌∷◌, is_some, Some, refl, sym, ap, subst, ◌∙◌, eqb-true, true≢false, nat_cmp, map, length, is_lt, ◌&&◌, ◌++◌, arith}
 use Rattle.std.proofs.lemmas.Bool.Decides.{nat_tests}
 use Rattle.std.proofs.lemmas.Bool.{eq-eqb}
 use Rattle.std.proofs.lemmas.Option.{none-some, same_Some}
@@ -31,16 +31,11 @@ module _ {X : Type 0} where
   -- keys that rise differ
   pub KeysDiffer-sorted : (es : List (ℕ × X)) → T (is_sorted nat_cmp es) → KeysDiffer es
   KeysDiffer-sorted [] h = tt
-  KeysDiffer-sorted (e ∷ es) h =
-      let parts = both_parts _ _ h in
-      (none_below e.0 es parts.0, KeysDiffer-sorted es parts.1)
+  KeysDiffer-sorted (e ∷ es) h = (none_below e.0 es (both_parts _ _ h).0, KeysDiffer-sorted es (both_parts _ _ h).1)
 
   -- a key that only later entries have is not the first one's
   later_key : (k : ℕ) (v : X) (e : ℕ × X) (es : List (ℕ × X)) → value_of e.0 es ≡ None → value_of k es ≡ Some v → eqb k e.0 ≡ false
-  later_key k v e es free there = elim (eqb k e.0) as (λ b. eqb k e.0 ≡ b → b ≡ false) [
-    | true ↦ λ t. absurd (none-some v (sym (subst (λ q. value_of q es ≡ None) (sym (eqb-true k e.0 t)) free) ∙ there))
-    | false ↦ λ t. refl
-  ] refl
+  later_key k v e es free there = search (rules, none-some, eqb-true)
 
   -- what later entries have under a key, all have
   pub later_value : (k : ℕ) (v : X) (e : ℕ × X) (es : List (ℕ × X)) → value_of e.0 es ≡ None → value_of k es ≡ Some v → value_of k (e ∷ es) ≡ Some v
@@ -91,9 +86,7 @@ module _ {X : Type 0} where
 
     -- an entry that is found passes, and the map has it
     pub found_in_map : (m : NatMap X) (e : ℕ × X) → find test (entries m) ≡ Some e → (test e ≡ true) × (get m e.0 ≡ Some e.1)
-    found_in_map m e is =
-        let at = found (entries m) e (KeysDiffer-sorted (entries m) (entries_sorted m)) is in
-        (at.0, get-entries m e.0 ∙ at.1)
+    found_in_map m e is = let at = found (entries m) e (KeysDiffer-sorted (entries m) (entries_sorted m)) is in (at.0, get-entries m e.0 ∙ at.1)
 
     -- where nothing is found, nothing that the map has passes
     pub not_found_in_map : (m : NatMap X) (k : ℕ) (v : X) → find test (entries m) ≡ None → get m k ≡ Some v → test (k, v) ≡ false
@@ -101,8 +94,7 @@ module _ {X : Type 0} where
 
     -- where nothing that the map has passes, nothing is found
     pub finds_none_in_map : (m : NatMap X) → ((k : ℕ) (v : X) → get m k ≡ Some v → test (k, v) ≡ false) → find test (entries m) ≡ None
-    finds_none_in_map m fails =
-        finds_none (entries m) (KeysDiffer-sorted (entries m) (entries_sorted m)) (λ k v there. fails k v (get-entries m k ∙ there))
+    finds_none_in_map m fails = cc (finds_none (entries m) (KeysDiffer-sorted (entries m) (entries_sorted m)) (λ k v there. fails k v (get-entries m k ∙ there)))
 
     -- the only entry that passes is found
     pub finds_in_map : (m : NatMap X) (k : ℕ) (v : X) → get m k ≡ Some v → test (k, v) ≡ true → ((j : ℕ) (w : X) → get m j ≡ Some w → test (j, w) ≡ true → j ≡ k) → find test (entries m) ≡ Some (k, v)
@@ -122,17 +114,11 @@ module _ {X : Type 0} where
 -- the value under a key of two lists of entries is the first's, if that has one
 pub value_of-append : {X : Type 0} (q : ℕ) (xs ys : List (ℕ × X)) → value_of q (xs ++ ys) ≡ option_or (value_of q xs) (value_of q ys)
 value_of-append q [] ys = refl
-value_of-append q (x ∷ xs) ys =
-    value_of-cons q x (xs ++ ys)
-    ∙ elim (eqb q x.0) as (λ b. cond b (Some x.1) (value_of q (xs ++ ys)) ≡ option_or (cond b (Some x.1) (value_of q xs)) (value_of q ys)) [ true ↦ refl | false ↦ value_of-append q xs ys ]
-    ∙ ap (λ o. option_or o (value_of q ys)) (sym (value_of-cons q x xs))
+value_of-append q (x ∷ xs) ys = grind (arith, nat_tests, value_of-cons, value_of-append q xs ys)
 
 -- a key that entries haven't isn't the first one's
 apart_key : {X : Type 0} (k : ℕ) (e : ℕ × X) (es : List (ℕ × X)) → value_of k (e ∷ es) ≡ None → eqb k e.0 ≡ false
-apart_key k e es free = elim (eqb k e.0) as (λ b. eqb k e.0 ≡ b → b ≡ false) [
-  | true ↦ λ same. absurd (none-some e.1 (sym free ∙ value_of_first k e es same))
-  | false ↦ λ _. refl
-] refl
+apart_key k e es free = search (rules, none-some, value_of_first)
 
 -- entries whose keys differ and one with a new key
 pub KeysDiffer-append : {X : Type 0} (es : List (ℕ × X)) (k : ℕ) (v : X) → KeysDiffer es → value_of k es ≡ None → KeysDiffer (es ++ (k, v) ∷ [])

@@ -1,5 +1,6 @@
 -- Exits, and what all other calls leave.
-use Rattle.std.proofs.Common.{◌≡◌, ◌&&◌, Bool, true, false, cond, [], ◌∷◌, refl, sym, ap, ◌∙◌, subst, true≢false}
+use Rattle.std.proofs.lemmas.Bool.Decides.{nat_tests}
+use Rattle.std.proofs.Common.{arith, rules, ◌≡◌, Bool, true, false, cond, [], ◌∷◌, refl, sym, ap, ◌∙◌, true≢false}
 use Rattle.std.specs.Prelude.{Option, Some, None, is_none}
 use Rattle.trade_base.specs.declared.refusal.Refusal.{Refusal}
 use Rattle.trade_base.specs.declared.refusal.Refusal.TheVariants.{Gone}
@@ -26,11 +27,7 @@ done_or_not P s None gone same = gone
 -- what holds after each call that isn't an exit, of who has exited, and where nothing is changed, holds after each call
 pub by_exit : (P : Bool → OwnState → Type 0) (entry : Entry) (call : Call) (s : OwnState) →
     (is_exit call ≡ false → P false (own_step entry call s).next) → P true gone_state → P false s → P (exits entry call s) (own_step entry call s).next
-by_exit P entry call s on gone same =
-    elim (is_exit call) as (λ b. is_exit call ≡ b → P (b && is_none (turned_away entry.kind s)) (own_step entry call s).next) [
-      | true ↦ λ is. subst (λ c. P (is_none (turned_away entry.kind s)) (own_step entry c s).next) (exit_is call is) (done_or_not P s (turned_away entry.kind s) gone same)
-      | false ↦ on
-    ] refl
+by_exit P entry call s on gone same = search (rules, exit_is, done_or_not)
 
 -- a script that isn't gone exits
 pub exits_done : ExitsAreDone
@@ -38,8 +35,7 @@ exits_done entry s script here = ap (λ kind. unless (turned_away kind s) s exit
 
 -- one that is gone is turned away
 pub gone_turned : GoneAreTurnedAway
-gone_turned entry call s script gone =
-    ap (λ kind. unless (turned_away kind s) s (entry_step entry call s)) script ∙ ap (λ b. unless (cond b (Some Gone) None) s (entry_step entry call s)) gone
+gone_turned entry call s script gone = cc
 
 -- who is gone is left, whatever it is
 left_by : (kind : Kind) (entry : Entry) (call : Call) (s : OwnState) → s.gone ≡ true → (unless (turned_away kind s) s (entry_step entry call s)).next ≡ s
@@ -61,11 +57,7 @@ may_exit Script s done = (refl, elim s.gone as (λ b. is_none (cond b (Some Gone
 
 -- and ends all
 pub exits_end_all : ExitsEndAll
-exits_end_all entry calls call s done =
-    let may = may_exit entry.kind s done in (
-      ap (λ o. own_run entry calls o.next) (exits_done entry s may.0 may.1) ∙ gone_stays entry calls gone_state refl,
-      gone_turned entry call gone_state may.0 refl,
-    )
+exits_end_all entry calls call s done = grind (arith, nat_tests, may_exit, exits_done, gone_stays, gone_turned)
 
 -- ---- only exits end
 
@@ -73,32 +65,10 @@ abbrev GoneAlike : OwnState → OwnState → Type 0
 GoneAlike s t = t.gone ≡ s.gone
 
 effects_alike : (s : OwnState) → KeptByEffects (GoneAlike s) s
-effects_alike s = record {
-  allocates = λ n accepted. refl;
-  frees = λ selector bytes there. refl;
-  attaches = λ selector address bytes there stands room. refl;
-  detaches = λ address. refl;
-  pokes = λ selector offset bytes object there. refl;
-  pokes_payload = λ address offset bytes payload there. refl;
-  pokes_block = λ address offset bytes payload there. refl;
-  takes = λ n hole best. refl;
-  grows = λ n start accepted gap. refl;
-  takes_large = λ n start large accepted gap. refl;
-  gives = λ address payload there small. refl;
-  gives_large = λ address bytes there. refl;
-  slices = λ n start accepted gap. refl;
-  unslices = λ address payload there. refl;
-  allocates_cap = λ accepted. refl;
-  frees_cap = λ selector there. refl;
-}
+effects_alike s = search rules
 
 sessions_alike : (s : OwnState) → KeptBySessions (GoneAlike s) s
-sessions_alike s = record {
-  opens = λ wish accepted. refl;
-  upgrades = λ selector session more there accepted. refl;
-  serves = λ selector session request there. refl;
-  closes = λ selector session there. refl;
-}
+sessions_alike s = search rules
 
 -- a call that isn't an exit makes nobody gone
 pub alike_on : (entry : Entry) (call : Call) (s : OwnState) → is_exit call ≡ false → (own_step entry call s).next.gone ≡ s.gone

@@ -1,5 +1,5 @@
 -- What files are charged, the limits and the use of their account after requests.
-use Rattle.std.proofs.Common.{◌≡◌, ℕ, ◌+◌, ◌<◌, ◌≤◌, ◌++◌, ◌==◌, false, cond, List, [], ◌∷◌, length, refl, ap, arith, sum_by, take, drop, length-append, length-take, length-drop, length-set}
+use Rattle.std.proofs.Common.{rules, ◌≡◌, ℕ, ◌+◌, ◌<◌, ◌≤◌, List, [], length, refl, ap, arith, sum_by, length-append, length-take, length-drop, length-set}
 use Rattle.std.proofs.lemmas.Bool.{ltb-true, ltb-false}
 use Rattle.std.proofs.lemmas.Bool.Decides.{nat_tests}
 use Rattle.std.proofs.lemmas.List.Sums.{sum_by_push}
@@ -11,11 +11,11 @@ use Rattle.own_model.proofs.FileRequestLemmas.{KeptByRequests, requests_keep, gr
 use Rattle.own_model.proofs.OwnHeapLemmas.{chunk_bytes-set}
 use Rattle.own_model.proofs.StepLemmas.{covers, accepted_growth}
 use Rattle.own_model.specs.Account.{Account, WithinLimits, charged}
-use Rattle.own_model.specs.BestFit.{Spot, block_size, chunk_of, taken_in, given_in}
+use Rattle.own_model.specs.BestFit.{Spot, chunk_of, given_in}
 use Rattle.own_model.specs.FileLaws.{RequestsKeepCharges, RequestsKeepLimits, RequestsKeepWithinLimits}
 use Rattle.own_model.specs.FileService.{Files, File, IsCharged, node_size, content_ram, content_caps, created_in}
 use Rattle.own_model.specs.Growth.{Growth, Shape, growth_of, new_hole, shape_grown, shape_taken}
-use Rattle.own_model.specs.Heap.{Block, Hole, bytes_in}
+use Rattle.own_model.specs.Heap.{bytes_in}
 use Rattle.own_model.specs.Sliced.{sliced_size}
 
 -- ---- what contents are charged
@@ -23,14 +23,11 @@ use Rattle.own_model.specs.Sliced.{sliced_size}
 -- a longer content is as long as it was asked for
 length-longer : (bytes : List ℕ) (offset : ℕ) (part : List ℕ) → offset ≤ length bytes → length bytes < offset + length part → length (with_bytes bytes offset part) ≡ offset + length part
 unfolding with_bytes
-length-longer bytes offset part fits longer =
-    omega (arith, length-append (take offset bytes ++ part) (drop (offset + length part) bytes), length-append (take offset bytes) part, length-take offset bytes, length-drop (offset + length part) bytes)
+length-longer bytes offset part fits longer = search (rules, length-append, length-take, length-drop)
 
 -- some bytes are charged a sliced block
 charge_of_some : (n : ℕ) → 0 < n → (content_ram n ≡ sliced_size n) × (content_caps n ≡ 1)
-charge_of_some n some =
-    let e : (n == 0) ≡ false = grind (arith, nat_tests) in
-    (ap (λ b. cond b 0 (sliced_size n)) e, ap (λ b. cond b 0 1) e)
+charge_of_some n some = grind (arith, nat_tests)
 
 -- the bytes and the capability of a file's content
 abbrev ram_of : File → ℕ
@@ -43,15 +40,11 @@ caps_of file = content_caps (length file.bytes)
 
 -- a node in a hole changes neither the bytes of the chunks nor their number
 node_charged : (hole : Spot) (shape : Shape) → (sum_by bytes_in (shape_taken node_size hole shape).chunks ≡ sum_by bytes_in shape.chunks) × (length (shape_taken node_size hole shape).chunks ≡ length shape.chunks)
-node_charged hole shape =
-    let after = taken_in (block_size node_size) hole.offset (chunk_of shape.chunks hole.chunk) in
-    (chunk_bytes-set shape.chunks hole.chunk after (bytes-taken (block_size node_size) hole.offset (chunk_of shape.chunks hole.chunk)), length-set shape.chunks hole.chunk after)
+node_charged hole shape = grind (arith, nat_tests, chunk_bytes-set, bytes-taken, length-set)
 
 -- a chunk more is charged its bytes and a capability
 chunk_charged : (growth : Growth) (shape : Shape) → (sum_by bytes_in (shape_grown growth shape).chunks ≡ sum_by bytes_in shape.chunks + growth.bytes) × (length (shape_grown growth shape).chunks ≡ length shape.chunks + 1)
-chunk_charged growth shape =
-    let new : List Block = Hole growth.bytes ∷ [] in
-    (omega (arith, sum_by_push bytes_in shape.chunks new), omega (arith, length-append shape.chunks (new ∷ [])))
+chunk_charged growth shape = grind (arith, nat_tests, sum_by_push, length-append)
 
 -- ---- charges
 
@@ -70,9 +63,7 @@ module _ (ram caps : ℕ) where
       }
 
   grown_charged : (growth : Growth) (files : Files) (account : Account) → Charged files account → Charged (grown growth files) (charged account growth.bytes 1)
-  grown_charged growth files account h =
-      let chunk = chunk_charged growth files.shape in
-      record { ram = omega (arith, h.ram, chunk.0); caps = omega (arith, h.caps, chunk.1) }
+  grown_charged growth files account h = omega (arith, chunk_charged growth files.shape)
 
   charges_kept : (files : Files) (account : Account) → Charged files account → KeptByRequests Charged files account
   charges_kept files account h = record {
@@ -121,14 +112,7 @@ module _ (account : Account) where
   SameLimits files other = (other.ram_limit ≡ account.ram_limit) × (other.caps_limit ≡ account.caps_limit)
 
   limits_kept : (files : Files) → KeptByRequests SameLimits files account
-  limits_kept files = record {
-    takes = λ name hole is free best. (refl, refl);
-    grows = λ name is free accepted. (refl, refl);
-    lengthens = λ file offset bytes there start longer accepted. (refl, refl);
-    replaces = λ file offset bytes there fits. (refl, refl);
-    clears = λ file there. (refl, refl);
-    drops = λ file there. (refl, refl);
-  }
+  limits_kept files = search rules
 
 pub limits_stay : RequestsKeepLimits
 limits_stay files account text = requests_keep (SameLimits account) files account (refl, refl) (limits_kept account files) text
@@ -139,19 +123,7 @@ abbrev Within : Files → Account → Type 0
 Within files account = WithinLimits account
 
 within_kept : (files : Files) (account : Account) → WithinLimits account → KeptByRequests Within files account
-within_kept files account h = record {
-  takes = λ name hole is free best. h;
-  grows = λ name is free accepted.
-      let growth = growth_of node_size files.shape account in
-      let fits = covers account growth.bytes 1 (accepted_growth node_size files.shape account accepted).1 in
-      record { ram = fits.ram_fits; caps = fits.caps_fit };
-  lengthens = λ file offset bytes there start longer accepted.
-      let fits = covers account (sliced_size (offset + length bytes)) 1 accepted in
-      record { ram = omega (arith, fits.ram_fits); caps = omega (arith, fits.caps_fit) };
-  replaces = λ file offset bytes there fits. h;
-  clears = λ file there. record { ram = omega (arith, h.ram); caps = omega (arith, h.caps) };
-  drops = λ file there. record { ram = omega (arith, h.ram); caps = omega (arith, h.caps) };
-}
+within_kept files account h = search (rules, covers, accepted_growth)
 
 pub within_stays : RequestsKeepWithinLimits
 within_stays files account text h = requests_keep Within files account h (within_kept files account h) text

@@ -1,5 +1,6 @@
 -- Requests are refused for the first reason on their line of the table, and for nothing else.
-use Rattle.std.proofs.Common.{◌≡◌, ℕ, ◌+◌, ◌&&◌, Bool, true, false, cond, not, List, [], ◌∷◌, length, nat_lt, nat_le, Some, refl, sym, ap, subst, ◌∙◌, arith, slice_get, inl, inr}
+use Rattle.std.proofs.lemmas.Bool.Decides.{nat_tests}
+use Rattle.std.proofs.Common.{◌≡◌, ℕ, ◌&&◌, Bool, true, false, cond, not, List, [], ◌∷◌, length, nat_le, Some, refl, subst, arith, slice_get}
 use Rattle.std.proofs.lemmas.Bool.{le-leb, lt-leb}
 use Rattle.std.proofs.lemmas.Option.{none-some, slice_get_within, slice_get_cases}
 use Rattle.std.specs.Prelude.{Option, None, is_some}
@@ -9,15 +10,13 @@ use Rattle.trade_base.specs.declared.refusal.Refusal.TheVariants as refusal
 use Rattle.own_model.specs.Account.{Account}
 use Rattle.own_model.specs.BestFit.{Spot, block_size}
 use Rattle.own_model.specs.FileLaws.{first_error, node_errors, write_errors, read_errors, errors_of, ErrorsComeInOrder, OthersAreServed}
-use Rattle.own_model.specs.FileService.{Files, File, FileServed, node_size, file_named, error_of, create_refusal, is_longer, write_refusal, read_refusal, unless_refused, told, created, written, read, sized, cleared, dropped, named, request_served, most_read}
+use Rattle.own_model.specs.FileService.{Files, File, FileServed, node_size, file_named, error_of, create_refusal, write_refusal, unless_refused, told, created, written, read, sized, cleared, dropped, named, request_served}
 use Rattle.own_model.specs.FileText.{FileRequest, FileError, file_request, file_reply, bytes_reply}
 use Rattle.own_model.specs.FileText.FileRequest.{Create, Write, Read, Size, Clear, Drop, Name, Stat}
-use Rattle.own_model.specs.FileText.FileError.{BadName, Exists, NotFound, Gap, TooLong, End, TooManyChunks, OutOfRam, OutOfCaps}
+use Rattle.own_model.specs.FileText.FileError.{NotFound, Gap, TooLong, End, TooManyChunks, OutOfRam, OutOfCaps}
 use Rattle.own_model.specs.FileText.FileReply.{Refused}
-use Rattle.own_model.specs.Growth.{Shape, most_chunks, hole_for, small_refusal}
-use Rattle.own_model.specs.Sliced.{sliced_size}
+use Rattle.own_model.specs.Growth.{Shape, most_chunks, small_refusal}
 use Rattle.own_model.specs.Table.{lacks_ram, lacks_caps}
-use Rattle.own_model.specs.Text.{is_name}
 
 -- the first byte of a text
 abbrev first_byte : List ℕ → ℕ
@@ -50,8 +49,7 @@ node_same (Some hole) shape account = refl
 node_same None shape account = growth_same (nat_le most_chunks (length shape.chunks)) (lacks_ram account (page_of (block_size node_size))) (lacks_caps account 1)
 
 create_same : (name : List ℕ) (files : Files) (account : Account) → create_refusal name files account ≡ first_error (errors_of (Some (Create name)) files account)
-create_same name files account =
-    ap (λ o. cond (not (is_name name)) (Some BadName) (cond (is_some (file_named name files)) (Some Exists) o)) (node_same (hole_for node_size files.shape) files.shape account)
+create_same name files account = simp (node_same)
 
 write_tests : (g l r c : Bool) →
     option_or (cond g (Some Gap) None) (cond l (option_map error_of (cond r (Some refusal.OutOfRam) (cond c (Some refusal.OutOfCaps) None))) None) ≡ cond g (Some Gap) (cond (l && r) (Some OutOfRam) (cond (l && c) (Some OutOfCaps) None))
@@ -60,8 +58,7 @@ write_tests false false r c = refl
 write_tests false true r c = shortage_same r c
 
 write_same : (offset count : ℕ) (file : File) (account : Account) → write_refusal offset count file account ≡ first_error (write_errors offset count (Some file) account)
-write_same offset count file account =
-    write_tests (nat_lt (length file.bytes) offset) (is_longer offset count file) (lacks_ram account (sliced_size (offset + count))) (lacks_caps account 1)
+write_same offset count file account = simp (write_tests)
 
 read_tests : (g t : Bool) → option_or (cond g (Some Gap) None) (cond t (Some TooLong) None) ≡ cond g (Some Gap) (cond t (Some TooLong) None)
 read_tests true t = refl
@@ -88,22 +85,15 @@ module _ (files : Files) (account : Account) where
 
   written_answers : (offset : ℕ) (bytes : List ℕ) (found : Option File) → Answers (first_error (write_errors offset (length bytes) found account)) (written offset bytes found files account)
   written_answers offset bytes None = refl
-  written_answers offset bytes (Some file) =
-      unless_answers (write_refusal offset (length bytes) file account) (first_error (write_errors offset (length bytes) (Some file) account)) _ (write_same offset (length bytes) file account) refl
+  written_answers offset bytes (Some file) = grind (arith, nat_tests, unless_answers, write_same)
 
   read_answers : (offset count : ℕ) (found : Option File) → Answers (first_error (read_errors offset count found)) (read offset count found files account)
   read_answers offset count None = refl
-  read_answers offset count (Some file) =
-      unless_answers (read_refusal offset count file) (first_error (read_errors offset count (Some file))) _ (read_tests (nat_lt (length file.bytes) offset) (nat_lt most_read count)) (bytes_good _)
+  read_answers offset count (Some file) = grind (arith, nat_tests, unless_answers, read_tests, bytes_good)
 
   named_answers : (place : ℕ) (found : Option File) → slice_get files.files place ≡ found → Answers (cond (nat_le (length files.files) place) (Some End) None) (named found files account)
-  named_answers place (Some file) is =
-      subst (λ b. Answers (cond b (Some End) None) (named (Some file) files account)) (sym (lt-leb (length files.files) place (slice_get_within files.files place file is))) refl
-  named_answers place None none =
-      elim (slice_get_cases files.files place).1 [
-        | inl there ↦ absurd (none-some there.0 (sym none ∙ there.2))
-        | inr past ↦ subst (λ b. Answers (cond b (Some End) None) (named None files account)) (sym (le-leb (length files.files) place past.0)) refl
-      ]
+  named_answers place (Some file) is = grind (arith, nat_tests, lt-leb, slice_get_within)
+  named_answers place None none = grind (arith, nat_tests, slice_get_cases, none-some, le-leb)
 
   -- one that has to be there
   sized_answers : (found : Option File) → Answers (cond (not (is_some found)) (Some NotFound) None) (sized found files account)
@@ -120,9 +110,7 @@ module _ (files : Files) (account : Account) where
 
   request_answers : (request : Option FileRequest) → Answers (first_error (errors_of request files account)) (request_served request files account)
   request_answers None = refl
-  request_answers (Some (Create name)) =
-      unless_answers (create_refusal name files account) (first_error (errors_of (Some (Create name)) files account)) (created name (hole_for node_size files.shape) files account) (create_same name files account)
-      (created_good name (hole_for node_size files.shape))
+  request_answers (Some (Create name)) = grind (arith, nat_tests, unless_answers, create_same, created_good)
   request_answers (Some (Write name offset bytes)) = written_answers offset bytes (file_named name files)
   request_answers (Some (Read name offset count)) = read_answers offset count (file_named name files)
   request_answers (Some (Size name)) = sized_answers (file_named name files)

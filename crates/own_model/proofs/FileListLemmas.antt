@@ -1,4 +1,5 @@
 -- What holds of files after one is rewritten, one goes, or one comes.
+use Rattle.std.proofs.lemmas.Bool.Decides.{nat_tests}
 use Rattle.std.proofs.Common.{◌≡◌, ℕ, ◌+◌, ◌++◌, Bool, true, false, cond, List, [], ◌∷◌, Some, refl, sym, ap, subst, ◌∙◌, arith, find, sum_by, true≢false}
 use Rattle.std.proofs.lemmas.List.Folds.{find-append}
 use Rattle.std.proofs.lemmas.List.Sums.{sum_by-cons}
@@ -6,7 +7,6 @@ use Rattle.std.proofs.lemmas.Option.{none-some, same_Some}
 use Rattle.std.proofs.lemmas.Slice.Eq.{bytes_eq-Decides}
 use Rattle.std.specs.Prelude.{Option, None, IsSome, is_some}
 use Rattle.std.specs.List.{AllByRecursion}
-use Rattle.std.specs.Option.{option_or}
 use Rattle.own_model.specs.FileService.{File, is_named, rewritten, without, AreUnlike}
 
 -- what is found passes the test
@@ -47,20 +47,12 @@ module _ (name bytes : List ℕ) where
   -- what holds of each file, whatever its bytes
   pub all_rewritten : (P : File → Type 0) → ((file : File) → P file → P (with file)) → (files : List File) → AllByRecursion P files → AllByRecursion P (rewritten name bytes files)
   all_rewritten P kept [] each = each
-  all_rewritten P kept (x ∷ rest) each = elim (is_named name x) as (λ b. AllByRecursion P (cond b (with x ∷ rest) (x ∷ rewritten name bytes rest))) [
-    | true ↦ (kept x each.0, each.1)
-    | false ↦ (each.0, all_rewritten P kept rest each.1)
-  ]
+  all_rewritten P kept (x ∷ rest) each = grind (arith, nat_tests, all_rewritten P kept rest each.1)
 
   -- a test that looks at no bytes finds one as before
   pub finds_rewritten : (test : File → Bool) → ((file : File) → test (with file) ≡ test file) → (files : List File) → is_some (find test (rewritten name bytes files)) ≡ is_some (find test files)
   finds_rewritten test alike [] = refl
-  finds_rewritten test alike (x ∷ rest) =
-      elim (is_named name x) as (λ b. is_some (find test (cond b (with x ∷ rest) (x ∷ rewritten name bytes rest))) ≡ is_some (cond (test x) (Some x) (find test rest))) [
-        | true ↦ ap (λ b. is_some (cond b (Some (with x)) (find test rest))) (alike x)
-            ∙ elim (test x) as (λ b. is_some (cond b (Some (with x)) (find test rest)) ≡ is_some (cond b (Some x) (find test rest))) [ true ↦ refl | false ↦ refl ]
-        | false ↦ elim (test x) as (λ b. is_some (cond b (Some x) (find test (rewritten name bytes rest))) ≡ is_some (cond b (Some x) (find test rest))) [ true ↦ refl | false ↦ finds_rewritten test alike rest ]
-      ]
+  finds_rewritten test alike (x ∷ rest) = grind (arith, nat_tests, finds_rewritten test alike rest)
 
   -- files that were unlike are
   pub unlike_rewritten : (like : File → File → Bool) → ((x y : File) → like (with x) y ≡ like x y) → ((x y : File) → like x (with y) ≡ like x y) → (files : List File) →
@@ -87,10 +79,7 @@ module _ (name : List ℕ) where
   -- what holds of each file holds of those that are left
   pub all_without : (P : File → Type 0) (files : List File) → AllByRecursion P files → AllByRecursion P (without name files)
   all_without P [] each = each
-  all_without P (x ∷ rest) each = elim (is_named name x) as (λ b. AllByRecursion P (cond b rest (x ∷ without name rest))) [
-    | true ↦ each.1
-    | false ↦ (each.0, all_without P rest each.1)
-  ]
+  all_without P (x ∷ rest) each = grind (arith, nat_tests, all_without P rest each.1)
 
   -- what wasn't found isn't
   finds_none_without : (test : File → Bool) (files : List File) → find test files ≡ None → find test (without name files) ≡ None
@@ -108,10 +97,7 @@ module _ (name : List ℕ) where
   -- files that were unlike are
   pub unlike_without : (like : File → File → Bool) (files : List File) → AreUnlike like files → AreUnlike like (without name files)
   unlike_without like [] each = each
-  unlike_without like (x ∷ rest) each = elim (is_named name x) as (λ b. AreUnlike like (cond b rest (x ∷ without name rest))) [
-    | true ↦ each.1
-    | false ↦ (finds_none_without (like x) rest each.0, unlike_without like rest each.1)
-  ]
+  unlike_without like (x ∷ rest) each = grind (arith, nat_tests, finds_none_without, unlike_without like rest each.1)
 
   -- what is found but for the file that goes is found
   pub finds_without : (test : File → Bool) (files : List File) (file : File) → find (is_named name) files ≡ Some file → test file ≡ false → IsSome (find test files) →
@@ -139,7 +125,4 @@ module _ (name : List ℕ) where
 -- files stay unlike where one comes that none before is like
 pub unlike_push : (like : File → File → Bool) (files : List File) (new : File) → AllByRecursion (λ file. like file new ≡ false) files → AreUnlike like files → AreUnlike like (files ++ new ∷ [])
 unlike_push like [] new none each = (refl, tt)
-unlike_push like (x ∷ rest) new none each = (
-  find-append (like x) rest (new ∷ []) ∙ ap (λ o. option_or o (find (like x) (new ∷ []))) each.0 ∙ ap (λ b. cond b (Some new) None) none.0,
-  unlike_push like rest new none.1 each.1,
-)
+unlike_push like (x ∷ rest) new none each = grind (arith, nat_tests, find-append, unlike_push like rest new none.1 each.1)

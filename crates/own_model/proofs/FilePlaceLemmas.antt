@@ -1,18 +1,15 @@
 -- Files by their places in the order of creation: what is found, rewritten and taken out stands behind files of other names.
-use Rattle.std.proofs.Common.{◌≡◌, ℕ, ◌++◌, Bool, true, false, cond, List, [], ◌∷◌, Some, refl, sym, ap, ◌∙◌, find}
+use Rattle.std.proofs.lemmas.Bool.Decides.{nat_tests}
+use Rattle.std.proofs.Common.{arith, rules, ◌≡◌, ℕ, ◌++◌, Bool, true, false, cond, List, [], ◌∷◌, Some, refl, ap, ◌∙◌, find}
 use Rattle.std.proofs.lemmas.List.Folds.{find-append}
 use Rattle.std.proofs.lemmas.Option.{none-some}
 use Rattle.std.specs.Prelude.{None}
-use Rattle.std.specs.Option.{option_or}
 use Rattle.own_model.proofs.FileServiceLemmas.{differ_back}
 use Rattle.own_model.specs.FileService.{File, is_named, rewritten, without, NamesDiffer}
 
 -- where nothing is found the first element doesn't pass, and nothing is found in the rest
 first_fails : {X : Type 0} (test : X → Bool) (x : X) (xs : List X) → find test (x ∷ xs) ≡ None → (test x ≡ false) × (find test xs ≡ None)
-first_fails test x xs none = elim (test x) as (λ b. cond b (Some x) (find test xs) ≡ None → (b ≡ false) × (find test xs ≡ None)) [
-  | true ↦ λ here. absurd (none-some x (sym here))
-  | false ↦ λ there. (refl, there)
-] none
+first_fails test x xs none = search (rules, none-some)
 
 -- nor does one further on
 one_fails : {X : Type 0} (test : X → Bool) (xs : List X) (y : X) (ys : List X) → find test (xs ++ y ∷ ys) ≡ None → test y ≡ false
@@ -22,16 +19,12 @@ one_fails test (x ∷ xs) y ys none = one_fails test xs y ys (first_fails test x
 -- no file before one of files with names that differ has its name
 pub names_before : (before : List File) (file : File) (rest : List File) → NamesDiffer (before ++ file ∷ rest) → find (is_named file.name) before ≡ None
 names_before [] file rest differ = refl
-names_before (x ∷ before) file rest differ =
-    ap (λ b. cond b (Some x) (find (is_named file.name) before)) (differ_back file.name x.name (one_fails (is_named x.name) before file rest differ.0))
-    ∙ names_before before file rest differ.1
+names_before (x ∷ before) file rest differ = grind (arith, nat_tests, differ_back, one_fails, names_before before file rest differ.1)
 
 module _ (name : List ℕ) (file : File) (rest : List File) (is : is_named name file ≡ true) where
   -- the file is found there
   pub found_at : (before : List File) → find (is_named name) before ≡ None → find (is_named name) (before ++ file ∷ rest) ≡ Some file
-  found_at before none =
-      find-append (is_named name) before (file ∷ rest) ∙ ap (λ o. option_or o (find (is_named name) (file ∷ rest))) none
-      ∙ ap (λ b. cond b (Some file) (find (is_named name) rest)) is
+  found_at before none = search (rules, find-append)
 
   -- rewritten there
   pub rewritten_at : (bytes : List ℕ) (before : List File) → find (is_named name) before ≡ None → rewritten name bytes (before ++ file ∷ rest) ≡ before ++ record file { bytes = bytes } ∷ rest

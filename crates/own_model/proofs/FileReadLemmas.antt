@@ -1,5 +1,6 @@
 -- What is written is read, and a request of one file leaves the others.
-use Rattle.std.proofs.Common.{◌≡◌, ℕ, ◌+◌, ◌≤◌, ◌++◌, true, false, cond, List, [], ◌∷◌, length, take, drop, Some, refl, sym, ap, subst, ◌∙◌, arith, find, nat_lt, append_assoc, length-append, slice_get}
+use Rattle.std.proofs.lemmas.Bool.Decides.{nat_tests}
+use Rattle.std.proofs.Common.{rules, ◌≡◌, ℕ, ◌≤◌, ◌++◌, true, false, cond, List, [], ◌∷◌, length, take, drop, Some, refl, sym, ap, subst, ◌∙◌, arith, find, append_assoc, length-append, slice_get}
 use Rattle.std.proofs.lemmas.Bool.{ltb-false, le-ltb}
 use Rattle.std.proofs.lemmas.List.{drop_at, take_at, length-take-le}
 use Rattle.std.proofs.lemmas.List.Folds.{find-append}
@@ -15,10 +16,10 @@ use Rattle.own_model.proofs.FileRequestLemmas.{neither_of, untold}
 use Rattle.own_model.specs.Account.{Account}
 use Rattle.own_model.specs.BestFit.{Spot}
 use Rattle.own_model.specs.FileLaws.{WrittenIsRead, OtherFilesStay}
-use Rattle.own_model.specs.FileService.{Files, File, FileServed, node_size, is_named, file_named, rewritten, without, most_read, create_refusal, gap_refusal, content_refusal, write_refusal, read_refusal, unless_refused, told, write_charged, created, written, read, sized, cleared, dropped, named}
+use Rattle.own_model.specs.FileService.{Files, File, FileServed, node_size, is_named, file_named, rewritten, without, most_read, create_refusal, write_refusal, read_refusal, unless_refused, told, write_charged, created, written, read, sized, cleared, dropped, named}
 use Rattle.own_model.specs.FileText.{FileError, file_reply}
 use Rattle.own_model.specs.FileText.FileRequest.{Create, Write, Read, Size, Clear, Drop, Name, Stat}
-use Rattle.own_model.specs.FileText.FileError.{NotFound, Gap, TooLong}
+use Rattle.own_model.specs.FileText.FileError.{NotFound}
 use Rattle.own_model.specs.FileText.FileReply.{Count, Bytes, Refused}
 use Rattle.own_model.specs.Growth.{hole_for}
 
@@ -27,17 +28,12 @@ use Rattle.own_model.specs.Growth.{hole_for}
 -- a part that was put over bytes stands there
 part_read : (bytes : List ℕ) (offset : ℕ) (part : List ℕ) → offset ≤ length bytes → take (length part) (drop offset (with_bytes bytes offset part)) ≡ part
 unfolding with_bytes
-part_read bytes offset part fits =
-    let rest = drop (offset + length part) bytes in
-    ap (λ all. take (length part) (drop offset all)) (append_assoc (take offset bytes) part rest)
-    ∙ ap (take (length part)) (drop_at (take offset bytes) (part ++ rest) offset (length-take-le offset bytes fits))
-    ∙ take_at part rest (length part) refl
+part_read bytes offset part fits = grind (arith, nat_tests, append_assoc, drop_at, length-take-le, take_at)
 
 -- and leaves them no shorter than its offset
 still_long : (bytes : List ℕ) (offset : ℕ) (part : List ℕ) → offset ≤ length bytes → offset ≤ length (with_bytes bytes offset part)
 unfolding with_bytes
-still_long bytes offset part fits =
-    omega (arith, length-append (take offset bytes ++ part) (drop (offset + length part) bytes), length-append (take offset bytes) part, length-take-le offset bytes fits)
+still_long bytes offset part fits = search (rules, length-append, length-take-le)
 
 -- ---- what is found after a change
 
@@ -59,20 +55,11 @@ module _ (name other : List ℕ) (apart : bytes_eq name other ≡ false) where
   -- a file of another name, as it was
   others_rewritten : (bytes : List ℕ) (files : List File) → find (is_named other) (rewritten name bytes files) ≡ find (is_named other) files
   others_rewritten bytes [] = refl
-  others_rewritten bytes (x ∷ rest) =
-      elim (is_named name x) as (λ b. is_named name x ≡ b → find (is_named other) (cond b (record x { bytes = bytes } ∷ rest) (x ∷ rewritten name bytes rest)) ≡ find (is_named other) (x ∷ rest)) [
-        | true ↦ λ e. let differs = not_other x e in
-            ap (λ t. cond t (Some (record x { bytes = bytes })) (find (is_named other) rest)) differs ∙ sym (ap (λ t. cond t (Some x) (find (is_named other) rest)) differs)
-        | false ↦ λ _. ap (cond (is_named other x) (Some x)) (others_rewritten bytes rest)
-      ] refl
+  others_rewritten bytes (x ∷ rest) = grind (arith, nat_tests, not_other, others_rewritten bytes rest)
 
   others_without : (files : List File) → find (is_named other) (without name files) ≡ find (is_named other) files
   others_without [] = refl
-  others_without (x ∷ rest) =
-      elim (is_named name x) as (λ b. is_named name x ≡ b → find (is_named other) (cond b rest (x ∷ without name rest)) ≡ find (is_named other) (x ∷ rest)) [
-        | true ↦ λ e. sym (ap (λ t. cond t (Some x) (find (is_named other) rest)) (not_other x e))
-        | false ↦ λ _. ap (cond (is_named other x) (Some x)) (others_without rest)
-      ] refl
+  others_without (x ∷ rest) = grind (arith, nat_tests, not_other, others_without rest)
 
 -- ---- what was written is read
 
@@ -87,29 +74,16 @@ module _ (files : Files) (account : Account) (name : List ℕ) (offset : ℕ) (b
 
   -- a read of bytes that are there is accepted
   accepted_read : (file : File) → offset ≤ length file.bytes → read_refusal offset (length bytes) file ≡ None
-  accepted_read file fits =
-      let no_gap : nat_lt (length file.bytes) offset ≡ false = le-ltb (length file.bytes) offset fits in
-      let no_more : nat_lt most_read (length bytes) ≡ false = le-ltb most_read (length bytes) few in
-      ap (λ b. option_or (cond b (Some Gap) None) (cond (nat_lt most_read (length bytes)) (Some TooLong) None)) no_gap ∙ ap (λ b. cond b (Some TooLong) None) no_more
+  accepted_read file fits = grind (arith, nat_tests, le-ltb)
 
   read_of : (found : Option File) (file : File) (after : Files) (later : Account) → found ≡ Some file → offset ≤ length file.bytes → take (length bytes) (drop offset file.bytes) ≡ bytes →
       (read offset (length bytes) found after later).reply ≡ file_reply (Bytes bytes)
-  read_of found file after later is fits same =
-      ap (λ o. (read offset (length bytes) o after later).reply) is
-      ∙ ap (λ why. (unless_refused why after later (told (Bytes (take (length bytes) (drop offset file.bytes))) after later)).reply) (accepted_read file fits)
-      ∙ ap (λ all. file_reply (Bytes all)) same
+  read_of found file after later is fits same = search (rules, accepted_read)
 
   written_by : (file : File) → file_named name files ≡ Some file → (why : Option FileError) → write_refusal offset (length bytes) file account ≡ why →
       IsRead (unless_refused why files account (told (Count (length bytes)) (record files { files = rewritten file.name (with_bytes file.bytes offset bytes) files.files }) (write_charged offset (length bytes) file account)))
   written_by file is (Some e) refused = λ count. absurd (no_count e count)
-  written_by file is None accepted = λ _.
-      let parts = neither_of (gap_refusal offset file) (content_refusal offset (length bytes) file account) accepted in
-      let start : offset ≤ length file.bytes = ltb-false (length file.bytes) offset (untold (nat_lt (length file.bytes) offset) Gap parts.0) in
-      let new = with_bytes file.bytes offset bytes in
-      let found : find (is_named name) (rewritten file.name new files.files) ≡ Some (record file { bytes = new })
-      = ap (λ own. find (is_named name) (rewritten own new files.files)) (named_is name files.files file is) ∙ find_rewritten name new files.files file is in
-      read_of (find (is_named name) (rewritten file.name new files.files)) (record file { bytes = new }) (record files { files = rewritten file.name new files.files }) (write_charged offset (length bytes) file account)
-      found (still_long file.bytes offset bytes start) (part_read file.bytes offset bytes start)
+  written_by file is None accepted = grind (arith, nat_tests, neither_of, ltb-false, untold, named_is, find_rewritten, read_of, still_long, part_read)
 
   written_then : (found : Option File) → file_named name files ≡ found → IsRead (written offset bytes found files account)
   written_then None none = λ count. absurd (no_count NotFound count)
@@ -135,9 +109,7 @@ module _ (files : Files) (account : Account) (other : List ℕ) where
   or_nothing (Some x) = refl
 
   push_stays : (new : File) → is_named other new ≡ false → find (is_named other) (files.files ++ new ∷ []) ≡ find (is_named other) files.files
-  push_stays new differs =
-      find-append (is_named other) files.files (new ∷ []) ∙ ap (λ b. option_or (find (is_named other) files.files) (cond b (Some new) None)) differs
-      ∙ or_nothing (find (is_named other) files.files)
+  push_stays new differs = search (rules, find-append, or_nothing)
 
   created_stays : (name : List ℕ) → bytes_eq name other ≡ false → (found : Option Spot) → Stays (created name found files account)
   created_stays name apart (Some hole) = push_stays _ apart
@@ -150,8 +122,7 @@ module _ (files : Files) (account : Account) (other : List ℕ) where
 
     written_stays : (offset : ℕ) (bytes : List ℕ) (found : Option File) → file_named name files ≡ found → Stays (written offset bytes found files account)
     written_stays offset bytes None none = refl
-    written_stays offset bytes (Some file) is =
-        unless_stays (write_refusal offset (length bytes) file account) _ (others_rewritten file.name other (own_apart file is) (with_bytes file.bytes offset bytes) files.files)
+    written_stays offset bytes (Some file) is = grind (arith, nat_tests, unless_stays, others_rewritten, own_apart)
 
     cleared_stays : (found : Option File) → file_named name files ≡ found → Stays (cleared found files account)
     cleared_stays None none = refl

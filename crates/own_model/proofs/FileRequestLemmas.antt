@@ -1,5 +1,6 @@
 -- What a request can do to files and their account, and what is known where it is accepted.
-use Rattle.std.proofs.Common.{◌≡◌, ℕ, ◌+◌, ◌≤◌, Bool, true, false, cond, not, List, length, nat_lt, Some, refl, sym, subst, true≢false, slice_get, []}
+use Rattle.std.proofs.lemmas.Bool.Decides.{nat_tests}
+use Rattle.std.proofs.Common.{arith, rules, ◌≡◌, ℕ, ◌+◌, ◌≤◌, Bool, true, false, cond, not, List, length, Some, refl, sym, subst, true≢false, slice_get, []}
 use Rattle.std.proofs.lemmas.Bool.{ltb-false}
 use Rattle.std.proofs.lemmas.Option.{none-some}
 use Rattle.std.specs.Prelude.{Option, None, is_some}
@@ -9,11 +10,10 @@ use Rattle.trade_base.specs.declared.refusal.Refusal.{Refusal}
 use Rattle.own_model.proofs.FileListLemmas.{named_is}
 use Rattle.own_model.specs.Account.{Account, shortage, charged}
 use Rattle.own_model.specs.BestFit.{Spot}
-use Rattle.own_model.specs.FileService.{Files, File, FileServed, node_size, file_named, rewritten, without, content_credited, error_of, create_refusal, gap_refusal, is_longer, content_refusal, write_refusal, read_refusal, unless_refused, created_in, created, write_charged, written, read, sized, cleared, dropped, named, request_served, file_served}
+use Rattle.own_model.specs.FileService.{Files, File, FileServed, node_size, file_named, rewritten, without, content_credited, error_of, create_refusal, gap_refusal, is_longer, content_refusal, read_refusal, unless_refused, created_in, created, write_charged, written, read, sized, cleared, dropped, named, request_served, file_served}
 use Rattle.own_model.specs.FileText.{FileRequest, FileError, file_request}
 use Rattle.own_model.specs.FileText.FileRequest.{Create, Write, Read, Size, Clear, Drop, Name, Stat}
-use Rattle.own_model.specs.FileText.FileError.{BadName, Exists, Gap}
-use Rattle.own_model.specs.Growth.{Growth, hole_for, growth_of, growth_refusal, new_hole, small_refusal, heap_refusal, shape_given, shape_grown}
+use Rattle.own_model.specs.Growth.{Growth, hole_for, growth_of, growth_refusal, new_hole, small_refusal, shape_given, shape_grown}
 use Rattle.own_model.specs.Sliced.{sliced_size}
 use Rattle.own_model.specs.Text.{is_name}
 
@@ -95,9 +95,7 @@ module _ (P : Files → Account → Type 0) (files : Files) (account : Account) 
   created_kept name None none name_is free accepted = keeps.grows name name_is free accepted
 
   create_kept : (name : List ℕ) → Kept (unless_refused (create_refusal name files account) files account (created name (hole_for node_size files.shape) files account))
-  create_kept name = unless_kept (create_refusal name files account) (created name (hole_for node_size files.shape) files account) (λ accepted.
-      let parts = create_parts (is_name name) (is_some (file_named name files)) BadName Exists (heap_refusal node_size files.shape account) accepted in
-      created_kept name (hole_for node_size files.shape) refl parts.0 (not_there (file_named name files) parts.1) parts.2)
+  create_kept name = search (rules, unless_kept, create_parts, created_kept, not_there)
 
   -- the file of a name is that of its own
   itself : (name : List ℕ) (file : File) → file_named name files ≡ Some file → file_named file.name files ≡ Some file
@@ -105,20 +103,11 @@ module _ (P : Files → Account → Type 0) (files : Files) (account : Account) 
 
   written_by : (file : File) (offset : ℕ) (bytes : List ℕ) → file_named file.name files ≡ Some file → gap_refusal offset file ≡ None → content_refusal offset (length bytes) file account ≡ None →
       P (with_content file (with_bytes file.bytes offset bytes) files) (write_charged offset (length bytes) file account)
-  written_by file offset bytes there gap content =
-      let new = with_content file (with_bytes file.bytes offset bytes) files in
-      let longer_account = content_credited file (charged account (sliced_size (offset + length bytes)) 1) in
-      elim (is_longer offset (length bytes) file) as (λ b. is_longer offset (length bytes) file ≡ b → P new (cond b longer_account account)) [
-        | true ↦ λ longer. keeps.lengthens file offset bytes there (ltb-false (length file.bytes) offset (untold (nat_lt (length file.bytes) offset) Gap gap)) longer
-            (content_covered (is_longer offset (length bytes) file) (shortage account (sliced_size (offset + length bytes)) 1) content longer)
-        | false ↦ λ fits. keeps.replaces file offset bytes there fits
-      ] refl
+  written_by file offset bytes there gap content = grind (arith, nat_tests, ltb-false, untold, content_covered)
 
   written_kept : (name : List ℕ) (offset : ℕ) (bytes : List ℕ) (found : Option File) → file_named name files ≡ found → Kept (written offset bytes found files account)
   written_kept name offset bytes None none = stays
-  written_kept name offset bytes (Some file) is = unless_kept (write_refusal offset (length bytes) file account) _ (λ accepted.
-      let parts = neither_of (gap_refusal offset file) (content_refusal offset (length bytes) file account) accepted in
-      written_by file offset bytes (itself name file is) parts.0 parts.1)
+  written_kept name offset bytes (Some file) is = grind (arith, nat_tests, unless_kept, neither_of, written_by, itself)
 
   read_kept : (offset count : ℕ) (found : Option File) → Kept (read offset count found files account)
   read_kept offset count None = stays

@@ -1,5 +1,5 @@
 -- Requests leave files as files are.
-use Rattle.std.proofs.Common.{◌≡◌, ℕ, ◌++◌, ◌==◌, ◌&&◌, Bool, true, false, cond, List, [], ◌∷◌, Some, refl, sym, ap, subst, ◌∙◌, find, eqb-true, true≢false, arith, ◌≤◌}
+use Rattle.std.proofs.Common.{rules, ◌≡◌, ℕ, ◌++◌, ◌==◌, ◌&&◌, Bool, true, false, cond, List, [], ◌∷◌, Some, refl, sym, ap, subst, ◌∙◌, find, eqb-true, true≢false, arith, ◌≤◌}
 use Rattle.std.proofs.lemmas.Bool.{and_parts, false_from_ne_true}
 use Rattle.std.proofs.lemmas.List.Folds.{find-append}
 use Rattle.std.proofs.lemmas.Bool.Decides.{nat_tests}
@@ -67,12 +67,7 @@ module _ (name : List ℕ) (hole : Spot) (files : Files) (h : AreFiles files) (n
 
   -- and stand elsewhere
   elsewhere : (file : File) → HasNode files.shape file → is_at file.chunk file.offset new ≡ false
-  elsewhere file node = false_from_ne_true (hole.chunk == file.chunk && hole.offset == file.offset) (λ same.
-      let parts = and_parts (hole.chunk == file.chunk) (hole.offset == file.offset) same in
-      let here : used files.shape file.chunk file.offset ≡ None
-      = subst (λ c. used files.shape c file.offset ≡ None) (eqb-true hole.chunk file.chunk parts.0)
-      (subst (λ o. used files.shape hole.chunk o ≡ None) (eqb-true hole.offset file.offset parts.1) (not_used files.shape h.heap hole is enough)) in
-      none-some node.size (sym here ∙ node.there))
+  elsewhere file node = search (rules, false_from_ne_true, and_parts, used, eqb-true, not_used, none-some)
 
   -- the file's own node
   new_node : HasNode after new
@@ -91,39 +86,17 @@ module _ (name : List ℕ) (hole : Spot) (files : Files) (h : AreFiles files) (n
       ∙ either (is_at chunk offset new) (size_taken (block_size node_size) hole.size) new (used files.shape chunk offset) (find (is_at chunk offset) files.files) some' (h.no_more chunk offset)
 
   pub files_created : AreFiles (created_in name hole files)
-  files_created = record {
-    names = all_append (λ file. is_name file.name ≡ true) files.files (new ∷ []) h.names (name_is, tt);
-    differ = unlike_push (λ file. is_named file.name) files.files new (all_then _ _ files.files (λ file differs. differ_back file.name name differs) (none_pass (is_named name) files.files free)) h.differ;
-    heap = shape_taken_is files.shape h.heap hole is enough;
-    nodes = all_append (HasNode after) files.files (new ∷ []) (all_then (HasNode files.shape) (HasNode after) files.files old_node h.nodes) (new_node, tt);
-    apart = unlike_push (λ file. is_at file.chunk file.offset) files.files new (all_then (HasNode files.shape) (λ file. is_at file.chunk file.offset new ≡ false) files.files elsewhere h.nodes) h.apart;
-    no_more = whose;
-  }
+  files_created = search (rules, all_append, unlike_push, all_then, differ_back, none_pass, shape_taken_is, old_node, new_node, elsewhere, whose)
 
 -- ---- a chunk more
 
 files_grown : (growth : Growth) (files : Files) → IsShape (shape_grown growth files.shape) → AreFiles files → AreFiles (grown growth files)
-files_grown growth files heap h = record {
-  names = h.names;
-  differ = h.differ;
-  heap = heap;
-  nodes = all_then (HasNode files.shape) (HasNode (shape_grown growth files.shape)) files.files
-      (λ file node. record { size = node.size; there = used_grown files.shape growth file.chunk file.offset ∙ node.there; fits = node.fits }) h.nodes;
-  apart = h.apart;
-  no_more = λ chunk offset some. h.no_more chunk offset (ap is_some (sym (used_grown files.shape growth chunk offset)) ∙ some);
-}
+files_grown growth files heap h = search (rules, all_then, used_grown)
 
 -- ---- another content
 
 files_rewritten : (file : File) (bytes : List ℕ) (files : Files) → AreFiles files → AreFiles (with_content file bytes files)
-files_rewritten file bytes files h = record {
-  names = all_rewritten file.name bytes (λ x. is_name x.name ≡ true) (λ x is. is) files.files h.names;
-  differ = unlike_rewritten file.name bytes (λ x. is_named x.name) (λ x y. refl) (λ x y. refl) files.files h.differ;
-  heap = h.heap;
-  nodes = all_rewritten file.name bytes (HasNode files.shape) (λ x node. record { size = node.size; there = node.there; fits = node.fits }) files.files h.nodes;
-  apart = unlike_rewritten file.name bytes (λ x. is_at x.chunk x.offset) (λ x y. refl) (λ x y. refl) files.files h.apart;
-  no_more = λ chunk offset some. finds_rewritten file.name bytes (is_at chunk offset) (λ x. refl) files.files ∙ h.no_more chunk offset some;
-}
+files_rewritten file bytes files h = search (rules, all_rewritten, unlike_rewritten, finds_rewritten)
 
 -- ---- a file gone
 
@@ -149,12 +122,7 @@ module _ (file : File) (files : Files) (h : AreFiles files) (there : file_named 
 
   -- places that differ one way differ the other
   place_back : (x y : File) → is_at x.chunk x.offset y ≡ false → is_at y.chunk y.offset x ≡ false
-  place_back x y apart = false_from_ne_true (is_at y.chunk y.offset x) (λ same.
-      let parts = and_parts (x.chunk == y.chunk) (x.offset == y.offset) same in
-      let c = eqb-true x.chunk y.chunk parts.0 in
-      let o = eqb-true x.offset y.offset parts.1 in
-      let back : (y.chunk == x.chunk && y.offset == x.offset) ≡ true = grind (arith, nat_tests) in
-      true≢false (sym back ∙ apart))
+  place_back x y apart = search (rules, false_from_ne_true, and_parts, eqb-true, true≢false)
 
   -- nodes that stand elsewhere stay
   both : (xs : List File) → AllByRecursion (λ y. is_at file.chunk file.offset y ≡ false) xs → AllByRecursion (HasNode files.shape) xs → AllByRecursion (HasNode left) xs
@@ -185,27 +153,13 @@ module _ (file : File) (files : Files) (h : AreFiles files) (there : file_named 
       ] refl some'
 
   files_dropped : AreFiles (without_file file files)
-  files_dropped = record {
-    names = all_without file.name (λ x. is_name x.name ≡ true) files.files h.names;
-    differ = unlike_without file.name (λ x. is_named x.name) files.files h.differ;
-    heap = shape_given_is files.shape h.heap file node;
-    nodes = nodes_left files.files there h.apart h.nodes;
-    apart = unlike_without file.name (λ x. is_at x.chunk x.offset) files.files h.apart;
-    no_more = whose_left;
-  }
+  files_dropped = search (rules, all_without, unlike_without, shape_given_is, node, nodes_left, whose_left)
 
 -- ---- the laws
 
 -- no files are files
 pub no_files_are : AreFiles no_files
-no_files_are = record {
-  names = tt;
-  differ = tt;
-  heap = record { chunks = tt; few = omega arith; growth_some = omega arith; growth_most = omega arith };
-  nodes = tt;
-  apart = tt;
-  no_more = λ chunk offset none. absurd (true≢false (sym none));
-}
+no_files_are = search (rules, true≢false)
 
 abbrev Kept : Files → Account → Type 0
 Kept files account = AreFiles files

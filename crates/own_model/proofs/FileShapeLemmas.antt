@@ -1,5 +1,5 @@
 -- The heap of nodes: which blocks are used after a node comes or goes, and that it stays one.
-use Rattle.std.proofs.Common.{◌≡◌, ℕ, ◌-◌, ◌<◌, ◌≤◌, ◌++◌, ◌==◌, ◌&&◌, Bool, true, false, cond, eqb, List, [], ◌∷◌, length, Some, refl, sym, ap, subst, ◌∙◌, arith, set, nat_lt, eqb-true, inl, inr, length-append, length-set}
+use Rattle.std.proofs.Common.{rules, ◌≡◌, ℕ, ◌-◌, ◌<◌, ◌≤◌, ◌++◌, ◌==◌, ◌&&◌, Bool, true, false, cond, eqb, List, [], ◌∷◌, length, Some, refl, sym, ap, subst, ◌∙◌, arith, set, nat_lt, eqb-true, inl, inr, length-append, length-set}
 use Rattle.std.proofs.Math.Seq.{get_or-append_seam}
 use Rattle.std.proofs.lemmas.Bool.{eqb-false, cases_eq, cases_lt}
 use Rattle.std.proofs.lemmas.Bool.Decides.{nat_tests}
@@ -11,7 +11,7 @@ use Rattle.own_model.proofs.BlockLemmas.{hole_at, used-taken, used-given, bytes-
 use Rattle.own_model.proofs.ListLemmas.{all_within, all_set, all_append, all_then}
 use Rattle.own_model.proofs.StepLemmas.{accepted_growth, growth_fits}
 use Rattle.own_model.specs.Account.{Account}
-use Rattle.own_model.specs.BestFit.{Spot, block_size, chunk_of, taken_in, given_in, used_at}
+use Rattle.own_model.specs.BestFit.{Spot, block_size, chunk_of, taken_in, used_at}
 use Rattle.own_model.specs.FileService.{File, node_size, HasNode, IsShape}
 use Rattle.own_model.specs.Growth.{Shape, Growth, hole_for, shape_taken, shape_given, shape_grown, new_hole, growth_of, growth_refusal}
 use Rattle.own_model.specs.Heap.{Heap, Block, Hole, AreBlocks, ArePages, IsChunk, bytes_in}
@@ -34,15 +34,7 @@ used_set chunks i blocks chunk offset within =
 place_set : (chunks : Heap) (i at : ℕ) (blocks : List Block) (o : Option ℕ) → i < length chunks →
     ((offset : ℕ) → used_at offset blocks ≡ cond (eqb offset at) o (used_at offset (chunk_of chunks i))) → (chunk offset : ℕ) →
     used_at offset (chunk_of (set chunks i blocks) chunk) ≡ cond (i == chunk && at == offset) o (used_at offset (chunk_of chunks chunk))
-place_set chunks i at blocks o within changed chunk offset =
-    used_set chunks i blocks chunk offset within
-    ∙ elim (i == chunk) as (λ b. (i == chunk) ≡ b → cond b (used_at offset blocks) (used_at offset (chunk_of chunks chunk)) ≡ cond (b && at == offset) o (used_at offset (chunk_of chunks chunk))) [
-      | true ↦ λ e.
-          let turned : eqb offset at ≡ (at == offset) = grind (arith, nat_tests) in
-          changed offset ∙ ap (λ b. cond b o (used_at offset (chunk_of chunks i))) turned
-          ∙ ap (λ k. cond (at == offset) o (used_at offset (chunk_of chunks k))) (eqb-true i chunk e)
-      | false ↦ λ _. refl
-    ] refl
+place_set chunks i at blocks o within changed chunk offset = search (rules, eqb-true)
 
 -- a file has a node where as large a block is used
 pub node_by : (shape after : Shape) (file : File) (b : Bool) (size : ℕ) → block_size node_size ≤ size → used after file.chunk file.offset ≡ cond b (Some size) (used shape file.chunk file.offset) →
@@ -60,8 +52,7 @@ module _ (shape : Shape) (h : IsShape shape) (hole : Spot) (is : IsHoleOf shape.
   -- the block is used, and all that were
   pub used_taken : (number offset : ℕ) → used (shape_taken node_size hole shape) number offset
       ≡ cond (hole.chunk == number && hole.offset == offset) (Some (size_taken (block_size node_size) hole.size)) (used shape number offset)
-  used_taken = place_set shape.chunks hole.chunk hole.offset (taken_in (block_size node_size) hole.offset (chunk_of shape.chunks hole.chunk)) (Some (size_taken (block_size node_size) hole.size)) is.within
-      (λ offset. used-taken (block_size node_size) hole.size offset hole.offset (chunk_of shape.chunks hole.chunk) chunk.sizes is.there)
+  used_taken = search (rules, place_set, chunk, used-taken)
 
   -- it wasn't
   pub not_used : used shape hole.chunk hole.offset ≡ None
@@ -105,36 +96,14 @@ module _ (shape : Shape) (h : IsShape shape) (account : Account) (accepted : gro
     next_most : g.next ≤ 64
 
   suits : Suits growth
-  suits =
-      let some = h.growth_some in
-      let most = h.growth_most in
-      growth_fits node_size shape account Suits
-      (record { pages = record { some = omega arith; whole = omega arith }; fits = omega arith; next_some = omega arith; next_most = omega arith })
-      (record { pages = record { some = omega arith; whole = omega arith }; fits = omega arith; next_some = some; next_most = most })
+  suits = grind (arith, nat_tests, growth_fits)
 
   -- the heap that has grown is one, and its last chunk is a hole in which the block fits
   pub shape_grown_is : IsShape (shape_grown growth shape)
-  shape_grown_is =
-      let full = (accepted_growth node_size shape account accepted).0 in
-      let pages = suits.pages in
-      record {
-        chunks = all_append IsChunk shape.chunks ((Hole growth.bytes ∷ []) ∷ []) h.chunks (
-          record {
-            sizes = record { least = omega (arith, pages.some, pages.whole); even = omega (arith, pages.whole) };
-            pages = subst ArePages (omega arith) pages;
-          },
-          tt,
-        );
-        few = let room : length shape.chunks < 64 = grind (arith, nat_tests) in omega (arith, room, length-append shape.chunks ((Hole growth.bytes ∷ []) ∷ []));
-        growth_some = suits.next_some;
-        growth_most = suits.next_most;
-      }
+  shape_grown_is = grind (arith, nat_tests, accepted_growth, suits, all_append, length-append)
 
   pub new_hole_is : IsHoleOf (shape_grown growth shape).chunks (new_hole growth shape)
-  new_hole_is = record {
-    within = omega (arith, length-append shape.chunks ((Hole growth.bytes ∷ []) ∷ []));
-    there = ap (hole_at 0) (get_or-append_seam shape.chunks (Hole growth.bytes ∷ []) [] []);
-  }
+  new_hole_is = search (rules, length-append, hole_at, get_or-append_seam)
 
   pub new_hole_fits : block_size node_size ≤ growth.bytes
   new_hole_fits = suits.fits
@@ -161,31 +130,15 @@ used_grown shape growth number offset =
 module _ (shape : Shape) (h : IsShape shape) (file : File) (node : HasNode shape file) where
   -- a chunk that has a used block is there
   within : file.chunk < length shape.chunks
-  within = elim (cases_lt file.chunk (length shape.chunks)) [
-    | inl there ↦ there
-    | inr past ↦ absurd (none-some node.size (sym (ap (used_at file.offset) (get_or_past shape.chunks file.chunk [] past)) ∙ node.there))
-  ]
+  within = search (rules, cases_lt, chunk, none-some, get_or_past)
 
   node_chunk : IsChunk (chunk_of shape.chunks file.chunk)
   node_chunk = all_within IsChunk shape.chunks file.chunk [] h.chunks within
 
   -- the block isn't used, and all others are that were
   pub used_given : (number offset : ℕ) → used (shape_given file.chunk file.offset shape) number offset ≡ cond (file.chunk == number && file.offset == offset) None (used shape number offset)
-  used_given = place_set shape.chunks file.chunk file.offset (given_in file.offset (chunk_of shape.chunks file.chunk)) None within
-      (λ offset. used-given node.size offset file.offset (chunk_of shape.chunks file.chunk) node_chunk.sizes node.there)
+  used_given = search (rules, place_set, chunk, within, used-given, node_chunk)
 
   -- and the heap stays one
   pub shape_given_is : IsShape (shape_given file.chunk file.offset shape)
-  shape_given_is =
-      let blocks = chunk_of shape.chunks file.chunk in
-      let after = given_in file.offset blocks in
-      let as_many : bytes_in after ≡ bytes_in blocks = bytes-given file.offset blocks in
-      record {
-        chunks = all_set IsChunk shape.chunks file.chunk after h.chunks (record {
-          sizes = AreBlocks-given node.size file.offset blocks node_chunk.sizes node.there;
-          pages = subst ArePages (sym as_many) node_chunk.pages;
-        });
-        few = omega (arith, h.few, length-set shape.chunks file.chunk after);
-        growth_some = h.growth_some;
-        growth_most = h.growth_most;
-      }
+  shape_given_is = grind (arith, nat_tests, chunk, bytes-given, all_set, AreBlocks-given, node_chunk, length-set)

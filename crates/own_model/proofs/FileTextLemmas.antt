@@ -1,12 +1,12 @@
 -- A request writes at most half as many bytes as it is long.
-use Rattle.std.proofs.Common.{◌≡◌, ℕ, ◌*◌, ◌<◌, ◌≤◌, ◌&&◌, Bool, true, false, cond, List, [], length, refl, subst, codes, arith}
+use Rattle.std.proofs.Common.{rules, ◌≡◌, ℕ, ◌*◌, ◌<◌, ◌≤◌, ◌&&◌, Bool, true, false, cond, List, [], length, refl, subst, codes, arith}
 use Rattle.std.proofs.lemmas.Bool.Decides.{nat_tests}
 use Rattle.std.specs.Prelude.{Option, Some, None, nat_le, is_none}
 use Rattle.std.specs.Option.{option_map, option_and_then}
 use Rattle.std.specs.Str.{bytes_eq}
 use Rattle.own_model.specs.FileText.{FileRequest, file_word, of_file, write_of, read_of, request_of, file_request}
-use Rattle.own_model.specs.FileText.FileRequest.{Create, Write, Read, Size, Clear, Drop, Name}
-use Rattle.own_model.specs.LogText.{longest_request, hex_or_nothing}
+use Rattle.own_model.specs.FileText.FileRequest.{Create, Write, Size, Clear, Drop, Name}
+use Rattle.own_model.specs.LogText.{longest_request}
 use Rattle.own_model.specs.Text.{first_word, number_of}
 use Rattle.own_model.proofs.LogLemmas.{rest_shorter, hex_shorter}
 
@@ -37,12 +37,10 @@ half_then n f (Some x) few = few x refl
 -- a text of which a request is read is longer than its arguments
 module _ (file : List ℕ) (arguments : List ℕ) where
   write_half : IsHalf (length arguments) (write_of file arguments)
-  write_half = half_then (length arguments) _ (number_of (first_word arguments).word) (λ offset _.
-      half_map (length arguments) (Write file offset) (hex_or_nothing (first_word arguments).rest) (λ bytes is. hex_shorter arguments (first_word arguments).rest bytes refl is))
+  write_half = search (rules, half_then, half_map, hex_shorter)
 
   read_half : IsHalf (length arguments) (read_of file arguments)
-  read_half = half_then (length arguments) _ (number_of (first_word arguments).word) (λ offset _.
-      half_map (length arguments) (Read file offset) (option_and_then number_of (first_word arguments).rest) (λ count _. omega arith))
+  read_half = search (rules, half_then, half_map)
 
 -- a longer text has more room
 half_more : (m n : ℕ) (o : Option FileRequest) → m ≤ n → IsHalf m o → IsHalf n o
@@ -51,15 +49,12 @@ half_more m n (Some request) more few = omega (arith, more, few)
 
 -- so has one with a file's word before
 file_half : (request : List ℕ → List ℕ → Option FileRequest) (arguments : List ℕ) → ((file rest : List ℕ) → IsHalf (length rest) (request file rest)) → IsHalf (length arguments) (of_file request arguments)
-file_half request arguments half = half_then (length arguments) _ (file_word (first_word arguments).word) (λ file _.
-    half_then (length arguments) (request file) (first_word arguments).rest (λ rest is.
-    half_more (length rest) (length arguments) (request file rest) (omega (arith, rest_shorter arguments rest is)) (half file rest)))
+file_half request arguments half = search (rules, half_then, half_more, rest_shorter)
 
 -- and one with a form before
 module _ (n : ℕ) (form : List ℕ) (arguments : Option (List ℕ)) (shorter : (rest : List ℕ) → arguments ≡ Some rest → length rest < n) where
   of_half : (request : List ℕ → List ℕ → Option FileRequest) → ((file rest : List ℕ) → IsHalf (length rest) (request file rest)) → IsHalf n (option_and_then (of_file request) arguments)
-  of_half request half = half_then n (of_file request) arguments (λ rest is.
-      half_more (length rest) n (of_file request rest) (omega (arith, shorter rest is)) (file_half request rest half))
+  of_half request half = search (rules, half_then, half_more, file_half)
 
   request_half : IsHalf n (request_of form arguments)
   request_half =

@@ -1,5 +1,5 @@
 -- Why the heap window always has a gap: walked from its start, a region costs at most the pages sought and its own.
-use Rattle.std.proofs.Common.{◌≡◌, ℕ, ◌+◌, ◌*◌, ◌%◌, ◌<◌, ◌≤◌, ◌||◌, is_lt, Bool, true, false, true≢false, T, List, [], ◌∷◌, length, map, IsSome, Some, refl, sym, nat_cmp, inl, inr, arith, mul-add}
+use Rattle.std.proofs.Common.{rules, ◌≡◌, ℕ, ◌+◌, ◌*◌, ◌%◌, ◌<◌, ◌≤◌, ◌||◌, is_lt, Bool, true, false, true≢false, T, List, [], ◌∷◌, length, map, IsSome, Some, refl, sym, nat_cmp, inl, inr, arith, mul-add}
 use Rattle.std.proofs.lemmas.Bool.{cases_lt}
 use Rattle.std.proofs.lemmas.Bool.Decides.{nat_tests}
 use Rattle.std.proofs.lemmas.Cmp.{ranked}
@@ -117,16 +117,7 @@ module _ (machine : ℕ) (regions : NatMap Region) (fit : FitMachine machine reg
 
 -- the first gap of a window is that of a longer one
 longer_window : (low high higher : ℕ) (regions : NatMap Region) (pages : ℕ) → high ≤ higher → IsSome (first_gap low high regions pages) → first_gap low high regions pages ≡ first_gap low higher regions pages
-longer_window low high higher regions pages longer =
-    elim (first_gap low high regions pages) as (λ o. IsFirstGap low high regions pages o → IsSome o → o ≡ first_gap low higher regions pages) [
-      | None ↦ λ none some. absurd (true≢false (sym some))
-      | Some address ↦ λ is some.
-          let to = is.0.to_high in
-          sym (first_gap_is low higher regions pages (Some address) (
-            record { aligned = is.0.aligned; from_low = is.0.from_low; to_high = omega arith; free = is.0.free },
-            λ b before at. is.1 b before (record { aligned = at.aligned; from_low = at.from_low; to_high = omega arith; free = at.free }),
-          ))
-    ] (first_gap_least low high regions pages)
+longer_window low high higher regions pages longer = search (rules, true≢false, first_gap_is, first_gap_least)
 
 -- more pages are more bytes
 longer : (a b : ℕ) → a ≤ b → heap_low + a * 4096 ≤ heap_low + b * 4096

@@ -1,4 +1,5 @@
 -- A new block of the heap is zeros where no block was, and what a machine's RAM covers is given.
+use Rattle.std.proofs.lemmas.Bool.Decides.{nat_tests}
 use Rattle.std.proofs.Common.{◌≡◌, ℕ, ◌+◌, ◌-◌, ◌*◌, ◌/◌, ◌≤◌, Bool, true, false, cond, List, length, nat_lt, Some, refl, sym, ap, subst, ◌∙◌, IsSome, arith}
 use Rattle.std.proofs.lemmas.Option.{none-some}
 use Rattle.std.specs.Prelude.{Option, None}
@@ -23,7 +24,7 @@ use Rattle.own_model.specs.HeapStep.{size_taken}
 use Rattle.own_model.specs.HeapWindow.{heap_high, largest_machine}
 use Rattle.own_model.specs.OwnHeap.{payload_start, start_of, chunk_with}
 use Rattle.own_model.specs.OwnState.{OwnState, zeros}
-use Rattle.own_model.specs.OwnStep.{Outcome, unless, block_taken, chunk_added, grown_at, grown_in, large_at, large_in, small_new, newed, own_heap_gap, script_step}
+use Rattle.own_model.specs.OwnStep.{Outcome, unless, block_taken, chunk_added, grown_at, grown_in, large_at, large_in, small_new, own_heap_gap, script_step}
 use Rattle.own_model.specs.Reply.Reply.{Attached}
 use Rattle.own_model.specs.Sound.{IsSound}
 use Rattle.own_model.specs.Use.{UsesWhatItHolds}
@@ -131,9 +132,7 @@ module _ (s : OwnState) (h : IsSound s) (n block : ℕ) where
       IsNew s n block (unless (cond (is_valid_size n) (cond large (shortage s.account (page_of n) 1) (small_refusal n hole s.heap.shape s.account)) (Some InvalidSize)) s
       (cond large (large_in n (own_heap_gap (page_of n) s) s) (small_new n hole s)))
   any_new true e hole best is = told s h n block (alloc_refusal n s.account) (large_in n (own_heap_gap (page_of n) s) s) is (large_new (own_heap_gap (page_of n) s) refl)
-  any_new false e hole best is =
-      told s h n block (cond (is_valid_size n) (small_refusal n hole s.heap.shape s.account) (Some InvalidSize)) (small_new n hole s) is
-      (λ accepted. small_is_new hole best (size_tested (is_valid_size n) (small_refusal n hole s.heap.shape s.account) InvalidSize accepted))
+  any_new false e hole best is = grind (arith, nat_tests, told, small_is_new, size_tested)
 
 -- a new block of the heap is zeros where no block was
 pub heap_new_zero : (s : OwnState) (n block : ℕ) → IsSound s → (script_step (New n) s).reply ≡ Attached block →
@@ -152,9 +151,7 @@ module _ (machine : ℕ) (s : OwnState) (n : ℕ) (h : IsSound s) (uses : UsesWh
 
   -- so a large block is given
   large_given : alloc_refusal n s.account ≡ None → (block : ℕ) × ((large_in n (own_heap_gap (page_of n) s) s).reply ≡ Attached block)
-  large_given accepted =
-      let gap = gap_for (page_of n) (accepted_size n s.account accepted) in
-      (gap.0, ap (λ o. (large_in n o s).reply) gap.1)
+  large_given accepted = grind (arith, nat_tests, gap_for, accepted_size)
 
   -- and a block of a chunk
   small_given : (hole : Option Spot) → small_refusal n hole s.heap.shape s.account ≡ None → (block : ℕ) × ((small_new n hole s).reply ≡ Attached block)
@@ -172,6 +169,4 @@ module _ (machine : ℕ) (s : OwnState) (n : ℕ) (h : IsSound s) (uses : UsesWh
 
   -- what no test refuses is given
   pub heap_covered_given : heap_refusal n s.heap.shape s.account ≡ None → (block : ℕ) × ((script_step (New n) s).reply ≡ Attached block)
-  heap_covered_given accepted =
-      let given = any_given (is_large n) accepted in
-      (given.0, ap (λ why. (unless why s (newed n s)).reply) accepted ∙ given.1)
+  heap_covered_given accepted = grind (arith, nat_tests, any_given)

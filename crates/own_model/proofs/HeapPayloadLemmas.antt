@@ -1,5 +1,5 @@
 -- The payloads of a heap lie apart, and are found until they are given back.
-use Rattle.std.proofs.Common.{◌≡◌, ◌≢◌, ℕ, ◌+◌, ◌-◌, ◌*◌, ◌<◌, ◌≤◌, ◌⊎◌, inl, inr, true, false, List, length, Some, refl, sym, ap, ◌∙◌, arith, is_some}
+use Rattle.std.proofs.Common.{rules, ◌≡◌, ◌≢◌, ℕ, ◌+◌, ◌-◌, ◌*◌, ◌<◌, ◌≤◌, ◌⊎◌, inl, inr, true, false, List, length, Some, refl, sym, ap, ◌∙◌, arith, is_some}
 use Rattle.std.proofs.lemmas.Bool.{cases_eq, cases_lt, false_from_ne_true}
 use Rattle.std.proofs.lemmas.Bool.Decides.{nat_tests}
 use Rattle.std.proofs.lemmas.Option.{none-some}
@@ -19,7 +19,7 @@ use Rattle.own_model.specs.Call.Call.{Del}
 use Rattle.own_model.specs.HeapWindow.{heap_low, heap_high, largest_machine}
 use Rattle.own_model.specs.OwnHeap.{start_of, chunk_with, offset_of}
 use Rattle.own_model.specs.OwnState.{OwnState}
-use Rattle.own_model.specs.OwnStep.{given_back, deleted, script_step}
+use Rattle.own_model.specs.OwnStep.{script_step}
 use Rattle.own_model.specs.Place.{found}
 use Rattle.own_model.specs.Place.Place.{InBlock}
 use Rattle.own_model.specs.Region.{overlap, resolved}
@@ -29,13 +29,7 @@ use Rattle.own_model.specs.Sound.{IsSound}
 
 -- of ranges of some pages that lie apart one ends before the other starts
 one_first : (a p b q : ℕ) → 1 ≤ p → 1 ≤ q → overlap a p b q ≡ false → (a + p * 4096 ≤ b) ⊎ (b + q * 4096 ≤ a)
-one_first a p b q some more apart = elim (cases_lt a (b + q * 4096)) [
-  | inr after ↦ inr after
-  | inl before ↦ elim (cases_lt b (a + p * 4096)) [
-    | inl too ↦ absurd (grind (arith, nat_tests))
-    | inr first ↦ inl first
-  ]
-]
+one_first a p b q some more apart = search (rules, cases_lt)
 
 module _ (s : OwnState) (h : IsSound s) where
   -- a payload and the range within which it lies
@@ -44,10 +38,7 @@ module _ (s : OwnState) (h : IsSound s) where
 
   -- it lies within the heap window
   pub heap_payload_within : (a : ℕ) (x : List ℕ) → get s.heap.payloads a ≡ Some x → (heap_low ≤ a) × (a + length x ≤ heap_high largest_machine)
-  heap_payload_within a x there =
-      let at = within a x there in
-      let window = (heap_lies s h).within at.0 at.1.range at.1.there in
-      (omega (arith, window.from_low, at.1.from), omega (arith, window.to_high, at.1.to))
+  heap_payload_within a x there = omega (arith, within a x there, (heap_lies s h).within (within a x there).0 (within a x there).1.range (within a x there).1.there)
 
   -- what lies in ranges that start apart lies apart
   ranges_part : (a b m n start other : ℕ) (p : IsWithin s.heap start a m) (q : IsWithin s.heap other b n) → start ≢ other → (a + m ≤ b) ⊎ (b + n ≤ a)
@@ -71,12 +62,7 @@ module _ (s : OwnState) (h : IsSound s) where
 
   -- nor do two chunks start at one address
   chunks_start_apart : (i j : ℕ) → i < length s.heap.shape.chunks → j < length s.heap.shape.chunks → i ≢ j → start_of s.heap i ≢ start_of s.heap j
-  chunks_start_apart i j one other differ same =
-      let parts = h.heap_parts in
-      elim (cases_lt i j) [
-        | inl less ↦ starts_differ s.heap.starts s.heap.shape.chunks i j parts.starts parts.differ less other same
-        | inr more ↦ starts_differ s.heap.starts s.heap.shape.chunks j i parts.starts parts.differ (omega (arith, more, differ)) one (sym same)
-      ]
+  chunks_start_apart i j one other differ same = grind (arith, nat_tests, cases_lt, starts_differ)
 
   module _ (a b : ℕ) (x y : List ℕ) (first : get s.heap.payloads a ≡ Some x) (second : get s.heap.payloads b ≡ Some y) (differ : a ≢ b) where
     module _ (n m : ℕ) (p : Used (a - 16) n) (long : length x ≡ n - 16) (q : Used (b - 16) m) (size : length y ≡ m - 16) where
@@ -167,9 +153,7 @@ module _ (s : OwnState) (h : IsSound s) where
 
     -- nor does a sliced block's payload
     no_sliced : (k : ℕ) (w : List ℕ) → get s.sliced k ≡ Some w → holds_in_payload address count (k, w) ≡ false
-    no_sliced k w is = false_from_ne_true _ (λ holds.
-        let tests = payload_tests address count k (length w) holds in
-        absurd (elim (heap_beside block k payload w there is) [ inl before ↦ omega (arith, before, tests.0, to, some) | inr after ↦ omega (arith, after, tests.1, from, some) ]))
+    no_sliced k w is = search (rules, false_from_ne_true, payload_tests, heap_beside)
 
     -- so none is found there
     none_sliced : block_found s.sliced address count ≡ None
@@ -177,19 +161,11 @@ module _ (s : OwnState) (h : IsSound s) where
 
     -- only this payload of the heap holds it
     one_holds : (k : ℕ) (w : List ℕ) → get s.heap.payloads k ≡ Some w → holds_in_payload address count (k, w) ≡ true → k ≡ block
-    one_holds k w is holds = elim (cases_eq k block) [
-      | inl same ↦ same
-      | inr differ ↦
-          let tests = payload_tests address count k (length w) holds in
-          absurd (elim (heap_payloads_apart k block w payload is there differ) [ inl before ↦ omega (arith, before, tests.1, from, some) | inr after ↦ omega (arith, after, tests.0, to, some) ])
-    ]
+    one_holds k w is holds = search (rules, cases_eq, payload_tests, heap_payloads_apart)
 
     -- each range of some bytes within a payload is found there
     pub heap_payload_found : found s address count ≡ Some (InBlock block (address - block))
-    heap_payload_found =
-        found_block s address count (Some (block, address - block)) no_region none_sliced
-        (ap (option_map (λ b. (b.0, address - b.0)))
-        (finds_in_map (holds_in_payload address count) s.heap.payloads block payload there (payload_holds address count block (length payload) from to) one_holds))
+    heap_payload_found = search (rules, found_block, no_region, none_sliced, finds_in_map, payload_holds, one_holds)
 
     -- without it, nothing is
     none_left : block_found (remove s.heap.payloads block) address count ≡ None
@@ -201,9 +177,4 @@ module _ (s : OwnState) (h : IsSound s) where
 
     -- so once the block is given back, nothing is found
     pub heap_payload_gone : found (script_step (Del block) s).next address count ≡ None
-    heap_payload_gone =
-        ap (λ o. found (deleted block o s).next address count) there
-        ∙ elim (get s.heap.large block) as (λ o. found (given_back block o s).next address count ≡ None) [
-          | None ↦ found_block (given_back block None s).next address count None no_region none_sliced none_left
-          | Some bytes ↦ found_block (given_back block (Some bytes) s).next address count None no_region none_sliced none_left
-        ]
+    heap_payload_gone = search (rules, found_block, no_region, none_sliced, none_left)

@@ -1,5 +1,5 @@
 -- What a map with lowered keys answers, and where sliced blocks stand.
-use Rattle.std.proofs.Common.{◌≡◌, ℕ, ◌+◌, ◌-◌, ◌/◌, ◌≤◌, true, false, eqb, List, [], ◌∷◌, length, nat_le, Some, refl, sym, ap, ◌∙◌, inl, inr, arith}
+use Rattle.std.proofs.Common.{rules, ◌≡◌, ℕ, ◌+◌, ◌-◌, ◌/◌, ◌≤◌, true, false, eqb, List, [], ◌∷◌, length, nat_le, Some, refl, sym, ap, ◌∙◌, inl, inr, arith}
 use Rattle.std.proofs.lemmas.Bool.{cases_lt}
 use Rattle.std.proofs.lemmas.Bool.Decides.{nat_tests}
 use Rattle.std.proofs.lemmas.Option.{none-some, same_Some}
@@ -132,10 +132,7 @@ new_page n = omega arith
 
 -- each range in the heap window has a page
 pub window_some : (s : OwnState) (q : ℕ) (r : Region) → get (heap_ranges s) q ≡ Some r → 1 ≤ r.pages
-window_some s q r there = elim (from_either (get (ranges_of_blocks s.sliced) q) (get (ranges_of_heap s.heap) q) r (sym (get-joined (ranges_of_blocks s.sliced) (ranges_of_heap s.heap) q) ∙ there)) [
-  | inl block ↦ ranges_some s.sliced q r block
-  | inr other ↦ heap_some s.heap q r other
-]
+window_some s q r there = search (rules, from_either, get-joined, ranges_some, heap_some)
 
 module _ (s : OwnState) (bytes start : ℕ) (gap : own_heap_gap bytes s ≡ Some start) where
   -- the first gap of the heap window is a place

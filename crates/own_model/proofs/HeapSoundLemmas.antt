@@ -1,12 +1,11 @@
 -- What a heap's steps leave of a sound state.
-use Rattle.std.proofs.Common.{◌≡◌, ℕ, ◌-◌, ◌/◌, ◌<◌, ◌≤◌, true, List, [], ◌∷◌, length, Some, refl, sym, ap, subst, ◌∙◌, nat_cmp, arith}
+use Rattle.std.proofs.Common.{rules, ◌≡◌, ℕ, ◌-◌, ◌/◌, ◌<◌, ◌≤◌, true, List, [], ◌∷◌, length, Some, ap, ◌∙◌, arith}
 use Rattle.std.proofs.lemmas.Bool.Decides.{nat_tests}
 use Rattle.std.proofs.lemmas.List.{length-append}
 use Rattle.std.proofs.lemmas.Option.{none-some}
 use Rattle.std.proofs.Math.Seq.{get_or-append_seam}
 use Rattle.std.specs.Prelude.{None}
-use Rattle.std.specs.Option.{option_map, option_or}
-use Rattle.std.specs.FinMap.{get, insert, empty}
+use Rattle.std.specs.FinMap.{get, insert}
 use Rattle.trade_base.specs.Page.{page_of}
 use Rattle.own_model.proofs.ApartLemmas.{LieApart-fewer, LieApart-insert}
 use Rattle.own_model.proofs.BlockLemmas.{hole_at, bytes-taken, bytes-given}
@@ -20,49 +19,30 @@ use Rattle.own_model.proofs.NatMapLemmas.{get-empty, value_at}
 use Rattle.own_model.proofs.OwnHeapLemmas.{range_of_bytes, ranges-set, ranges-chunk, ranges-large, ranges-without}
 use Rattle.own_model.proofs.StepLemmas.{accepted_growth, growth_fits, valid_some}
 use Rattle.own_model.specs.Account.{Account, alloc_refusal}
-use Rattle.own_model.specs.BestFit.{Spot, block_size, chunk_of, taken_in, given_in}
+use Rattle.own_model.specs.BestFit.{Spot, block_size, chunk_of, given_in}
 use Rattle.own_model.specs.Growth.{Growth, most_chunks, least_large, is_large, hole_for, growth_of, growth_refusal, new_hole}
 use Rattle.own_model.specs.Heap.{Block, Hole, AreBlocks, ArePages, IsChunk, bytes_in, header}
-use Rattle.own_model.specs.HeapStep.{with_block, without_block, with_chunk, with_large, without_large, with_poked}
+use Rattle.own_model.specs.HeapStep.{without_block, with_chunk, with_large, without_large}
 use Rattle.own_model.specs.HeapWindow.{heap_low, heap_high, largest_machine}
 use Rattle.own_model.specs.NatMap.{NatMap, joined}
 use Rattle.own_model.specs.OwnHeap.{OwnHeap, no_heap, range_pages, ranges_of_heap, chunk_with, offset_of}
 use Rattle.own_model.specs.OwnState.{OwnState, zeros, heap_ranges}
 use Rattle.own_model.specs.OwnStep.{block_taken, chunk_added, grown_at, large_at, given_back, block_poked, own_heap_gap}
-use Rattle.own_model.specs.Region.{IsPlace}
 use Rattle.own_model.specs.Sliced.{ranges_of_blocks}
-use Rattle.own_model.specs.Sound.{KeysApart, IsHeap, LieApart, IsSound}
+use Rattle.own_model.specs.Sound.{IsHeap, IsSound}
 
 -- what has nothing under a key has nothing there once it has less
 still_none : {X : Type 0} (all some : NatMap X) (q : ℕ) → ((k : ℕ) (x : X) → get some k ≡ Some x → get all k ≡ Some x) → get all q ≡ None → get some q ≡ None
-still_none all some q before none = elim (get some q) as (λ o. get some q ≡ o → o ≡ None) [
-  | None ↦ λ _. refl
-  | Some x ↦ λ there. absurd (none-some x (sym none ∙ before q x there))
-] refl
+still_none all some q before none = search (rules, none-some)
 
 -- a heap of which nothing was asked is one
 pub no_heap_is : IsHeap no_heap
-no_heap_is = record {
-  chunks = tt;
-  starts = refl;
-  few = omega arith;
-  differ = tt;
-  large = λ start bytes there. absurd (none-some bytes (sym (get-empty start) ∙ there));
-  apart = λ q some. absurd (let at = value_at (empty {R = nat_cmp}) q some in none-some at.0 (sym (get-empty q) ∙ at.1));
-  filled = λ q. ap (option_map length) (get-empty q) ∙ ap (λ l. option_or l None) (sym (get-empty q));
-}
+no_heap_is = search (rules, none-some, get-empty, value_at)
 
 module _ (s : OwnState) (h : IsSound s) where
   -- another heap that stands where the old one stood
   same_place : (account : Account) (heap : OwnHeap) → IsHeap heap → ranges_of_heap heap ≡ ranges_of_heap s.heap → IsSound (record s { account = account; heap = heap })
-  same_place account heap is same = record {
-    whole = h.whole;
-    mapped = h.mapped;
-    blocks = h.blocks;
-    heap_parts = is;
-    starts = subst (KeysApart (ranges_of_blocks s.sliced)) (sym same) h.starts;
-    heap = subst (λ m. LieApart heap_low (heap_high largest_machine) (joined (ranges_of_blocks s.sliced) m)) (sym same) h.heap;
-  }
+  same_place account heap is same = search rules
 
   -- one with a range more, at the first gap
   module _ (bytes start : ℕ) (gap : own_heap_gap bytes s ≡ Some start) (pages : ArePages bytes) where
@@ -75,24 +55,11 @@ module _ (s : OwnState) (h : IsSound s) where
     as_many = omega (arith, pages.some)
 
     one_more : (account : Account) (heap : OwnHeap) → IsHeap heap → ranges_of_heap heap ≡ insert (ranges_of_heap s.heap) start (range_of_bytes bytes) → IsSound (record s { account = account; heap = heap })
-    one_more account heap is more = record {
-      whole = h.whole;
-      mapped = h.mapped;
-      blocks = h.blocks;
-      heap_parts = is;
-      starts = subst (KeysApart (ranges_of_blocks s.sliced)) (sym more)
-          (KeysApart-insert_second (ranges_of_blocks s.sliced) (ranges_of_heap s.heap) start (range_of_bytes bytes) h.starts open_there.0);
-      heap = subst (LieApart heap_low (heap_high largest_machine))
-          (sym (ap (joined (ranges_of_blocks s.sliced)) more ∙ joined-insert_second (ranges_of_blocks s.sliced) (ranges_of_heap s.heap) start (range_of_bytes bytes) open_there.0))
-          (LieApart-insert heap_low (heap_high largest_machine) (heap_ranges s) start (range_of_bytes bytes) (omega (arith, as_many, pages.some))
-          (subst (λ p. IsPlace heap_low (heap_high largest_machine) (heap_ranges s) p start) (sym as_many) (gap_place s bytes start gap)) h.heap);
-    }
+    one_more account heap is more = search (rules, KeysApart-insert_second, range_of_bytes, open_there, joined-insert_second, LieApart-insert, as_many, gap_place)
 
 -- a block taken from a hole of the heap
 taken_sound : (n : ℕ) (hole : Spot) (s : OwnState) → IsHoleOf s.heap.shape.chunks hole → block_size n ≤ hole.size → IsSound s → IsSound (block_taken n hole s).next
-taken_sound n hole s is fits h =
-    same_place s h s.account (with_block n hole s.heap) (heap_taken (heap_high largest_machine) s.heap h.heap_parts (heap_lies s h) n hole is fits)
-    (ranges-set s.heap hole.chunk (taken_in (block_size n) hole.offset (chunk_of s.heap.shape.chunks hole.chunk)) (bytes-taken (block_size n) hole.offset (chunk_of s.heap.shape.chunks hole.chunk)))
+taken_sound n hole s is fits h = search (rules, same_place, heap_taken, heap_lies, ranges-set, bytes-taken)
 
 -- the best hole is one, and large enough
 pub best_of_sound : (n : ℕ) (hole : Spot) (s : OwnState) → hole_for n s.heap.shape ≡ Some hole → IsSound s → IsHoleOf s.heap.shape.chunks hole × (block_size n ≤ hole.size)
@@ -100,9 +67,7 @@ best_of_sound n hole s best h = best_is_hole (block_size n) s.heap.shape.chunks 
 
 -- so from the best hole
 pub sound_taken : (n : ℕ) (hole : Spot) (s : OwnState) → hole_for n s.heap.shape ≡ Some hole → IsSound s → IsSound (block_taken n hole s).next
-sound_taken n hole s best h =
-    let at = best_of_sound n hole s best h in
-    taken_sound n hole s at.0 at.1 h
+sound_taken n hole s best h = grind (arith, nat_tests, best_of_sound, taken_sound)
 
 -- a chunk more
 sound_chunk : (growth : Growth) (start : ℕ) (s : OwnState) → ArePages growth.bytes → length s.heap.shape.chunks < most_chunks → own_heap_gap growth.bytes s ≡ Some start → IsSound s → IsSound (chunk_added growth start s)
@@ -120,9 +85,7 @@ record Suits (n : ℕ) (growth : Growth) : Type 0 where
 
 -- so both growths have
 suits : (n : ℕ) (s : OwnState) → Suits n (growth_of n s.heap.shape s.account)
-suits n s = growth_fits n s.heap.shape s.account (Suits n)
-    (record { pages = record { some = omega arith; whole = omega arith }; fits = omega arith })
-    (record { pages = record { some = omega arith; whole = omega arith }; fits = omega arith })
+suits n s = search (rules, growth_fits)
 
 -- a heap that has grown: its last chunk is a hole, in which the block fits
 pub record HasGrown (n start : ℕ) (s : OwnState) (growth : Growth) : Type 0 where
@@ -192,5 +155,4 @@ sound_large_given address bytes s there h =
 
 -- bytes put over a payload's
 pub sound_block_poked : (address offset : ℕ) (bytes payload : List ℕ) (s : OwnState) → get s.heap.payloads address ≡ Some payload → IsSound s → IsSound (block_poked address offset bytes (Some payload) s).next
-sound_block_poked address offset bytes payload s there h =
-    same_place s h s.account (with_poked address payload offset bytes s.heap) (heap_poked (heap_high largest_machine) s.heap h.heap_parts (heap_lies s h) address offset payload bytes there) refl
+sound_block_poked address offset bytes payload s there h = search (rules, same_place, heap_poked, heap_lies)

@@ -1,5 +1,5 @@
 -- What taking, growing and giving back leave of a heap: it stays one, and its payloads are those of its blocks.
-use Rattle.std.proofs.Common.{◌≡◌, ◌≢◌, ℕ, ◌+◌, ◌-◌, ◌*◌, ◌<◌, ◌≤◌, ◌++◌, true, false, cond, eqb, List, [], ◌∷◌, length, nat_lt, Some, refl, sym, ap, subst, ◌∙◌, inl, inr, arith, set, get_or, eqb-true, option_and_then}
+use Rattle.std.proofs.Common.{rules, ◌≡◌, ◌≢◌, ℕ, ◌+◌, ◌-◌, ◌*◌, ◌<◌, ◌≤◌, ◌++◌, true, false, cond, eqb, List, [], ◌∷◌, length, nat_lt, Some, refl, sym, ap, subst, ◌∙◌, inl, inr, arith, set, get_or, eqb-true, option_and_then}
 use Rattle.std.proofs.lemmas.Bool.{cases_eq}
 use Rattle.std.proofs.lemmas.Bool.Decides.{nat_tests}
 use Rattle.std.proofs.lemmas.List.{length-set, get_or-set_same, get_or-set_other, get_or_past, get_or_append_left, length-append}
@@ -8,7 +8,7 @@ use Rattle.std.proofs.lemmas.Option.{none-some, same_Some}
 use Rattle.std.specs.Prelude.{Option, None, IsSome}
 use Rattle.std.specs.Cmp.{nat_cmp_total}
 use Rattle.std.specs.Option.{option_map, option_or}
-use Rattle.std.specs.FinMap.{get, insert, remove, from_entries, get-from_entries}
+use Rattle.std.specs.FinMap.{get, insert, remove, get-from_entries}
 use Rattle.own_model.proofs.BlockLemmas.{used_within, hole_within, used-taken, used-given, bytes-taken, bytes-given, AreBlocks-taken, AreBlocks-given, block_size-fits}
 use Rattle.own_model.proofs.BestFitLemmas.{IsHoleOf}
 use Rattle.own_model.proofs.ChunkLemmas.{Lies, chunk_there, starts_differ, chunk_from_is, chunk_from_lies, chunk_from-append, chunk_from_past, chunk_from-set}
@@ -26,11 +26,11 @@ use Rattle.own_model.specs.HeapStep.{payload_size, size_taken, with_block, witho
 use Rattle.own_model.specs.HeapWindow.{heap_low, heap_high, largest_machine}
 use Rattle.own_model.specs.NatMap.{NatMap}
 use Rattle.own_model.specs.OwnHeap.{OwnHeap, start_of, chunk_ranges, ranges_of_heap, range_pages, ranges_of_large, chunk_from, chunk_with, offset_of}
-use Rattle.own_model.specs.OwnState.{OwnState, zeros, with_part, heap_ranges}
+use Rattle.own_model.specs.OwnState.{OwnState, zeros, heap_ranges}
 use Rattle.own_model.specs.Sliced.{ranges_of_blocks}
 use Rattle.own_model.proofs.ApartLemmas.{LieApart-fewer}
 use Rattle.own_model.specs.Region.{Region, overlap}
-use Rattle.own_model.specs.Sound.{LieApart, IsHeap, IsLarge, KeysApart, IsSound}
+use Rattle.own_model.specs.Sound.{LieApart, IsHeap, IsLarge, IsSound}
 
 -- so many bytes lie within the range that starts at an address
 pub record IsWithin (heap : OwnHeap) (start address size : ℕ) : Type 0 where
@@ -52,8 +52,7 @@ module _ (high : ℕ) (heap : OwnHeap) (h : IsHeap heap) (lie : LieApart heap_lo
   chunk_in_map i within = get-from_entries nat_cmp_total (chunk_ranges heap.starts chunks) (start_of heap i) ∙ chunk_there heap.starts chunks i h.starts h.differ within
 
   pub chunk_range : (i : ℕ) → i < length chunks → get (ranges_of_heap heap) (start_of heap i) ≡ Some (range_of_bytes (bytes_in (chunk_of chunks i)))
-  chunk_range i within =
-      get-joined_first (chunk_map heap.starts chunks) (ranges_of_large heap.large) (start_of heap i) (range_of_bytes (bytes_in (chunk_of chunks i))) (chunk_in_map i within)
+  chunk_range i within = search (rules, get-joined_first, chunk_map, range_of_bytes, chunk_in_map)
 
   -- a chunk fills whole pages
   pub chunk_is : (i : ℕ) → i < length chunks → IsChunk (chunk_of chunks i)
@@ -210,15 +209,7 @@ module _ (high : ℕ) (heap : OwnHeap) (h : IsHeap heap) (lie : LieApart heap_lo
   changed_is : (i : ℕ) (blocks : List Block) (payloads : NatMap (List ℕ)) → IsChunk blocks → bytes_in blocks ≡ bytes_in (chunk_of chunks i) →
       ((address : ℕ) → option_map length (get payloads address) ≡ payload_size (record heap { shape = record heap.shape { chunks = set chunks i blocks }; payloads = payloads }) address) →
       IsHeap (record heap { shape = record heap.shape { chunks = set chunks i blocks }; payloads = payloads })
-  changed_is i blocks payloads one as_many filled = record {
-    chunks = all_set IsChunk chunks i blocks h.chunks one;
-    starts = h.starts ∙ sym (length-set chunks i blocks);
-    few = omega (arith, h.few, length-set chunks i blocks);
-    differ = subst KeysDiffer (sym (chunk_ranges-set heap.starts chunks i blocks as_many)) h.differ;
-    large = h.large;
-    apart = subst (λ es. KeysApart (from_entries es) (ranges_of_large heap.large)) (sym (chunk_ranges-set heap.starts chunks i blocks as_many)) h.apart;
-    filled = filled;
-  }
+  changed_is i blocks payloads one as_many filled = search (rules, all_set, length-set, chunk_ranges-set)
 
   -- a block taken leaves a heap
   pub heap_taken : (n : ℕ) (hole : Spot) → IsHoleOf chunks hole → block_size n ≤ hole.size → IsHeap (with_block n hole heap)
@@ -243,13 +234,7 @@ module _ (high : ℕ) (heap : OwnHeap) (h : IsHeap heap) (lie : LieApart heap_lo
 
   -- what starts no large block is a used block's payload
   pub payload_used : (address : ℕ) (payload : List ℕ) → get heap.payloads address ≡ Some payload → get heap.large address ≡ None → (size : ℕ) × IsUsed (address - 16) size × (length payload ≡ size - 16)
-  payload_used address payload there small =
-      let size_is : Some (length payload) ≡ option_map (λ n. n - 16) (used_of (address - 16))
-      = ap (option_map length) (sym there) ∙ h.filled address ∙ ap (λ l. option_or l (option_map (λ n. n - 16) (used_of (address - 16)))) small in
-      elim (used_of (address - 16)) as (λ u. used_of (address - 16) ≡ u → Some (length payload) ≡ option_map (λ n. n - 16) u → (size : ℕ) × IsUsed (address - 16) size × (length payload ≡ size - 16)) [
-        | None ↦ λ _ e. absurd (none-some (length payload) (sym e))
-        | Some size ↦ λ used e. (size, is_used (address - 16) size used, same_Some (length payload) (size - 16) e)
-      ] refl size_is
+  payload_used address payload there small = grind (arith, nat_tests, none-some, is_used, same_Some)
 
   -- a block given back leaves a heap
   pub heap_given : (address : ℕ) (payload : List ℕ) → get heap.payloads address ≡ Some payload → get heap.large address ≡ None → IsHeap (without_block address heap)
@@ -277,19 +262,7 @@ module _ (high : ℕ) (heap : OwnHeap) (h : IsHeap heap) (lie : LieApart heap_lo
 
   -- other bytes, as many, of a payload leave a heap
   pub heap_poked : (address offset : ℕ) (payload part : List ℕ) → get heap.payloads address ≡ Some payload → IsHeap (with_poked address payload offset part heap)
-  heap_poked address offset payload part there = record {
-    chunks = h.chunks;
-    starts = h.starts;
-    few = h.few;
-    differ = h.differ;
-    large = h.large;
-    apart = h.apart;
-    filled = λ q. ap (option_map length) (get-insert heap.payloads address (with_part payload offset part) q)
-        ∙ elim (eqb q address) as (λ b. eqb q address ≡ b → option_map length (cond b (Some (with_part payload offset part)) (get heap.payloads q)) ≡ payload_size heap q) [
-          | true ↦ λ same. ap (λ n. Some n) (length-with_part payload offset part) ∙ ap (option_map length) (sym there) ∙ ap (λ k. option_map length (get heap.payloads k)) (sym (eqb-true q address same)) ∙ h.filled q
-          | false ↦ λ _. h.filled q
-        ] refl;
-  }
+  heap_poked address offset payload part there = search (rules, get-insert, length-with_part, eqb-true)
 
   -- no used block's payload starts where a large block does
   large_alone : (address bytes : ℕ) → get heap.large address ≡ Some bytes → used_of (address - 16) ≡ None
@@ -306,9 +279,7 @@ module _ (high : ℕ) (heap : OwnHeap) (h : IsHeap heap) (lie : LieApart heap_lo
 
   -- what is no large block's range is none once another large block has gone
   gone : (address q : ℕ) → option_and_then (λ n. Some (range_of_bytes n)) (get heap.large q) ≡ None → option_and_then (λ n. Some (range_of_bytes n)) (get (remove heap.large address) q) ≡ None
-  gone address q none =
-      ap (option_and_then (λ n. Some (range_of_bytes n))) (get-remove heap.large address q)
-      ∙ elim (eqb q address) as (λ b. option_and_then (λ n. Some (range_of_bytes n)) (cond b None (get heap.large q)) ≡ None) [ true ↦ refl | false ↦ none ]
+  gone address q none = search (rules, range_of_bytes, get-remove)
 
   -- a large block that goes leaves a heap
   pub heap_without_large : (address bytes : ℕ) → get heap.large address ≡ Some bytes → IsHeap (without_large address heap)
@@ -365,10 +336,7 @@ module _ (high : ℕ) (heap : OwnHeap) (h : IsHeap heap) (lie : LieApart heap_lo
 
     -- which is a chunk
     new_is_chunk : IsChunk new_blocks
-    new_is_chunk = record {
-      sizes = record { least = omega (arith, pages.some, pages.whole); even = omega (arith, pages.whole) };
-      pages = subst ArePages (sym new_bytes) pages;
-    }
+    new_is_chunk = search (rules, new_bytes)
 
     -- nothing in it is used
     none_used : (k x : ℕ) → length chunks ≤ k → used_at x (chunk_of (chunks ++ new_blocks ∷ []) k) ≡ None
@@ -450,10 +418,7 @@ module _ (high : ℕ) (heap : OwnHeap) (h : IsHeap heap) (lie : LieApart heap_lo
 
     -- so each payload lies within a range
     pub payload_within_range : (start : ℕ) × IsWithin heap start address (length payload)
-    payload_within_range = elim (get heap.large address) as (λ o. get heap.large address ≡ o → (start : ℕ) × IsWithin heap start address (length payload)) [
-      | Some bytes ↦ λ large. (address, large_within bytes large)
-      | None ↦ λ small. let used = payload_used address payload there small in (start_of heap (chunk_with heap (address - 16)), small_within used.0 used.1 used.2)
-    ] refl
+    payload_within_range = search (rules, large_within, payload_used, small_within)
 
 -- ---- the heap of a sound state
 

@@ -1,5 +1,5 @@
 -- What two maps have together.
-use Rattle.std.proofs.Common.{◌≡◌, ℕ, ◌+◌, ◌≤◌, ◌++◌, true, false, cond, eqb, Some, refl, sym, ap, subst, ◌∙◌, inl, inr, ◌⊎◌, arith, eqb-true, is_some, IsSome}
+use Rattle.std.proofs.Common.{rules, ◌≡◌, ℕ, ◌+◌, ◌≤◌, ◌++◌, Some, refl, sym, ap, ◌∙◌, inl, inr, ◌⊎◌, arith, eqb-true}
 use Rattle.std.proofs.lemmas.Bool.{cases_eq}
 use Rattle.std.proofs.lemmas.Option.{none-some}
 use Rattle.std.specs.Prelude.{Option, None}
@@ -31,10 +31,7 @@ or_nothing (Some x) = refl
 module _ {X : Type 0} where
   -- one value more adds no more than its own
   pub total-insert_le : (f : X → ℕ) (m : NatMap X) (k : ℕ) (v : X) → total f (insert m k v) ≤ total f m + f v
-  total-insert_le f m k v = elim (get m k) as (λ o. get m k ≡ o → total f (insert m k v) ≤ total f m + f v) [
-    | None ↦ λ free. omega (arith, total-insert_new f m k v free)
-    | Some w ↦ λ there. omega (arith, total-insert_at f m k v w there)
-  ] refl
+  total-insert_le f m k v = search (rules, total-insert_new, total-insert_at)
 
   -- what two maps have under a key
   pub get-joined : (m n : NatMap X) (q : ℕ) → get (joined m n) q ≡ option_or (get m q) (get n q)
@@ -65,42 +62,24 @@ module _ {X : Type 0} where
 
   -- one more in the first
   pub joined-insert_first : (m n : NatMap X) (k : ℕ) (v : X) → joined (insert m k v) n ≡ insert (joined m n) k v
-  joined-insert_first m n k v = same _ _ (λ q.
-      get-joined (insert m k v) n q ∙ ap (λ o. option_or o (get n q)) (get-insert m k v q)
-      ∙ elim (eqb q k) as (λ b. option_or (cond b (Some v) (get m q)) (get n q) ≡ cond b (Some v) (option_or (get m q) (get n q))) [ true ↦ refl | false ↦ refl ]
-      ∙ ap (cond (eqb q k) (Some v)) (sym (get-joined m n q)) ∙ sym (get-insert (joined m n) k v q))
+  joined-insert_first m n k v = search (rules, same, get-joined, get-insert)
 
   -- one more in the second, under a key that the first hasn't
   pub joined-insert_second : (m n : NatMap X) (k : ℕ) (v : X) → get m k ≡ None → joined m (insert n k v) ≡ insert (joined m n) k v
-  joined-insert_second m n k v free = same _ _ (λ q.
-      get-joined m (insert n k v) q ∙ ap (option_or (get m q)) (get-insert n k v q)
-      ∙ elim (eqb q k) as (λ b. eqb q k ≡ b → option_or (get m q) (cond b (Some v) (get n q)) ≡ cond b (Some v) (option_or (get m q) (get n q))) [
-        | true ↦ λ here. ap (λ o. option_or o (Some v)) (ap (get m) (eqb-true q k here) ∙ free)
-        | false ↦ λ _. refl
-      ] refl
-      ∙ ap (cond (eqb q k) (Some v)) (sym (get-joined m n q)) ∙ sym (get-insert (joined m n) k v q))
+  joined-insert_second m n k v free = search (rules, same, get-joined, get-insert, eqb-true)
 
   -- what the second has, where no key is in both
   pub get-joined_apart : (m n : NatMap X) (q : ℕ) (x : X) → KeysApart m n → get n q ≡ Some x → get (joined m n) q ≡ Some x
-  get-joined_apart m n q x apart there = elim (get m q) as (λ o. get m q ≡ o → get (joined m n) q ≡ Some x) [
-    | None ↦ λ free. get-joined_second m n q free ∙ there
-    | Some y ↦ λ other. absurd (none-some x (sym (apart q (ap is_some other)) ∙ there))
-  ] refl
+  get-joined_apart m n q x apart there = search (rules, get-joined_second, none-some)
 
   -- what fewer maps have together was there before, where no key was in both
   pub joined_before : (m n m' n' : NatMap X) → KeysApart m n → ((q : ℕ) (x : X) → get m' q ≡ Some x → get m q ≡ Some x) → ((q : ℕ) (x : X) → get n' q ≡ Some x → get n q ≡ Some x) →
       (q : ℕ) (x : X) → get (joined m' n') q ≡ Some x → get (joined m n) q ≡ Some x
-  joined_before m n m' n' apart first second q x there = elim (from_either (get m' q) (get n' q) x (sym (get-joined m' n' q) ∙ there)) [
-    | inl is ↦ get-joined_first m n q x (first q x is)
-    | inr is ↦ get-joined_apart m n q x apart (second q x is)
-  ]
+  joined_before m n m' n' apart first second q x there = search (rules, from_either, get-joined, get-joined_first, get-joined_apart)
 
   -- a key more of the first, that the second hasn't
   pub KeysApart-insert_first : (m n : NatMap X) (k : ℕ) (v : X) → KeysApart m n → get n k ≡ None → KeysApart (insert m k v) n
-  KeysApart-insert_first m n k v apart free q some = elim (cases_eq q k) [
-    | inl here ↦ ap (get n) here ∙ free
-    | inr other ↦ apart q (subst IsSome (get-insert_other m k v q other) some)
-  ]
+  KeysApart-insert_first m n k v apart free q some = search (rules, cases_eq, get-insert_other)
 
   -- a key more of the second, that the first hasn't
   pub KeysApart-insert_second : (m n : NatMap X) (k : ℕ) (v : X) → KeysApart m n → get m k ≡ None → KeysApart m (insert n k v)

@@ -1,17 +1,15 @@
 -- What a call leaves of limits.
-use Rattle.std.proofs.Common.{◌≡◌, ℕ, ◌+◌, ◌-◌, false, cond, lit≤, Option, Some, None, List, [], ◌∷◌, refl, arith}
+use Rattle.std.proofs.lemmas.Bool.Decides.{nat_tests}
+use Rattle.std.proofs.Common.{rules, ◌≡◌, ℕ, false, cond, lit≤, Option, Some, None, List, [], ◌∷◌, refl, arith}
 use Rattle.own_model.proofs.FileChargeLemmas as charge
 use Rattle.std.specs.FinMap.{insert}
-use Rattle.trade_base.specs.Page.{page_of}
 use Rattle.trade_base.specs.declared.refusal.Refusal.{Refusal}
 use Rattle.trade_base.specs.declared.refusal.Refusal.TheVariants.{OutOfCaps}
 use Rattle.own_model.proofs.StepLemmas.{KeptBySessions, KeptByEffects, covers, short_of_caps, accepted_size, accepted_block, accepted_growth}
-use Rattle.own_model.specs.Growth.{growth_of}
-use Rattle.own_model.specs.Sliced.{sliced_size}
 use Rattle.own_model.specs.Account.{Account, WithinLimits, shortage}
 use Rattle.own_model.specs.Call.{Call, is_exit}
 use Rattle.own_model.specs.Call.Call.{Capalloc}
-use Rattle.own_model.specs.OwnState.{OwnState}
+use Rattle.own_model.specs.OwnState.{OwnState, Object, EachSession, new_selector, object_with}
 use Rattle.own_model.specs.OwnStep.{gone_state, own_step, own_run, script_step, unless, cap_allocated}
 use Rattle.own_model.specs.Laws.{StepKeepsLimits, OthersKeepOwnLimits, ExitsReturnLimits}
 use Rattle.own_model.specs.Donation.{raised}
@@ -21,10 +19,9 @@ use Rattle.own_model.proofs.SessionLemmas.{donation_covered, large_enough, effec
 use Rattle.own_model.proofs.Totals.{total-empty, total-insert_new, total-insert_same, total-insert_at, total-remove}
 use Rattle.own_model.specs.Limits.{ram_with, caps_with, ram_limits, caps_limits, init_after, AreWithinLimits}
 use Rattle.own_model.specs.NatMap.{total}
-use Rattle.own_model.specs.OwnState.{Object, EachSession, new_selector, zeros, object_with}
 use Rattle.own_model.specs.OwnState.Object.{Dataspace, RpcObject, OpenSession}
 use Rattle.own_model.specs.Routes.{Rule}
-use Rattle.own_model.specs.Session.{Session, ServiceState, new_session, upgraded, served, served_by}
+use Rattle.own_model.specs.Session.{Session, ServiceState, served_by}
 use Rattle.own_model.specs.Session.ServiceState.{Logging, Filing}
 use Rattle.own_model.specs.StartList.{Entry}
 use Rattle.own_model.specs.StartList.Kind.{Server}
@@ -47,36 +44,11 @@ capalloc_short s refusal within told = short_of_caps s.account 1 refusal within 
 
 -- nothing that a call can do overdraws an account
 effects_within : (s : OwnState) → WithinLimits s.account → KeptByEffects (λ t. WithinLimits t.account) s
-effects_within s within = record {
-  allocates = λ n accepted. let fits = covers s.account (page_of n) 1 (accepted_size n s.account accepted) in record { ram = fits.ram_fits; caps = fits.caps_fit };
-  frees = λ selector bytes there. record { ram = omega (arith, within.ram); caps = omega (arith, within.caps) };
-  attaches = λ selector address bytes there stands room. within;
-  detaches = λ address. within;
-  pokes = λ selector offset bytes object there. within;
-  pokes_payload = λ address offset bytes payload there. within;
-  pokes_block = λ address offset bytes payload there. within;
-  takes = λ n hole best. within;
-  grows = λ n start accepted gap.
-      let growth = growth_of n s.heap.shape s.account in
-      let fits = covers s.account growth.bytes 1 (accepted_growth n s.heap.shape s.account accepted).1 in
-      record { ram = fits.ram_fits; caps = fits.caps_fit };
-  takes_large = λ n start large accepted gap. let fits = covers s.account (page_of n) 1 (accepted_size n s.account accepted) in record { ram = fits.ram_fits; caps = fits.caps_fit };
-  gives = λ address payload there small. within;
-  gives_large = λ address bytes there. record { ram = omega (arith, within.ram); caps = omega (arith, within.caps) };
-  slices = λ n start accepted gap. let fits = covers s.account (sliced_size n) 1 (accepted_block n s.account accepted) in record { ram = fits.ram_fits; caps = fits.caps_fit };
-  unslices = λ address payload there. record { ram = omega (arith, within.ram); caps = omega (arith, within.caps) };
-  allocates_cap = λ accepted. let fits = covers s.account 0 1 accepted in record { ram = fits.ram_fits; caps = fits.caps_fit };
-  frees_cap = λ selector there. record { ram = omega (arith, within.ram); caps = omega (arith, within.caps) };
-}
+effects_within s within = search (rules, covers, accepted_size, accepted_growth, accepted_block)
 
 -- nor can a call of a session
 pub sessions_within : (s : OwnState) → WithinLimits s.account → KeptBySessions (λ t. WithinLimits t.account) s
-sessions_within s within = record {
-  opens = λ wish accepted. let fits = (donation_covered s.account wish.ram wish.caps accepted).0 in record { ram = omega (arith, fits.ram_fits); caps = omega (arith, fits.caps_fit) };
-  upgrades = λ selector session more there accepted. let fits = covers s.account more.ram more.caps accepted in record { ram = omega (arith, fits.ram_fits); caps = omega (arith, fits.caps_fit) };
-  serves = λ selector session request there. within;
-  closes = λ selector session there. record { ram = omega (arith, within.ram); caps = omega (arith, within.caps) };
-}
+sessions_within s within = search (rules, donation_covered, covers)
 
 -- who has exited has nothing to overdraw
 gone_within : WithinLimits gone_state.account
@@ -102,10 +74,7 @@ run_within entry (call ∷ calls) s within = run_within entry calls (own_step en
 
 -- a new session is within its limits, and one that is within them stays so
 sessions_each_within : (s : OwnState) → EachSession IsWithin s → KeptBySessions (EachSession IsWithin) s
-sessions_each_within = sessions_each IsWithin
-    (λ wish enough. let large = large_enough wish.ram wish.caps enough in record { ram = omega (arith, large.0); caps = omega (arith, large.1) })
-    (λ x ram caps within. record { ram = omega (arith, within.ram); caps = omega (arith, within.caps) })
-    (λ x request within. serve_within x.state x request within)
+sessions_each_within = search (rules, sessions_each, large_enough, serve_within)
 
 -- no call overdraws an account of the component or of a session of it
 pub step_all_within : (entry : Entry) (call : Call) (s : OwnState) → AreWithinLimits s → AreWithinLimits (own_step entry call s).next
@@ -124,24 +93,7 @@ SameLimits s t = (t.account.ram_limit ≡ s.account.ram_limit) × (t.account.cap
 
 -- nothing that a call can do changes the limits
 effects_stay : (s : OwnState) → KeptByEffects (SameLimits s) s
-effects_stay s = record {
-  allocates = λ n accepted. (refl, refl);
-  frees = λ selector bytes there. (refl, refl);
-  attaches = λ selector address bytes there stands room. (refl, refl);
-  detaches = λ address. (refl, refl);
-  pokes = λ selector offset bytes object there. (refl, refl);
-  pokes_payload = λ address offset bytes payload there. (refl, refl);
-  pokes_block = λ address offset bytes payload there. (refl, refl);
-  takes = λ n hole best. (refl, refl);
-  grows = λ n start accepted gap. (refl, refl);
-  takes_large = λ n start large accepted gap. (refl, refl);
-  gives = λ address payload there small. (refl, refl);
-  gives_large = λ address bytes there. (refl, refl);
-  slices = λ n start accepted gap. (refl, refl);
-  unslices = λ address payload there. (refl, refl);
-  allocates_cap = λ accepted. (refl, refl);
-  frees_cap = λ selector there. (refl, refl);
-}
+effects_stay s = search rules
 
 -- the limits after a call that is of no session
 pub limits_stay : OthersKeepOwnLimits
@@ -166,41 +118,11 @@ counts-with (OpenSession session) offset part = (refl, refl)
 adds_nothing : (s : OwnState) (object : Object) → ram_with object ≡ 0 → caps_with object ≡ 0 →
     (total ram_with (insert s.selectors (new_selector s.selectors) object) ≡ total ram_with s.selectors)
     × (total caps_with (insert s.selectors (new_selector s.selectors) object) ≡ total caps_with s.selectors)
-adds_nothing s object ram caps =
-    let key = new_selector s.selectors in
-    let free = new_selector_free s.selectors in
-    (omega (arith, ram, total-insert_new ram_with s.selectors key object free), omega (arith, caps, total-insert_new caps_with s.selectors key object free))
+adds_nothing s object ram caps = grind (arith, nat_tests, new_selector_free, total-insert_new)
 
 -- so calls that are of no session change no limits
 effects_in_all : (s : OwnState) → KeptByEffects (SameInAll s) s
-effects_in_all s = record {
-  allocates = λ n accepted. let none = adds_nothing s (Dataspace (zeros (page_of n))) refl refl in (omega (arith, none.0), omega (arith, none.1));
-  frees = λ selector bytes there. (
-    omega (arith, total-remove ram_with s.selectors selector (Dataspace bytes) there),
-    omega (arith, total-remove caps_with s.selectors selector (Dataspace bytes) there),
-  );
-  attaches = λ selector address bytes there stands room. (refl, refl);
-  detaches = λ address. (refl, refl);
-  pokes = λ selector offset bytes object there.
-      let same = counts-with object offset bytes in (
-        omega (arith, total-insert_same ram_with s.selectors selector (object_with object offset bytes) object there same.0),
-        omega (arith, total-insert_same caps_with s.selectors selector (object_with object offset bytes) object there same.1),
-      );
-  pokes_payload = λ address offset bytes payload there. (refl, refl);
-  pokes_block = λ address offset bytes payload there. (refl, refl);
-  takes = λ n hole best. (refl, refl);
-  grows = λ n start accepted gap. (refl, refl);
-  takes_large = λ n start large accepted gap. (refl, refl);
-  gives = λ address payload there small. (refl, refl);
-  gives_large = λ address bytes there. (refl, refl);
-  slices = λ n start accepted gap. (refl, refl);
-  unslices = λ address payload there. (refl, refl);
-  allocates_cap = λ accepted. let none = adds_nothing s RpcObject refl refl in (omega (arith, none.0), omega (arith, none.1));
-  frees_cap = λ selector there. (
-    omega (arith, total-remove ram_with s.selectors selector RpcObject there),
-    omega (arith, total-remove caps_with s.selectors selector RpcObject there),
-  );
-}
+effects_in_all s = search (rules, adds_nothing, total-remove, counts-with, total-insert_same)
 
 -- a session that serves keeps its limits
 pub serve_keeps : (state : ServiceState) (x : Session) (request : List ℕ) →
@@ -210,27 +132,7 @@ serve_keeps (Filing files) x request = charge.limits_stay files x.account reques
 
 -- calls of sessions move limits
 sessions_move : (s : OwnState) → KeptBySessions (SameInAll s) s
-sessions_move s = record {
-  opens = λ wish accepted.
-      let key = new_selector s.selectors in
-      let free = new_selector_free s.selectors in
-      let session = OpenSession (new_session wish) in
-      let fits = (donation_covered s.account wish.ram wish.caps accepted).0 in
-      (omega (arith, fits.ram_fits, total-insert_new ram_with s.selectors key session free), omega (arith, fits.caps_fit, total-insert_new caps_with s.selectors key session free));
-  upgrades = λ selector x more there accepted.
-      let session = OpenSession (upgraded x more.ram more.caps) in
-      let fits = covers s.account more.ram more.caps accepted in (
-        omega (arith, fits.ram_fits, total-insert_at ram_with s.selectors selector session (OpenSession x) there),
-        omega (arith, fits.caps_fit, total-insert_at caps_with s.selectors selector session (OpenSession x) there),
-      );
-  serves = λ selector x request there.
-      let session = OpenSession (served x request).session in
-      let same = serve_keeps x.state x request in (
-        omega (arith, total-insert_same ram_with s.selectors selector session (OpenSession x) there same.0),
-        omega (arith, total-insert_same caps_with s.selectors selector session (OpenSession x) there same.1),
-      );
-  closes = λ selector x there. (omega (arith, total-remove ram_with s.selectors selector (OpenSession x) there), omega (arith, total-remove caps_with s.selectors selector (OpenSession x) there));
-}
+sessions_move s = search (rules, new_selector_free, donation_covered, total-insert_new, covers, total-insert_at, serve_keeps, total-insert_same, total-remove)
 
 -- a call that isn't an exit changes no limits, or moves some
 pub limits_move : (entry : Entry) (call : Call) (s : OwnState) → is_exit call ≡ false → SameInAll s (own_step entry call s).next
@@ -242,25 +144,17 @@ none_left = (omega (arith, total-empty ram_with), omega (arith, total-empty caps
 
 -- so each call leaves the limits, but for an exit that is done
 pub limits_left : StepKeepsLimits
-limits_left entry call s =
-    by_exit (λ ends t. (ram_limits t ≡ cond ends 0 (ram_limits s)) × (caps_limits t ≡ cond ends 0 (caps_limits s))) entry call s
-    (limits_move entry call s) none_left (refl, refl)
+limits_left entry call s = search (rules, by_exit, limits_move, none_left)
 
 -- ---- what init is given
 
 -- nothing, where the limits are the same in all
 pub init_stays : (init : Account) (s t : OwnState) → SameInAll s t → init_after init s t ≡ init
-init_stays init s t same =
-    let ram : init.ram_limit + (ram_limits s - ram_limits t) ≡ init.ram_limit = omega (arith, same.0) in
-    let caps : init.caps_limit + (caps_limits s - caps_limits t) ≡ init.caps_limit = omega (arith, same.1) in
-    λ i. record init { ram_limit = ram i; caps_limit = caps i }
+init_stays init s t same = grind (arith, nat_tests)
 
 -- and all, where none are left
 pub init_gains : (init : Account) (s : OwnState) → init_after init s gone_state ≡ raised init (ram_limits s) (caps_limits s)
-init_gains init s =
-    let ram : init.ram_limit + (ram_limits s - ram_limits gone_state) ≡ init.ram_limit + ram_limits s = omega (arith, none_left.0) in
-    let caps : init.caps_limit + (caps_limits s - caps_limits gone_state) ≡ init.caps_limit + caps_limits s = omega (arith, none_left.1) in
-    λ i. record init { ram_limit = ram i; caps_limit = caps i }
+init_gains init s = grind (arith, nat_tests, none_left)
 
 pub limits_returned : ExitsReturnLimits
 limits_returned entry call init s =

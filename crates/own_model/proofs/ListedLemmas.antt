@@ -1,5 +1,5 @@
 -- What own step reads of a list's rules decides as they do.
-use Rattle.std.proofs.Common.{◌≡◌, ℕ, Bool, true, false, cond, ◌&&◌, List, [], ◌∷◌, ◌++◌, length, Option, Some, None, refl, sym, nat_eq, arith}
+use Rattle.std.proofs.Common.{rules, ◌≡◌, ℕ, Bool, true, false, cond, ◌&&◌, List, [], ◌∷◌, ◌++◌, length, Option, Some, None, refl, nat_eq, arith}
 use Rattle.std.specs.Prelude.{position}
 use Rattle.std.specs.List.{position_or_len, starts_with, ends_with}
 use Rattle.std.specs.Option.{option_and_then}
@@ -7,7 +7,7 @@ use Rattle.std.specs.Str.{bytes_eq}
 use Rattle.std.proofs.lemmas.Bool.Decides.{nat_tests}
 use Rattle.std.proofs.lemmas.Slice.Eq.{bytes_eq-Decides}
 use Rattle.own_model.specs.Routes.{Rule, Service, as_asked, provider}
-use Rattle.own_model.specs.Listed.{Binary, Target, ListedEntry, ListedRule, serves, offers, log_service, file_service, child_at, child_by, service_at, service_led_to, own_rules_asking, own_rules, RoutesLeadToProviders}
+use Rattle.own_model.specs.Listed.{Binary, Target, ListedEntry, ListedRule, serves, offers, log_service, file_service, child_at, service_at, service_led_to, own_rules_asking, RoutesLeadToProviders}
 use Rattle.own_model.specs.Listed.Binary.{Script, LogServer, FileServer}
 use Rattle.own_model.specs.Listed.Target.{Child, AnyChild, Parent}
 
@@ -38,10 +38,8 @@ same false x = refl
 
 -- no target leads to a child for such a service
 child_at-none : (entries : List ListedEntry) (target : Target) (service : List ℕ) → bytes_eq service log_service ≡ false → bytes_eq service file_service ≡ false → child_at entries target service ≡ None
-child_at-none entries (Child name) service log file =
-    position-none _ entries (λ entry. rw (offers-none service entry log file) (and-false _))
-child_at-none entries AnyChild service log file =
-    rw (position-none (offers service) entries (λ entry. offers-none service entry log file)) (same _ None)
+child_at-none entries (Child name) service log file = grind (arith, nat_tests, position-none, offers-none, and-false)
+child_at-none entries AnyChild service log file = grind (arith, nat_tests, position-none, offers-none, same)
 child_at-none entries Parent service log file = refl
 
 -- a rule for one service decides as what it comes to
@@ -63,12 +61,9 @@ decides_for_any entries target service false true true w child log file after = 
 decides_for_any entries target service false true false w child log file after = after
 decides_for_any entries target service false false true w child log file after = after
 decides_for_any entries target service false false false w child log file after = after
-decides_for_any entries target service true true is_file w child log file after =
-    rw ((bytes_eq-Decides service log_service).0 (sym log)) refl
-decides_for_any entries target service true false true w child log file after =
-    rw ((bytes_eq-Decides service file_service).0 (sym file)) refl
-decides_for_any entries target service true false false w child log file after =
-    rw (child_at-none entries target service (sym log) (sym file)) refl
+decides_for_any entries target service true true is_file w child log file after = grind (arith, nat_tests, bytes_eq-Decides)
+decides_for_any entries target service true false true w child log file after = grind (arith, nat_tests, bytes_eq-Decides)
+decides_for_any entries target service true false false w child log file after = grind (arith, nat_tests, child_at-none)
 
 -- what a rule asks of the label
 labels_asked : ListedRule → List ℕ → Bool
@@ -81,13 +76,10 @@ first_decides : (entries : List ListedEntry) (rule : ListedRule) (asked : Option
     → provider (own_rules_asking entries rule asked ++ rest) service label
     ≡ option_and_then (service_at entries) (cond (as_asked (bytes_eq service) asked && labels_asked rule label) (child_at entries rule.target service) child)
 unfolding labels_asked
-first_decides entries rule (Some asked) service label rest child after =
-    decides_for entries rule.target service asked (labels_asked rule label) (bytes_eq service asked) (provider rest service label) child (bytes_eq-Decides service asked).0 after
-first_decides entries rule None service label rest child after =
-    decides_for_any entries rule.target service (labels_asked rule label) (bytes_eq service log_service) (bytes_eq service file_service) (provider rest service label) child refl refl after
+first_decides entries rule (Some asked) service label rest child after = grind (arith, nat_tests, decides_for, labels_asked, bytes_eq-Decides)
+first_decides entries rule None service label rest child after = grind (arith, nat_tests, decides_for_any, labels_asked)
 
 pub routes_lead : RoutesLeadToProviders
 unfolding labels_asked
 routes_lead entries [] service label = refl
-routes_lead entries (rule ∷ rules) service label =
-    first_decides entries rule rule.service service label (own_rules entries rules) (child_by entries rules service label) (routes_lead entries rules service label)
+routes_lead entries (rule ∷ rules) service label = grind (arith, nat_tests, first_decides, routes_lead entries rules service label)

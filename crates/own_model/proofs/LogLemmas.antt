@@ -5,7 +5,7 @@ use Rattle.std.proofs.lemmas.List.{append-nil, take-append-le, drop-append-le, d
 use Rattle.std.proofs.lemmas.List.Elements.{All-nil, All-cons, All-append}
 use Rattle.std.proofs.lemmas.List.Splits.{slice_split_none}
 use Rattle.std.proofs.lemmas.Option.{none-some, same_Some}
-use Rattle.std.specs.Prelude.{Option, Some, None, ◌&&◌, nat_lt, nat_le, codes}
+use Rattle.std.specs.Prelude.{Option, Some, None, ◌&&◌, nat_le, codes}
 use Rattle.std.specs.Str.{bytes_eq}
 use Rattle.std.specs.Option.{option_map, option_and_then}
 use Rattle.std.specs.List.{All, slice_split, onto_first}
@@ -55,9 +55,7 @@ cut_one false b = refl
 -- a text and a byte more
 cut-push : (b : ℕ) (xs : List ℕ) → slice_split is_newline (xs ++ b ∷ []) ≡ cut_more (is_newline b) b (slice_split is_newline xs)
 cut-push b [] = cut_one (is_newline b) b
-cut-push b (x ∷ xs) =
-    let rest = cut xs in
-    rw (cut-push b xs, rest.2) (cut_more-cons (is_newline x) (is_newline b) b x rest.0 rest.1)
+cut-push b (x ∷ xs) = rw (cut-push b xs, (cut xs).2) (cut_more-cons (is_newline x) (is_newline b) b x (cut xs).0 (cut xs).1)
 
 -- ---- runs
 
@@ -72,9 +70,7 @@ chunks-append width (suc count) xs ys within =
 -- one run more
 chunks-push : (width count : ℕ) (xs : List ℕ) → first_chunks width (suc count) xs ≡ first_chunks width count xs ++ take width (drop (count * width) xs) ∷ []
 chunks-push width zero xs = let none : 0 * width ≡ 0 = omega arith in rw none refl
-chunks-push width (suc count) xs =
-    let more : suc count * width ≡ width + count * width = omega arith in
-    rw (chunks-push width count (drop width xs), drop-drop (count * width) width xs, more) refl
+chunks-push width (suc count) xs = grind (arith, nat_tests, drop-drop, chunks-push width count (drop width xs))
 
 -- a line that is finished by a byte or not, and what is left then
 abbrev finished_by : Bool → Bool → ℕ → List ℕ → List (List ℕ)
@@ -115,15 +111,7 @@ runs-push true b piece e =
       rw (more, add-one, chunks-push 200 runs (piece ++ b ∷ []), front, back, all) refl,
       rw more (drop_all ((runs + 1) * 200) (piece ++ b ∷ []) (simp length-append (omega arith))),
     )
-runs-push false b piece e =
-    let runs = runs_in piece in
-    let left = left_over piece in
-    let size = length-left_over piece in
-    let short : ¬ (length left + 1 ≡ 200) = grind (arith, nat_tests) in
-    let same : runs_in (piece ++ b ∷ []) ≡ runs = simp length-append (omega arith) in
-    let front : first_chunks 200 runs (piece ++ b ∷ []) ≡ full_runs piece = chunks-append 200 runs piece (b ∷ []) (omega arith) in
-    let back : drop (runs * 200) (piece ++ b ∷ []) ≡ left ++ b ∷ [] = drop-append-le (runs * 200) piece (b ∷ []) (omega arith) in
-    (rw same (front ∙ sym (append-nil (full_runs piece))), rw same back)
+runs-push false b piece e = grind (arith, nat_tests, length-left_over, length-append, chunks-append, drop-append-le, append-nil)
 
 -- a piece and others
 logged-cons : (piece : List ℕ) (pieces more : List (List ℕ)) (next : List ℕ) → pieces ≡ next ∷ more →
@@ -139,19 +127,14 @@ onto_last-cons b piece (next ∷ pieces) = (piece, onto_last b next pieces, refl
 behind : (t last : Bool) (b : ℕ) (piece : List ℕ) (l : Logged) →
     record { lines = full_runs piece ++ left_over piece ∷ (pushed t last b l).lines; partial = (pushed t last b l).partial }
     ≡ pushed t last b (record { lines = full_runs piece ++ left_over piece ∷ l.lines; partial = l.partial })
-behind t last b piece l =
-    ap (λ lines. record { lines = lines; partial = left_by t last b l.partial }) (sym (append_assoc (full_runs piece) (left_over piece ∷ l.lines) (finished_by t last b l.partial)))
+behind t last b piece l = simp (append_assoc)
 
 -- pieces after a byte more: what they log
 logged-push : (t : Bool) (b : ℕ) (piece : List ℕ) (pieces : List (List ℕ)) →
     logged (cut_more t b (piece ∷ pieces)) ≡ pushed t (is_last (logged (piece ∷ pieces)).partial) b (logged (piece ∷ pieces))
 logged-push true b piece [] = refl
-logged-push true b piece (next ∷ pieces) =
-    let l = logged (next ∷ pieces) in
-    rw (logged-push true b next pieces) (behind true (is_last l.partial) b piece l)
-logged-push false b piece [] =
-    let e = runs-push (is_last (left_over piece)) b piece refl in
-    rw (e.0, e.1) refl
+logged-push true b piece (next ∷ pieces) = rw (logged-push true b next pieces) (behind true (is_last (logged (next ∷ pieces)).partial) b piece (logged (next ∷ pieces)))
+logged-push false b piece [] = grind (arith, nat_tests, runs-push)
 logged-push false b piece (next ∷ pieces) =
     let l = logged (next ∷ pieces) in
     let there = onto_last-cons b next pieces in
@@ -171,9 +154,7 @@ written-push partial bytes b =
 -- no byte after a line that isn't finished yet
 pub written-none : (partial : List ℕ) → IsPartial partial → written partial [] ≡ record { lines = []; partial = partial }
 unfolding written
-written-none partial is =
-    let none : runs_in partial ≡ 0 = omega (arith, is.short) in
-    rw (append-nil partial, slice_split_none is_newline partial is.whole, none) refl
+written-none partial is = grind (arith, nat_tests, append-nil, slice_split_none)
 
 -- bytes more, one after another
 abbrev pushes : Logged → List ℕ → Logged
@@ -183,8 +164,7 @@ pushes l (b ∷ bs) = pushes (pushed (is_newline b) (is_last l.partial) b l) bs
 -- bytes after others
 written-pushes : (partial xs ys : List ℕ) → written partial (xs ++ ys) ≡ pushes (written partial xs) ys
 written-pushes partial xs [] = rw (append-nil xs) refl
-written-pushes partial xs (y ∷ ys) =
-    rw (← append_assoc xs (y ∷ []) ys) (written-pushes partial (xs ++ y ∷ []) ys ∙ ap (λ l. pushes l ys) (written-push partial xs y))
+written-pushes partial xs (y ∷ ys) = grind (arith, nat_tests, append_assoc, written-push, written-pushes partial (xs ++ y ∷ []) ys)
 
 -- the lines that stand before change nothing of what follows
 pushes-lines : (lines : List (List ℕ)) (l : Logged) (bs : List ℕ) →
@@ -297,18 +277,13 @@ digits_by : (h l : Option ℕ) (rest : Option (List ℕ)) (bytes : List ℕ) (n 
 digits_by None l rest bytes n later is = absurd (none-some bytes is)
 digits_by (Some h) None rest bytes n later is = absurd (none-some bytes is)
 digits_by (Some h) (Some l) None bytes n later is = absurd (none-some bytes is)
-digits_by (Some h) (Some l) (Some others) bytes n later is =
-    let same : length ((h * 16 + l) ∷ others) ≡ length bytes = ap length (same_Some ((h * 16 + l) ∷ others) bytes is) in
-    let more = later others refl in
-    omega arith
+digits_by (Some h) (Some l) (Some others) bytes n later is = grind (arith, nat_tests, same_Some)
 
 -- bytes are half as many as their digits
 pub bytes_of_digits : (text bytes : List ℕ) → bytes_of_hex text ≡ Some bytes → length bytes * 2 ≡ length text
 bytes_of_digits [] bytes is = let same : 0 ≡ length bytes = ap length (same_Some [] bytes is) in omega arith
 bytes_of_digits (digit ∷ []) bytes is = absurd (none-some bytes is)
-bytes_of_digits (high ∷ low ∷ rest) bytes is =
-    let two = digits_by (hex_digit_of high) (hex_digit_of low) (bytes_of_hex rest) bytes (length rest) (bytes_of_digits rest) is in
-    omega arith
+bytes_of_digits (high ∷ low ∷ rest) bytes is = grind (arith, nat_tests, digits_by (hex_digit_of high) (hex_digit_of low) (bytes_of_hex rest) bytes (length rest) (bytes_of_digits rest) is)
 
 -- what a test lets through
 let_through : (t : Bool) (o : Option (List ℕ)) (bytes : List ℕ) → cond t o None ≡ Some bytes → (t ≡ true) × (o ≡ Some bytes)
@@ -318,10 +293,7 @@ let_through false o bytes is = absurd (none-some bytes is)
 -- the bytes of what follows a first word, if there is any
 pub hex_shorter : (text : List ℕ) (rest : Option (List ℕ)) (bytes : List ℕ) → (first_word text).rest ≡ rest → hex_or_nothing rest ≡ Some bytes → length bytes * 2 ≤ length text
 hex_shorter text None bytes e is = let same : 0 ≡ length bytes = ap length (same_Some [] bytes is) in omega arith
-hex_shorter text (Some hex) bytes e is =
-    let shorter = rest_shorter text hex e in
-    let digits = bytes_of_digits hex bytes (let_through (nat_lt 0 (length hex)) (bytes_of_hex hex) bytes is).1 in
-    omega arith
+hex_shorter text (Some hex) bytes e is = grind (arith, nat_tests, rest_shorter, bytes_of_digits, let_through)
 
 -- so a request has at most half as many as it is long
 pub request_is_short : (text bytes : List ℕ) → log_request text ≡ Some bytes → length bytes * 2 ≤ longest_request

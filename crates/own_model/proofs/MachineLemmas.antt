@@ -1,13 +1,12 @@
 -- A new sliced block is zeros at a gap, and what a machine's RAM holds leaves one.
-use Rattle.std.proofs.Common.{◌≡◌, ℕ, ◌+◌, ◌-◌, ◌*◌, ◌/◌, ◌≤◌, Option, Some, None, refl, sym, subst, IsSome, arith, ap, ◌∙◌}
+use Rattle.std.proofs.lemmas.Bool.Decides.{nat_tests}
+use Rattle.std.proofs.Common.{rules, ◌≡◌, ℕ, ◌+◌, ◌-◌, ◌*◌, ◌/◌, ◌≤◌, Option, Some, None, refl, subst, IsSome, arith}
 use Rattle.std.specs.FinMap.{get}
 use Rattle.trade_base.specs.declared.refusal.Refusal.{Refusal}
 use Rattle.own_model.proofs.HeapGapLemmas.{heap_gap_is_there, heap_gaps_agree}
 use Rattle.own_model.proofs.HeapRangeLemmas.{window_some, total-ranges, gap_free, new_page}
 use Rattle.own_model.proofs.JoinedLemmas.{total-joined_le}
 use Rattle.own_model.proofs.OwnHeapLemmas.{heap_pages_le}
-use Rattle.own_model.specs.OwnHeap.{ranges_of_heap}
-use Rattle.own_model.specs.Region.{Region}
 use Rattle.own_model.proofs.NatMapLemmas.{get-insert_same, some_of}
 use Rattle.own_model.proofs.StepLemmas.{covers, accepted_block}
 use Rattle.own_model.proofs.Totals.{total_times_le}
@@ -17,7 +16,7 @@ use Rattle.own_model.specs.NatMap.{total}
 use Rattle.own_model.specs.OwnState.{OwnState, heap_ranges, zeros}
 use Rattle.own_model.specs.OwnStep.{unless, sliced_in, own_heap_gap, script_step}
 use Rattle.own_model.specs.Reply.Reply.{Attached}
-use Rattle.own_model.specs.Sliced.{sliced_header, sliced_size, sliced_refusal, block_size, block_pages, ranges_of_blocks}
+use Rattle.own_model.specs.Sliced.{sliced_header, sliced_size, sliced_refusal, block_size, block_pages}
 use Rattle.own_model.specs.Sound.{IsSound}
 use Rattle.own_model.specs.Use.{UsesWhatItHolds}
 
@@ -27,11 +26,7 @@ zero_at : (s : OwnState) (n block : ℕ) (refusal : Option Refusal) (gap : Optio
     (get s.sliced block ≡ None) × (get (unless refusal s (sliced_in n gap s)).next.sliced block ≡ Some (zeros (sliced_size n - sliced_header)))
 zero_at s n block (Some refusal) gap at told = absurd (cc)
 zero_at s n block None None at told = absurd (cc)
-zero_at s n block None (Some start) at told =
-    let here : start + sliced_header ≡ block = (let e : Attached (start + sliced_header) ≡ Attached block = told in cc) in (
-      subst (λ k. get s.sliced k ≡ None) here (gap_free s (sliced_size n) start at (new_page n)),
-      get-insert_same s.sliced (start + sliced_header) (zeros (sliced_size n - sliced_header)) block (sym here),
-    )
+zero_at s n block None (Some start) at told = grind (arith, nat_tests, gap_free, new_page, get-insert_same)
 
 -- the same of the call
 pub new_zero : (s : OwnState) (n block : ℕ) → (script_step (Snew n) s).reply ≡ Attached block →
@@ -44,10 +39,7 @@ block_bytes s h = total_times_le block_pages block_size 4096 s.sliced (λ k payl
 
 -- what stands in the heap window fits a machine that has the RAM in use
 fits_machine : (machine : ℕ) (s : OwnState) → IsSound s → UsesWhatItHolds s → s.account.ram_used ≤ machine * 4096 → FitMachine machine (heap_ranges s)
-fits_machine machine s h uses covered = record {
-  some = window_some s;
-  few = omega (arith, total-joined_le (λ (region : Region). region.pages) (ranges_of_blocks s.sliced) (ranges_of_heap s.heap), total-ranges s.sliced, heap_pages_le s.heap h.heap_parts, block_bytes s h, uses.ram, covered);
-}
+fits_machine machine s h uses covered = search (rules, window_some, total-joined_le, total-ranges, heap_pages_le, block_bytes)
 
 -- so that machine has a gap, which is the largest machine's
 pub machine_gap : (machine : ℕ) (s : OwnState) (pages : ℕ) → IsSound s → UsesWhatItHolds s → machine ≤ largest_machine →
@@ -63,8 +55,7 @@ machine_gap machine s pages h uses small covered few =
 -- a block is given where nothing refuses it and there is a gap
 given_at : (s : OwnState) (n start : ℕ) → sliced_refusal n s.account ≡ None → own_heap_gap (sliced_size n) s ≡ Some start →
     (script_step (Snew n) s).reply ≡ Attached (start + sliced_header)
-given_at s n start accepted gap =
-    ap (λ why. (unless why s (sliced_in n (own_heap_gap (sliced_size n) s) s)).reply) accepted ∙ ap (λ o. (sliced_in n o s).reply) gap
+given_at s n start accepted gap = cc
 
 -- so a block that the account covers is given
 pub covered_given : (machine : ℕ) (s : OwnState) (n : ℕ) → IsSound s → UsesWhatItHolds s → machine ≤ largest_machine →

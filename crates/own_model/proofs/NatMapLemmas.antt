@@ -111,9 +111,7 @@ module _ {X : Type 0} where
   -- a key below all others is none of them
   pub none_below : (k : ℕ) (es : List (ℕ × X)) → T (below_all nat_cmp k es) → find nat_cmp k es ≡ None
   none_below k [] h = refl
-  none_below k (e ∷ es) h =
-      let parts = both_parts _ _ h in
-      ap (λ o. cond (is_eq o) (Some e.1) (find nat_cmp k es)) (is_less (nat_cmp k e.0) parts.0) ∙ none_below k es parts.1
+  none_below k (e ∷ es) h = ap (λ o. cond (is_eq o) (Some e.1) (find nat_cmp k es)) (is_less (nat_cmp k e.0) (both_parts _ _ h).0) ∙ none_below k es (both_parts _ _ h).1
 
   -- the insertions of its entries make the map
   pub from_entries-entries : (m : NatMap X) → from_entries {R = nat_cmp} (entries m) ≡ m
@@ -123,9 +121,7 @@ module _ {X : Type 0} where
     -- what holds of none and stays with each free key filled holds of the map of sorted entries
     along : (es : List (ℕ × X)) → T (is_sorted nat_cmp es) → P (from_entries es)
     along [] h = none
-    along (e ∷ es) h =
-        let parts = both_parts _ _ h in
-        more (from_entries es) e.0 e.1 (map.get-from_entries nat_cmp_total es e.0 ∙ none_below e.0 es parts.0) (along es parts.1)
+    along (e ∷ es) h = more (from_entries es) e.0 e.1 (map.get-from_entries nat_cmp_total es e.0 ∙ none_below e.0 es (both_parts _ _ h).0) (along es (both_parts _ _ h).1)
 
     -- what holds of the empty map, and stays when a free key is filled, holds of each map
     pub by_insertions : (m : NatMap X) → P m
@@ -172,9 +168,7 @@ module _ {X Y : Type 0} where
   -- f of what the map has
   pub get-picked : (f : X → Option Y) (m : NatMap X) (q : ℕ) → get (picked f m) q ≡ option_and_then f (get m q)
   unfolding picked
-  get-picked f m q =
-      map.get-from_entries nat_cmp_total (filter_map (entry_of f) (entries m)) q
-      ∙ find-filter_map f q (entries m) (entries_sorted m) ∙ ap (option_and_then f) (sym (get-entries m q))
+  get-picked f m q = cc (map.get-from_entries nat_cmp_total (filter_map (entry_of f) (entries m)) q, find-filter_map f q (entries m) (entries_sorted m), ap (option_and_then f) (sym (get-entries m q)))
 
   -- functions that agree on what an option has answer alike for it
   pub and_then_alike : (f g : X → Option Y) (o : Option X) → ((x : X) → o ≡ Some x → f x ≡ g x) → option_and_then f o ≡ option_and_then g o

@@ -1,5 +1,6 @@
 -- Where a heap's chunks and large blocks stand, and how many bytes they are.
-use Rattle.std.proofs.Common.{◌≡◌, ℕ, ◌*◌, ◌≤◌, ◌++◌, zero, suc, List, [], ◌∷◌, length, Some, refl, sym, ap, subst, ◌∙◌, arith, set, sum_by, inl, inr}
+use Rattle.std.proofs.lemmas.Bool.Decides.{nat_tests}
+use Rattle.std.proofs.Common.{rules, ◌≡◌, ℕ, ◌*◌, ◌≤◌, ◌++◌, zero, suc, List, [], ◌∷◌, length, Some, refl, sym, ap, ◌∙◌, arith, set, sum_by}
 use Rattle.std.proofs.lemmas.Bool.{cases_lt}
 use Rattle.std.proofs.lemmas.Option.{none-some, same_Some}
 use Rattle.std.proofs.lemmas.List.{set_past}
@@ -46,10 +47,7 @@ chunk_ranges-set (start ∷ starts) (c ∷ chunks) (suc i) blocks e = ap (λ es.
 
 -- and leaves the bytes of all
 pub chunk_bytes-set : (chunks : Heap) (i : ℕ) (blocks : List Block) → bytes_in blocks ≡ bytes_in (chunk_of chunks i) → sum_by bytes_in (set chunks i blocks) ≡ sum_by bytes_in chunks
-chunk_bytes-set chunks i blocks e = elim (cases_lt i (length chunks)) [
-  | inl within ↦ omega (arith, sum_by-set bytes_in chunks i blocks [] within)
-  | inr beyond ↦ ap (sum_by bytes_in) (set_past chunks i blocks beyond)
-]
+chunk_bytes-set chunks i blocks e = search (rules, cases_lt, sum_by-set, set_past)
 
 -- a chunk more is a range more
 pub chunk_ranges-append : (starts : List ℕ) (chunks : Heap) (start : ℕ) (blocks : List Block) → length starts ≡ length chunks →
@@ -75,18 +73,11 @@ chunk_pages_le (start ∷ starts) (c ∷ chunks) each =
 
 -- the pages of all large blocks are no more bytes than they have
 large_pages_le : (large : NatMap ℕ) → ((start bytes : ℕ) → get large start ≡ Some bytes → range_pages bytes * 4096 ≤ bytes) → total (λ region. region.pages) (ranges_of_large large) * 4096 ≤ total (λ bytes. bytes) large
-large_pages_le large each =
-    omega (arith, total-picked (λ (region : Region). region.pages) (λ bytes. Some (range_of_bytes bytes)) large, total_times_le range_pages (λ bytes. bytes) 4096 large each)
+large_pages_le large each = search (rules, total-picked, total_times_le)
 
 -- the pages of a heap are no more bytes than it has
 pub heap_pages_le : (heap : OwnHeap) → IsHeap heap → total (λ region. region.pages) (ranges_of_heap heap) * 4096 ≤ heap_size heap
-heap_pages_le heap h =
-    omega (
-      arith,
-      total-joined_le (λ region. region.pages) (chunk_map heap.starts heap.shape.chunks) (ranges_of_large heap.large),
-      chunk_pages_le heap.starts heap.shape.chunks h.chunks,
-      large_pages_le heap.large (λ start bytes there. let pages = (h.large start bytes there).pages in omega (arith, pages.some, pages.whole)),
-    )
+heap_pages_le heap h = search (rules, total-joined_le, chunk_pages_le, large_pages_le)
 
 -- ---- each range has a page
 
@@ -99,16 +90,11 @@ chunk_some (start ∷ starts) (c ∷ chunks) q r there =
 
 -- so has a large block's
 large_some : (large : NatMap ℕ) (q : ℕ) (r : Region) → get (ranges_of_large large) q ≡ Some r → 1 ≤ r.pages
-large_some large q r there =
-    let from = and_then_from (λ bytes. Some (range_of_bytes bytes)) (get large q) r (sym (get-picked (λ bytes. Some (range_of_bytes bytes)) large q) ∙ there) in
-    subst (λ x. 1 ≤ x.pages) (same_Some (range_of_bytes from.0) r from.2) (omega arith)
+large_some large q r there = grind (arith, nat_tests, and_then_from, get-picked, same_Some)
 
 -- so has each of a heap's
 pub heap_some : (heap : OwnHeap) (q : ℕ) (r : Region) → get (ranges_of_heap heap) q ≡ Some r → 1 ≤ r.pages
-heap_some heap q r there = elim (from_either (get (chunk_map heap.starts heap.shape.chunks) q) (get (ranges_of_large heap.large) q) r (sym (get-joined (chunk_map heap.starts heap.shape.chunks) (ranges_of_large heap.large) q) ∙ there)) [
-  | inl chunk ↦ chunk_some heap.starts heap.shape.chunks q r chunk
-  | inr large ↦ large_some heap.large q r large
-]
+heap_some heap q r there = search (rules, from_either, get-joined, chunk_some, large_some)
 
 -- where a large block stands, its range does
 pub large_range : (large : NatMap ℕ) (address bytes : ℕ) → get large address ≡ Some bytes → get (ranges_of_large large) address ≡ Some (range_of_bytes bytes)
@@ -143,9 +129,4 @@ module _ (heap : OwnHeap) where
   -- where a large block goes, what is left was there
   pub ranges-without : (address : ℕ) → KeysApart (chunk_map heap.starts heap.shape.chunks) (ranges_of_large heap.large) → (q : ℕ) (r : Region) →
       get (joined (chunk_map heap.starts heap.shape.chunks) (ranges_of_large (remove heap.large address))) q ≡ Some r → get (ranges_of_heap heap) q ≡ Some r
-  ranges-without address apart =
-      joined_before (chunk_map heap.starts heap.shape.chunks) (ranges_of_large heap.large) (chunk_map heap.starts heap.shape.chunks) (ranges_of_large (remove heap.large address)) apart
-      (λ q r there. there)
-      (λ q r there.
-      let from = and_then_from (λ n. Some (range_of_bytes n)) (get (remove heap.large address) q) r (sym (get-picked (λ n. Some (range_of_bytes n)) (remove heap.large address) q) ∙ there) in
-      large_range heap.large q from.0 (before_remove heap.large address q from.0 from.1) ∙ from.2)
+  ranges-without address apart = search (rules, joined_before, and_then_from, get-picked, large_range, before_remove)

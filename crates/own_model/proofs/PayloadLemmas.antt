@@ -1,12 +1,12 @@
 -- The payload that holds a range of addresses, and the bytes that are read and written there.
-use Rattle.std.proofs.Common.{◌≡◌, ◌≢◌, ℕ, ◌+◌, ◌-◌, ◌*◌, ◌<◌, ◌≤◌, ◌&&◌, ◌⊎◌, inl, inr, Bool, true, false, List, length, nat_le, Some, refl, sym, ap, subst, ◌∙◌, true≢false, arith, is_some}
+use Rattle.std.proofs.Common.{rules, ◌≡◌, ◌≢◌, ℕ, ◌+◌, ◌-◌, ◌*◌, ◌<◌, ◌≤◌, ◌&&◌, ◌⊎◌, inl, inr, Bool, true, false, List, length, nat_le, Some, refl, sym, ap, subst, ◌∙◌, true≢false, arith, is_some}
 use Rattle.std.proofs.lemmas.Bool.{cases_eq, cases_lt, false_from_ne_true}
 use Rattle.std.proofs.lemmas.Bool.Decides.{nat_tests}
 use Rattle.std.proofs.lemmas.Option.{none-some, same_Some, some_pair_parts}
 use Rattle.std.specs.Prelude.{Option, None}
 use Rattle.std.specs.Option.{option_map, option_or}
 use Rattle.std.specs.List.{find}
-use Rattle.std.specs.FinMap.{get, insert, remove, entries}
+use Rattle.std.specs.FinMap.{get, insert, entries}
 use Rattle.trade_base.specs.declared.refusal.Refusal.{Refusal}
 use Rattle.trade_base.specs.declared.refusal.Refusal.TheVariants.{PageFault}
 use Rattle.own_model.proofs.CallLemmas.{found_payload, found_block, peeks_payload, peeks_block, pokes_payload, pokes_block}
@@ -21,7 +21,7 @@ use Rattle.own_model.proofs.ByteLemmas.{length-with_part}
 use Rattle.own_model.specs.HeapWindow.{heap_low, heap_high, largest_machine}
 use Rattle.own_model.specs.NatMap.{NatMap}
 use Rattle.own_model.specs.OwnState.{OwnState, with_part, heap_ranges}
-use Rattle.own_model.specs.OwnStep.{unless, count_refusal, poked, payload_poked, block_poked, sliced_freed, script_step}
+use Rattle.own_model.specs.OwnStep.{unless, count_refusal, poked, payload_poked, block_poked, script_step}
 use Rattle.own_model.specs.Call.Call.{Peek, Poke, Sdel}
 use Rattle.own_model.specs.Place.{Place, found, in_dataspace, in_payload, in_block}
 use Rattle.own_model.specs.Place.Place.{InDataspace, InPayload, InBlock}
@@ -29,7 +29,6 @@ use Rattle.own_model.specs.Region.{overlap, resolved}
 use Rattle.own_model.specs.Reply.{Reply}
 use Rattle.own_model.specs.Reply.Reply.{Selected, Attached, Bytes, Done, Quotas, Told, Refused}
 use Rattle.own_model.specs.Sliced.{sliced_header, block_pages, block_found, holds_in_payload, ranges_of_blocks}
-use Rattle.own_model.specs.OwnHeap.{ranges_of_heap}
 use Rattle.own_model.specs.Sound.{IsSound}
 
 -- ---- which payload
@@ -39,11 +38,7 @@ payload_parts : (o p q : Option (ℕ × ℕ)) (block offset : ℕ) → option_or
 payload_parts (Some d) p q block offset is = absurd (cc)
 payload_parts None None None block offset is = absurd (none-some (InPayload block offset) is)
 payload_parts None None (Some b) block offset is = absurd (cc)
-payload_parts None (Some q) b block offset is =
-    let place : InPayload q.0 q.1 ≡ InPayload block offset = same_Some (InPayload q.0 q.1) (InPayload block offset) is in
-    let first : q.0 ≡ block = cc in
-    let second : q.1 ≡ offset = cc in
-    (refl, λ i. Some (first i, second i))
+payload_parts None (Some q) b block offset is = grind (arith, nat_tests, natmaps, same_Some)
 
 -- and one that is found in a payload of the heap lies in no sliced block's either
 block_parts : (o p q : Option (ℕ × ℕ)) (block offset : ℕ) → option_or (option_map in_dataspace o) (option_or (option_map in_payload p) (option_map in_block q)) ≡ Some (InBlock block offset) →
@@ -51,11 +46,7 @@ block_parts : (o p q : Option (ℕ × ℕ)) (block offset : ℕ) → option_or (
 block_parts (Some d) p q block offset is = absurd (cc)
 block_parts None (Some b) q block offset is = absurd (cc)
 block_parts None None None block offset is = absurd (none-some (InBlock block offset) is)
-block_parts None None (Some b) block offset is =
-    let place : InBlock b.0 b.1 ≡ InBlock block offset = same_Some (InBlock b.0 b.1) (InBlock block offset) is in
-    let first : b.0 ≡ block = cc in
-    let second : b.1 ≡ offset = cc in
-    (refl, refl, λ i. Some (first i, second i))
+block_parts None None (Some b) block offset is = grind (arith, nat_tests, natmaps, same_Some)
 
 -- the tests of a payload that holds a range
 pub payload_tests : (address count block size : ℕ) → nat_le block address && nat_le (address + count) (block + size) ≡ true → (block ≤ address) × (address + count ≤ block + size)
@@ -82,16 +73,12 @@ block_found_fits blocks address count block offset (Some b) at is =
 -- the same of what is found
 pub payload_fits : (s : OwnState) (address count block offset : ℕ) → found s address count ≡ Some (InPayload block offset) →
     (payload : List ℕ) × (get s.sliced block ≡ Some payload) × (block + offset ≡ address) × (offset + count ≤ length payload)
-payload_fits s address count block offset is =
-    let parts = payload_parts (resolved s.regions address count) (block_found s.sliced address count) (block_found s.heap.payloads address count) block offset is in
-    block_found_fits s.sliced address count block offset (find (holds_in_payload address count) (entries s.sliced)) refl parts.1
+payload_fits s address count block offset is = grind (arith, nat_tests, natmaps, payload_parts, block_found_fits)
 
 -- and of what is found in the heap
 pub block_fits : (s : OwnState) (address count block offset : ℕ) → found s address count ≡ Some (InBlock block offset) →
     (payload : List ℕ) × (get s.heap.payloads block ≡ Some payload) × (block + offset ≡ address) × (offset + count ≤ length payload)
-block_fits s address count block offset is =
-    let parts = block_parts (resolved s.regions address count) (block_found s.sliced address count) (block_found s.heap.payloads address count) block offset is in
-    block_found_fits s.heap.payloads address count block offset (find (holds_in_payload address count) (entries s.heap.payloads)) refl parts.2
+block_fits s address count block offset is = grind (arith, nat_tests, natmaps, block_parts, block_found_fits)
 
 -- an entry and its size give the same place
 same_place : (address : ℕ) (o : Option (ℕ × List ℕ)) → option_map {U = ℕ × ℕ} (λ b. (b.0, address - b.0)) o ≡ option_map (λ p. (p.0, address - p.0)) (option_map (sized length) o)
@@ -161,11 +148,7 @@ not_done refusal e = true≢false (sym (ap is_done e))
 
 -- a range that is found in a dataspace lies in a region
 pub region_parts : (o p q : Option (ℕ × ℕ)) (selector offset : ℕ) → option_or (option_map in_dataspace o) (option_or (option_map in_payload p) (option_map in_block q)) ≡ Some (InDataspace selector offset) → o ≡ Some (selector, offset)
-region_parts (Some d) p q selector offset is =
-    let place : InDataspace d.0 d.1 ≡ InDataspace selector offset = same_Some (InDataspace d.0 d.1) (InDataspace selector offset) is in
-    let first : d.0 ≡ selector = cc in
-    let second : d.1 ≡ offset = cc in
-    λ i. Some (first i, second i)
+region_parts (Some d) p q selector offset is = grind (arith, nat_tests, natmaps, same_Some)
 region_parts None None None selector offset is = absurd (none-some (InDataspace selector offset) is)
 region_parts None None (Some b) selector offset is = absurd (cc)
 region_parts None (Some q) b selector offset is = absurd (cc)
@@ -175,16 +158,14 @@ read_by : (s : OwnState) (address : ℕ) (bytes : List ℕ) → IsSound s → (r
     found s address (length bytes) ≡ place → (unless refusal s (poked bytes place s)).reply ≡ Done → ReadsBack s address bytes (script_step (Poke address bytes) s).next
 read_by s address bytes h (Some refusal) place counted at done = absurd (not_done refusal done)
 read_by s address bytes h None None counted at done = absurd (not_done PageFault done)
-read_by s address bytes h None (Some (InDataspace selector offset)) counted at done =
-    read_after s address selector offset bytes h counted (region_parts (resolved s.regions address (length bytes)) (block_found s.sliced address (length bytes)) (block_found s.heap.payloads address (length bytes)) selector offset at)
+read_by s address bytes h None (Some (InDataspace selector offset)) counted at done = grind (arith, nat_tests, natmaps, read_after, region_parts)
 read_by s address bytes h None (Some (InPayload block offset)) counted at done = payload_read s address block offset bytes counted at
 read_by s address bytes h None (Some (InBlock block offset)) counted at done = block_read s address block offset bytes counted at
 
 -- what was poked is what a peek tells
 pub poke_read : (s : OwnState) (address : ℕ) (bytes : List ℕ) → IsSound s → (script_step (Poke address bytes) s).reply ≡ Done →
     (script_step (Peek address (length bytes)) (script_step (Poke address bytes) s).next).reply ≡ Bytes bytes
-poke_read s address bytes h done =
-    read_by s address bytes h (count_refusal (length bytes)) (found s address (length bytes)) refl refl done
+poke_read s address bytes h done = search (rules, read_by)
 
 -- ---- payloads lie apart
 
@@ -194,10 +175,7 @@ both_lt a b p q first second = grind (arith, nat_tests)
 
 -- between blocks that lie apart is room for the header of the later one
 between : (a b p q x y : ℕ) → overlap a p b q ≡ false → 32 + x ≡ p * 4096 → 32 + y ≡ q * 4096 → (a + 32 + x + 32 ≤ b + 32) ⊎ (b + 32 + y + 32 ≤ a + 32)
-between a b p q x y apart first second = elim (cases_lt a (b + q * 4096)) [
-  | inr after ↦ inr (omega arith)
-  | inl before ↦ inl (let e : b < a + p * 4096 → ⊥ = λ l. true≢false (sym (both_lt a b p q before l) ∙ apart) in omega arith)
-]
+between a b p q x y apart first second = search (rules, cases_lt, true≢false, both_lt)
 
 module _ (s : OwnState) (h : IsSound s) where
   -- a payload has room for its header before it, and a range there
@@ -212,9 +190,7 @@ module _ (s : OwnState) (h : IsSound s) where
 
     -- the block's range
     pub own_range : get (heap_ranges s) start ≡ Some (range_of payload)
-    own_range =
-        get-joined_first (ranges_of_blocks s.sliced) (ranges_of_heap s.heap) start (range_of payload)
-        (range_at s.sliced start payload (subst (λ k. get s.sliced k ≡ Some payload) (sym back) there))
+    own_range = search (rules, get-joined_first, range_of, range_at, back)
 
     -- a block's range is that of a sliced block
     pub range_of_sliced : get (ranges_of_blocks s.sliced) start ≡ Some (range_of payload)
@@ -222,12 +198,7 @@ module _ (s : OwnState) (h : IsSound s) where
 
     -- it lies within the heap window
     pub payload_within : (heap_low + sliced_header ≤ block) × (block + length payload ≤ heap_high largest_machine)
-    payload_within =
-        let window = h.heap.within start (range_of payload) own_range in
-        let low = window.from_low in
-        let high = window.to_high in
-        let whole = (h.blocks block payload there).whole in
-        (omega (arith, back), omega (arith, back))
+    payload_within = grind (arith, nat_tests, natmaps, range_of, own_range, back)
 
   -- two payloads lie apart, with room for the header of the later one
   pub payloads_apart : (a b : ℕ) (x y : List ℕ) → get s.sliced a ≡ Some x → get s.sliced b ≡ Some y → a ≢ b → (a + length x + sliced_header ≤ b) ⊎ (b + length y + sliced_header ≤ a)
@@ -244,22 +215,11 @@ module _ (s : OwnState) (h : IsSound s) where
   -- a range of some bytes lies in one payload at most
   one_payload : (address count a b : ℕ) (x y : List ℕ) → 0 < count → get s.sliced a ≡ Some x → get s.sliced b ≡ Some y →
       b ≤ address → address + count ≤ b + length y → holds_in_payload address count (a, x) ≡ true → a ≡ b
-  one_payload address count a b x y some first second from to holds = elim (cases_eq a b) [
-    | inl same ↦ same
-    | inr differ ↦
-        let tests = payload_tests address count a (length x) holds in
-        absurd (elim (payloads_apart a b x y first second differ) [ inl before ↦ let low = tests.0 in let high = tests.1 in omega arith | inr after ↦ let low = tests.0 in let high = tests.1 in omega arith ])
-  ]
+  one_payload address count a b x y some first second from to holds = search (rules, cases_eq, payload_tests, payloads_apart)
 
   -- no region holds a range above the user window
   pub above_user : (address count : ℕ) → heap_low ≤ address → 0 < count → resolved s.regions address count ≡ None
-  above_user address count high some = elim (resolved s.regions address count) as (λ o. resolved s.regions address count ≡ o → o ≡ None) [
-    | None ↦ λ _. refl
-    | Some (of, offset) ↦ λ is.
-        let at = resolved_facts s.regions address count of offset is in
-        let window = (h.mapped.lie.within at.0.0 at.0.1 at.2).to_high in
-        absurd (omega (arith, at.4, at.5))
-  ] refl
+  above_user address count high some = search (rules, resolved_facts)
 
   module _ (address count block : ℕ) (payload : List ℕ) (there : get s.sliced block ≡ Some payload) (some : 0 < count) (from : block ≤ address) (to : address + count ≤ block + length payload) where
     -- the range lies above the user window
@@ -268,11 +228,7 @@ module _ (s : OwnState) (h : IsSound s) where
 
     -- each range of some bytes within a payload is found there
     pub payload_is_found : found s address count ≡ Some (InPayload block (address - block))
-    payload_is_found =
-        found_payload s address count (block, address - block) (above_user address count high some)
-        (ap (option_map (λ b. (b.0, address - b.0)))
-        (finds_in_map (holds_in_payload address count) s.sliced block payload there (payload_holds address count block (length payload) from to)
-        (λ k w is holds. one_payload address count k block w payload some is there from to holds)))
+    payload_is_found = search (rules, found_payload, above_user, high, finds_in_map, payload_holds, one_payload)
 
     -- no payload of the heap holds it
     pub not_in_heap : (k : ℕ) (w : List ℕ) → get s.heap.payloads k ≡ Some w → ¬ (holds_in_payload address count (k, w) ≡ true)
@@ -289,12 +245,4 @@ module _ (s : OwnState) (h : IsSound s) where
 
     -- once the block is gone, nothing is
     pub payload_is_gone : found (script_step (Sdel block) s).next address count ≡ None
-    payload_is_gone =
-        ap (λ o. found (sliced_freed block o s).next address count) there
-        ∙ found_block (sliced_freed block (Some payload) s).next address count None (above_user address count high some)
-        (ap (option_map (λ b. (b.0, address - b.0)))
-        (finds_none_in_map (holds_in_payload address count) (remove s.sliced block)
-        (λ k w is. false_from_ne_true _ (λ holds.
-        let same = one_payload address count k block w payload some (before_remove s.sliced block k w is) there from to holds in
-        none-some w (sym (get-remove_same s.sliced block k same) ∙ is)))))
-        (ap (option_map (λ b. (b.0, address - b.0))) (finds_none_in_map (holds_in_payload address count) s.heap.payloads (λ k w is. false_from_ne_true _ (not_in_heap k w is))))
+    payload_is_gone = search (rules, found_block, above_user, high, finds_none_in_map, false_from_ne_true, one_payload, before_remove, none-some, get-remove_same, not_in_heap)

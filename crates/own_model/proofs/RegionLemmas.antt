@@ -1,12 +1,11 @@
 -- Where regions can be attached, and what stays when they change.
-use Rattle.std.proofs.Common.{◌≡◌, ℕ, ◌+◌, ◌-◌, ◌*◌, ◌%◌, ◌<◌, ◌≤◌, ◌&&◌, Bool, true, false, cond, not, length, is_some, IsSome, Some, refl, sym, ap, subst, ◌∙◌, true≢false, eqb, eqb-true, ◌==◌, nat_le, zero, suc, map, arith, ◌≢◌}
+use Rattle.std.proofs.Common.{rules, ◌≡◌, ℕ, ◌+◌, ◌-◌, ◌*◌, ◌%◌, ◌<◌, ◌≤◌, ◌&&◌, Bool, true, false, cond, not, length, is_some, IsSome, Some, refl, sym, ap, subst, ◌∙◌, true≢false, eqb, eqb-true, ◌==◌, nat_le, zero, suc, map, arith, ◌≢◌}
 use Rattle.std.proofs.lemmas.Bool.Decides.{nat_tests}
 use Rattle.std.proofs.lemmas.Option.{none-some, same_Some, some_pair_parts}
 use Rattle.std.specs.Prelude.{Option, None, if◌then◌else◌}
 use Rattle.std.specs.Option.{option_map, option_and_then}
 use Rattle.std.specs.List.{find, list_any, range_with_len}
 use Rattle.std.specs.FinMap.{get, insert, remove, entries, len}
-use Rattle.trade_base.specs.declared.refusal.Refusal.TheVariants.{PageFault}
 use Rattle.own_model.specs.NatMap.{NatMap, picked}
 use Rattle.own_model.specs.Region.{Region, overlap, meets, can_stand, first_gap, IsPlace, IsFirstGap, region_at, resolved, without, holds, attach_refusal, attach_at_refusal, detach_refusal}
 use Rattle.own_model.proofs.NatMapLemmas.{same, get-picked, picked-insert_some, picked-remove, none_of}
@@ -164,8 +163,7 @@ pages_of_some (Some r) n is = (r, refl, same_Some r.pages n is)
 
 -- a region of the one has a twin in the other
 pub twin : (xs ys : NatMap Region) → AreAlike xs ys → (start : ℕ) (region : Region) → get ys start ≡ Some region → (r : Region) × (get xs start ≡ Some r) × (r.pages ≡ region.pages)
-twin xs ys alike start region there =
-    pages_of_some (get xs start) region.pages (alike.pages start ∙ ap (option_map (λ r. r.pages)) there)
+twin xs ys alike start region there = search (rules, pages_of_some)
 
 -- a place among the one is a place among the other
 place_alike : (xs ys : NatMap Region) → AreAlike xs ys → (low high pages address : ℕ) → IsPlace low high xs pages address → IsPlace low high ys pages address
@@ -225,8 +223,7 @@ some_alike (Some r) (Some s) e = refl
 
 -- a detachment is refused alike
 pub detach_refusal_alike : (xs ys : NatMap Region) → AreAlike xs ys → (address : ℕ) → detach_refusal xs address ≡ detach_refusal ys address
-detach_refusal_alike xs ys alike address =
-    ap (λ there. if there then None else Some PageFault) (some_alike (get xs address) (get ys address) (alike.pages address))
+detach_refusal_alike xs ys alike address = search (rules, some_alike)
 
 -- ---- what a range of addresses finds
 
@@ -240,10 +237,7 @@ within_pages start offset address bytes pages e h = omega arith
 
 -- what holds a range is a region that has all of it
 pub region_at_facts : (regions : NatMap Region) (address bytes : ℕ) (e : ℕ × Region) → region_at regions address bytes ≡ Some e → (get regions e.0 ≡ Some e.1) × (e.0 ≤ address) × (address + bytes ≤ e.0 + e.1.pages * 4096)
-region_at_facts regions address bytes e is =
-    let at = found_in_map (holds address bytes) regions e is in
-    let within = parts_of_held address bytes e.0 e.1.pages at.0 in
-    (at.1, within.0, within.1)
+region_at_facts regions address bytes e is = let at = found_in_map (holds address bytes) regions e is in grind (arith, nat_tests, at, parts_of_held address bytes e.0 e.1.pages at.0)
 
 -- what a range resolves to is a region that has all of it from an offset on
 pub resolved_facts : (regions : NatMap Region) (address bytes of offset : ℕ) → resolved regions address bytes ≡ Some (of, offset) → (e : ℕ × Region) × (region_at regions address bytes ≡ Some e) × (get regions e.0 ≡ Some e.1) × (e.1.of ≡ of) × (e.0 + offset ≡ address) × (offset + bytes ≤ e.1.pages * 4096)
@@ -269,19 +263,11 @@ module _ (name : ℕ → Option ℕ) where
   -- a region that is renamed keeps its pages
   kept_pages : (o : Option Region) → ((region : Region) → o ≡ Some region → IsSome (name region.of)) → option_map (λ region. region.pages) o ≡ option_map (λ region. region.pages) (option_and_then (λ region. option_map (λ other. record region { of = other }) (name region.of)) o)
   kept_pages None all = refl
-  kept_pages (Some r) all =
-      elim (name r.of) as (λ n. IsSome n → Some r.pages ≡ option_map (λ region. region.pages) (option_map (λ other. record r { of = other }) n)) [
-        | None ↦ λ h. absurd (true≢false (sym h))
-        | Some other ↦ λ h. refl
-      ] (all r refl)
+  kept_pages (Some r) all = grind (arith, nat_tests, true≢false)
 
   -- where all things have another name, starts and pages stay
   pub AreAlike-renamed : (regions : NatMap Region) → ((start : ℕ) (region : Region) → get regions start ≡ Some region → IsSome (name region.of)) → AreAlike regions (renamed name regions)
-  AreAlike-renamed regions all = record {
-    pages = λ start.
-        kept_pages (get regions start) (all start)
-        ∙ ap (option_map (λ region. region.pages)) (sym (get-picked (λ region. option_map (λ other. record region { of = other }) (name region.of)) regions start));
-  }
+  AreAlike-renamed regions all = search (rules, kept_pages, get-picked)
 
   -- a region whose thing has another name comes under that name
   pub renamed-insert : (regions : NatMap Region) (start of pages other : ℕ) → name of ≡ Some other → renamed name (insert regions start (record { of = of; pages = pages })) ≡ insert (renamed name regions) start (record { of = other; pages = pages })

@@ -1,5 +1,5 @@
 -- The running states are own runs, so what is told from them is what is told from the history.
-use Rattle.std.proofs.Common.{◌≡◌, ◌≢◌, ℕ, ◌≤◌, ◌++◌, ◌==◌, Bool, true, false, List, [], ◌∷◌, length, refl, ap, sym, ◌∙◌, cond, subst, inl, inr, arith, append_assoc, slice_set}
+use Rattle.std.proofs.Common.{rules, ◌≡◌, ℕ, ◌≤◌, ◌++◌, ◌==◌, Bool, true, false, List, [], ◌∷◌, length, refl, cond, subst, arith, append_assoc, slice_set}
 use Rattle.std.proofs.lemmas.List.{get_or-set_same, get_or-set_other, get_or_past, length-set, set_past, append-nil}
 use Rattle.std.proofs.lemmas.Bool.{cases_lt}
 use Rattle.std.proofs.lemmas.Bool.Decides.{nat_tests}
@@ -33,16 +33,11 @@ Tracks-none entries starts = record { at = λ component. refl }
 state_after-push : (entries : List Entry) (starts : List OwnState) (earlier : List Made) (made : Made) (component : ℕ) →
     state_after entries starts (earlier ++ made ∷ []) component
     ≡ own_run (entry_at entries component) (own_part component (made ∷ [])) (state_after entries starts earlier component)
-state_after-push entries starts earlier made component =
-    rw (own_part-append component earlier (made ∷ []))
-    (own_run-append (entry_at entries component) (own_part component earlier) (own_part component (made ∷ [])) (state_at starts component))
+state_after-push entries starts earlier made component = simp (own_part-append, own_run-append)
 
 -- what stands at a changed place, also past the end if the change is none there
 at_changed : (states : List OwnState) (i : ℕ) (s : OwnState) → (length states ≤ i → s ≡ nothing) → state_at (slice_set states i s) i ≡ s
-at_changed states i s past = elim (cases_lt i (length states)) [
-  | inl within ↦ get_or-set_same states i s nothing within
-  | inr beyond ↦ rw (set_past states i s beyond) (get_or_past states i nothing beyond ∙ sym (past beyond))
-]
+at_changed states i s past = search (rules, cases_lt, get_or-set_same, set_past, get_or_past)
 
 -- who has no place in the list has nothing, and keeps it
 past_stays : (entries : List Entry) (states : List OwnState) (made : Made) → length states ≤ made.component → (running_step entries states made).next ≡ nothing
@@ -53,13 +48,8 @@ tracks_by : (entries : List Entry) (states : List OwnState) (made : Made) (compo
     (made.component == component) ≡ own →
     state_at (states_after_call entries states made) component
     ≡ own_run (entry_at entries component) (cond own (made.call ∷ []) []) (state_at states component)
-tracks_by entries states made component true e =
-    let same : made.component ≡ component = grind (arith, nat_tests) in
-    subst (λ k. state_at (states_after_call entries states made) k ≡ own_run (entry_at entries k) (made.call ∷ []) (state_at states k))
-    same (at_changed states made.component (running_step entries states made).next (past_stays entries states made))
-tracks_by entries states made component false e =
-    let other : component ≢ made.component = grind (arith, nat_tests) in
-    get_or-set_other states made.component component (running_step entries states made).next nothing other
+tracks_by entries states made component true e = grind (arith, nat_tests, at_changed, past_stays)
+tracks_by entries states made component false e = grind (arith, nat_tests, get_or-set_other)
 
 -- what a component reads of the states after a call is its run of that call, if it is its own
 tracks_call : (entries : List Entry) (states : List OwnState) (made : Made) (component : ℕ) →
@@ -70,12 +60,7 @@ tracks_call entries states made component = tracks_by entries states made compon
 -- after a call the states are own runs still
 pub Tracks-call : (entries : List Entry) (starts states : List OwnState) (earlier : List Made) (made : Made) →
     Tracks entries starts states earlier → Tracks entries starts (states_after_call entries states made) (earlier ++ made ∷ [])
-Tracks-call entries starts states earlier made h = record {
-  at = λ component.
-      tracks_call entries states made component
-      ∙ ap (own_run (entry_at entries component) (own_part component (made ∷ []))) (h.at component)
-      ∙ sym (state_after-push entries starts earlier made component);
-}
+Tracks-call entries starts states earlier made h = search (rules, tracks_call, state_after-push)
 
 -- after what was heard they are too
 pub Tracks-heard : (entries : List Entry) (starts states : List OwnState) (earlier : List Made) (what : Heard) →
@@ -119,8 +104,7 @@ Tracks-running entries starts states earlier (line ∷ lines) h =
 pub states_running-push : (entries : List Entry) (states : List OwnState) (lines : List (List ℕ)) (line : List ℕ) →
     states_running entries states (lines ++ line ∷ []) ≡ states_after_heard entries (states_running entries states lines) (heard entries line)
 states_running-push entries states [] line = refl
-states_running-push entries states (first ∷ lines) line =
-    states_running-push entries (states_after_heard entries states (heard entries first)) lines line
+states_running-push entries states (first ∷ lines) line = grind (arith, nat_tests, states_running-push entries (states_after_heard entries states (heard entries first)) lines line)
 
 -- init's account after lines and one line more
 pub init_running-push : InitOverLast
@@ -131,24 +115,19 @@ init_running-push entries init states (first ∷ lines) line =
 -- so the world after lines and one line more
 pub world_running-push : (world : World) (lines : List (List ℕ)) (line : List ℕ) →
     world_running world (lines ++ line ∷ []) ≡ world_after_heard (world_running world lines) (heard world.entries line)
-world_running-push world lines line =
-    let states = states_running-push world.entries world.states lines line in
-    let init = init_running-push world.entries world.init world.states lines line in
-    λ i. record world { init = init i; states = states i }
+world_running-push world lines line = grind (arith, nat_tests, states_running-push, init_running-push)
 
 -- what is told of lines and one line more
 pub told_running-push : (entries : List Entry) (states : List OwnState) (lines : List (List ℕ)) (line : List ℕ) →
     told_running entries states (lines ++ line ∷ [])
     ≡ told_running entries states lines ++ told_now entries (states_running entries states lines) (heard entries line)
 told_running-push entries states [] line = append-nil (told_now entries states (heard entries line))
-told_running-push entries states (first ∷ lines) line =
-    rw (told_running-push entries (states_after_heard entries states (heard entries first)) lines line, append_assoc)
+told_running-push entries states (first ∷ lines) line = grind (arith, nat_tests, append_assoc, told_running-push entries (states_after_heard entries states (heard entries first)) lines line)
 
 -- the law of both forms
 pub transcript-running : (entries : List Entry) (starts : List OwnState) (input : List ℕ) →
     transcript entries starts input ≡ told_running entries starts (lines_of input)
-transcript-running entries starts input =
-    told_after-running entries starts starts [] (lines_of input) (Tracks-none entries starts)
+transcript-running entries starts input = search (rules, told_after-running, Tracks-none)
 
 -- each running state is own run
 pub states_running-at : (entries : List Entry) (starts : List OwnState) (lines : List (List ℕ)) (component : ℕ) →
@@ -165,9 +144,7 @@ heard-length entries states (Caller made) = length-set states made.component (ru
 -- there are as many states after lines
 pub length-states_running : (entries : List Entry) (states : List OwnState) (lines : List (List ℕ)) → length (states_running entries states lines) ≡ length states
 length-states_running entries states [] = refl
-length-states_running entries states (line ∷ lines) =
-    length-states_running entries (states_after_heard entries states (heard entries line)) lines
-    ∙ heard-length entries states (heard entries line)
+length-states_running entries states (line ∷ lines) = grind (arith, nat_tests, heard-length, length-states_running entries (states_after_heard entries states (heard entries line)) lines)
 
 -- the laws by which a loop over lines is proved
 pub ruleset running = (told_running-push, states_running-push, init_running-push, length-states_running, transcript-running, states_running-at)

@@ -1,19 +1,18 @@
 -- What calls leave of sessions.
-use Rattle.std.proofs.Common.{◌≡◌, ℕ, ◌≤◌, Bool, true, false, cond, Some, refl, sym, ap, List, nat_lt, ◌∙◌}
+use Rattle.std.proofs.lemmas.Bool.Decides.{nat_tests}
+use Rattle.std.proofs.Common.{arith, rules, ◌≡◌, ℕ, ◌≤◌, Bool, true, false, cond, Some, refl, sym, ap, List, ◌∙◌}
 use Rattle.std.proofs.lemmas.Option.{none-some, same_Some}
 use Rattle.std.specs.Prelude.{Option, None}
 use Rattle.std.specs.Option.{option_or}
 use Rattle.std.specs.FinMap.{get, insert}
 use Rattle.own_model.proofs.NatMapLemmas.{each_after_insert, before_remove, get-empty}
 use Rattle.own_model.proofs.StepLemmas.{KeptByEffects, KeptBySessions, covers}
-use Rattle.own_model.specs.Account.{Account, Fits, shortage}
+use Rattle.own_model.specs.Account.{Account, Fits}
 use Rattle.own_model.specs.NatMap.{NatMap}
-use Rattle.own_model.specs.OwnState.{OwnState, Object, EachSession, session_named, new_selector, zeros, object_with}
+use Rattle.own_model.specs.OwnState.{OwnState, Object, EachSession, session_named, new_selector, object_with}
 use Rattle.own_model.specs.OwnState.Object.{Dataspace, RpcObject, OpenSession}
 use Rattle.own_model.specs.Session.{Session, Wish, donation_refusal, too_small, new_session, upgraded, served, session_ram, session_caps}
-use Rattle.trade_base.specs.Page.{page_of}
 use Rattle.trade_base.specs.declared.refusal.Refusal.{Refusal}
-use Rattle.trade_base.specs.declared.refusal.Refusal.TheVariants.{InsufficientRamQuota, InsufficientCapQuota}
 use Rattle.std.proofs.lemmas.Bool.{ltb-false}
 use Rattle.own_model.specs.OwnStep.{gone_state}
 
@@ -26,9 +25,7 @@ neither_of (Some refusal) p accepted = absurd (none-some refusal (sym accepted))
 
 -- the client covers it, and it is large enough
 pub donation_covered : (a : Account) (ram caps : ℕ) → donation_refusal a ram caps ≡ None → Fits a ram caps × (too_small ram caps ≡ None)
-donation_covered a ram caps accepted =
-    let parts = neither_of (shortage a ram caps) (too_small ram caps) accepted in
-    (covers a ram caps parts.0, parts.1)
+donation_covered a ram caps accepted = grind (arith, nat_tests, neither_of, covers)
 
 -- two tests that refuse nothing
 untold : (a b : Bool) (x y : Refusal) → cond a (Some x) (cond b (Some y) None) ≡ None → (a ≡ false) × (b ≡ false)
@@ -38,9 +35,7 @@ untold false false x y accepted = (refl, refl)
 
 -- a donation that isn't too small has what a session is charged for
 pub large_enough : (ram caps : ℕ) → too_small ram caps ≡ None → (session_ram ≤ ram) × (session_caps ≤ caps)
-large_enough ram caps accepted =
-    let parts = untold (nat_lt ram session_ram) (nat_lt caps session_caps) InsufficientRamQuota InsufficientCapQuota accepted in
-    (ltb-false ram session_ram parts.0, ltb-false caps session_caps parts.1)
+large_enough ram caps accepted = grind (arith, nat_tests, untold, ltb-false)
 
 -- what names a session is that session
 pub named_there : (o : Option Object) (x : Session) → session_named o ≡ Some x → o ≡ Some (OpenSession x)
@@ -82,24 +77,7 @@ module _ (Q : ℕ → Session → Type 0) where
 
   -- the calls that are of no session change none
   pub effects_named : (s : OwnState) → EachNamed s → KeptByEffects EachNamed s
-  effects_named s h = record {
-    allocates = λ n accepted. after_one s.selectors (new_selector s.selectors) (Dataspace (zeros (page_of n))) h tt;
-    frees = λ selector bytes there. λ q x is. h q x (before_remove s.selectors selector q (OpenSession x) is);
-    attaches = λ selector address bytes there stands room. h;
-    detaches = λ address. h;
-    pokes = λ selector offset bytes object there. after_one s.selectors selector (object_with object offset bytes) h (of_poked selector object offset bytes (of_objects s.selectors h selector object there));
-    pokes_payload = λ address offset bytes payload there. h;
-    pokes_block = λ address offset bytes payload there. h;
-    takes = λ n hole best. h;
-    grows = λ n start accepted gap. h;
-    takes_large = λ n start large accepted gap. h;
-    gives = λ address payload there small. h;
-    gives_large = λ address bytes there. h;
-    slices = λ n start accepted gap. h;
-    unslices = λ address payload there. h;
-    allocates_cap = λ accepted. after_one s.selectors (new_selector s.selectors) RpcObject h tt;
-    frees_cap = λ selector there. λ q x is. h q x (before_remove s.selectors selector q (OpenSession x) is);
-  }
+  effects_named s h = search (rules, after_one, before_remove, of_poked, of_objects)
 
   -- who has exited has none
   pub gone_named : EachNamed gone_state

@@ -1,12 +1,13 @@
 -- A call is refused for a reason of its own, and for no shortage but of what it asks of its caller's account.
-use Rattle.std.proofs.Common.{◌≡◌, ℕ, ◌+◌, ◌*◌, ◌/◌, ◌<◌, ◌≤◌, Bool, true, false, cond, List, [], ◌∷◌, Some, suc, refl, sym, ap, ◌∙◌, arith, true≢false, IsSome, inl, inr, subst}
+use Rattle.std.proofs.lemmas.Bool.Decides.{nat_tests}
+use Rattle.std.proofs.Common.{rules, ◌≡◌, ℕ, ◌+◌, ◌*◌, ◌/◌, ◌<◌, ◌≤◌, Bool, true, false, cond, List, [], ◌∷◌, Some, suc, refl, sym, ap, ◌∙◌, arith, true≢false, IsSome, subst}
 use Rattle.std.proofs.lemmas.Bool.{ltb-true, cases_lt}
 use Rattle.std.proofs.lemmas.Option.{none-some, same_Some}
 use Rattle.std.specs.List.{AllByRecursion}
 use Rattle.std.specs.Prelude.{Option, None, is_none}
 use Rattle.trade_base.specs.Page.{page_of}
 use Rattle.trade_base.specs.declared.refusal.Refusal.{Refusal}
-use Rattle.trade_base.specs.declared.refusal.Refusal.TheVariants.{NotAScript, Gone, InvalidSize, InvalidCap, OutOfRam, OutOfCaps, RegionConflict, TooManyRegions, PageFault, TooManyChunks, BadArgs, ServiceDenied, InvalidSession, InsufficientRamQuota, InsufficientCapQuota}
+use Rattle.trade_base.specs.declared.refusal.Refusal.TheVariants.{NotAScript, Gone, InvalidSize, InvalidCap, OutOfRam, OutOfCaps, RegionConflict, TooManyRegions, PageFault, InvalidSession}
 use Rattle.own_model.proofs.ListLemmas.{all_then, all_at, all_map}
 use Rattle.own_model.proofs.MachineLemmas.{machine_gap}
 use Rattle.own_model.proofs.StepLemmas.{covers}
@@ -16,7 +17,7 @@ use Rattle.own_model.specs.BestFit.{Spot, block_size}
 use Rattle.own_model.specs.Call.{Call}
 use Rattle.own_model.specs.Call.Call.{Alloc, Free, Attach, AttachAt, Detach, Peek, Poke, Capalloc, Capfree, New, Del, Snew, Sdel, Quota, Open, Upgrade, CallSession, Close, Exit}
 use Rattle.own_model.specs.Donated.{Donation}
-use Rattle.own_model.specs.Growth.{is_large, hole_for, least_growth, larger_growth, growth_of}
+use Rattle.own_model.specs.Growth.{is_large, hole_for, least_growth, larger_growth}
 use Rattle.own_model.specs.HeapWindow.{largest_machine}
 use Rattle.own_model.specs.Laws.{RefusalsHaveReason}
 use Rattle.own_model.specs.OwnState.{OwnState}
@@ -93,10 +94,7 @@ no_reason (Some refusal) is = absurd (true≢false (sym is))
 module _ (s : OwnState) (more : Donation) where
   -- tests for other causes
   other : (refusal : Refusal) (fails : Bool) → of_shortage refusal ≡ false → IsTold s.account more (when fails refusal)
-  other refusal fails apart = record {
-    ram = λ is _. absurd (true≢false (sym (ap of_shortage is) ∙ apart));
-    caps = λ is _. absurd (true≢false (sym (ap of_shortage is) ∙ apart));
-  }
+  other refusal fails apart = search (rules, true≢false)
 
   -- those of the account
   ram_told : IsTold s.account more (when (lacks_ram s.account more.ram) OutOfRam)
@@ -107,13 +105,7 @@ module _ (s : OwnState) (more : Donation) where
 
   -- and that of a gap, which is there for what is covered
   gap_told : (gap : Option ℕ) → (s.account.ram_used + more.ram ≤ s.account.ram_limit → IsSome gap) → IsTold s.account more (when (is_none gap) OutOfRam)
-  gap_told gap there = record {
-    ram = λ _ fails. elim (cases_lt s.account.ram_limit (s.account.ram_used + more.ram)) [
-      | inl short ↦ short
-      | inr covered ↦ absurd (not_none gap (there covered) fails)
-    ];
-    caps = λ is _. absurd (ram_or_caps is);
-  }
+  gap_told gap there = search (rules, cases_lt, not_none, ram_or_caps)
 
 module _ (s : OwnState) (sound : IsSound s) (uses : UsesWhatItHolds s) (small : s.account.ram_limit ≤ largest_machine * 4096) where
   -- there is a gap for what the account covers
@@ -126,9 +118,7 @@ module _ (s : OwnState) (sound : IsSound s) (uses : UsesWhatItHolds s) (small : 
   -- what takes so many bytes, at a gap for as many or others that are covered too
   memory_told : (bytes wanted : ℕ) → (s.account.ram_used + bytes ≤ s.account.ram_limit → s.account.ram_used + wanted ≤ s.account.ram_limit) →
       AreTold (bytes_and_cap bytes) (memory_line bytes (own_heap_gap wanted s) s)
-  memory_told bytes wanted too =
-      let more : Donation = bytes_and_cap bytes in
-      (ram_told s more, (caps_told s more, (gap_told s more (own_heap_gap wanted s) (λ covered. gap_there wanted (too covered)), tt)))
+  memory_told bytes wanted too = grind (arith, nat_tests, ram_told, caps_told, gap_told, gap_there)
 
   -- a growth is covered where the least one is
   growth_covered : (n : ℕ) (larger : Bool) → is_none (shortage s.account (larger_growth n s.heap.shape).bytes 1) ≡ larger →
@@ -140,10 +130,7 @@ module _ (s : OwnState) (sound : IsSound s) (uses : UsesWhatItHolds s) (small : 
   -- a block of a chunk
   small_told : (n : ℕ) (hole : Option Spot) → AreTold (asked_with n hole) (small_line n hole s)
   small_told n (Some hole) = tt
-  small_told n None = (
-    other s (asked_with n None) TooManyChunks _ refl,
-    memory_told (page_of (block_size n)) (growth_of n s.heap.shape s.account).bytes (growth_covered n (is_none (shortage s.account (larger_growth n s.heap.shape).bytes 1)) refl),
-  )
+  small_told n None = grind (arith, nat_tests, other, memory_told, growth_covered)
 
   -- any block of the heap
   new_told : (n : ℕ) (large : Bool) →
@@ -167,12 +154,8 @@ module _ (s : OwnState) (sound : IsSound s) (uses : UsesWhatItHolds s) (small : 
   line_told entry (Del address) = (other s _ PageFault _ refl, tt)
   line_told entry (Snew n) = (other s _ InvalidSize _ refl, memory_told (sliced_size n) (sliced_size n) (λ covered. covered))
   line_told entry (Sdel address) = (other s _ PageFault _ refl, tt)
-  line_told entry (Open service text) =
-      let more : Donation = asked (Open service text) s in
-      (other s _ BadArgs _ refl, (other s _ ServiceDenied _ refl, (ram_told s more, (caps_told s more, (other s _ InsufficientRamQuota _ refl, (other s _ InsufficientCapQuota _ refl, tt))))))
-  line_told entry (Upgrade selector text) =
-      let more : Donation = asked (Upgrade selector text) s in
-      (other s _ InvalidSession _ refl, (other s _ BadArgs _ refl, (ram_told s more, (caps_told s more, tt))))
+  line_told entry (Open service text) = grind (arith, nat_tests, other, ram_told, caps_told)
+  line_told entry (Upgrade selector text) = grind (arith, nat_tests, other, ram_told, caps_told)
   line_told entry (CallSession selector request) = (other s _ InvalidSession _ refl, tt)
   line_told entry (Close selector) = (other s _ InvalidSession _ refl, tt)
   line_told entry Quota = tt

@@ -33,8 +33,7 @@ module _ {X : Type 0} where
   -- a number from the first on has what its slot holds
   pub get-held_from : (first : ℕ) (slots : List (Option X)) (place q : ℕ) → first + place ≡ q → get (held_from first slots) q ≡ get_or slots place None
   unfolding held_from
-  get-held_from first slots place q number =
-      get-from_entries nat_cmp_total (taken_from first slots) q ∙ rw number at (find_slot place first slots)
+  get-held_from first slots place q number = cc (get-from_entries nat_cmp_total (taken_from first slots) q, rw number at (find_slot place first slots))
 
   -- one entry more for a slot that is taken
   len_taken : (first : ℕ) (slots : List (Option X)) → len (from_entries {R = nat_cmp} (taken_from first slots)) ≡ count_by is_some slots

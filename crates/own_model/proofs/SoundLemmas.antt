@@ -1,30 +1,29 @@
 -- Calls keep an own state sound: each region is of a dataspace that a selector names, and lies apart from the others.
-use Rattle.std.proofs.Common.{◌≡◌, ◌≢◌, ℕ, ◌+◌, ◌-◌, ◌*◌, ◌/◌, ◌<◌, ◌≤◌, true, false, cond, eqb, List, length, nat_le, Some, refl, sym, ap, subst, ◌∙◌, eqb-true, nat_cmp, arith, is_some, Bool}
+use Rattle.std.proofs.Common.{rules, ◌≡◌, ◌≢◌, ℕ, ◌+◌, ◌-◌, ◌*◌, ◌/◌, ◌<◌, ◌≤◌, true, false, List, length, nat_le, Some, refl, sym, ap, subst, ◌∙◌, eqb-true, nat_cmp, arith, is_some, Bool}
 use Rattle.std.proofs.lemmas.Bool.Decides.{nat_tests}
 use Rattle.std.proofs.lemmas.Option.{none-some, same_Some}
-use Rattle.std.specs.Prelude.{Option, None, is_none}
+use Rattle.std.specs.Prelude.{Option, None}
 use Rattle.std.specs.Option.{option_and_then}
 use Rattle.std.specs.FinMap.{get, insert, remove, empty, len, len-empty}
-use Rattle.trade_base.specs.declared.refusal.Refusal.TheVariants.{InvalidCap, TooManyRegions, RegionConflict}
+use Rattle.trade_base.specs.declared.refusal.Refusal.TheVariants.{InvalidCap, TooManyRegions}
 use Rattle.trade_base.specs.Page.{page_of}
 use Rattle.own_model.proofs.NatMapLemmas.{get-empty, get-remove_other, before_remove, apart_from_free, value_at, IsSome-at, get-insert_other, get-insert_same, each_after_insert}
 use Rattle.own_model.proofs.NewSelector.{new_selector_free}
 use Rattle.own_model.proofs.RegionLemmas.{place, left_without, len-without, free_place}
-use Rattle.own_model.specs.Account.{Account, parted_with}
+use Rattle.own_model.specs.Account.{Account, parted_with, alloc_refusal}
 use Rattle.own_model.specs.Donation.{raised}
 use Rattle.own_model.specs.Session.{Session, new_session, upgraded, served}
 use Rattle.own_model.proofs.StepLemmas.{KeptBySessions, KeptByEffects, valid_some}
 use Rattle.own_model.proofs.TableLemmas.{step_keeps, run_keeps}
 use Rattle.own_model.proofs.Totals.{len-insert_new, len-remove_le}
 use Rattle.own_model.proofs.UseLemmas.{length-zeros, length-with_part, block_size-new}
-use Rattle.own_model.specs.Account.{alloc_refusal}
 use Rattle.own_model.specs.Call.{Call}
 use Rattle.own_model.specs.Call.Call.{Free, Attach, AttachAt}
 use Rattle.own_model.specs.NatMap.{NatMap, joined}
 use Rattle.own_model.specs.OwnState.{OwnState, Object, zeros, new_selector, pages_in, with_part, object_with, heap_ranges}
 use Rattle.own_model.specs.OwnState.Object.{Dataspace, RpcObject, OpenSession}
-use Rattle.own_model.specs.OwnStep.{gone_state, own_step, own_run, script_step, refused, unless, allocated, freed, with_region, attached_first, attached_at, region_detached, poked_at, payload_poked, sliced_at, sliced_freed, own_heap_gap, cap_allocated, cap_freed}
-use Rattle.own_model.specs.Region.{Region, user_low, user_high, most_regions, can_stand, first_gap, user_gap, IsPlace, without}
+use Rattle.own_model.specs.OwnStep.{gone_state, own_step, own_run, script_step, refused, allocated, freed, with_region, attached_first, attached_at, region_detached, poked_at, payload_poked, sliced_at, sliced_freed, own_heap_gap, cap_allocated, cap_freed}
+use Rattle.own_model.specs.Region.{Region, user_low, user_high, most_regions, can_stand, IsPlace}
 use Rattle.own_model.specs.Sound.{IsPages, NamesDataspace, LieApart, AreMapped, IsBlock, KeysApart, IsSound}
 use Rattle.own_model.specs.OwnHeap.{ranges_of_heap, no_heap}
 use Rattle.own_model.specs.HeapWindow.{heap_low, heap_high, largest_machine}
@@ -45,9 +44,7 @@ page_count n some = omega arith
 
 -- as many bytes as a size above 0 rounds up to are pages
 pages_of_length : (bytes : List ℕ) (n : ℕ) → length bytes ≡ page_of n → 0 < n → IsPages bytes
-pages_of_length bytes n e some =
-    let count = page_count n some in
-    record { some = subst (λ l. 1 ≤ l / 4096) (sym e) count.0; whole = subst (λ l. l ≡ l / 4096 * 4096) (sym e) count.1 }
+pages_of_length bytes n e some = omega (arith, page_count n some)
 
 -- each dataspace that a selector names is whole pages
 abbrev EachWhole : NatMap Object → Type 0
@@ -78,9 +75,7 @@ named_same xs ys region h e = record { bytes = h.bytes; there = e ∙ h.there; p
 
 -- so it is where a free selector is filled
 named_new : (selectors : NatMap Object) (k : ℕ) (object : Object) (region : Region) → get selectors k ≡ None → NamesDataspace selectors region → NamesDataspace (insert selectors k object) region
-named_new selectors k object region free h =
-    named_same selectors (insert selectors k object) region h
-    (get-insert_other selectors k object region.of (apart_from_free selectors k region.of free (IsSome-at selectors region.of (Dataspace h.bytes) h.there)))
+named_new selectors k object region free h = search (rules, named_same, get-insert_other, apart_from_free, IsSome-at)
 
 -- and where another goes
 named_left : (selectors : NatMap Object) (k : ℕ) (region : Region) → region.of ≢ k → NamesDataspace selectors region → NamesDataspace (remove selectors k) region
@@ -93,24 +88,11 @@ object_of o a b x y = same_Some a b (sym x ∙ y)
 -- and where bytes are put over others
 named_poked : (selectors : NatMap Object) (k offset : ℕ) (part : List ℕ) (object : Object) (region : Region) → get selectors k ≡ Some object →
     NamesDataspace selectors region → NamesDataspace (insert selectors k (object_with object offset part)) region
-named_poked selectors k offset part object region there h =
-    elim (eqb region.of k) as (λ b. eqb region.of k ≡ b → NamesDataspace (insert selectors k (object_with object offset part)) region) [
-      | true ↦ λ same.
-          let at : region.of ≡ k = eqb-true region.of k same in
-          let is : object ≡ Dataspace h.bytes = object_of (get selectors k) object (Dataspace h.bytes) there (ap (get selectors) (sym at) ∙ h.there) in
-          record {
-            bytes = with_part h.bytes offset part;
-            there = get-insert_same selectors k (object_with object offset part) region.of at ∙ ap (λ o. Some (object_with o offset part)) is;
-            pages = h.pages ∙ ap (λ l. l / 4096) (sym (length-with_part h.bytes offset part));
-          }
-      | false ↦ λ other. named_same selectors _ region h (get-insert_other selectors k (object_with object offset part) region.of (eqb-false region.of k other))
-    ] refl
+named_poked selectors k offset part object region there h = search (rules, eqb-true, object_of, get-insert_same, length-with_part, named_same, get-insert_other, eqb-false)
 
 -- bytes put over others leave whole pages whole
 pages_poked : (object : Object) (offset : ℕ) (part : List ℕ) → ObjectWhole object → ObjectWhole (object_with object offset part)
-pages_poked (Dataspace bytes) offset part h =
-    let e = length-with_part bytes offset part in
-    record { some = subst (λ l. 1 ≤ l / 4096) (sym e) h.some; whole = subst (λ l. l ≡ l / 4096 * 4096) (sym e) h.whole }
+pages_poked (Dataspace bytes) offset part h = grind (arith, nat_tests, length-with_part)
 pages_poked RpcObject offset part h = tt
 pages_poked (OpenSession session) offset part h = tt
 
@@ -132,43 +114,15 @@ mapped_fewer xs ys all some left fewer h = record {
 
 -- a new dataspace keeps an own state sound
 sound_allocated : (n : ℕ) (s : OwnState) → IsSound s → alloc_refusal n s.account ≡ None → IsSound (allocated n s).next
-sound_allocated n s h accepted =
-    let key = new_selector s.selectors in
-    let space = Dataspace (zeros (page_of n)) in
-    record {
-      whole = whole_after s.selectors key space h.whole (pages_of_length (zeros (page_of n)) n (length-zeros (page_of n)) (valid_some n s.account accepted));
-      mapped = mapped_named s.selectors (insert s.selectors key space) s.regions (λ region. named_new s.selectors key space region (new_selector_free s.selectors)) h.mapped;
-      blocks = h.blocks;
-      heap_parts = h.heap_parts;
-      starts = h.starts;
-      heap = h.heap;
-    }
+sound_allocated n s h accepted = grind (arith, nat_tests, whole_after, pages_of_length, length-zeros, valid_some, mapped_named, named_new, new_selector_free)
 
 -- so does a new RPC object
 sound_cap_allocated : (s : OwnState) → IsSound s → IsSound (cap_allocated s).next
-sound_cap_allocated s h =
-    let key = new_selector s.selectors in
-    record {
-      whole = whole_after s.selectors key RpcObject h.whole tt;
-      mapped = mapped_named s.selectors (insert s.selectors key RpcObject) s.regions (λ region. named_new s.selectors key RpcObject region (new_selector_free s.selectors)) h.mapped;
-      blocks = h.blocks;
-      heap_parts = h.heap_parts;
-      starts = h.starts;
-      heap = h.heap;
-    }
+sound_cap_allocated s h = grind (arith, nat_tests, whole_after, mapped_named, named_new, new_selector_free)
 
 -- so does a dataspace that is freed, whose regions go too
 sound_freed : (selector : ℕ) (bytes : List ℕ) (s : OwnState) → IsSound s → IsSound (freed selector (Some (Dataspace bytes)) s).next
-sound_freed selector bytes s h = record {
-  whole = λ q b is. h.whole q b (before_remove s.selectors selector q (Dataspace b) is);
-  mapped = mapped_fewer s.selectors (remove s.selectors selector) s.regions (without selector s.regions)
-      (λ start region is. let left = left_without selector s.regions start region is in (left.0, named_left s.selectors selector region left.1))
-      (len-without selector s.regions) h.mapped;
-  blocks = h.blocks;
-  heap_parts = h.heap_parts;
-  starts = h.starts;
-  heap = h.heap;
-}
+sound_freed selector bytes s h = search (rules, before_remove, mapped_fewer, left_without, named_left, len-without)
 
 -- an RPC object is no dataspace, and a session is none
 rpc_is_none : (bytes : List ℕ) → ¬ (RpcObject ≡ Dataspace bytes)
@@ -184,41 +138,16 @@ not_named selectors k object region there none h at = none h.bytes (object_of (g
 
 -- an RPC object that is freed keeps an own state sound
 sound_cap_freed : (selector : ℕ) (s : OwnState) → get s.selectors selector ≡ Some RpcObject → IsSound s → IsSound (cap_freed selector (Some RpcObject) s).next
-sound_cap_freed selector s there h = record {
-  whole = λ q b is. h.whole q b (before_remove s.selectors selector q (Dataspace b) is);
-  mapped = mapped_named s.selectors (remove s.selectors selector) s.regions
-      (λ region before. named_left s.selectors selector region (not_named s.selectors selector RpcObject region there rpc_is_none before) before) h.mapped;
-  blocks = h.blocks;
-  heap_parts = h.heap_parts;
-  starts = h.starts;
-  heap = h.heap;
-}
+sound_cap_freed selector s there h = search (rules, before_remove, mapped_named, named_left, not_named, rpc_is_none)
 
 -- a region that is detached keeps an own state sound
 sound_detached : (address : ℕ) (s : OwnState) → IsSound s → IsSound (region_detached address s).next
-sound_detached address s h = record {
-  whole = h.whole;
-  mapped = mapped_fewer s.selectors s.selectors s.regions (remove s.regions address)
-      (λ start region is. (before_remove s.regions address start region is, λ named. named)) (len-remove_le s.regions address) h.mapped;
-  blocks = h.blocks;
-  heap_parts = h.heap_parts;
-  starts = h.starts;
-  heap = h.heap;
-}
+sound_detached address s h = search (rules, mapped_fewer, before_remove, len-remove_le)
 
 -- so do bytes that are poked
 sound_poked : (selector offset : ℕ) (bytes : List ℕ) (object : Object) (s : OwnState) → get s.selectors selector ≡ Some object → IsSound s →
     IsSound (poked_at selector offset bytes (Some object) s).next
-sound_poked selector offset bytes object s there h = record {
-  whole = whole_after s.selectors selector (object_with object offset bytes) h.whole
-      (pages_poked object offset bytes (whole_objects s.selectors h.whole selector object there));
-  mapped = mapped_named s.selectors (insert s.selectors selector (object_with object offset bytes)) s.regions
-      (λ region. named_poked s.selectors selector offset bytes object region there) h.mapped;
-  blocks = h.blocks;
-  heap_parts = h.heap_parts;
-  starts = h.starts;
-  heap = h.heap;
-}
+sound_poked selector offset bytes object s there h = search (rules, whole_after, pages_poked, whole_objects, mapped_named, named_poked)
 
 -- below the most there is room for one more
 fewer : (most n : ℕ) → nat_le most n ≡ false → n + 1 ≤ most
@@ -258,17 +187,11 @@ pages_new n = omega arith
 
 -- a new block is whole pages
 new_block : (n start : ℕ) → IsBlock (start + sliced_header) (zeros (sliced_size n - sliced_header))
-new_block n start = record {
-  header = omega arith;
-  whole = subst (λ size. size ≡ page_of size / 4096 * 4096) (sym (block_size-new n)) (whole_new n);
-}
+new_block n start = search (rules, block_size-new, whole_new)
 
 -- so is one with other bytes, as many
 poked_block : (address : ℕ) (old new : List ℕ) → length new ≡ length old → IsBlock address old → IsBlock address new
-poked_block address old new e h = record {
-  header = h.header;
-  whole = subst (λ n. sliced_header + n ≡ page_of (sliced_header + n) / 4096 * 4096) (sym e) h.whole;
-}
+poked_block address old new e h = search rules
 
 -- a new sliced block keeps an own state sound
 sound_sliced : (n start : ℕ) (s : OwnState) → own_heap_gap (sliced_size n) s ≡ Some start → IsSound s → IsSound (sliced_at n start s).next
@@ -341,22 +264,12 @@ effects_sound s h = record {
 -- other selectors keep an own state sound where each dataspace is whole, and each that was named still is
 sound_named : (s : OwnState) (selectors : NatMap Object) (account : Account) → EachWhole selectors → ((region : Region) → NamesDataspace s.selectors region → NamesDataspace selectors region) →
     IsSound s → IsSound (record s { account = account; selectors = selectors })
-sound_named s selectors account whole still h = record {
-  whole = whole;
-  mapped = mapped_named s.selectors selectors s.regions still h.mapped;
-  blocks = h.blocks;
-  heap_parts = h.heap_parts;
-  starts = h.starts;
-  heap = h.heap;
-}
+sound_named s selectors account whole still h = search (rules, mapped_named)
 
 -- a session in place of one
 sound_session : (s : OwnState) (selector : ℕ) (old new : Session) (account : Account) → get s.selectors selector ≡ Some (OpenSession old) → IsSound s →
     IsSound (record s { account = account; selectors = insert s.selectors selector (OpenSession new) })
-sound_session s selector old new account there h =
-    sound_named s (insert s.selectors selector (OpenSession new)) account (whole_after s.selectors selector (OpenSession new) h.whole tt) (λ region before.
-    named_same s.selectors (insert s.selectors selector (OpenSession new)) region before
-    (get-insert_other s.selectors selector (OpenSession new) region.of (not_named s.selectors selector (OpenSession old) region there (session_is_none old) before))) h
+sound_session s selector old new account there h = search (rules, sound_named, whole_after, named_same, get-insert_other, not_named, session_is_none)
 
 -- nor do calls of sessions
 pub sessions_sound : (s : OwnState) → IsSound s → KeptBySessions IsSound s
@@ -380,18 +293,7 @@ no_ranges q = get-ranges empty q ∙ ap (option_and_then (λ payload. Some (rang
 
 -- who has nothing but an account
 none_sound : (account : Account) (gone : Bool) → IsSound (record { account = account; selectors = empty; regions = empty; heap = no_heap; sliced = empty; gone = gone })
-none_sound account gone = record {
-  whole = λ selector bytes is. absurd (none-some (Dataspace bytes) (sym (get-empty selector) ∙ is));
-  mapped = record {
-    named = λ at region is. absurd (none-some region (sym (get-empty at) ∙ is));
-    lie = LieApart-empty user_low user_high empty (λ q. refl);
-    few = omega (arith, len-empty nat_cmp Region);
-  };
-  blocks = λ at payload is. absurd (none-some payload (sym (get-empty at) ∙ is));
-  heap_parts = no_heap_is;
-  starts = λ q some. ap (λ m. get m q) ranges-no_heap ∙ get-empty q;
-  heap = subst (LieApart heap_low (heap_high largest_machine)) (sym (joined-no_heap (ranges_of_blocks empty))) (LieApart-empty heap_low (heap_high largest_machine) (ranges_of_blocks empty) no_ranges);
-}
+none_sound account gone = search (rules, none-some, get-empty, LieApart-empty, len-empty, no_heap_is, ranges-no_heap, joined-no_heap, no_ranges)
 
 -- as who starts, and who has exited
 pub start_sound : (start : StartEntry) → IsSound (start_state start)
@@ -411,8 +313,7 @@ run_sound = run_keeps IsSound effects_sound sessions_sound gone_sound
 -- what is freed has no region left
 pub freed_has_none : (s : OwnState) (selector : ℕ) (bytes : List ℕ) → get s.selectors selector ≡ Some (Dataspace bytes) →
     (start : ℕ) (region : Region) → get (script_step (Free selector) s).next.regions start ≡ Some region → region.of ≢ selector
-freed_has_none s selector bytes there start region is =
-    (left_without selector s.regions start region (subst (λ o. get (freed selector o s).next.regions start ≡ Some region) there is)).1
+freed_has_none s selector bytes there start region is = search (rules, left_without)
 
 -- a number that is the most reaches it
 full : (most n : ℕ) → n ≡ most → nat_le most n ≡ true
@@ -421,11 +322,7 @@ full most n e = grind (arith, nat_tests)
 -- a map with as many regions as there can be takes no more
 pub full_refuses : (s : OwnState) (selector address : ℕ) (bytes : List ℕ) → get s.selectors selector ≡ Some (Dataspace bytes) → len s.regions ≡ most_regions →
     (script_step (Attach selector) s ≡ refused s TooManyRegions) × (script_step (AttachAt selector address) s ≡ refused s TooManyRegions)
-full_refuses s selector address bytes there count =
-    let is_full : nat_le most_regions (len s.regions) ≡ true = full most_regions (len s.regions) count in (
-      ap (λ o. attached_first selector o s) there ∙ ap (λ b. unless (cond b (Some TooManyRegions) (cond (is_none (first_gap user_low user_high s.regions (pages_in bytes))) (Some RegionConflict) None)) s (with_region selector (pages_in bytes) (user_gap s.regions (pages_in bytes)) s)) is_full,
-      ap (λ o. attached_at selector address o s) there ∙ ap (λ b. unless (cond b (Some TooManyRegions) (cond (can_stand user_low user_high s.regions (pages_in bytes) address) None (Some RegionConflict))) s (with_region selector (pages_in bytes) address s)) is_full,
-    )
+full_refuses s selector address bytes there count = grind (arith, nat_tests, full)
 
 -- what no selector names can't be attached, even to a map that is full
 pub unnamed_refused : (s : OwnState) (selector address : ℕ) → get s.selectors selector ≡ None →

@@ -1,5 +1,6 @@
 -- What a start list hands out and what init keeps are the whole machine.
-use Rattle.std.proofs.Common.{◌≡◌, ◌+◌, cond, List, [], ◌∷◌, map, sum_by, refl, sym, ◌∙◌, arith, lit≤}
+use Rattle.std.proofs.lemmas.Bool.Decides.{nat_tests}
+use Rattle.std.proofs.Common.{rules, ◌≡◌, ◌+◌, List, [], ◌∷◌, map, sum_by, refl, sym, ◌∙◌, arith}
 use Rattle.std.proofs.lemmas.List.{length-map}
 use Rattle.std.proofs.lemmas.List.Sums.{sum_by-cons}
 use Rattle.std.specs.List.{AllByRecursion, zip}
@@ -8,9 +9,9 @@ use Rattle.own_model.proofs.NatMapLemmas.{get-empty}
 use Rattle.own_model.proofs.Totals.{total-empty}
 use Rattle.own_model.specs.Account.{Account, parted_with}
 use Rattle.own_model.specs.Limits.{ram_with, caps_with, ram_limits, caps_limits, AreWithinLimits}
-use Rattle.own_model.specs.OwnState.{OwnState, EachSession}
+use Rattle.own_model.specs.OwnState.{EachSession}
 use Rattle.own_model.specs.OwnState.Object.{OpenSession}
-use Rattle.own_model.specs.StartList.{machine_a, StartEntry, StartList, Boots, AllCovered, start_state, start_states, machine_account, init_keeps}
+use Rattle.own_model.specs.StartList.{machine_a, StartEntry, StartList, Boots, AllCovered, start_state, init_keeps}
 use Rattle.own_model.specs.World.{HasItsBudget, ram_returned, caps_returned, IsBalanced, IsBalancedFor, start_world}
 
 -- nobody starts with a session
@@ -46,13 +47,7 @@ init_unused init (start ∷ starts) = init_unused (parted_with init start.ram st
 
 -- a start list that boots starts balanced
 pub start_balanced : (list : StartList) → Boots list → IsBalanced list.pages list.caps (start_world list)
-start_balanced list covered = record {
-  within = starts_within list.starts;
-  init_ram = (init_unused (machine_account list) list.starts).0;
-  init_caps = (init_unused (machine_account list) list.starts).1;
-  ram_adds_up = ram_kept (machine_account list) list.starts covered refl;
-  caps_add_up = caps_kept (machine_account list) list.starts covered refl;
-}
+start_balanced list covered = search (rules, starts_within, init_unused, ram_kept, caps_kept)
 
 -- each component has its budget
 budgets_handed : (starts : List StartEntry) → AllByRecursion (λ p. HasItsBudget p.0 p.1) (zip starts (map start_state starts))
@@ -62,31 +57,14 @@ budgets_handed (start ∷ starts) = (record { ram = omega (arith, total-empty ra
 -- and nobody is gone
 none_returned : (starts : List StartEntry) → (ram_returned starts (map start_state starts) ≡ 0) × (caps_returned starts (map start_state starts) ≡ 0)
 none_returned [] = (refl, refl)
-none_returned (start ∷ starts) =
-    let rest = none_returned starts in
-    let ram = sum_by-cons (λ (p : StartEntry × OwnState). cond p.1.gone p.0.ram 0) (start, start_state start) (zip starts (map start_state starts)) in
-    let caps = sum_by-cons (λ (p : StartEntry × OwnState). cond p.1.gone p.0.caps 0) (start, start_state start) (zip starts (map start_state starts)) in
-    (omega (arith, ram, rest.0), omega (arith, caps, rest.1))
+none_returned (start ∷ starts) = grind (arith, nat_tests, sum_by-cons, none_returned starts)
 
 pub start_balanced_for : (list : StartList) → Boots list → IsBalancedFor list (start_world list)
-start_balanced_for list covered =
-    let init : Account = init_keeps (machine_account list) list.starts in
-    let none = none_returned list.starts in
-    let ram : init.ram_limit ≡ init.ram_limit + ram_returned list.starts (start_states list) = omega (arith, none.0) in
-    let caps : init.caps_limit ≡ init.caps_limit + caps_returned list.starts (start_states list) = omega (arith, none.1) in
-    record {
-      balanced = start_balanced list covered;
-      count = length-map list.starts start_state;
-      budgets = budgets_handed list.starts;
-      init = λ i. record init { ram_limit = ram i; caps_limit = caps i };
-    }
+start_balanced_for list covered = grind (arith, nat_tests, none_returned, start_balanced, length-map, budgets_handed)
 
 -- machine A covers each of its budgets in turn, and so starts balanced
 pub machine_a_covers : Boots machine_a
-machine_a_covers = (
-  record { ram_fits = lit≤ tt; caps_fit = lit≤ tt },
-  (record { ram_fits = lit≤ tt; caps_fit = lit≤ tt }, (record { ram_fits = lit≤ tt; caps_fit = lit≤ tt }, (record { ram_fits = lit≤ tt; caps_fit = lit≤ tt }, tt))),
-)
+machine_a_covers = search rules
 
 pub machine_a_balanced : IsBalanced 64 64 (start_world machine_a)
 machine_a_balanced = start_balanced machine_a machine_a_covers

@@ -1,11 +1,11 @@
 -- What a call can do to an own state, and what is known where it is accepted.
-use Rattle.std.proofs.Common.{◌≡◌, ℕ, ◌+◌, Bool, true, false, cond, List, nat_le, nat_lt, unwrap_or, refl, sym, subst, true≢false, arith, ◌&&◌, length, ◌<◌, ◌^◌}
+use Rattle.std.proofs.Common.{rules, ◌≡◌, ℕ, ◌+◌, Bool, true, false, cond, List, nat_le, nat_lt, unwrap_or, refl, sym, true≢false, arith, ◌&&◌, length, ◌<◌, ◌^◌}
 use Rattle.std.proofs.lemmas.Bool.Decides.{nat_tests}
 use Rattle.std.proofs.lemmas.Option.{none-some}
 use Rattle.std.specs.Prelude.{Option, Some, None, is_none}
 use Rattle.std.specs.FinMap.{get, len}
 use Rattle.trade_base.specs.declared.refusal.Refusal.{Refusal}
-use Rattle.trade_base.specs.declared.refusal.Refusal.TheVariants.{OutOfRam, OutOfCaps, InvalidSize, TooManyRegions, RegionConflict, TooManyChunks}
+use Rattle.trade_base.specs.declared.refusal.Refusal.TheVariants.{OutOfCaps, InvalidSize}
 use Rattle.trade_base.specs.Page.{page_of, is_valid_size}
 use Rattle.own_model.proofs.RegionLemmas.{first_gap_least, stands}
 use Rattle.own_model.specs.Account.{Account, Fits, WithinLimits, shortage, alloc_refusal}
@@ -15,7 +15,7 @@ use Rattle.own_model.specs.NatMap.{NatMap}
 use Rattle.own_model.specs.OwnState.{OwnState, Object, pages_in}
 use Rattle.own_model.specs.OwnState.Object.{Dataspace, RpcObject, OpenSession}
 use Rattle.own_model.specs.OwnStep.{allocated, freed, with_region, region_detached, poked_at, payload_poked, block_poked, block_taken, grown_at, large_at, given_back, sliced_at, sliced_freed, own_heap_gap, cap_allocated, cap_freed, session_opened, session_upgraded, session_served, session_closed}
-use Rattle.own_model.specs.Region.{Region, most_regions, user_low, user_high, can_stand, first_gap, IsFirstGap, user_gap, attach_refusal, attach_at_refusal}
+use Rattle.own_model.specs.Region.{Region, most_regions, user_low, user_high, can_stand, first_gap, user_gap, attach_refusal, attach_at_refusal}
 use Rattle.own_model.specs.Session.{Session, Wish, donation_refusal, served}
 use Rattle.own_model.specs.SessionArgs.{Arguments}
 use Rattle.own_model.specs.Sliced.{sliced_header, sliced_size, sliced_refusal}
@@ -84,17 +84,12 @@ some_of (Some a) h = refl
 
 -- the first gap of the user window is a place, where there is one
 gap_stands : (regions : NatMap Region) (pages : ℕ) → is_none (first_gap user_low user_high regions pages) ≡ false → can_stand user_low user_high regions pages (user_gap regions pages) ≡ true
-gap_stands regions pages there =
-    let gap = user_gap regions pages in
-    let least = subst (IsFirstGap user_low user_high regions pages) (some_of _ there) (first_gap_least user_low user_high regions pages) in
-    stands user_low user_high regions pages gap least.0
+gap_stands regions pages there = grind (arith, nat_tests, some_of, first_gap_least, stands)
 
 -- where pages can be attached at a gap they can stand there, and there are fewer regions than the most
 pub attach_place : (most : ℕ) (regions : NatMap Region) (pages : ℕ) → attach_refusal most regions pages ≡ None →
     (can_stand user_low user_high regions pages (user_gap regions pages) ≡ true) × (nat_le most (len regions) ≡ false)
-attach_place most regions pages accepted =
-    let parts = neither (nat_le most (len regions)) (is_none (first_gap user_low user_high regions pages)) TooManyRegions RegionConflict accepted in
-    (gap_stands regions pages parts.1, parts.0)
+attach_place most regions pages accepted = grind (arith, nat_tests, neither, gap_stands)
 
 -- the same where the second test refuses what fails it
 neither_then : (can full : Bool) (x y : Refusal) → cond full (Some x) (cond can None (Some y)) ≡ None → (can ≡ true) × (full ≡ false)
@@ -105,20 +100,15 @@ neither_then true false x y accepted = (refl, refl)
 -- the same of an address
 pub attach_at_place : (most : ℕ) (regions : NatMap Region) (pages address : ℕ) → attach_at_refusal most regions pages address ≡ None →
     (can_stand user_low user_high regions pages address ≡ true) × (nat_le most (len regions) ≡ false)
-attach_at_place most regions pages address accepted =
-    neither_then (can_stand user_low user_high regions pages address) (nat_le most (len regions)) TooManyRegions RegionConflict accepted
+attach_at_place most regions pages address accepted = search (rules, neither_then)
 
 -- an account that lacks nothing covers it
 pub covers : (a : Account) (ram caps : ℕ) → shortage a ram caps ≡ None → Fits a ram caps
-covers a ram caps enough =
-    let parts = neither (nat_lt a.ram_limit (a.ram_used + ram)) (nat_lt a.caps_limit (a.caps_used + caps)) OutOfRam OutOfCaps enough in
-    record { ram_fits = ltb-false a.ram_limit (a.ram_used + ram) parts.0; caps_fit = ltb-false a.caps_limit (a.caps_used + caps) parts.1 }
+covers a ram caps enough = grind (arith, nat_tests, neither, ltb-false)
 
 -- an account within its limits lacks nothing but capabilities where no bytes are asked for
 pub short_of_caps : (a : Account) (caps : ℕ) (refusal : Refusal) → WithinLimits a → Some refusal ≡ shortage a 0 caps → refusal ≡ OutOfCaps
-short_of_caps a caps refusal within short =
-    let ram = within.ram in
-    grind (arith, nat_tests)
+short_of_caps a caps refusal within short = grind (arith, nat_tests)
 
 -- a size that is accepted is covered
 pub size_tested : (valid : Bool) (o : Option Refusal) (x : Refusal) → cond valid o (Some x) ≡ None → o ≡ None
@@ -146,9 +136,7 @@ then_none false o x accepted = (refl, accepted)
 -- an account lacks nothing for a growth that is accepted, and there is room for a chunk
 pub accepted_growth : (n : ℕ) (shape : Shape) (a : Account) → growth_refusal n shape a ≡ None →
     (nat_le most_chunks (length shape.chunks) ≡ false) × (shortage a (growth_of n shape a).bytes 1 ≡ None)
-accepted_growth n shape a accepted =
-    let parts = then_none (nat_le most_chunks (length shape.chunks)) (shortage a (least_growth n shape).bytes 1) TooManyChunks accepted in
-    (parts.0, chosen (shortage a (larger_growth n shape).bytes 1) (larger_growth n shape) (least_growth n shape) (λ g. shortage a g.bytes 1) refl parts.1)
+accepted_growth n shape a accepted = grind (arith, nat_tests, then_none, chosen)
 
 -- a growth has the pages of the block, at least
 pub growth_fits : (n : ℕ) (shape : Shape) (a : Account) (P : Growth → Type 0) → P (larger_growth n shape) → P (least_growth n shape) → P (growth_of n shape a)

@@ -1,5 +1,5 @@
 -- Each call is refused as its line in the table of calls says, or does one thing; so what all these keep, calls keep.
-use Rattle.std.proofs.Common.{◌≡◌, ℕ, ◌+◌, ◌&&◌, Bool, true, false, cond, not, List, [], ◌∷◌, length, nat_lt, nat_le, Some, refl, sym, ap, ◌∙◌, arith, subst, true≢false}
+use Rattle.std.proofs.Common.{rules, ◌≡◌, ℕ, ◌+◌, ◌&&◌, Bool, true, false, cond, not, List, [], ◌∷◌, length, nat_lt, nat_le, Some, refl, sym, ap, ◌∙◌, arith, subst, true≢false}
 use Rattle.std.proofs.lemmas.Bool.Decides.{nat_tests}
 use Rattle.std.proofs.lemmas.Option.{none-some, same_Some}
 use Rattle.std.specs.Prelude.{Option, None, is_none, is_some}
@@ -448,32 +448,10 @@ run_keeps P each sessions gone entry (call ∷ calls) s h = run_keeps P each ses
 
 -- a call does something
 anything : (s : OwnState) → KeptByEffects (λ _. Unit {0}) s
-anything s = record {
-  allocates = λ n accepted. tt;
-  frees = λ selector bytes there. tt;
-  attaches = λ selector address bytes there stands room. tt;
-  detaches = λ address. tt;
-  pokes = λ selector offset bytes object there. tt;
-  pokes_payload = λ address offset bytes payload there. tt;
-  pokes_block = λ address offset bytes payload there. tt;
-  takes = λ n hole best. tt;
-  grows = λ n start accepted gap. tt;
-  takes_large = λ n start large accepted gap. tt;
-  gives = λ address payload there small. tt;
-  gives_large = λ address bytes there. tt;
-  slices = λ n start accepted gap. tt;
-  unslices = λ address payload there. tt;
-  allocates_cap = λ accepted. tt;
-  frees_cap = λ selector there. tt;
-}
+anything s = search (rules, frees, attaches, detaches, pokes, pokes_payload, pokes_block, grows, gives, slices, frees_cap)
 
 anything_of_sessions : (s : OwnState) → KeptBySessions (λ _. Unit {0}) s
-anything_of_sessions s = record {
-  opens = λ wish accepted. tt;
-  upgrades = λ selector session more there accepted. tt;
-  serves = λ selector session request there. tt;
-  closes = λ selector session there. tt;
-}
+anything_of_sessions s = search (rules, opens, upgrades, serves, closes)
 
 -- what a call is refused for, and what it does else
 why_call : (entry : Entry) (call : Call) (s : OwnState) → Explained (is_of_session call) (λ _. Unit {0}) s (own_step entry call s) (whole_line entry call s)
@@ -491,12 +469,8 @@ no_lines entry call s other = let e = why_call entry call s in ap (λ o. o.lines
 -- a call is refused as its line says
 pub refused_in_order : (entry : Entry) (call : Call) (s : OwnState) → WithinLimits s.account → IsSound s →
     refusal_in (own_step entry call s).reply ≡ first_failed (whole_line entry call s)
-refused_in_order entry call s within sound =
-    let e = why_call entry call s in
-    ap (λ o. refusal_in o.reply) e.is ∙ tells s e.why e.accepted e.told ∙ e.right within sound
+refused_in_order entry call s within sound = grind (arith, nat_tests, why_call entry call s)
 
 -- and a refused one leaves the state
 pub refused_leaves : (entry : Entry) (call : Call) (s : OwnState) (refusal : Refusal) → (own_step entry call s).reply ≡ Refused refusal → own_step entry call s ≡ refused s refusal
-refused_leaves entry call s refusal told =
-    let e = why_call entry call s in
-    e.is ∙ leaves s e.why e.accepted refusal e.told (sym (ap (λ o. o.reply) e.is) ∙ told)
+refused_leaves entry call s refusal told = grind (arith, nat_tests, why_call, leaves)

@@ -73,9 +73,7 @@ module _ {X : Type 0} where
 
   -- each value is within the sum
   pub total_at_le : (f : X → ℕ) (m : NatMap X) (k : ℕ) (v : X) → get m k ≡ Some v → f v ≤ total f m
-  total_at_le f m k v there =
-      let rest = total-remove f m k v there in
-      omega arith
+  total_at_le f m k v there = omega (arith, total-remove f m k v there)
 
 -- ---- how many
 

@@ -1,15 +1,15 @@
 -- The use of an account is what its selectors name, before and after a call.
-use Rattle.std.proofs.Common.{◌≡◌, ℕ, ◌+◌, ◌-◌, List, [], ◌∷◌, Some, refl, ap, nat_cmp, arith, set, Bool, true, false}
+use Rattle.std.proofs.lemmas.Bool.Decides.{nat_tests}
+use Rattle.std.proofs.Common.{rules, ◌≡◌, ℕ, ◌-◌, List, Some, refl, arith, set, Bool, true, false}
 use Rattle.std.specs.Prelude.{None}
-use Rattle.std.specs.FinMap.{get, remove, len-empty, empty}
+use Rattle.std.specs.FinMap.{get, remove, len-empty, empty, insert}
 use Rattle.trade_base.specs.Page.{page_of}
 use Rattle.own_model.proofs.NewSelector.{new_selector_free}
 use Rattle.own_model.proofs.BlockLemmas.{bytes-taken, bytes-given}
 use Rattle.own_model.proofs.OwnHeapLemmas.{chunk_bytes-set}
-use Rattle.own_model.specs.BestFit.{Spot, block_size as block_for, chunk_of, taken_in, given_in}
+use Rattle.own_model.specs.BestFit.{Spot, chunk_of, given_in}
 use Rattle.own_model.specs.Growth.{Growth, growth_of, new_hole}
-use Rattle.own_model.specs.Heap.{Block, Hole, header, bytes_in}
-use Rattle.own_model.specs.HeapStep.{with_block}
+use Rattle.own_model.specs.Heap.{Block, header, bytes_in}
 use Rattle.own_model.specs.NatMap.{NatMap}
 use Rattle.own_model.specs.OwnHeap.{chunk_with, offset_of, no_heap}
 use Rattle.std.proofs.lemmas.List.{length-set, length-append}
@@ -19,12 +19,11 @@ use Rattle.own_model.proofs.TableLemmas.{run_keeps}
 pub use Rattle.own_model.proofs.ByteLemmas.{length-zeros, length-with_part}
 use Rattle.own_model.proofs.Totals.{total-empty, total-insert_new, total-insert_same, total-remove, len-insert_new, len-insert_at, len-remove_at}
 use Rattle.own_model.specs.Call.{Call}
-use Rattle.own_model.specs.OwnState.{OwnState, Object, zeros, new_selector, with_part, object_with}
+use Rattle.own_model.specs.OwnState.{OwnState, Object, zeros, new_selector, object_with}
 use Rattle.own_model.specs.OwnState.Object.{Dataspace, RpcObject, OpenSession}
 use Rattle.own_model.specs.OwnStep.{gone_state, own_run, allocated, freed, poked_at, payload_poked, block_taken, chunk_added, large_at, given_back, sliced_at, sliced_freed, own_heap_gap, cap_allocated, cap_freed}
 use Rattle.own_model.specs.Account.{Account, opened, parted_with, alloc_refusal}
 use Rattle.own_model.specs.Session.{Session, new_session, upgraded, served}
-use Rattle.std.specs.FinMap.{insert}
 use Rattle.own_model.specs.Sliced.{sliced_header, sliced_size, block_size}
 use Rattle.own_model.proofs.HeapRangeLemmas.{gap_free, gap_free_large, new_page}
 use Rattle.own_model.specs.StartList.{Entry, StartEntry, start_state}
@@ -32,10 +31,7 @@ use Rattle.own_model.specs.Use.{UsesWhatItHolds, object_size, object_caps}
 
 -- where nothing is held, nothing is used
 none_uses : (ram caps : ℕ) (gone : Bool) → UsesWhatItHolds (record { account = opened ram caps; selectors = empty; regions = empty; heap = no_heap; sliced = empty; gone = gone })
-none_uses ram caps gone = record {
-  ram = omega (arith, total-empty object_size, total-empty block_size, total-empty (λ (bytes : ℕ). bytes));
-  caps = omega (arith, total-empty object_caps, len-empty nat_cmp (List ℕ), len-empty nat_cmp ℕ);
-}
+none_uses ram caps gone = search (rules, total-empty, len-empty)
 
 -- as at the start, and after an exit
 pub start_uses : (start : StartEntry) → UsesWhatItHolds (start_state start)
@@ -46,21 +42,12 @@ gone_uses = none_uses 0 0 true
 
 -- a new dataspace uses its bytes and a capability
 allocated_uses : (n : ℕ) (s : OwnState) → UsesWhatItHolds s → UsesWhatItHolds (allocated n s).next
-allocated_uses n s h =
-    let key = new_selector s.selectors in
-    let space = Dataspace (zeros (page_of n)) in
-    let free = new_selector_free s.selectors in
-    let bytes = total-insert_new object_size s.selectors key space free in
-    let count = total-insert_new object_caps s.selectors key space free in
-    record { ram = omega (arith, h.ram, bytes, length-zeros (page_of n)); caps = omega (arith, h.caps, count) }
+allocated_uses n s h = grind (arith, nat_tests, new_selector_free, total-insert_new, length-zeros)
 
 -- one that is freed gives them back
 freed_uses : (selector : ℕ) (bytes : List ℕ) (s : OwnState) →
     get s.selectors selector ≡ Some (Dataspace bytes) → UsesWhatItHolds s → UsesWhatItHolds (freed selector (Some (Dataspace bytes)) s).next
-freed_uses selector bytes s there h =
-    let left = total-remove object_size s.selectors selector (Dataspace bytes) there in
-    let count = total-remove object_caps s.selectors selector (Dataspace bytes) there in
-    record { ram = omega (arith, h.ram, left); caps = omega (arith, h.caps, count) }
+freed_uses selector bytes s there h = grind (arith, nat_tests, total-remove)
 
 -- the same of what a selector names
 object_size-with : (object : Object) (offset : ℕ) (part : List ℕ) → object_size (object_with object offset part) ≡ object_size object
@@ -76,20 +63,12 @@ object_caps-with (OpenSession session) offset part = refl
 -- bytes that are poked change nothing of what is held
 poked_uses : (selector offset : ℕ) (bytes : List ℕ) (object : Object) (s : OwnState) →
     get s.selectors selector ≡ Some object → UsesWhatItHolds s → UsesWhatItHolds (poked_at selector offset bytes (Some object) s).next
-poked_uses selector offset bytes object s there h =
-    let new = object_with object offset bytes in
-    let same = total-insert_same object_size s.selectors selector new object there (object_size-with object offset bytes) in
-    let count = total-insert_same object_caps s.selectors selector new object there (object_caps-with object offset bytes) in
-    record { ram = omega (arith, h.ram, same); caps = omega (arith, h.caps, count) }
+poked_uses selector offset bytes object s there h = grind (arith, nat_tests, total-insert_same, object_size-with, object_caps-with)
 
 -- bytes put over a payload's leave what it uses
 payload_poked_uses : (address offset : ℕ) (bytes payload : List ℕ) (s : OwnState) →
     get s.sliced address ≡ Some payload → UsesWhatItHolds s → UsesWhatItHolds (payload_poked address offset bytes (Some payload) s).next
-payload_poked_uses address offset bytes payload s there h =
-    let new = with_part payload offset bytes in
-    let same = total-insert_same block_size s.sliced address new payload there (ap (λ n. sliced_header + n) (length-with_part payload offset bytes)) in
-    let count = len-insert_at s.sliced address new payload there in
-    record { ram = omega (arith, h.ram, same); caps = omega (arith, h.caps, count) }
+payload_poked_uses address offset bytes payload s there h = grind (arith, nat_tests, total-insert_same, length-with_part, len-insert_at)
 
 -- a new block has as many bytes as it was asked for, in whole pages with its header
 pub block_size-new : (n : ℕ) → block_size (zeros (sliced_size n - sliced_header)) ≡ sliced_size n
@@ -97,78 +76,44 @@ block_size-new n = omega (arith, length-zeros (sliced_size n - sliced_header))
 
 -- a new sliced block uses its bytes and a capability
 sliced_uses : (n start : ℕ) (s : OwnState) → own_heap_gap (sliced_size n) s ≡ Some start → UsesWhatItHolds s → UsesWhatItHolds (sliced_at n start s).next
-sliced_uses n start s gap h =
-    let payload = zeros (sliced_size n - sliced_header) in
-    let free = gap_free s (sliced_size n) start gap (new_page n) in
-    let bytes = total-insert_new block_size s.sliced (start + sliced_header) payload free in
-    let count = len-insert_new s.sliced (start + sliced_header) payload free in
-    record { ram = omega (arith, h.ram, bytes, block_size-new n); caps = omega (arith, h.caps, count) }
+sliced_uses n start s gap h = grind (arith, nat_tests, gap_free, new_page, total-insert_new, len-insert_new, block_size-new)
 
 -- one that is freed gives them back
 sliced_freed_uses : (address : ℕ) (payload : List ℕ) (s : OwnState) →
     get s.sliced address ≡ Some payload → UsesWhatItHolds s → UsesWhatItHolds (sliced_freed address (Some payload) s).next
-sliced_freed_uses address payload s there h =
-    let left = total-remove block_size s.sliced address payload there in
-    let count = len-remove_at s.sliced address payload there in
-    record { ram = omega (arith, h.ram, left); caps = omega (arith, h.caps, count) }
+sliced_freed_uses address payload s there h = grind (arith, nat_tests, total-remove, len-remove_at)
 
 -- ---- the heap
 
 -- blocks that change leave what a heap uses, where its chunks have as many bytes
 pub chunks_use : (s : OwnState) (i : ℕ) (blocks : List Block) (payloads : NatMap (List ℕ)) → bytes_in blocks ≡ bytes_in (chunk_of s.heap.shape.chunks i) → UsesWhatItHolds s →
     UsesWhatItHolds (record s { heap = record s.heap { shape = record s.heap.shape { chunks = set s.heap.shape.chunks i blocks }; payloads = payloads } })
-chunks_use s i blocks payloads as_many h = record {
-  ram = omega (arith, h.ram, chunk_bytes-set s.heap.shape.chunks i blocks as_many);
-  caps = omega (arith, h.caps, length-set s.heap.shape.chunks i blocks);
-}
+chunks_use s i blocks payloads as_many h = search (rules, chunk_bytes-set, length-set)
 
 -- a block taken uses nothing more
 taken_uses : (n : ℕ) (hole : Spot) (s : OwnState) → UsesWhatItHolds s → UsesWhatItHolds (block_taken n hole s).next
-taken_uses n hole s h =
-    chunks_use s hole.chunk (taken_in (block_for n) hole.offset (chunk_of s.heap.shape.chunks hole.chunk)) (with_block n hole s.heap).payloads
-    (bytes-taken (block_for n) hole.offset (chunk_of s.heap.shape.chunks hole.chunk)) h
+taken_uses n hole s h = search (rules, chunks_use, bytes-taken)
 
 -- a chunk more uses its bytes and a capability
 chunk_uses : (growth : Growth) (start : ℕ) (s : OwnState) → UsesWhatItHolds s → UsesWhatItHolds (chunk_added growth start s)
-chunk_uses growth start s h =
-    let chunk = Hole growth.bytes ∷ [] in
-    record {
-      ram = omega (arith, h.ram, sum_by-append bytes_in s.heap.shape.chunks (chunk ∷ []));
-      caps = omega (arith, h.caps, length-append s.heap.shape.chunks (chunk ∷ []));
-    }
+chunk_uses growth start s h = grind (arith, nat_tests, sum_by-append, length-append)
 
 -- a large block uses its bytes and a capability
 large_uses : (n start : ℕ) (s : OwnState) → alloc_refusal n s.account ≡ None → own_heap_gap (page_of n) s ≡ Some start → UsesWhatItHolds s → UsesWhatItHolds (large_at n start s).next
-large_uses n start s accepted gap h =
-    let some = valid_some n s.account accepted in
-    let free = gap_free_large s (page_of n) start gap (omega arith) in
-    let bytes = total-insert_new (λ (bytes : ℕ). bytes) s.heap.large start (page_of n) free in
-    let count = len-insert_new s.heap.large start (page_of n) free in
-    record { ram = omega (arith, h.ram, bytes); caps = omega (arith, h.caps, count) }
+large_uses n start s accepted gap h = grind (arith, nat_tests, valid_some, gap_free_large, total-insert_new, len-insert_new)
 
 -- and gives them back
 large_freed_uses : (address bytes : ℕ) (s : OwnState) → get s.heap.large address ≡ Some bytes → UsesWhatItHolds s → UsesWhatItHolds (given_back address (Some bytes) s).next
-large_freed_uses address bytes s there h =
-    let left = total-remove (λ (bytes : ℕ). bytes) s.heap.large address bytes there in
-    let count = len-remove_at s.heap.large address bytes there in
-    record { ram = omega (arith, h.ram, left); caps = omega (arith, h.caps, count) }
+large_freed_uses address bytes s there h = grind (arith, nat_tests, total-remove, len-remove_at)
 
 -- an RPC object uses a capability
 cap_allocated_uses : (s : OwnState) → UsesWhatItHolds s → UsesWhatItHolds (cap_allocated s).next
-cap_allocated_uses s h =
-    let key = new_selector s.selectors in
-    let free = new_selector_free s.selectors in
-    let bytes = total-insert_new object_size s.selectors key RpcObject free in
-    let count = total-insert_new object_caps s.selectors key RpcObject free in
-    record { ram = omega (arith, h.ram, bytes); caps = omega (arith, h.caps, count) }
+cap_allocated_uses s h = grind (arith, nat_tests, new_selector_free, total-insert_new)
 
 -- and gives it back
 cap_freed_uses : (selector : ℕ) (s : OwnState) →
     get s.selectors selector ≡ Some RpcObject → UsesWhatItHolds s → UsesWhatItHolds (cap_freed selector (Some RpcObject) s).next
-cap_freed_uses selector s there h =
-    let left = total-remove object_size s.selectors selector RpcObject there in
-    let count = total-remove object_caps s.selectors selector RpcObject there in
-    record { ram = omega (arith, h.ram, left); caps = omega (arith, h.caps, count) }
+cap_freed_uses selector s there h = grind (arith, nat_tests, total-remove)
 
 -- nothing that a call can do parts what is used from what is held
 effects_use : (s : OwnState) → UsesWhatItHolds s → KeptByEffects UsesWhatItHolds s
@@ -199,10 +144,7 @@ effects_use s h = record {
 -- a session in place of one, where the account uses as much
 replaced_uses : (s : OwnState) (selector : ℕ) (old new : Session) (account : Account) → account.ram_used ≡ s.account.ram_used → account.caps_used ≡ s.account.caps_used →
     get s.selectors selector ≡ Some (OpenSession old) → UsesWhatItHolds s → UsesWhatItHolds (record s { account = account; selectors = insert s.selectors selector (OpenSession new) })
-replaced_uses s selector old new account ram caps there h = record {
-  ram = omega (arith, h.ram, ram, total-insert_same object_size s.selectors selector (OpenSession new) (OpenSession old) there refl);
-  caps = omega (arith, h.caps, caps, total-insert_same object_caps s.selectors selector (OpenSession new) (OpenSession old) there refl);
-}
+replaced_uses s selector old new account ram caps there h = search (rules, total-insert_same)
 
 -- a session more, another in place of one, and one less use nothing of the client's account
 pub sessions_use : (s : OwnState) → UsesWhatItHolds s → KeptBySessions UsesWhatItHolds s
