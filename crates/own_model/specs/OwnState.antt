@@ -1,5 +1,6 @@
 -- What a component has: its own state.
 use Rattle.std.specs.Prelude.{◌≡◌, ℕ, ◌+◌, ◌/◌, ◌<◌, List, [], length, Bool, nat_le, if◌then◌else◌, Option, Some, None, IsSome, replicate}
+use Rattle.std.specs.Option.{unwrap_or}
 use Rattle.std.specs.FinMap.{get, keys}
 use Rattle.trade_base.specs.Bytes.{with_bytes}
 use Rattle.own_model.specs.NatMap.{NatMap, joined, least_gap}
@@ -47,12 +48,16 @@ unfoldable pub with_part : List ℕ → ℕ → List ℕ → List ℕ
 with_part bytes offset part =
     if nat_le (offset + length part) (length bytes) then with_bytes bytes offset part else bytes
 
--- the bytes of the dataspace that a selector names, or none
+-- the bytes of what a selector names, if that has bytes, which regions can show
+abbrev pub named_bytes : Option Object → Option (List ℕ)
+named_bytes (Some (Dataspace bytes)) = Some bytes
+named_bytes (Some RpcObject) = None
+named_bytes (Some (OpenSession session)) = None
+named_bytes None = None
+
+-- the same, and no bytes where it has none
 abbrev pub bytes_named : Option Object → List ℕ
-bytes_named (Some (Dataspace bytes)) = bytes
-bytes_named (Some RpcObject) = []
-bytes_named (Some (OpenSession session)) = []
-bytes_named None = []
+bytes_named object = unwrap_or (named_bytes object) []
 
 -- what a selector names, with a part put over its bytes at an offset
 abbrev pub object_with : Object → ℕ → List ℕ → Object
