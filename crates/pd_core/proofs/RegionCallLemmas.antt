@@ -10,9 +10,7 @@ use Rattle.own_model.specs.Call.{Call}
 use Rattle.own_model.specs.Call.Call.{Attach, AttachAt, Detach}
 use Rattle.own_model.specs.NatMap.{NatMap}
 use Rattle.own_model.specs.OwnHeap.{OwnHeap}
-use Rattle.own_model.specs.OwnState.{Object, pages_in}
-use Rattle.own_model.specs.OwnState.Object.{RpcObject, OpenSession}
-use Rattle.own_model.specs.Session.{Session as AnOpenSession}
+use Rattle.own_model.specs.OwnState.{Object, named_bytes, pages_in}
 use Rattle.own_model.specs.OwnStep.{Outcome, refused, unless, attached_first, attached_at, with_region, region_detached, script_step}
 use Rattle.own_model.specs.Region.{Region, user_low, user_high, first_gap, user_gap, attach_refusal, attach_at_refusal, detach_refusal, most_regions}
 use Rattle.own_model.specs.Reply.Reply.{Attached, Done}
@@ -55,22 +53,22 @@ module _ (p : Part) (space : Space) (regions : Regions) (heap : OwnHeap) (sliced
   -- ---- attach
 
   module _ (s : ℕ) (refusal : Refusal) (none : Err refusal ≡ sized_at p (get space.caps s)) where
-    -- a call that attaches what is no dataspace is refused
-    unnamed : (sessions : Sessions) (step : Option Object → Outcome) → step None ≡ refused (before p space regions heap sliced sound sessions) InvalidCap → step (Some RpcObject) ≡ refused (before p space regions heap sliced sound sessions) InvalidCap →
-        ((session : AnOpenSession) → step (Some (OpenSession session)) ≡ refused (before p space regions heap sliced sound sessions) InvalidCap) →
-        refused (before p space regions heap sliced sound sessions) refusal ≡ step (get (before p space regions heap sliced sound sessions).selectors s)
-    unnamed sessions step nothing rpc known =
+    -- a call that attaches what has no bytes is refused
+    unnamed : (sessions : Sessions) (step : Option (List ℕ) → Outcome) → step None ≡ refused (before p space regions heap sliced sound sessions) InvalidCap →
+        refused (before p space regions heap sliced sound sessions) refusal ≡ step (named_bytes (get (before p space regions heap sliced sound sessions).selectors s))
+    unnamed sessions step nothing =
         let b = before p space regions heap sliced sound sessions in
         let un = unsized p (get space.caps s) refusal none in
-        ap (refused b) un.0 ∙ refuses step b nothing rpc known sessions p (get space.caps s) un.1 ∙ ap step (sym (object_is p space regions heap sliced sound sessions s))
+        let by : Option Object → Outcome = λ o. step (named_bytes o) in
+        ap (refused b) un.0 ∙ refuses by b nothing nothing (λ session. nothing) sessions p (get space.caps s) un.1 ∙ ap by (sym (object_is p space regions heap sliced sound sessions s))
 
     -- so an attach is
     pub attach_unnamed : (sessions : Sessions) → refused (before p space regions heap sliced sound sessions) refusal ≡ script_step (Attach s) (before p space regions heap sliced sound sessions)
-    attach_unnamed sessions = let b = before p space regions heap sliced sound sessions in unnamed sessions (λ o. attached_first s o b) refl refl (λ session. refl)
+    attach_unnamed sessions = let b = before p space regions heap sliced sound sessions in unnamed sessions (λ o. attached_first s o b) refl
 
     -- and so is one at an address
     pub attach_at_unnamed : (address : ℕ) (sessions : Sessions) → refused (before p space regions heap sliced sound sessions) refusal ≡ script_step (AttachAt s address) (before p space regions heap sliced sound sessions)
-    attach_at_unnamed address sessions = let b = before p space regions heap sliced sound sessions in unnamed sessions (λ o. attached_at s address o b) refl refl (λ session. refl)
+    attach_at_unnamed address sessions = let b = before p space regions heap sliced sound sessions in unnamed sessions (λ o. attached_at s address o b) refl
 
   module _ (s : ℕ) (found : DsId × ℕ) (is : Ok found ≡ sized_at p (get space.caps s)) where
     -- the dataspace and its pages
@@ -90,7 +88,7 @@ module _ (p : Part) (space : Space) (regions : Regions) (heap : OwnHeap) (sliced
 
     -- what is attached is pages
     whole : IsPages (bytes_of p ds.0)
-    whole = (sound.lawful all_sessions (λ q server session there. refl)).sound.whole s (bytes_of p ds.0) (names_object p space regions heap sliced sound all_sessions s ds named)
+    whole = (sound.lawful all_sessions (λ q server session there. refl)).sound.whole s (bytes_of p ds.0) (ap named_bytes (names_object p space regions heap sliced sound all_sessions s ds named))
 
     -- at least one
     pub some_pages : 1 ≤ pages
@@ -106,7 +104,7 @@ module _ (p : Part) (space : Space) (regions : Regions) (heap : OwnHeap) (sliced
         (with_region s pages (unwrap_or (first_gap user_low user_high regions.user pages) 0) (before p space regions heap sliced sound sessions))
     first_is sessions =
         let b = before p space regions heap sliced sound sessions in
-        ap (λ x. attached_first s x b) (names_object p space regions heap sliced sound sessions s ds named)
+        ap (λ x. attached_first s (named_bytes x) b) (names_object p space regions heap sliced sound sessions s ds named)
         ∙ ap (λ n. unless (attach_refusal most_regions b.regions n) b (with_region s n (user_gap b.regions n) b)) (sym size)
         ∙ ap (λ r. unless r b (with_region s pages (user_gap b.regions pages) b))
         (sym (attach_refusal_alike regions.user b.regions (alike sessions) most_regions pages) ∙ ap (λ m. attach_refusal m regions.user pages) (sym sound.most))
@@ -117,7 +115,7 @@ module _ (p : Part) (space : Space) (regions : Regions) (heap : OwnHeap) (sliced
         ≡ unless (attach_at_refusal regions.most regions.user pages address) (before p space regions heap sliced sound sessions) (with_region s pages address (before p space regions heap sliced sound sessions))
     place_is address sessions =
         let b = before p space regions heap sliced sound sessions in
-        ap (λ x. attached_at s address x b) (names_object p space regions heap sliced sound sessions s ds named)
+        ap (λ x. attached_at s address (named_bytes x) b) (names_object p space regions heap sliced sound sessions s ds named)
         ∙ ap (λ n. unless (attach_at_refusal most_regions b.regions n address) b (with_region s n address b)) (sym size)
         ∙ ap (λ r. unless r b (with_region s pages address b))
         (sym (attach_at_refusal_alike regions.user b.regions (alike sessions) most_regions pages address) ∙ ap (λ m. attach_at_refusal m regions.user pages address) (sym sound.most))
