@@ -22,7 +22,7 @@ use Rattle.own_model.specs.Call.{Call}
 use Rattle.own_model.specs.Call.Call.{Free, Attach, AttachAt}
 use Rattle.own_model.specs.NatMap.{NatMap, joined}
 use Rattle.own_model.specs.OwnState.{OwnState, Object, zeros, new_selector, pages_in, with_part, object_with, named_bytes, heap_ranges}
-use Rattle.own_model.specs.OwnState.Object.{Dataspace, RpcObject, OpenSession}
+use Rattle.own_model.specs.OwnState.Object.{Dataspace, RpcObject, OpenSession, Buffer}
 use Rattle.own_model.specs.OwnStep.{gone_state, own_step, own_run, script_step, refused, unless, allocated, freed, with_region, attached_first, attached_at, region_detached, poked_at, payload_poked, sliced_at, sliced_freed, own_heap_gap, cap_allocated, cap_freed}
 use Rattle.own_model.specs.Region.{Region, user_low, user_high, most_regions, can_stand, first_gap, user_gap, IsPlace, without}
 use Rattle.own_model.specs.Sound.{IsPages, NamesBytes, LieApart, AreMapped, IsBlock, KeysApart, IsSound}
@@ -100,6 +100,7 @@ bytes_poked : (object : Object) (offset : ℕ) (part bytes : List ℕ) → named
 bytes_poked (Dataspace old) offset part bytes is = ap (λ b. Some (with_part b offset part)) (same_Some old bytes is)
 bytes_poked RpcObject offset part bytes is = absurd (none-some bytes is)
 bytes_poked (OpenSession session) offset part bytes is = absurd (none-some bytes is)
+bytes_poked (Buffer session old) offset part bytes is = ap (λ b. Some (with_part b offset part)) (same_Some old bytes is)
 
 -- and where bytes are put over others
 named_poked : (selectors : NatMap Object) (k offset : ℕ) (part : List ℕ) (object : Object) (region : Region) → get selectors k ≡ Some object →
@@ -127,6 +128,8 @@ pages_poked (Dataspace old) offset part h = λ bytes is.
     subst IsPages (same_Some (with_part old offset part) bytes is) (pages_alike old (with_part old offset part) (length-with_part old offset part) (h old refl))
 pages_poked RpcObject offset part h = bytes_none RpcObject refl
 pages_poked (OpenSession session) offset part h = bytes_none (OpenSession session) refl
+pages_poked (Buffer session old) offset part h = λ bytes is.
+    subst IsPages (same_Some (with_part old offset part) bytes is) (pages_alike old (with_part old offset part) (length-with_part old offset part) (h old refl))
 
 -- ---- what each effect keeps
 

@@ -18,7 +18,7 @@ use Rattle.own_model.specs.Call.Call.{Alloc, Free, Attach, AttachAt, Detach, Pee
 use Rattle.own_model.specs.BestFit.{Spot, block_size}
 use Rattle.own_model.specs.Growth.{Growth, most_chunks, is_large, hole_for, growth_of, growth_refusal, small_refusal}
 use Rattle.own_model.specs.OwnState.{OwnState, Object, named_bytes, pages_in, session_named}
-use Rattle.own_model.specs.OwnState.Object.{Dataspace, RpcObject, OpenSession}
+use Rattle.own_model.specs.OwnState.Object.{Dataspace, RpcObject, OpenSession, Buffer}
 use Rattle.own_model.specs.OwnStep.{Outcome, own_step, own_run, entry_step, refused, unless, turned_away, allocated, freed, with_region, attached_first, attached_at, region_detached, count_refusal, peeked, poked, poked_at, payload_poked, block_poked, most_bytes, block_taken, grown_at, grown_in, large_at, large_in, small_new, given_back, deleted, sliced_at, sliced_in, sliced_freed, own_heap_gap, cap_allocated, cap_freed, told_quota, opened_by, session_opened, upgraded_by, session_upgraded, session_served, session_called, session_closed, exited, gone_state}
 use Rattle.own_model.specs.Place.{Place, found}
 use Rattle.own_model.specs.Place.Place.{InDataspace, InPayload, InBlock}
@@ -82,12 +82,14 @@ module _ (session ends : Bool) (P : OwnState → Type 0) (s : OwnState) (h : P s
   frees selector (Some (Dataspace bytes)) e = does (freed selector (Some (Dataspace bytes)) s) _ refl refl refl (k.frees selector bytes e)
   frees selector (Some RpcObject) e = refused_for InvalidCap _ refl
   frees selector (Some (OpenSession session)) e = refused_for InvalidCap _ refl
+  frees selector (Some (Buffer session bytes)) e = refused_for InvalidCap _ refl
   frees selector None e = refused_for InvalidCap _ refl
 
   -- a free of an RPC object
   frees_cap : (selector : ℕ) (object : Option Object) → get s.selectors selector ≡ object → Explained session P s (cap_freed selector object s) (when (not (is_rpc_object object)) InvalidCap ∷ [])
   frees_cap selector (Some (Dataspace bytes)) e = refused_for InvalidCap _ refl
   frees_cap selector (Some (OpenSession session)) e = refused_for InvalidCap _ refl
+  frees_cap selector (Some (Buffer session bytes)) e = refused_for InvalidCap _ refl
   frees_cap selector (Some RpcObject) e = does (cap_freed selector (Some RpcObject) s) _ refl refl refl (k.frees_cap selector e)
   frees_cap selector None e = refused_for InvalidCap _ refl
 

@@ -10,11 +10,13 @@ use Rattle.own_model.specs.Region.{Region}
 use Rattle.own_model.specs.Session.{Session}
 use Rattle.own_model.specs.Sliced.{ranges_of_blocks}
 
--- what a selector names: a dataspace, by its bytes, an RPC object, which is a capability alone, or a session
+-- what a selector names: a dataspace, by its bytes, an RPC object, which is a capability alone, a session, or the buffer that
+-- the client shares with the session under a selector, by the buffer's bytes
 pub data Object : Type 0 where
   Dataspace : List ℕ → Object
   RpcObject : Object
   OpenSession : Session → Object
+  Buffer : ℕ → List ℕ → Object
 
 -- a component's account, what its selectors name, its regions by their start addresses, each of a selector, its heap,
 -- its sliced blocks by the addresses of their payloads, each by its payload's bytes, and whether it has exited.
@@ -53,6 +55,7 @@ abbrev pub named_bytes : Option Object → Option (List ℕ)
 named_bytes (Some (Dataspace bytes)) = Some bytes
 named_bytes (Some RpcObject) = None
 named_bytes (Some (OpenSession session)) = None
+named_bytes (Some (Buffer session bytes)) = Some bytes
 named_bytes None = None
 
 -- the same, and no bytes where it has none
@@ -64,12 +67,14 @@ abbrev pub object_with : Object → ℕ → List ℕ → Object
 object_with (Dataspace bytes) offset part = Dataspace (with_part bytes offset part)
 object_with RpcObject offset part = RpcObject
 object_with (OpenSession session) offset part = OpenSession session
+object_with (Buffer session bytes) offset part = Buffer session (with_part bytes offset part)
 
 -- the session that a selector names, if it names one
 abbrev pub session_named : Option Object → Option Session
 session_named (Some (OpenSession session)) = Some session
 session_named (Some (Dataspace bytes)) = None
 session_named (Some RpcObject) = None
+session_named (Some (Buffer session bytes)) = None
 session_named None = None
 
 -- a selector is the least positive number that is not in use

@@ -9,7 +9,7 @@ use Rattle.own_model.specs.Account.{opened, shortage, charged, credited, parted_
 use Rattle.own_model.specs.Call.{Call, is_exit}
 use Rattle.own_model.specs.Call.Call.{Alloc, Free, Attach, AttachAt, Detach, Peek, Poke, Capalloc, Capfree, New, Del, Snew, Sdel, Quota, Open, Upgrade, CallSession, Close, Exit}
 use Rattle.own_model.specs.OwnState.{OwnState, Object, zeros, new_selector, pages_in, with_part, object_with, named_bytes, session_named, heap_ranges}
-use Rattle.own_model.specs.OwnState.Object.{Dataspace, RpcObject, OpenSession}
+use Rattle.own_model.specs.OwnState.Object.{Dataspace, RpcObject, OpenSession, Buffer}
 use Rattle.own_model.specs.BestFit.{Spot}
 use Rattle.own_model.specs.Growth.{Growth, is_large, hole_for, new_hole, growth_of, heap_refusal}
 use Rattle.own_model.specs.HeapStep.{with_block, without_block, with_chunk, with_large, without_large, with_poked}
@@ -71,6 +71,7 @@ freed selector (Some (Dataspace bytes)) s = record {
 }
 freed selector (Some RpcObject) s = refused s InvalidCap
 freed selector (Some (OpenSession session)) s = refused s InvalidCap
+freed selector (Some (Buffer session bytes)) s = refused s InvalidCap
 freed selector None s = refused s InvalidCap
 
 -- so many pages of what the selector names stand from an address on
@@ -166,6 +167,7 @@ cap_freed selector (Some RpcObject) s = record {
 }
 cap_freed selector (Some (Dataspace bytes)) s = refused s InvalidCap
 cap_freed selector (Some (OpenSession session)) s = refused s InvalidCap
+cap_freed selector (Some (Buffer session bytes)) s = refused s InvalidCap
 cap_freed selector None s = refused s InvalidCap
 
 -- a block of the heap for n bytes, all zero, in a hole

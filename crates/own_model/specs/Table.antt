@@ -11,7 +11,7 @@ use Rattle.own_model.specs.Call.{Call}
 use Rattle.own_model.specs.Call.Call.{Alloc, Free, Attach, AttachAt, Detach, Peek, Poke, Capalloc, Capfree, New, Del, Snew, Sdel, Quota, Open, Upgrade, CallSession, Close, Exit}
 use Rattle.own_model.specs.Growth.{most_chunks, is_large, hole_for, growth_of}
 use Rattle.own_model.specs.OwnState.{OwnState, Object, pages_in, named_bytes, bytes_named, session_named}
-use Rattle.own_model.specs.OwnState.Object.{Dataspace, RpcObject, OpenSession}
+use Rattle.own_model.specs.OwnState.Object.{Dataspace, RpcObject, OpenSession, Buffer}
 use Rattle.own_model.specs.OwnStep.{most_bytes, own_heap_gap}
 use Rattle.own_model.specs.Place.{found}
 use Rattle.own_model.specs.Region.{most_regions, user_low, user_high, can_stand, first_gap}
@@ -53,12 +53,14 @@ abbrev pub is_dataspace : Option Object → Bool
 is_dataspace (Some (Dataspace bytes)) = true
 is_dataspace (Some RpcObject) = false
 is_dataspace (Some (OpenSession session)) = false
+is_dataspace (Some (Buffer session bytes)) = false
 is_dataspace None = false
 
 abbrev pub is_rpc_object : Option Object → Bool
 is_rpc_object (Some (Dataspace bytes)) = false
 is_rpc_object (Some RpcObject) = true
 is_rpc_object (Some (OpenSession session)) = false
+is_rpc_object (Some (Buffer session bytes)) = false
 is_rpc_object None = false
 
 -- the pages of the bytes that a selector names
