@@ -19,13 +19,13 @@ use Rattle.own_model.proofs.NatMapLemmas.{after_insert, before_remove}
 use Rattle.own_model.proofs.RegionLemmas.{AreAlike, AreAlike-renamed, attach_refusal_alike, attach_at_refusal_alike, detach_refusal_alike, first_gap_alike, renamed-insert, renamed-remove}
 use Rattle.cap_space.specs.Space.{Space, dataspace_of}
 use Rattle.cap_space.specs.declared.cap.Cap.{Cap}
-use Rattle.cap_space.specs.declared.cap.Cap.TheVariants.{Dataspace, RpcObject as AnRpcCap, Session}
+use Rattle.cap_space.specs.declared.cap.Cap.TheVariants.{Dataspace, RpcObject as AnRpcCap, Session, Buffer}
 use Rattle.region_map.specs.Regions.{Regions, attached, detached}
 use Rattle.dataspace_core.specs.Store.{Part, bytes_of}
 use Rattle.pd_core.specs.Own.{Sessions, selector_of, regions_of, own_of, sized_at}
 use Rattle.pd_core.specs.Sound.{AreNamed, IsScript}
 use Rattle.pd_core.proofs.NameLemmas.{named_is}
-use Rattle.pd_core.proofs.OwnLemmas.{Settles, all_sessions, before, object_is, few_bytes, names_object, remaps}
+use Rattle.pd_core.proofs.OwnLemmas.{Settles, all_sessions, before, object_is, no_buffer, few_bytes, names_object, remaps}
 use Rattle.pd_core.proofs.AccountLemmas.{refuses}
 
 -- what a look-up finds, with its pages
@@ -35,6 +35,7 @@ found_dataspace p (Some (Dataspace d)) found h =
     let same : found ≡ (d, pages_in (bytes_of p d.0)) = cc in
     (ap (λ (f : DsId × ℕ). Some (Dataspace f.0)) (sym same), ap (λ (f : DsId × ℕ). f.1) same ∙ ap (λ (f : DsId × ℕ). pages_in (bytes_of p f.0.0)) (sym same))
 found_dataspace p (Some AnRpcCap) found h = cc
+found_dataspace p (Some (Buffer space session)) found h = cc
 found_dataspace p (Some (Session server session)) found h = cc
 
 -- what a look-up finds nothing for names no dataspace
@@ -42,6 +43,7 @@ unsized : (p : Part) (o : Option Cap) (refusal : Refusal) → Err refusal ≡ si
 unsized p None refusal h = (cc, refl)
 unsized p (Some (Dataspace d)) refusal h = cc
 unsized p (Some AnRpcCap) refusal h = (cc, refl)
+unsized p (Some (Buffer space session)) refusal h = (cc, refl)
 unsized p (Some (Session server session)) refusal h = (cc, refl)
 
 module _ (p : Part) (space : Space) (regions : Regions) (heap : OwnHeap) (sliced : NatMap (List ℕ)) (sound : IsScript p space regions heap sliced) where
@@ -60,7 +62,8 @@ module _ (p : Part) (space : Space) (regions : Regions) (heap : OwnHeap) (sliced
         let b = before p space regions heap sliced sound sessions in
         let un = unsized p (get space.caps s) refusal none in
         let by : Option Object → Outcome = λ o. step (named_bytes o) in
-        ap (refused b) un.0 ∙ refuses by b nothing nothing (λ session. nothing) sessions p (get space.caps s) un.1 ∙ ap by (sym (object_is p space regions heap sliced sound sessions s))
+        ap (refused b) un.0 ∙ refuses by b nothing nothing (λ session. nothing) sessions p (get space.caps s)
+        (λ of session named. absurd (no_buffer p space regions heap sliced sound s of session named)) un.1 ∙ ap by (sym (object_is p space regions heap sliced sound sessions s))
 
     -- so an attach is
     pub attach_unnamed : (sessions : Sessions) → refused (before p space regions heap sliced sound sessions) refusal ≡ script_step (Attach s) (before p space regions heap sliced sound sessions)

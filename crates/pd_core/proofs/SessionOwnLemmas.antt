@@ -25,7 +25,7 @@ use Rattle.own_model.proofs.SoundLemmas.{step_sound}
 use Rattle.own_model.proofs.UseLemmas.{run_uses}
 use Rattle.own_model.proofs.LimitLemmas.{step_within}
 use Rattle.cap_space.specs.declared.cap.Cap.{Cap}
-use Rattle.cap_space.specs.declared.cap.Cap.TheVariants.{Dataspace, RpcObject, Session}
+use Rattle.cap_space.specs.declared.cap.Cap.TheVariants.{Dataspace, RpcObject, Session, Buffer}
 use Rattle.cap_space.specs.Space.{Space}
 use Rattle.region_map.specs.Regions.{Regions}
 use Rattle.dataspace_core.specs.Store.{Part, account_of}
@@ -52,11 +52,13 @@ no_bytes (Some session) = refl
 no_size : (S S' : Sessions) (p : Part) (cap : Cap) → unwrap_or (option_map object_size (object_of S' p cap)) 0 ≡ unwrap_or (option_map object_size (object_of S p cap)) 0
 no_size S S' p (Dataspace ds) = refl
 no_size S S' p RpcObject = refl
+no_size S S' p (Buffer space session) = refl
 no_size S S' p (Session server session) = nothing (S' server session.0) ∙ sym (nothing (S server session.0))
 
 no_caps : (S S' : Sessions) (p : Part) (cap : Cap) → unwrap_or (option_map object_caps (object_of S' p cap)) 0 ≡ unwrap_or (option_map object_caps (object_of S p cap)) 0
 no_caps S S' p (Dataspace ds) = refl
 no_caps S S' p RpcObject = refl
+no_caps S S' p (Buffer space session) = refl
 no_caps S S' p (Session server session) = costless (S' server session.0) ∙ sym (costless (S server session.0))
 
 -- an object has its bytes whatever the sessions are
@@ -64,6 +66,7 @@ bytes_still : (S S' : Sessions) (p : Part) (o : Option Cap) → named_bytes (opt
 bytes_still S S' p None = refl
 bytes_still S S' p (Some (Dataspace ds)) = refl
 bytes_still S S' p (Some RpcObject) = refl
+bytes_still S S' p (Some (Buffer space session)) = refl
 bytes_still S S' p (Some (Session server session)) = no_bytes (S' server session.0) ∙ sym (no_bytes (S server session.0))
 
 module _ (p : Part) (caps : NatMap Cap) (user : NatMap Region) (heap : OwnHeap) (sliced : NatMap (List ℕ)) (S S' : Sessions) where
@@ -122,6 +125,7 @@ lawful_step entry call s script here law =
 object_same : (S S' : Sessions) (p p' : Part) (cap : Cap) → p'.spaces ≡ p.spaces → ((server : ℕ) (session : SessionId) → cap ≡ Session server session → S' server session.0 ≡ S server session.0) → object_of S' p' cap ≡ object_of S p cap
 object_same S S' p p' (Dataspace ds) spaces agrees = ap (λ (m : NatMap (List ℕ)). option_map ADataspace (get m ds.0)) spaces
 object_same S S' p p' RpcObject spaces agrees = refl
+object_same S S' p p' (Buffer space session) spaces agrees = refl
 object_same S S' p p' (Session server session) spaces agrees = ap (option_map OpenSession) (agrees server session refl)
 
 objects_same : (S S' : Sessions) (p p' : Part) (o : Option Cap) → p'.spaces ≡ p.spaces → ((server : ℕ) (session : SessionId) → o ≡ Some (Session server session) → S' server session.0 ≡ S server session.0) → option_and_then (object_of S' p') o ≡ option_and_then (object_of S p) o
