@@ -1,6 +1,6 @@
 //! What a selector names.
 
-use trade_base::{DsId, SessionId};
+use trade_base::{DsId, Selector, SessionId};
 
 /// A capability: the right to what it names.
 #[derive(Clone, Copy, Debug, PartialEq, Eq)]
@@ -11,4 +11,6 @@ pub enum Cap {
     RpcObject,
     /// A session, by its server's entry in the start list and its key in the server's table.
     Session { server: usize, session: SessionId },
+    /// The buffer that the client shares with a session, by its dataspace and the selector of the session.
+    Buffer { space: DsId, session: Selector },
 }

@@ -2,7 +2,8 @@
 ghost use Rattle.std.specs.Prelude.{◌≡◌, ℕ, ◌<◌, ◌≤◌, ◌↔◌, None, IsTrue, IsFalse, IsSome, IfOk, IfSome, IfNone};
 ghost use Rattle.std.specs.FinMap.{get, len};
 ghost use Rattle.own_model.specs.OwnState.{new_selector, IsLeastUnused};
-ghost use Rattle.cap_space.specs.Space.{dataspace_of, is_rpc_object, session_of, fresh_space, with_cap, without_cap};
+ghost use Rattle.cap_space.specs.Space.{dataspace_of, is_rpc_object, session_of, is_buffer, fresh_space, with_cap, without_cap};
+ghost use Rattle.cap_space.specs.Slots.{IsTakenBefore};
 
 use crate::cap::Cap;
 use crate::places::Places;
@@ -131,6 +132,39 @@ impl CapSpace {
             }
             _ => None,
         }
+    }
+
+    /// Takes the buffer that has this dataspace out again, the one with the least selector, which frees the selector, and
+    /// tells it. It changes nothing where there is none. It looks at each selector in turn.
+    pub fn take_buffer(&mut self, space: DsId) -> Option<Selector>
+        ensures found { IfSome result (λ s. IsTrue (is_buffer space.0 (get self.old.caps s.0))) }
+        ensures first { IfSome result (λ s. (other : ℕ) → other < s.0 → IsFalse (is_buffer space.0 (get self.old.caps other))) }
+        ensures gone { IfSome result (λ s. self.new ≡ without_cap self.old s.0) }
+        ensures none { IfNone result ((s : ℕ) → IsFalse (is_buffer space.0 (get self.old.caps s))) }
+        ensures same { IfNone result (self.new ≡ self.old) }
+    {
+        let selector = self.buffer(space)?;
+        self.vacate(selector as u64);
+        Some(Selector(selector))
+    }
+
+    // The least selector of a buffer that has this dataspace.
+    fn buffer(&self, space: DsId) -> Option<u32>
+        ensures found { IfSome result (λ s. IsTrue (is_buffer space.0 (get self.now.caps s))) }
+        ensures first { IfSome result (λ s. (other : ℕ) → other < s → IsFalse (is_buffer space.0 (get self.now.caps other))) }
+        ensures none { IfNone result ((s : ℕ) → IsFalse (is_buffer space.0 (get self.now.caps s))) }
+    {
+        let places = self.slots.len();
+        let mut selector = 0;
+        while selector < places {
+            selector += 1;
+            if let Some(Cap::Buffer { space: of, .. }) = self.get(selector as u64) {
+                if of == space {
+                    return Some(selector as u32);
+                }
+            }
+        }
+        None
     }
 
     // Frees a selector that is in use.

@@ -13,8 +13,8 @@ use Rattle.own_model.proofs.TableLemmas.{others_go_on}
 use Rattle.own_model.specs.Account.{shortage}
 use Rattle.own_model.specs.Call.{Call, is_of_session, is_exit}
 use Rattle.own_model.specs.Call.Call.{Alloc, Free, Attach, AttachAt, Detach, Peek, Poke, Capalloc, Capfree, New, Del, Snew, Sdel, Quota, Open, Upgrade, CallSession, Close, Exit}
-use Rattle.own_model.specs.OwnState.{OwnState, Object, new_selector, object_with}
-use Rattle.own_model.specs.OwnState.Object.{Dataspace, RpcObject, OpenSession}
+use Rattle.own_model.specs.OwnState.{OwnState, Object, new_selector, zeros, object_with, session_named}
+use Rattle.own_model.specs.OwnState.Object.{Dataspace, RpcObject, OpenSession, Buffer}
 use Rattle.own_model.specs.OwnStep.{Outcome, own_step, unless, turned_away, opened_by, session_opened, upgraded_by, session_upgraded, session_called, session_closed}
 use Rattle.own_model.specs.Session.{Session, Wish, wish, donation_refusal, new_session, upgraded, served}
 use Rattle.own_model.specs.SessionArgs.{Arguments}
@@ -47,11 +47,19 @@ module _ (selector : ℕ) (session : Session) where
     rpc_is_none : ¬ (RpcObject ≡ OpenSession session)
     rpc_is_none e = cc
 
+    buffer_is_none : (of : ℕ) (bytes : List ℕ) → ¬ (Buffer of bytes ≡ OpenSession session)
+    buffer_is_none of bytes e = cc
+
     -- bytes put over those of an object, which a session has none of
     poked : (k offset : ℕ) (bytes : List ℕ) (object : Object) → get s.selectors k ≡ Some object → get (insert s.selectors k (object_with object offset bytes)) selector ≡ Some (OpenSession session)
     poked k offset bytes (Dataspace old) named = replaced k _ (apart k (Dataspace old) named (dataspace_is_none old))
     poked k offset bytes RpcObject named = replaced k _ (apart k RpcObject named rpc_is_none)
-    poked k offset bytes (OpenSession other) named = grind (arith, nat_tests, eqb-true, get-insert_same, replaced, eqb-false)
+    poked k offset bytes (Buffer of old) named = replaced k _ (apart k (Buffer of old) named (buffer_is_none of old))
+    poked k offset bytes (OpenSession other) named =
+        elim (eqb selector k) as (λ t. eqb selector k ≡ t → get (insert s.selectors k (OpenSession other)) selector ≡ Some (OpenSession session)) [
+          | true ↦ λ e. let at = eqb-true selector k e in get-insert_same s.selectors k (OpenSession other) selector at ∙ sym named ∙ ap (get s.selectors) (sym at) ∙ there
+          | false ↦ λ e. replaced k (OpenSession other) (eqb-false selector k e)
+        ] refl
 
     -- so calls that are of no session leave it
     effects_leave : KeptByEffects IsThere s

@@ -5,12 +5,11 @@ use Rattle.std.specs.Option.{option_map, option_or}
 use Rattle.std.specs.FinMap.{get}
 use Rattle.trade_base.specs.declared.refusal.Refusal.TheVariants.{PageFault}
 use Rattle.own_model.specs.Call.Call.{Peek, Poke}
-use Rattle.own_model.specs.OwnState.{OwnState, Object}
+use Rattle.own_model.specs.OwnState.{OwnState, Object, named_bytes}
 use Rattle.own_model.specs.Place.{Place, found, in_dataspace, in_payload, in_block}
 use Rattle.own_model.specs.Place.Place.{InDataspace, InPayload, InBlock}
 use Rattle.own_model.specs.Sliced.{block_found}
-use Rattle.own_model.specs.OwnState.Object.{Dataspace}
-use Rattle.own_model.specs.OwnStep.{refused, count_refusal, poked_at, payload_poked, block_poked, script_step}
+use Rattle.own_model.specs.OwnStep.{refused, unless, count_refusal, peeked, poked, poked_at, payload_poked, block_poked, script_step}
 use Rattle.own_model.specs.Region.{resolved}
 use Rattle.own_model.specs.Reply.Reply.{Bytes}
 
@@ -32,11 +31,14 @@ module _ (s : OwnState) where
       found s address count ≡ option_map in_block o
   found_block address count o none free is = cc
 
-  -- a peek tells the bytes of the dataspace of the region that holds the range
+  -- a peek tells the bytes that the region shows, of the region that holds the range
   pub peeks : (address count selector offset : ℕ) (bytes : List ℕ) → count_refusal count ≡ None → resolved s.regions address count ≡ Some (selector, offset) →
-      get s.selectors selector ≡ Some (Dataspace bytes) →
+      named_bytes (get s.selectors selector) ≡ Some bytes →
       script_step (Peek address count) s ≡ record { reply = Bytes (slice_range bytes offset (offset + count)); lines = []; next = s }
-  peeks address count selector offset bytes some at there = search (rules, found_region)
+  peeks address count selector offset bytes some at there =
+      ap (λ r. unless r s (peeked count (found s address count) s)) some
+      ∙ ap (λ o. peeked count o s) (found_region address count selector offset at)
+      ∙ ap (λ o. record { reply = Bytes (slice_range (unwrap_or o []) offset (offset + count)); lines = []; next = s }) there
 
   -- or those of the payload that holds it
   pub peeks_payload : (address count block offset : ℕ) (payload : List ℕ) → count_refusal count ≡ None → found s address count ≡ Some (InPayload block offset) →

@@ -19,7 +19,8 @@ use Rattle.own_model.proofs.SessionLemmas.{donation_covered, large_enough, effec
 use Rattle.own_model.proofs.Totals.{total-empty, total-insert_new, total-insert_same, total-insert_at, total-remove}
 use Rattle.own_model.specs.Limits.{ram_with, caps_with, ram_limits, caps_limits, init_after, AreWithinLimits}
 use Rattle.own_model.specs.NatMap.{total}
-use Rattle.own_model.specs.OwnState.Object.{Dataspace, RpcObject, OpenSession}
+use Rattle.own_model.specs.OwnState.{Object, EachSession, new_selector, zeros, object_with}
+use Rattle.own_model.specs.OwnState.Object.{Dataspace, RpcObject, OpenSession, Buffer}
 use Rattle.own_model.specs.Routes.{Rule}
 use Rattle.own_model.specs.Session.{Session, ServiceState, served_by}
 use Rattle.own_model.specs.Session.ServiceState.{Logging, Filing}
@@ -113,6 +114,7 @@ counts-with : (object : Object) (offset : ℕ) (part : List ℕ) →
 counts-with (Dataspace bytes) offset part = (refl, refl)
 counts-with RpcObject offset part = (refl, refl)
 counts-with (OpenSession session) offset part = (refl, refl)
+counts-with (Buffer session bytes) offset part = (refl, refl)
 
 -- another object that counts nothing
 adds_nothing : (s : OwnState) (object : Object) → ram_with object ≡ 0 → caps_with object ≡ 0 →

@@ -6,8 +6,7 @@ pub use Rattle.own_model.proofs.ByteLemmas.{with_part-within, slice_range-with_p
 use Rattle.own_model.proofs.CallLemmas.{peeks, pokes}
 use Rattle.own_model.proofs.NatMapLemmas.{get-insert_same}
 use Rattle.own_model.proofs.RegionLemmas.{resolved_facts}
-use Rattle.own_model.specs.OwnState.{OwnState}
-use Rattle.own_model.specs.OwnState.Object.{Dataspace}
+use Rattle.own_model.specs.OwnState.{OwnState, named_bytes}
 use Rattle.own_model.specs.Call.Call.{Peek, Poke}
 use Rattle.own_model.specs.OwnStep.{count_refusal, script_step}
 use Rattle.own_model.specs.Reply.Reply.{Bytes}
@@ -15,15 +14,15 @@ use Rattle.own_model.specs.Region.{resolved}
 use Rattle.own_model.specs.Sound.{IsSound}
 use Rattle.std.proofs.lemmas.Bool.Decides.{nat_tests}
 
--- a range that a region holds lies within the dataspace that the region's selector names
+-- a range that a region holds lies within the bytes that the region's selector names
 pub range_fits : (s : OwnState) (address count selector offset : ℕ) → IsSound s → resolved s.regions address count ≡ Some (selector, offset) →
-    (bytes : List ℕ) × (get s.selectors selector ≡ Some (Dataspace bytes)) × (offset + count ≤ length bytes)
+    (bytes : List ℕ) × (named_bytes (get s.selectors selector) ≡ Some bytes) × (offset + count ≤ length bytes)
 range_fits s address count selector offset h is =
     let at = resolved_facts s.regions address count selector offset is in
     let named = h.mapped.named at.0.0 at.0.1 at.2 in
     let whole = (h.whole at.0.1.of named.bytes named.there).whole in (
       named.bytes,
-      subst (λ k. get s.selectors k ≡ Some (Dataspace named.bytes)) at.3 named.there,
+      subst (λ k. named_bytes (get s.selectors k) ≡ Some named.bytes) at.3 named.there,
       subst (λ n. offset + count ≤ n) (sym whole) (subst (λ n. offset + count ≤ n * 4096) named.pages at.5),
     )
 

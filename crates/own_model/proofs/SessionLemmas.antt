@@ -9,8 +9,8 @@ use Rattle.own_model.proofs.NatMapLemmas.{each_after_insert, before_remove, get-
 use Rattle.own_model.proofs.StepLemmas.{KeptByEffects, KeptBySessions, covers}
 use Rattle.own_model.specs.Account.{Account, Fits}
 use Rattle.own_model.specs.NatMap.{NatMap}
-use Rattle.own_model.specs.OwnState.{OwnState, Object, EachSession, session_named, new_selector, object_with}
-use Rattle.own_model.specs.OwnState.Object.{Dataspace, RpcObject, OpenSession}
+use Rattle.own_model.specs.OwnState.{OwnState, Object, EachSession, session_named, new_selector, zeros, object_with}
+use Rattle.own_model.specs.OwnState.Object.{Dataspace, RpcObject, OpenSession, Buffer}
 use Rattle.own_model.specs.Session.{Session, Wish, donation_refusal, too_small, new_session, upgraded, served, session_ram, session_caps}
 use Rattle.trade_base.specs.declared.refusal.Refusal.{Refusal}
 use Rattle.std.proofs.lemmas.Bool.{ltb-false}
@@ -42,6 +42,7 @@ pub named_there : (o : Option Object) (x : Session) → session_named o ≡ Some
 named_there (Some (OpenSession y)) x is = ap (λ z. Some (OpenSession z)) (same_Some y x is)
 named_there (Some (Dataspace bytes)) x is = absurd (none-some x is)
 named_there (Some RpcObject) x is = absurd (none-some x is)
+named_there (Some (Buffer session bytes)) x is = absurd (none-some x is)
 named_there None x is = absurd (none-some x is)
 
 -- ---- what holds of each session
@@ -56,12 +57,14 @@ module _ (Q : ℕ → Session → Type 0) where
   OfObject q (OpenSession session) = Q q session
   OfObject q (Dataspace bytes) = Unit {0}
   OfObject q RpcObject = Unit {0}
+  OfObject q (Buffer session bytes) = Unit {0}
 
   of_objects : (selectors : NatMap Object) → ((selector : ℕ) (session : Session) → get selectors selector ≡ Some (OpenSession session) → Q selector session) →
       (q : ℕ) (object : Object) → get selectors q ≡ Some object → OfObject q object
   of_objects selectors each q (OpenSession session) is = each q session is
   of_objects selectors each q (Dataspace bytes) is = tt
   of_objects selectors each q RpcObject is = tt
+  of_objects selectors each q (Buffer session bytes) is = tt
 
   -- one more object of which it holds
   after_one : (selectors : NatMap Object) (k : ℕ) (object : Object) → ((selector : ℕ) (session : Session) → get selectors selector ≡ Some (OpenSession session) → Q selector session) →
@@ -74,6 +77,7 @@ module _ (Q : ℕ → Session → Type 0) where
   of_poked q (OpenSession session) offset part h = h
   of_poked q (Dataspace bytes) offset part h = tt
   of_poked q RpcObject offset part h = tt
+  of_poked q (Buffer session bytes) offset part h = tt
 
   -- the calls that are of no session change none
   pub effects_named : (s : OwnState) → EachNamed s → KeptByEffects EachNamed s

@@ -1,5 +1,5 @@
--- Calls keep an own state sound: each region is of a dataspace that a selector names, and lies apart from the others.
-use Rattle.std.proofs.Common.{rules, ◌≡◌, ◌≢◌, ℕ, ◌+◌, ◌-◌, ◌*◌, ◌/◌, ◌<◌, ◌≤◌, true, false, List, length, nat_le, Some, refl, sym, ap, subst, ◌∙◌, eqb-true, nat_cmp, arith, is_some, Bool}
+-- Calls keep an own state sound: each region is of bytes that a selector names, and lies apart from the others.
+use Rattle.std.proofs.Common.{◌≡◌, ◌≢◌, ℕ, ◌+◌, ◌-◌, ◌*◌, ◌/◌, ◌<◌, ◌≤◌, true, false, cond, eqb, List, length, nat_le, Some, refl, sym, ap, subst, ◌∙◌, eqb-true, nat_cmp, arith, is_some, Bool}
 use Rattle.std.proofs.lemmas.Bool.Decides.{nat_tests}
 use Rattle.std.proofs.lemmas.Option.{none-some, same_Some}
 use Rattle.std.specs.Prelude.{Option, None}
@@ -20,11 +20,11 @@ use Rattle.own_model.proofs.UseLemmas.{length-zeros, length-with_part, block_siz
 use Rattle.own_model.specs.Call.{Call}
 use Rattle.own_model.specs.Call.Call.{Free, Attach, AttachAt}
 use Rattle.own_model.specs.NatMap.{NatMap, joined}
-use Rattle.own_model.specs.OwnState.{OwnState, Object, zeros, new_selector, pages_in, with_part, object_with, heap_ranges}
-use Rattle.own_model.specs.OwnState.Object.{Dataspace, RpcObject, OpenSession}
-use Rattle.own_model.specs.OwnStep.{gone_state, own_step, own_run, script_step, refused, allocated, freed, with_region, attached_first, attached_at, region_detached, poked_at, payload_poked, sliced_at, sliced_freed, own_heap_gap, cap_allocated, cap_freed}
-use Rattle.own_model.specs.Region.{Region, user_low, user_high, most_regions, can_stand, IsPlace}
-use Rattle.own_model.specs.Sound.{IsPages, NamesDataspace, LieApart, AreMapped, IsBlock, KeysApart, IsSound}
+use Rattle.own_model.specs.OwnState.{OwnState, Object, zeros, new_selector, pages_in, with_part, object_with, named_bytes, heap_ranges}
+use Rattle.own_model.specs.OwnState.Object.{Dataspace, RpcObject, OpenSession, Buffer}
+use Rattle.own_model.specs.OwnStep.{gone_state, own_step, own_run, script_step, refused, unless, allocated, freed, with_region, attached_first, attached_at, region_detached, poked_at, payload_poked, sliced_at, sliced_freed, own_heap_gap, cap_allocated, cap_freed}
+use Rattle.own_model.specs.Region.{Region, user_low, user_high, most_regions, can_stand, first_gap, user_gap, IsPlace, without}
+use Rattle.own_model.specs.Sound.{IsPages, NamesBytes, LieApart, AreMapped, IsBlock, KeysApart, IsSound}
 use Rattle.own_model.specs.OwnHeap.{ranges_of_heap, no_heap}
 use Rattle.own_model.specs.HeapWindow.{heap_low, heap_high, largest_machine}
 use Rattle.own_model.specs.Sliced.{sliced_header, sliced_size, block_pages, ranges_of_blocks}
@@ -46,65 +46,97 @@ page_count n some = omega arith
 pages_of_length : (bytes : List ℕ) (n : ℕ) → length bytes ≡ page_of n → 0 < n → IsPages bytes
 pages_of_length bytes n e some = omega (arith, page_count n some)
 
--- each dataspace that a selector names is whole pages
+-- what a selector names is whole pages, if it has bytes
 abbrev EachWhole : NatMap Object → Type 0
-EachWhole selectors = (selector : ℕ) (bytes : List ℕ) → get selectors selector ≡ Some (Dataspace bytes) → IsPages bytes
+EachWhole selectors = (selector : ℕ) (bytes : List ℕ) → named_bytes (get selectors selector) ≡ Some bytes → IsPages bytes
 
--- an object is whole pages, if it is a dataspace
+-- so is an object
 abbrev ObjectWhole : Object → Type 0
-ObjectWhole (Dataspace bytes) = IsPages bytes
-ObjectWhole RpcObject = Unit {0}
-ObjectWhole (OpenSession session) = Unit {0}
+ObjectWhole object = (bytes : List ℕ) → named_bytes (Some object) ≡ Some bytes → IsPages bytes
 
--- where each dataspace is whole pages, each object is
-whole_objects : (selectors : NatMap Object) → EachWhole selectors → (q : ℕ) (w : Object) → get selectors q ≡ Some w → ObjectWhole w
-whole_objects selectors each q (Dataspace bytes) is = each q bytes is
-whole_objects selectors each q RpcObject is = tt
-whole_objects selectors each q (OpenSession session) is = tt
+-- one that has no bytes is
+bytes_none : (object : Object) → named_bytes (Some object) ≡ None → ObjectWhole object
+bytes_none object none bytes is = absurd (none-some bytes (sym none ∙ is))
 
--- one more object that is leaves each dataspace whole pages
+-- what has bytes is there
+has_bytes : (o : Option Object) (bytes : List ℕ) → named_bytes o ≡ Some bytes → (object : Object) × (o ≡ Some object) × (named_bytes (Some object) ≡ Some bytes)
+has_bytes None bytes is = absurd (none-some bytes is)
+has_bytes (Some object) bytes is = (object, refl, is)
+
+-- one more object that is leaves each whole pages
 whole_after : (selectors : NatMap Object) (k : ℕ) (object : Object) → EachWhole selectors → ObjectWhole object → EachWhole (insert selectors k object)
 whole_after selectors k object each here selector bytes is =
-    each_after_insert selectors k object (λ q w. ObjectWhole w) (whole_objects selectors each) here selector (Dataspace bytes) is
+    let at = has_bytes (get (insert selectors k object) selector) bytes is in
+    each_after_insert selectors k object (λ q w. ObjectWhole w) (λ q w there b e. each q b (ap named_bytes there ∙ e)) here selector at.0 at.1 bytes at.2
+
+-- and so does one that goes
+whole_left : (selectors : NatMap Object) (k : ℕ) → EachWhole selectors → EachWhole (remove selectors k)
+whole_left selectors k each selector bytes is =
+    let at = has_bytes (get (remove selectors k) selector) bytes is in
+    each selector bytes (ap named_bytes (before_remove selectors k selector at.0 at.1) ∙ at.2)
 
 -- ---- names
 
--- a region whose selector's dataspace stays is named
-named_same : (xs ys : NatMap Object) (region : Region) (h : NamesDataspace xs region) → get ys region.of ≡ get xs region.of → NamesDataspace ys region
-named_same xs ys region h e = record { bytes = h.bytes; there = e ∙ h.there; pages = h.pages }
+-- a region whose selector's bytes stay is named
+named_same : (xs ys : NatMap Object) (region : Region) (h : NamesBytes xs region) → get ys region.of ≡ get xs region.of → NamesBytes ys region
+named_same xs ys region h e = record { bytes = h.bytes; there = ap named_bytes e ∙ h.there; pages = h.pages }
 
 -- so it is where a free selector is filled
-named_new : (selectors : NatMap Object) (k : ℕ) (object : Object) (region : Region) → get selectors k ≡ None → NamesDataspace selectors region → NamesDataspace (insert selectors k object) region
-named_new selectors k object region free h = search (rules, named_same, get-insert_other, apart_from_free, IsSome-at)
+named_new : (selectors : NatMap Object) (k : ℕ) (object : Object) (region : Region) → get selectors k ≡ None → NamesBytes selectors region → NamesBytes (insert selectors k object) region
+named_new selectors k object region free h =
+    let at = has_bytes (get selectors region.of) h.bytes h.there in
+    named_same selectors (insert selectors k object) region h
+    (get-insert_other selectors k object region.of (apart_from_free selectors k region.of free (IsSome-at selectors region.of at.0 at.1)))
 
 -- and where another goes
-named_left : (selectors : NatMap Object) (k : ℕ) (region : Region) → region.of ≢ k → NamesDataspace selectors region → NamesDataspace (remove selectors k) region
+named_left : (selectors : NatMap Object) (k : ℕ) (region : Region) → region.of ≢ k → NamesBytes selectors region → NamesBytes (remove selectors k) region
 named_left selectors k region other h = named_same selectors (remove selectors k) region h (get-remove_other selectors k region.of other)
 
--- what is there is one object alone
-object_of : (o : Option Object) (a b : Object) → o ≡ Some a → o ≡ Some b → a ≡ b
-object_of o a b x y = same_Some a b (sym x ∙ y)
+-- bytes put over an object's are put over the bytes it has
+bytes_poked : (object : Object) (offset : ℕ) (part bytes : List ℕ) → named_bytes (Some object) ≡ Some bytes → named_bytes (Some (object_with object offset part)) ≡ Some (with_part bytes offset part)
+bytes_poked (Dataspace old) offset part bytes is = ap (λ b. Some (with_part b offset part)) (same_Some old bytes is)
+bytes_poked RpcObject offset part bytes is = absurd (none-some bytes is)
+bytes_poked (OpenSession session) offset part bytes is = absurd (none-some bytes is)
+bytes_poked (Buffer session old) offset part bytes is = ap (λ b. Some (with_part b offset part)) (same_Some old bytes is)
 
 -- and where bytes are put over others
 named_poked : (selectors : NatMap Object) (k offset : ℕ) (part : List ℕ) (object : Object) (region : Region) → get selectors k ≡ Some object →
-    NamesDataspace selectors region → NamesDataspace (insert selectors k (object_with object offset part)) region
-named_poked selectors k offset part object region there h = search (rules, eqb-true, object_of, get-insert_same, length-with_part, named_same, get-insert_other, eqb-false)
+    NamesBytes selectors region → NamesBytes (insert selectors k (object_with object offset part)) region
+named_poked selectors k offset part object region there h =
+    elim (eqb region.of k) as (λ b. eqb region.of k ≡ b → NamesBytes (insert selectors k (object_with object offset part)) region) [
+      | true ↦ λ same.
+          let at : region.of ≡ k = eqb-true region.of k same in
+          let is : named_bytes (Some object) ≡ Some h.bytes = ap named_bytes (sym there ∙ ap (get selectors) (sym at)) ∙ h.there in
+          record {
+            bytes = with_part h.bytes offset part;
+            there = ap named_bytes (get-insert_same selectors k (object_with object offset part) region.of at) ∙ bytes_poked object offset part h.bytes is;
+            pages = h.pages ∙ ap (λ l. l / 4096) (sym (length-with_part h.bytes offset part));
+          }
+      | false ↦ λ other. named_same selectors _ region h (get-insert_other selectors k (object_with object offset part) region.of (eqb-false region.of k other))
+    ] refl
 
--- bytes put over others leave whole pages whole
+-- as many bytes as whole pages are whole pages
+pages_alike : (old new : List ℕ) → length new ≡ length old → IsPages old → IsPages new
+pages_alike old new e h = record { some = subst (λ l. 1 ≤ l / 4096) (sym e) h.some; whole = subst (λ l. l ≡ l / 4096 * 4096) (sym e) h.whole }
+
+-- so bytes put over others leave whole pages whole
 pages_poked : (object : Object) (offset : ℕ) (part : List ℕ) → ObjectWhole object → ObjectWhole (object_with object offset part)
-pages_poked (Dataspace bytes) offset part h = grind (arith, nat_tests, length-with_part)
-pages_poked RpcObject offset part h = tt
-pages_poked (OpenSession session) offset part h = tt
+pages_poked (Dataspace old) offset part h = λ bytes is.
+    subst IsPages (same_Some (with_part old offset part) bytes is) (pages_alike old (with_part old offset part) (length-with_part old offset part) (h old refl))
+pages_poked RpcObject offset part h = bytes_none RpcObject refl
+pages_poked (OpenSession session) offset part h = bytes_none (OpenSession session) refl
+pages_poked (Buffer session old) offset part h = λ bytes is.
+    subst IsPages (same_Some (with_part old offset part) bytes is) (pages_alike old (with_part old offset part) (length-with_part old offset part) (h old refl))
 
 -- ---- what each effect keeps
 
--- regions stay mapped where each dataspace that was named still is
-mapped_named : (xs ys : NatMap Object) (regions : NatMap Region) → ((region : Region) → NamesDataspace xs region → NamesDataspace ys region) → AreMapped xs regions → AreMapped ys regions
+-- regions stay mapped where all bytes that were named still are
+mapped_named : (xs ys : NatMap Object) (regions : NatMap Region) → ((region : Region) → NamesBytes xs region → NamesBytes ys region) → AreMapped xs regions → AreMapped ys regions
 mapped_named xs ys regions still h = record { named = λ start region is. still region (h.named start region is); lie = h.lie; few = h.few }
 
 -- and so do some of them
 mapped_fewer : (xs ys : NatMap Object) (all some : NatMap Region) →
-    ((start : ℕ) (region : Region) → get some start ≡ Some region → (get all start ≡ Some region) × (NamesDataspace xs region → NamesDataspace ys region)) →
+    ((start : ℕ) (region : Region) → get some start ≡ Some region → (get all start ≡ Some region) × (NamesBytes xs region → NamesBytes ys region)) →
     len some ≤ len all → AreMapped xs all → AreMapped ys some
 mapped_fewer xs ys all some left fewer h = record {
   named = λ start region is. let was = left start region is in was.1 (h.named start region was.0);
@@ -114,31 +146,62 @@ mapped_fewer xs ys all some left fewer h = record {
 
 -- a new dataspace keeps an own state sound
 sound_allocated : (n : ℕ) (s : OwnState) → IsSound s → alloc_refusal n s.account ≡ None → IsSound (allocated n s).next
-sound_allocated n s h accepted = grind (arith, nat_tests, whole_after, pages_of_length, length-zeros, valid_some, mapped_named, named_new, new_selector_free)
+sound_allocated n s h accepted =
+    let key = new_selector s.selectors in
+    let space = Dataspace (zeros (page_of n)) in
+    record {
+      whole = whole_after s.selectors key space h.whole
+          (λ bytes is. subst IsPages (same_Some (zeros (page_of n)) bytes is) (pages_of_length (zeros (page_of n)) n (length-zeros (page_of n)) (valid_some n s.account accepted)));
+      mapped = mapped_named s.selectors (insert s.selectors key space) s.regions (λ region. named_new s.selectors key space region (new_selector_free s.selectors)) h.mapped;
+      blocks = h.blocks;
+      heap_parts = h.heap_parts;
+      starts = h.starts;
+      heap = h.heap;
+    }
 
 -- so does a new RPC object
 sound_cap_allocated : (s : OwnState) → IsSound s → IsSound (cap_allocated s).next
-sound_cap_allocated s h = grind (arith, nat_tests, whole_after, mapped_named, named_new, new_selector_free)
+sound_cap_allocated s h =
+    let key = new_selector s.selectors in
+    record {
+      whole = whole_after s.selectors key RpcObject h.whole (bytes_none RpcObject refl);
+      mapped = mapped_named s.selectors (insert s.selectors key RpcObject) s.regions (λ region. named_new s.selectors key RpcObject region (new_selector_free s.selectors)) h.mapped;
+      blocks = h.blocks;
+      heap_parts = h.heap_parts;
+      starts = h.starts;
+      heap = h.heap;
+    }
 
 -- so does a dataspace that is freed, whose regions go too
 sound_freed : (selector : ℕ) (bytes : List ℕ) (s : OwnState) → IsSound s → IsSound (freed selector (Some (Dataspace bytes)) s).next
-sound_freed selector bytes s h = search (rules, before_remove, mapped_fewer, left_without, named_left, len-without)
+sound_freed selector bytes s h = record {
+  whole = whole_left s.selectors selector h.whole;
+  mapped = mapped_fewer s.selectors (remove s.selectors selector) s.regions (without selector s.regions)
+      (λ start region is. let left = left_without selector s.regions start region is in (left.0, named_left s.selectors selector region left.1))
+      (len-without selector s.regions) h.mapped;
+  blocks = h.blocks;
+  heap_parts = h.heap_parts;
+  starts = h.starts;
+  heap = h.heap;
+}
 
--- an RPC object is no dataspace, and a session is none
-rpc_is_none : (bytes : List ℕ) → ¬ (RpcObject ≡ Dataspace bytes)
-rpc_is_none bytes e = cc
-
-session_is_none : (session : Session) (bytes : List ℕ) → ¬ (OpenSession session ≡ Dataspace bytes)
-session_is_none session bytes e = cc
-
--- what is no dataspace has no region
-not_named : (selectors : NatMap Object) (k : ℕ) (object : Object) (region : Region) → get selectors k ≡ Some object → ((bytes : List ℕ) → ¬ (object ≡ Dataspace bytes)) →
-    NamesDataspace selectors region → region.of ≢ k
-not_named selectors k object region there none h at = none h.bytes (object_of (get selectors k) object (Dataspace h.bytes) there (ap (get selectors) (sym at) ∙ h.there))
+-- what has no bytes has no region
+not_named : (selectors : NatMap Object) (k : ℕ) (object : Object) (region : Region) → get selectors k ≡ Some object → named_bytes (Some object) ≡ None →
+    NamesBytes selectors region → region.of ≢ k
+not_named selectors k object region there none h at =
+    none-some h.bytes (sym none ∙ ap named_bytes (sym there ∙ ap (get selectors) (sym at)) ∙ h.there)
 
 -- an RPC object that is freed keeps an own state sound
 sound_cap_freed : (selector : ℕ) (s : OwnState) → get s.selectors selector ≡ Some RpcObject → IsSound s → IsSound (cap_freed selector (Some RpcObject) s).next
-sound_cap_freed selector s there h = search (rules, before_remove, mapped_named, named_left, not_named, rpc_is_none)
+sound_cap_freed selector s there h = record {
+  whole = whole_left s.selectors selector h.whole;
+  mapped = mapped_named s.selectors (remove s.selectors selector) s.regions
+      (λ region before. named_left s.selectors selector region (not_named s.selectors selector RpcObject region there refl before) before) h.mapped;
+  blocks = h.blocks;
+  heap_parts = h.heap_parts;
+  starts = h.starts;
+  heap = h.heap;
+}
 
 -- a region that is detached keeps an own state sound
 sound_detached : (address : ℕ) (s : OwnState) → IsSound s → IsSound (region_detached address s).next
@@ -147,14 +210,23 @@ sound_detached address s h = search (rules, mapped_fewer, before_remove, len-rem
 -- so do bytes that are poked
 sound_poked : (selector offset : ℕ) (bytes : List ℕ) (object : Object) (s : OwnState) → get s.selectors selector ≡ Some object → IsSound s →
     IsSound (poked_at selector offset bytes (Some object) s).next
-sound_poked selector offset bytes object s there h = search (rules, whole_after, pages_poked, whole_objects, mapped_named, named_poked)
+sound_poked selector offset bytes object s there h = record {
+  whole = whole_after s.selectors selector (object_with object offset bytes) h.whole
+      (pages_poked object offset bytes (λ b e. h.whole selector b (ap named_bytes there ∙ e)));
+  mapped = mapped_named s.selectors (insert s.selectors selector (object_with object offset bytes)) s.regions
+      (λ region. named_poked s.selectors selector offset bytes object region there) h.mapped;
+  blocks = h.blocks;
+  heap_parts = h.heap_parts;
+  starts = h.starts;
+  heap = h.heap;
+}
 
 -- below the most there is room for one more
 fewer : (most n : ℕ) → nat_le most n ≡ false → n + 1 ≤ most
 fewer most n h = grind (arith, nat_tests)
 
 -- a region more, where its pages can stand and there is room, keeps an own state sound
-sound_attached : (selector address : ℕ) (bytes : List ℕ) (s : OwnState) → get s.selectors selector ≡ Some (Dataspace bytes) →
+sound_attached : (selector address : ℕ) (bytes : List ℕ) (s : OwnState) → named_bytes (get s.selectors selector) ≡ Some bytes →
     can_stand user_low user_high s.regions (pages_in bytes) address ≡ true → nat_le most_regions (len s.regions) ≡ false →
     IsSound s → IsSound (with_region selector (pages_in bytes) address s).next
 sound_attached selector address bytes s there can room h =
@@ -165,7 +237,7 @@ sound_attached selector address bytes s there can room h =
     record {
       whole = h.whole;
       mapped = record {
-        named = each_after_insert s.regions address region (λ start r. NamesDataspace s.selectors r) h.mapped.named (record { bytes = bytes; there = there; pages = refl });
+        named = each_after_insert s.regions address region (λ start r. NamesBytes s.selectors r) h.mapped.named (record { bytes = bytes; there = there; pages = refl });
         lie = LieApart-insert user_low user_high s.regions address region some at h.mapped.lie;
         few = omega (arith, fewer most_regions (len s.regions) room, len-insert_new s.regions address region free);
       };
@@ -261,15 +333,18 @@ effects_sound s h = record {
 
 -- ---- sessions
 
--- other selectors keep an own state sound where each dataspace is whole, and each that was named still is
-sound_named : (s : OwnState) (selectors : NatMap Object) (account : Account) → EachWhole selectors → ((region : Region) → NamesDataspace s.selectors region → NamesDataspace selectors region) →
+-- other selectors keep an own state sound where what has bytes is whole, and all that were named still are
+sound_named : (s : OwnState) (selectors : NatMap Object) (account : Account) → EachWhole selectors → ((region : Region) → NamesBytes s.selectors region → NamesBytes selectors region) →
     IsSound s → IsSound (record s { account = account; selectors = selectors })
 sound_named s selectors account whole still h = search (rules, mapped_named)
 
 -- a session in place of one
 sound_session : (s : OwnState) (selector : ℕ) (old new : Session) (account : Account) → get s.selectors selector ≡ Some (OpenSession old) → IsSound s →
     IsSound (record s { account = account; selectors = insert s.selectors selector (OpenSession new) })
-sound_session s selector old new account there h = search (rules, sound_named, whole_after, named_same, get-insert_other, not_named, session_is_none)
+sound_session s selector old new account there h =
+    sound_named s (insert s.selectors selector (OpenSession new)) account (whole_after s.selectors selector (OpenSession new) h.whole (bytes_none (OpenSession new) refl)) (λ region before.
+    named_same s.selectors (insert s.selectors selector (OpenSession new)) region before
+    (get-insert_other s.selectors selector (OpenSession new) region.of (not_named s.selectors selector (OpenSession old) region there refl before))) h
 
 -- nor do calls of sessions
 pub sessions_sound : (s : OwnState) → IsSound s → KeptBySessions IsSound s
@@ -277,14 +352,14 @@ sessions_sound s h = record {
   opens = λ wish accepted.
       let key = new_selector s.selectors in
       let session = OpenSession (new_session wish) in
-      sound_named s (insert s.selectors key session) (parted_with s.account wish.ram wish.caps) (whole_after s.selectors key session h.whole tt)
+      sound_named s (insert s.selectors key session) (parted_with s.account wish.ram wish.caps) (whole_after s.selectors key session h.whole (bytes_none session refl))
       (λ region. named_new s.selectors key session region (new_selector_free s.selectors)) h;
   upgrades = λ selector session more there accepted. sound_session s selector session (upgraded session more.ram more.caps) (parted_with s.account more.ram more.caps) there h;
   serves = λ selector session request there. sound_session s selector session (served session request).session s.account there h;
   closes = λ selector session there.
       sound_named s (remove s.selectors selector) (raised s.account session.account.ram_limit session.account.caps_limit)
-      (λ q b is. h.whole q b (before_remove s.selectors selector q (Dataspace b) is))
-      (λ region before. named_left s.selectors selector region (not_named s.selectors selector (OpenSession session) region there (session_is_none session) before) before) h;
+      (whole_left s.selectors selector h.whole)
+      (λ region before. named_left s.selectors selector region (not_named s.selectors selector (OpenSession session) region there refl before) before) h;
 }
 
 -- no blocks stand nowhere
@@ -293,7 +368,18 @@ no_ranges q = get-ranges empty q ∙ ap (option_and_then (λ payload. Some (rang
 
 -- who has nothing but an account
 none_sound : (account : Account) (gone : Bool) → IsSound (record { account = account; selectors = empty; regions = empty; heap = no_heap; sliced = empty; gone = gone })
-none_sound account gone = search (rules, none-some, get-empty, LieApart-empty, len-empty, no_heap_is, ranges-no_heap, joined-no_heap, no_ranges)
+none_sound account gone = record {
+  whole = λ selector bytes is. absurd (none-some bytes (sym (ap named_bytes (get-empty selector)) ∙ is));
+  mapped = record {
+    named = λ at region is. absurd (none-some region (sym (get-empty at) ∙ is));
+    lie = LieApart-empty user_low user_high empty (λ q. refl);
+    few = omega (arith, len-empty nat_cmp Region);
+  };
+  blocks = λ at payload is. absurd (none-some payload (sym (get-empty at) ∙ is));
+  heap_parts = no_heap_is;
+  starts = λ q some. ap (λ m. get m q) ranges-no_heap ∙ get-empty q;
+  heap = subst (LieApart heap_low (heap_high largest_machine)) (sym (joined-no_heap (ranges_of_blocks empty))) (LieApart-empty heap_low (heap_high largest_machine) (ranges_of_blocks empty) no_ranges);
+}
 
 -- as who starts, and who has exited
 pub start_sound : (start : StartEntry) → IsSound (start_state start)
@@ -320,11 +406,11 @@ full : (most n : ℕ) → n ≡ most → nat_le most n ≡ true
 full most n e = grind (arith, nat_tests)
 
 -- a map with as many regions as there can be takes no more
-pub full_refuses : (s : OwnState) (selector address : ℕ) (bytes : List ℕ) → get s.selectors selector ≡ Some (Dataspace bytes) → len s.regions ≡ most_regions →
+pub full_refuses : (s : OwnState) (selector address : ℕ) (bytes : List ℕ) → named_bytes (get s.selectors selector) ≡ Some bytes → len s.regions ≡ most_regions →
     (script_step (Attach selector) s ≡ refused s TooManyRegions) × (script_step (AttachAt selector address) s ≡ refused s TooManyRegions)
 full_refuses s selector address bytes there count = grind (arith, nat_tests, full)
 
--- what no selector names can't be attached, even to a map that is full
-pub unnamed_refused : (s : OwnState) (selector address : ℕ) → get s.selectors selector ≡ None →
+-- what has no bytes can't be attached, even to a map that is full
+pub unnamed_refused : (s : OwnState) (selector address : ℕ) → named_bytes (get s.selectors selector) ≡ None →
     (script_step (Attach selector) s ≡ refused s InvalidCap) × (script_step (AttachAt selector address) s ≡ refused s InvalidCap)
 unnamed_refused s selector address free = (ap (λ o. attached_first selector o s) free, ap (λ o. attached_at selector address o s) free)

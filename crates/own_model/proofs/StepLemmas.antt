@@ -12,7 +12,7 @@ use Rattle.own_model.specs.Account.{Account, Fits, WithinLimits, shortage, alloc
 use Rattle.own_model.specs.BestFit.{Spot}
 use Rattle.own_model.specs.Growth.{Shape, Growth, most_chunks, is_large, hole_for, least_growth, larger_growth, growth_of, growth_refusal}
 use Rattle.own_model.specs.NatMap.{NatMap}
-use Rattle.own_model.specs.OwnState.{OwnState, Object, pages_in}
+use Rattle.own_model.specs.OwnState.{OwnState, Object, named_bytes, pages_in}
 use Rattle.own_model.specs.OwnState.Object.{Dataspace, RpcObject, OpenSession}
 use Rattle.own_model.specs.OwnStep.{allocated, freed, with_region, region_detached, poked_at, payload_poked, block_poked, block_taken, grown_at, large_at, given_back, sliced_at, sliced_freed, own_heap_gap, cap_allocated, cap_freed, session_opened, session_upgraded, session_served, session_closed}
 use Rattle.own_model.specs.Region.{Region, most_regions, user_low, user_high, can_stand, first_gap, user_gap, attach_refusal, attach_at_refusal}
@@ -28,7 +28,7 @@ pub record KeptByEffects (P : OwnState → Type 0) (s : OwnState) : Type 0 where
   -- a free of a dataspace
   pub frees : (selector : ℕ) (bytes : List ℕ) → get s.selectors selector ≡ Some (Dataspace bytes) → P (freed selector (Some (Dataspace bytes)) s).next
   -- an attachment where the pages can stand and there is room
-  pub attaches : (selector address : ℕ) (bytes : List ℕ) → get s.selectors selector ≡ Some (Dataspace bytes) →
+  pub attaches : (selector address : ℕ) (bytes : List ℕ) → named_bytes (get s.selectors selector) ≡ Some bytes →
       can_stand user_low user_high s.regions (pages_in bytes) address ≡ true → nat_le most_regions (len s.regions) ≡ false →
       P (with_region selector (pages_in bytes) address s).next
   -- a detachment

@@ -3,7 +3,7 @@ use Rattle.std.proofs.Common.{rules, ◌≡◌, ℕ, ◌+◌, ◌&&◌, Bool, tr
 use Rattle.std.proofs.lemmas.Bool.Decides.{nat_tests}
 use Rattle.std.proofs.lemmas.Option.{none-some, same_Some}
 use Rattle.std.specs.Prelude.{Option, None, is_none, is_some}
-use Rattle.std.specs.Option.{option_or}
+use Rattle.std.specs.Option.{option_or, unwrap_or}
 use Rattle.std.specs.FinMap.{get, len}
 use Rattle.trade_base.specs.Page.{page_of, is_valid_size}
 use Rattle.trade_base.specs.declared.refusal.Refusal.{Refusal}
@@ -17,8 +17,8 @@ use Rattle.own_model.specs.Call.{Call, is_of_session, is_exit}
 use Rattle.own_model.specs.Call.Call.{Alloc, Free, Attach, AttachAt, Detach, Peek, Poke, Capalloc, Capfree, New, Del, Snew, Sdel, Quota, Open, Upgrade, CallSession, Close, Exit}
 use Rattle.own_model.specs.BestFit.{Spot, block_size}
 use Rattle.own_model.specs.Growth.{Growth, most_chunks, is_large, hole_for, growth_of, growth_refusal, small_refusal}
-use Rattle.own_model.specs.OwnState.{OwnState, Object, pages_in, session_named}
-use Rattle.own_model.specs.OwnState.Object.{Dataspace, RpcObject, OpenSession}
+use Rattle.own_model.specs.OwnState.{OwnState, Object, named_bytes, pages_in, session_named}
+use Rattle.own_model.specs.OwnState.Object.{Dataspace, RpcObject, OpenSession, Buffer}
 use Rattle.own_model.specs.OwnStep.{Outcome, own_step, own_run, entry_step, refused, unless, turned_away, allocated, freed, with_region, attached_first, attached_at, region_detached, count_refusal, peeked, poked, poked_at, payload_poked, block_poked, most_bytes, block_taken, grown_at, grown_in, large_at, large_in, small_new, given_back, deleted, sliced_at, sliced_in, sliced_freed, own_heap_gap, cap_allocated, cap_freed, told_quota, opened_by, session_opened, upgraded_by, session_upgraded, session_served, session_called, session_closed, exited, gone_state}
 use Rattle.own_model.specs.Place.{Place, found}
 use Rattle.own_model.specs.Place.Place.{InDataspace, InPayload, InBlock}
@@ -31,7 +31,7 @@ use Rattle.own_model.specs.Sliced.{sliced_header, sliced_size, sliced_refusal, b
 use Rattle.own_model.specs.Sound.{IsSound}
 use Rattle.own_model.specs.StartList.{Entry, Kind}
 use Rattle.own_model.specs.StartList.Kind.{Script, Server}
-use Rattle.own_model.specs.Table.{Test, when, first_failed, lacks_ram, lacks_caps, is_dataspace, is_rpc_object, pages_named, is_bad_count, memory_line, small_line, open_line, upgrade_line, line_of, line_by, whole_line, refusal_in}
+use Rattle.own_model.specs.Table.{Test, when, first_failed, lacks_ram, lacks_caps, is_dataspace, is_rpc_object, is_bad_count, memory_line, small_line, open_line, upgrade_line, line_of, line_by, whole_line, refusal_in}
 
 -- an outcome is a refusal, or else one that tells none; for an account within its limits and a sound state the refusal
 -- is the first on the line for which there is reason, and P holds after what is accepted
@@ -82,12 +82,14 @@ module _ (session ends : Bool) (P : OwnState → Type 0) (s : OwnState) (h : P s
   frees selector (Some (Dataspace bytes)) e = does (freed selector (Some (Dataspace bytes)) s) _ refl refl refl (k.frees selector bytes e)
   frees selector (Some RpcObject) e = refused_for InvalidCap _ refl
   frees selector (Some (OpenSession session)) e = refused_for InvalidCap _ refl
+  frees selector (Some (Buffer session bytes)) e = refused_for InvalidCap _ refl
   frees selector None e = refused_for InvalidCap _ refl
 
   -- a free of an RPC object
   frees_cap : (selector : ℕ) (object : Option Object) → get s.selectors selector ≡ object → Explained session P s (cap_freed selector object s) (when (not (is_rpc_object object)) InvalidCap ∷ [])
   frees_cap selector (Some (Dataspace bytes)) e = refused_for InvalidCap _ refl
   frees_cap selector (Some (OpenSession session)) e = refused_for InvalidCap _ refl
+  frees_cap selector (Some (Buffer session bytes)) e = refused_for InvalidCap _ refl
   frees_cap selector (Some RpcObject) e = does (cap_freed selector (Some RpcObject) s) _ refl refl refl (k.frees_cap selector e)
   frees_cap selector None e = refused_for InvalidCap _ refl
 
@@ -97,10 +99,10 @@ module _ (session ends : Bool) (P : OwnState → Type 0) (s : OwnState) (h : P s
   frees_block address None e = refused_for PageFault _ refl
 
   -- an attachment at the first gap
-  attaches : (selector : ℕ) (object : Option Object) → get s.selectors selector ≡ object → Explained session P s (attached_first selector object s)
-      (when (not (is_dataspace object)) InvalidCap ∷ when (nat_le most_regions (len s.regions)) TooManyRegions
-      ∷ when (is_none (first_gap user_low user_high s.regions (pages_named object))) RegionConflict ∷ [])
-  attaches selector (Some (Dataspace bytes)) e = record {
+  attaches : (selector : ℕ) (bytes : Option (List ℕ)) → named_bytes (get s.selectors selector) ≡ bytes → Explained session P s (attached_first selector bytes s)
+      (when (is_none bytes) InvalidCap ∷ when (nat_le most_regions (len s.regions)) TooManyRegions
+      ∷ when (is_none (first_gap user_low user_high s.regions (pages_in (unwrap_or bytes [])))) RegionConflict ∷ [])
+  attaches selector (Some bytes) e = record {
     why = attach_refusal most_regions s.regions (pages_in bytes);
     accepted = with_region selector (pages_in bytes) (user_gap s.regions (pages_in bytes)) s;
     told = refl;
@@ -109,15 +111,13 @@ module _ (session ends : Bool) (P : OwnState → Type 0) (s : OwnState) (h : P s
     right = λ _ _. refl;
     kept = λ accepted. let at = attach_place most_regions s.regions (pages_in bytes) accepted in k.attaches selector (user_gap s.regions (pages_in bytes)) bytes e at.0 at.1;
   }
-  attaches selector (Some RpcObject) e = refused_for InvalidCap _ refl
-  attaches selector (Some (OpenSession session)) e = refused_for InvalidCap _ refl
   attaches selector None e = refused_for InvalidCap _ refl
 
   -- and one at an address
-  attaches_at : (selector address : ℕ) (object : Option Object) → get s.selectors selector ≡ object → Explained session P s (attached_at selector address object s)
-      (when (not (is_dataspace object)) InvalidCap ∷ when (nat_le most_regions (len s.regions)) TooManyRegions
-      ∷ when (not (can_stand user_low user_high s.regions (pages_named object) address)) RegionConflict ∷ [])
-  attaches_at selector address (Some (Dataspace bytes)) e = record {
+  attaches_at : (selector address : ℕ) (bytes : Option (List ℕ)) → named_bytes (get s.selectors selector) ≡ bytes → Explained session P s (attached_at selector address bytes s)
+      (when (is_none bytes) InvalidCap ∷ when (nat_le most_regions (len s.regions)) TooManyRegions
+      ∷ when (not (can_stand user_low user_high s.regions (pages_in (unwrap_or bytes [])) address)) RegionConflict ∷ [])
+  attaches_at selector address (Some bytes) e = record {
     why = attach_at_refusal most_regions s.regions (pages_in bytes) address;
     accepted = with_region selector (pages_in bytes) address s;
     told = refl;
@@ -126,8 +126,6 @@ module _ (session ends : Bool) (P : OwnState → Type 0) (s : OwnState) (h : P s
     right = λ _ _. ap (cond (nat_le most_regions (len s.regions)) (Some TooManyRegions)) (flip (can_stand user_low user_high s.regions (pages_in bytes) address) None (Some RegionConflict));
     kept = λ accepted. let at = attach_at_place most_regions s.regions (pages_in bytes) address accepted in k.attaches selector address bytes e at.0 at.1;
   }
-  attaches_at selector address (Some RpcObject) e = refused_for InvalidCap _ refl
-  attaches_at selector address (Some (OpenSession session)) e = refused_for InvalidCap _ refl
   attaches_at selector address None e = refused_for InvalidCap _ refl
 
   -- a detachment
@@ -176,7 +174,7 @@ module _ (session ends : Bool) (P : OwnState → Type 0) (s : OwnState) (h : P s
     pokes_object selector offset at None free = never (length bytes) (λ sound.
         let region = region_parts (resolved s.regions address (length bytes)) (block_found s.sliced address (length bytes)) (block_found s.heap.payloads address (length bytes)) selector offset at in
         let named = range_fits s address (length bytes) selector offset sound region in
-        none-some (Dataspace named.0) (sym free ∙ named.1))
+        none-some named.0 (sym (ap named_bytes free) ∙ named.1))
 
     -- and one in a payload
     pokes_payload : (block offset : ℕ) → found s address (length bytes) ≡ Some (InPayload block offset) → (payload : Option (List ℕ)) → get s.sliced block ≡ payload →
@@ -376,8 +374,8 @@ module _ (session ends : Bool) (P : OwnState → Type 0) (s : OwnState) (h : P s
     kept = k.allocates n;
   }
   explained entry (Free selector) of end = frees selector (get s.selectors selector) refl
-  explained entry (Attach selector) of end = attaches selector (get s.selectors selector) refl
-  explained entry (AttachAt selector address) of end = attaches_at selector address (get s.selectors selector) refl
+  explained entry (Attach selector) of end = attaches selector (named_bytes (get s.selectors selector)) refl
+  explained entry (AttachAt selector address) of end = attaches_at selector address (named_bytes (get s.selectors selector)) refl
   explained entry (Detach address) of end = detaches address (get s.regions address)
   explained entry (Peek address count) of end = peeks count (found s address count)
   explained entry (Poke address bytes) of end = pokes address bytes (found s address (length bytes)) refl

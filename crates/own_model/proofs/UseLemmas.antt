@@ -19,8 +19,8 @@ use Rattle.own_model.proofs.TableLemmas.{run_keeps}
 pub use Rattle.own_model.proofs.ByteLemmas.{length-zeros, length-with_part}
 use Rattle.own_model.proofs.Totals.{total-empty, total-insert_new, total-insert_same, total-remove, len-insert_new, len-insert_at, len-remove_at}
 use Rattle.own_model.specs.Call.{Call}
-use Rattle.own_model.specs.OwnState.{OwnState, Object, zeros, new_selector, object_with}
-use Rattle.own_model.specs.OwnState.Object.{Dataspace, RpcObject, OpenSession}
+use Rattle.own_model.specs.OwnState.{OwnState, Object, zeros, new_selector, with_part, object_with}
+use Rattle.own_model.specs.OwnState.Object.{Dataspace, RpcObject, OpenSession, Buffer}
 use Rattle.own_model.specs.OwnStep.{gone_state, own_run, allocated, freed, poked_at, payload_poked, block_taken, chunk_added, large_at, given_back, sliced_at, sliced_freed, own_heap_gap, cap_allocated, cap_freed}
 use Rattle.own_model.specs.Account.{Account, opened, parted_with, alloc_refusal}
 use Rattle.own_model.specs.Session.{Session, new_session, upgraded, served}
@@ -54,11 +54,13 @@ object_size-with : (object : Object) (offset : ℕ) (part : List ℕ) → object
 object_size-with (Dataspace bytes) offset part = length-with_part bytes offset part
 object_size-with RpcObject offset part = refl
 object_size-with (OpenSession session) offset part = refl
+object_size-with (Buffer session bytes) offset part = refl
 
 object_caps-with : (object : Object) (offset : ℕ) (part : List ℕ) → object_caps (object_with object offset part) ≡ object_caps object
 object_caps-with (Dataspace bytes) offset part = refl
 object_caps-with RpcObject offset part = refl
 object_caps-with (OpenSession session) offset part = refl
+object_caps-with (Buffer session bytes) offset part = refl
 
 -- bytes that are poked change nothing of what is held
 poked_uses : (selector offset : ℕ) (bytes : List ℕ) (object : Object) (s : OwnState) →

@@ -4,7 +4,7 @@ use Rattle.std.specs.FinMap.{entries}
 use Rattle.std.specs.List.{flat_map, zip}
 use Rattle.own_model.specs.Account.{Account}
 use Rattle.own_model.specs.OwnState.{OwnState, Object}
-use Rattle.own_model.specs.OwnState.Object.{Dataspace, RpcObject, OpenSession}
+use Rattle.own_model.specs.OwnState.Object.{Dataspace, RpcObject, OpenSession, Buffer}
 use Rattle.own_model.specs.Reply.{quota_text}
 use Rattle.own_model.specs.World.{World, IsBalanced, all_ram, all_caps}
 
@@ -21,6 +21,7 @@ abbrev pub object_line : List ℕ → ℕ → Object → List ℕ
 object_line name selector (OpenSession session) = session_line name selector session.account
 object_line name selector (Dataspace bytes) = []
 object_line name selector RpcObject = []
+object_line name selector (Buffer session bytes) = []
 
 -- the lines of a component's open sessions, by rising selector
 abbrev pub session_lines : List ℕ → OwnState → List ℕ

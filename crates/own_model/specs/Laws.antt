@@ -10,7 +10,7 @@ use Rattle.own_model.specs.Call.Call.{Free, Attach, AttachAt, Peek, Poke, Capall
 use Rattle.own_model.specs.Donation.{raised}
 use Rattle.own_model.specs.Limits.{ram_limits, caps_limits, init_after, AreWithinLimits}
 use Rattle.own_model.specs.Routes.{Rule}
-use Rattle.own_model.specs.OwnState.{OwnState, IsLeastUnused, new_selector}
+use Rattle.own_model.specs.OwnState.{OwnState, IsLeastUnused, named_bytes, new_selector}
 use Rattle.own_model.specs.OwnState.Object.{Dataspace}
 use Rattle.own_model.specs.OwnStep.{own_run, own_step, exits, exited, script_step, refused, gone_state}
 use Rattle.own_model.specs.Region.{Region, most_regions, resolved}
@@ -201,7 +201,7 @@ RunKeepsUse = (entry : Entry) (calls : List Call) (s : OwnState) → UsesWhatItH
 abbrev pub StartsSound : Type 0
 StartsSound = (start : StartEntry) → IsSound (start_state start)
 
--- a call keeps dataspaces whole, and regions named and apart
+-- a call keeps bytes whole, and regions named and apart
 abbrev pub StepKeepsSound : Type 0
 StepKeepsSound = (entry : Entry) (call : Call) (s : OwnState) → IsSound s → IsSound (own_step entry call s).next
 
@@ -218,13 +218,13 @@ FreedHasNoRegions =
 -- where there are as many regions as there can be, nothing more is attached, at whatever address
 abbrev pub FullMapsRefuse : Type 0
 FullMapsRefuse =
-    (s : OwnState) (selector address : ℕ) (bytes : List ℕ) → get s.selectors selector ≡ Some (Dataspace bytes) → len s.regions ≡ most_regions →
+    (s : OwnState) (selector address : ℕ) (bytes : List ℕ) → named_bytes (get s.selectors selector) ≡ Some bytes → len s.regions ≡ most_regions →
     (script_step (Attach selector) s ≡ refused s TooManyRegions) × (script_step (AttachAt selector address) s ≡ refused s TooManyRegions)
 
--- a selector that names nothing is refused first
+-- a selector that names no bytes is refused first
 abbrev pub UnnamedIsRefused : Type 0
 UnnamedIsRefused =
-    (s : OwnState) (selector address : ℕ) → get s.selectors selector ≡ None →
+    (s : OwnState) (selector address : ℕ) → named_bytes (get s.selectors selector) ≡ None →
     (script_step (Attach selector) s ≡ refused s InvalidCap) × (script_step (AttachAt selector address) s ≡ refused s InvalidCap)
 
 -- what was poked a peek at the same address tells
@@ -233,11 +233,11 @@ PokesAreRead =
     (s : OwnState) (address : ℕ) (bytes : List ℕ) → IsSound s → (script_step (Poke address bytes) s).reply ≡ Done →
     (script_step (Peek address (length bytes)) (script_step (Poke address bytes) s).next).reply ≡ Bytes bytes
 
--- the range of addresses that a region holds lies within the dataspace that its selector names
+-- the range of addresses that a region holds lies within the bytes that its selector names
 abbrev pub FoundRangesFit : Type 0
 FoundRangesFit =
     (s : OwnState) (address count selector offset : ℕ) → IsSound s → resolved s.regions address count ≡ Some (selector, offset) →
-    (bytes : List ℕ) × (get s.selectors selector ≡ Some (Dataspace bytes)) × (offset + count ≤ length bytes)
+    (bytes : List ℕ) × (named_bytes (get s.selectors selector) ≡ Some bytes) × (offset + count ≤ length bytes)
 
 -- a component's call leaves a balanced world balanced
 abbrev pub StepKeepsBalance : Type 0

@@ -4,18 +4,20 @@ use Rattle.own_model.specs.Account.{Account, WithinLimits}
 use Rattle.own_model.specs.Donation.{raised}
 use Rattle.own_model.specs.NatMap.{total}
 use Rattle.own_model.specs.OwnState.{OwnState, Object, EachSession}
-use Rattle.own_model.specs.OwnState.Object.{Dataspace, RpcObject, OpenSession}
+use Rattle.own_model.specs.OwnState.Object.{Dataspace, RpcObject, OpenSession, Buffer}
 
 -- the limits of the account that an object has, if it is a session
 abbrev pub ram_with : Object → ℕ
 ram_with (Dataspace bytes) = 0
 ram_with RpcObject = 0
 ram_with (OpenSession session) = session.account.ram_limit
+ram_with (Buffer session bytes) = 0
 
 abbrev pub caps_with : Object → ℕ
 caps_with (Dataspace bytes) = 0
 caps_with RpcObject = 0
 caps_with (OpenSession session) = session.account.caps_limit
+caps_with (Buffer session bytes) = 0
 
 -- all limits of RAM that a component has
 abbrev pub ram_limits : OwnState → ℕ

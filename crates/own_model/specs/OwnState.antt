@@ -1,5 +1,6 @@
 -- What a component has: its own state.
 use Rattle.std.specs.Prelude.{◌≡◌, ℕ, ◌+◌, ◌/◌, ◌<◌, List, [], length, Bool, nat_le, if◌then◌else◌, Option, Some, None, IsSome, replicate}
+use Rattle.std.specs.Option.{unwrap_or}
 use Rattle.std.specs.FinMap.{get, keys}
 use Rattle.trade_base.specs.Bytes.{with_bytes}
 use Rattle.own_model.specs.NatMap.{NatMap, joined, least_gap}
@@ -9,11 +10,13 @@ use Rattle.own_model.specs.Region.{Region}
 use Rattle.own_model.specs.Session.{Session}
 use Rattle.own_model.specs.Sliced.{ranges_of_blocks}
 
--- what a selector names: a dataspace, by its bytes, an RPC object, which is a capability alone, or a session
+-- what a selector names: a dataspace, by its bytes, an RPC object, which is a capability alone, a session, or the buffer that
+-- the client shares with the session under a selector, by the buffer's bytes
 pub data Object : Type 0 where
   Dataspace : List ℕ → Object
   RpcObject : Object
   OpenSession : Session → Object
+  Buffer : ℕ → List ℕ → Object
 
 -- a component's account, what its selectors name, its regions by their start addresses, each of a selector, its heap,
 -- its sliced blocks by the addresses of their payloads, each by its payload's bytes, and whether it has exited.
@@ -47,24 +50,31 @@ unfoldable pub with_part : List ℕ → ℕ → List ℕ → List ℕ
 with_part bytes offset part =
     if nat_le (offset + length part) (length bytes) then with_bytes bytes offset part else bytes
 
--- the bytes of the dataspace that a selector names, or none
+-- the bytes of what a selector names, if that has bytes, which regions can show
+abbrev pub named_bytes : Option Object → Option (List ℕ)
+named_bytes (Some (Dataspace bytes)) = Some bytes
+named_bytes (Some RpcObject) = None
+named_bytes (Some (OpenSession session)) = None
+named_bytes (Some (Buffer session bytes)) = Some bytes
+named_bytes None = None
+
+-- the same, and no bytes where it has none
 abbrev pub bytes_named : Option Object → List ℕ
-bytes_named (Some (Dataspace bytes)) = bytes
-bytes_named (Some RpcObject) = []
-bytes_named (Some (OpenSession session)) = []
-bytes_named None = []
+bytes_named object = unwrap_or (named_bytes object) []
 
 -- what a selector names, with a part put over its bytes at an offset
 abbrev pub object_with : Object → ℕ → List ℕ → Object
 object_with (Dataspace bytes) offset part = Dataspace (with_part bytes offset part)
 object_with RpcObject offset part = RpcObject
 object_with (OpenSession session) offset part = OpenSession session
+object_with (Buffer session bytes) offset part = Buffer session (with_part bytes offset part)
 
 -- the session that a selector names, if it names one
 abbrev pub session_named : Option Object → Option Session
 session_named (Some (OpenSession session)) = Some session
 session_named (Some (Dataspace bytes)) = None
 session_named (Some RpcObject) = None
+session_named (Some (Buffer session bytes)) = None
 session_named None = None
 
 -- a selector is the least positive number that is not in use

@@ -8,8 +8,8 @@ use Rattle.trade_base.specs.Page.{page_of}
 use Rattle.own_model.specs.Account.{opened, shortage, charged, credited, parted_with, alloc_refusal}
 use Rattle.own_model.specs.Call.{Call, is_exit}
 use Rattle.own_model.specs.Call.Call.{Alloc, Free, Attach, AttachAt, Detach, Peek, Poke, Capalloc, Capfree, New, Del, Snew, Sdel, Quota, Open, Upgrade, CallSession, Close, Exit}
-use Rattle.own_model.specs.OwnState.{OwnState, Object, zeros, new_selector, pages_in, with_part, object_with, session_named, heap_ranges}
-use Rattle.own_model.specs.OwnState.Object.{Dataspace, RpcObject, OpenSession}
+use Rattle.own_model.specs.OwnState.{OwnState, Object, zeros, new_selector, pages_in, with_part, object_with, named_bytes, session_named, heap_ranges}
+use Rattle.own_model.specs.OwnState.Object.{Dataspace, RpcObject, OpenSession, Buffer}
 use Rattle.own_model.specs.BestFit.{Spot}
 use Rattle.own_model.specs.Growth.{Growth, is_large, hole_for, new_hole, growth_of, heap_refusal}
 use Rattle.own_model.specs.HeapStep.{with_block, without_block, with_chunk, with_large, without_large, with_poked}
@@ -71,6 +71,7 @@ freed selector (Some (Dataspace bytes)) s = record {
 }
 freed selector (Some RpcObject) s = refused s InvalidCap
 freed selector (Some (OpenSession session)) s = refused s InvalidCap
+freed selector (Some (Buffer session bytes)) s = refused s InvalidCap
 freed selector None s = refused s InvalidCap
 
 -- so many pages of what the selector names stand from an address on
@@ -81,22 +82,18 @@ with_region selector pages address s = record {
   next = record s { regions = insert s.regions address (record { of = selector; pages = pages }) };
 }
 
--- the dataspace that the selector names is attached at the first gap
-abbrev pub attached_first : ℕ → Option Object → OwnState → Outcome
-attached_first selector (Some (Dataspace bytes)) s =
+-- bytes that the selector names are attached at the first gap
+abbrev pub attached_first : ℕ → Option (List ℕ) → OwnState → Outcome
+attached_first selector (Some bytes) s =
     unless (attach_refusal most_regions s.regions (pages_in bytes)) s
     (with_region selector (pages_in bytes) (user_gap s.regions (pages_in bytes)) s)
-attached_first selector (Some RpcObject) s = refused s InvalidCap
-attached_first selector (Some (OpenSession session)) s = refused s InvalidCap
 attached_first selector None s = refused s InvalidCap
 
--- the dataspace that the selector names is attached at an address
-abbrev pub attached_at : ℕ → ℕ → Option Object → OwnState → Outcome
-attached_at selector address (Some (Dataspace bytes)) s =
+-- bytes that the selector names are attached at an address
+abbrev pub attached_at : ℕ → ℕ → Option (List ℕ) → OwnState → Outcome
+attached_at selector address (Some bytes) s =
     unless (attach_at_refusal most_regions s.regions (pages_in bytes) address) s
     (with_region selector (pages_in bytes) address s)
-attached_at selector address (Some RpcObject) s = refused s InvalidCap
-attached_at selector address (Some (OpenSession session)) s = refused s InvalidCap
 attached_at selector address None s = refused s InvalidCap
 
 -- the region that starts at an address goes
@@ -170,6 +167,7 @@ cap_freed selector (Some RpcObject) s = record {
 }
 cap_freed selector (Some (Dataspace bytes)) s = refused s InvalidCap
 cap_freed selector (Some (OpenSession session)) s = refused s InvalidCap
+cap_freed selector (Some (Buffer session bytes)) s = refused s InvalidCap
 cap_freed selector None s = refused s InvalidCap
 
 -- a block of the heap for n bytes, all zero, in a hole
@@ -329,8 +327,8 @@ exited = record { reply = Done; lines = []; next = gone_state }
 abbrev pub entry_step : Entry → Call → OwnState → Outcome
 entry_step entry (Alloc n) s = unless (alloc_refusal n s.account) s (allocated n s)
 entry_step entry (Free selector) s = freed selector (get s.selectors selector) s
-entry_step entry (Attach selector) s = attached_first selector (get s.selectors selector) s
-entry_step entry (AttachAt selector address) s = attached_at selector address (get s.selectors selector) s
+entry_step entry (Attach selector) s = attached_first selector (named_bytes (get s.selectors selector)) s
+entry_step entry (AttachAt selector address) s = attached_at selector address (named_bytes (get s.selectors selector)) s
 entry_step entry (Detach address) s = unless (detach_refusal s.regions address) s (region_detached address s)
 entry_step entry (Peek address count) s = unless (count_refusal count) s (peeked count (found s address count) s)
 entry_step entry (Poke address bytes) s =

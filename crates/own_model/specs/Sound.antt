@@ -1,4 +1,4 @@
--- What is true of every own state: of its dataspaces, of its regions and of what stands in the heap window.
+-- What is true of every own state: of what has bytes, of its regions and of what stands in the heap window.
 use Rattle.std.specs.Prelude.{◌≡◌, ◌≢◌, ℕ, ◌+◌, ◌*◌, ◌%◌, ◌≤◌, false, List, length, Some, None, IsSome}
 use Rattle.std.specs.FinMap.{get, len, from_entries}
 use Rattle.std.specs.List.{AllByRecursion}
@@ -10,8 +10,7 @@ use Rattle.own_model.specs.HeapStep.{payload_size}
 use Rattle.std.specs.Option.{option_map}
 use Rattle.own_model.specs.NatMap.{NatMap}
 use Rattle.own_model.specs.OwnHeap.{OwnHeap, chunk_ranges, ranges_of_large, ranges_of_heap}
-use Rattle.own_model.specs.OwnState.{OwnState, Object, pages_in, heap_ranges}
-use Rattle.own_model.specs.OwnState.Object.{Dataspace}
+use Rattle.own_model.specs.OwnState.{OwnState, Object, named_bytes, pages_in, heap_ranges}
 use Rattle.own_model.specs.Region.{Region, user_low, user_high, most_regions, overlap}
 use Rattle.own_model.specs.Sliced.{sliced_header, block_size, block_pages, ranges_of_blocks}
 
@@ -20,10 +19,10 @@ pub record IsPages (bytes : List ℕ) : Type 0 where
   pub some : 1 ≤ pages_in bytes
   pub whole : length bytes ≡ pages_in bytes * 4096
 
--- a region's selector names a dataspace, of as many pages as the region
-pub record NamesDataspace (selectors : NatMap Object) (region : Region) : Type 0 where
+-- a region's selector names bytes, of as many pages as the region
+pub record NamesBytes (selectors : NatMap Object) (region : Region) : Type 0 where
   pub bytes : List ℕ
-  pub there : get selectors region.of ≡ Some (Dataspace bytes)
+  pub there : named_bytes (get selectors region.of) ≡ Some bytes
   pub pages : region.pages ≡ pages_in bytes
 
 -- so many pages from an address on are pages of a window
@@ -63,16 +62,16 @@ pub record IsHeap (heap : OwnHeap) : Type 0 where
   pub apart : KeysApart (from_entries (chunk_ranges heap.starts heap.shape.chunks)) (ranges_of_large heap.large)
   pub filled : (address : ℕ) → option_map length (get heap.payloads address) ≡ payload_size heap address
 
--- each region is of a dataspace that a selector names, they lie apart in the user window, and there are no more than the most
+-- each region is of bytes that a selector names, they lie apart in the user window, and there are no more than the most
 pub record AreMapped (selectors : NatMap Object) (regions : NatMap Region) : Type 0 where
-  pub named : (start : ℕ) (region : Region) → get regions start ≡ Some region → NamesDataspace selectors region
+  pub named : (start : ℕ) (region : Region) → get regions start ≡ Some region → NamesBytes selectors region
   pub lie : LieApart user_low user_high regions
   pub few : len regions ≤ most_regions
 
--- each dataspace is pages, regions are mapped, each sliced block is pages, the heap is one, and what stands in the heap
+-- what has bytes is pages, regions are mapped, each sliced block is pages, the heap is one, and what stands in the heap
 -- window lies apart
 pub record IsSound (s : OwnState) : Type 0 where
-  pub whole : (selector : ℕ) (bytes : List ℕ) → get s.selectors selector ≡ Some (Dataspace bytes) → IsPages bytes
+  pub whole : (selector : ℕ) (bytes : List ℕ) → named_bytes (get s.selectors selector) ≡ Some bytes → IsPages bytes
   pub mapped : AreMapped s.selectors s.regions
   pub blocks : (address : ℕ) (payload : List ℕ) → get s.sliced address ≡ Some payload → IsBlock address payload
   pub heap_parts : IsHeap s.heap

@@ -10,8 +10,8 @@ use Rattle.own_model.specs.BestFit.{Spot, block_size}
 use Rattle.own_model.specs.Call.{Call}
 use Rattle.own_model.specs.Call.Call.{Alloc, Free, Attach, AttachAt, Detach, Peek, Poke, Capalloc, Capfree, New, Del, Snew, Sdel, Quota, Open, Upgrade, CallSession, Close, Exit}
 use Rattle.own_model.specs.Growth.{most_chunks, is_large, hole_for, growth_of}
-use Rattle.own_model.specs.OwnState.{OwnState, Object, pages_in, bytes_named, session_named}
-use Rattle.own_model.specs.OwnState.Object.{Dataspace, RpcObject, OpenSession}
+use Rattle.own_model.specs.OwnState.{OwnState, Object, pages_in, named_bytes, bytes_named, session_named}
+use Rattle.own_model.specs.OwnState.Object.{Dataspace, RpcObject, OpenSession, Buffer}
 use Rattle.own_model.specs.OwnStep.{most_bytes, own_heap_gap}
 use Rattle.own_model.specs.Place.{found}
 use Rattle.own_model.specs.Region.{most_regions, user_low, user_high, can_stand, first_gap}
@@ -53,15 +53,17 @@ abbrev pub is_dataspace : Option Object → Bool
 is_dataspace (Some (Dataspace bytes)) = true
 is_dataspace (Some RpcObject) = false
 is_dataspace (Some (OpenSession session)) = false
+is_dataspace (Some (Buffer session bytes)) = false
 is_dataspace None = false
 
 abbrev pub is_rpc_object : Option Object → Bool
 is_rpc_object (Some (Dataspace bytes)) = false
 is_rpc_object (Some RpcObject) = true
 is_rpc_object (Some (OpenSession session)) = false
+is_rpc_object (Some (Buffer session bytes)) = false
 is_rpc_object None = false
 
--- the pages of the dataspace that a selector names
+-- the pages of the bytes that a selector names
 abbrev pub pages_named : Option Object → ℕ
 pages_named object = pages_in (bytes_named object)
 
@@ -105,10 +107,10 @@ line_of entry (Alloc n) s =
     when (not (is_valid_size n)) InvalidSize ∷ when (lacks_ram s.account (page_of n)) OutOfRam ∷ when (lacks_caps s.account 1) OutOfCaps ∷ []
 line_of entry (Free selector) s = when (not (is_dataspace (get s.selectors selector))) InvalidCap ∷ []
 line_of entry (Attach selector) s =
-    when (not (is_dataspace (get s.selectors selector))) InvalidCap ∷ when (nat_le most_regions (len s.regions)) TooManyRegions
+    when (is_none (named_bytes (get s.selectors selector))) InvalidCap ∷ when (nat_le most_regions (len s.regions)) TooManyRegions
     ∷ when (is_none (first_gap user_low user_high s.regions (pages_named (get s.selectors selector)))) RegionConflict ∷ []
 line_of entry (AttachAt selector address) s =
-    when (not (is_dataspace (get s.selectors selector))) InvalidCap ∷ when (nat_le most_regions (len s.regions)) TooManyRegions
+    when (is_none (named_bytes (get s.selectors selector))) InvalidCap ∷ when (nat_le most_regions (len s.regions)) TooManyRegions
     ∷ when (not (can_stand user_low user_high s.regions (pages_named (get s.selectors selector)) address)) RegionConflict ∷ []
 line_of entry (Detach address) s = when (is_none (get s.regions address)) PageFault ∷ []
 line_of entry (Peek address count) s = when (is_bad_count count) InvalidSize ∷ when (is_none (found s address count)) PageFault ∷ []

@@ -9,19 +9,21 @@ use Rattle.own_model.specs.FileService.{files_ram, files_caps}
 use Rattle.own_model.specs.Session.{Session, ServiceState, session_ram, session_caps}
 use Rattle.own_model.specs.Session.ServiceState.{Logging, Filing}
 use Rattle.own_model.specs.Sliced.{block_size}
-use Rattle.own_model.specs.OwnState.Object.{Dataspace, RpcObject, OpenSession}
+use Rattle.own_model.specs.OwnState.Object.{Dataspace, RpcObject, OpenSession, Buffer}
 
--- the bytes of what a selector names
+-- the bytes of what a selector names, for which the account pays: a session pays for its buffer
 abbrev pub object_size : Object → ℕ
 object_size (Dataspace bytes) = length bytes
 object_size RpcObject = 0
 object_size (OpenSession session) = 0
+object_size (Buffer session bytes) = 0
 
--- the capabilities of what a selector names: a session pays for itself
+-- the capabilities of what a selector names: a session pays for itself and for its buffer
 abbrev pub object_caps : Object → ℕ
 object_caps (Dataspace bytes) = 1
 object_caps RpcObject = 1
 object_caps (OpenSession session) = 0
+object_caps (Buffer session bytes) = 0
 
 -- what a server charges to a session for what it keeps: for files, and for no line
 abbrev pub state_ram : ServiceState → ℕ
@@ -45,7 +47,7 @@ abbrev pub heap_count : OwnHeap → ℕ
 heap_count heap = length heap.shape.chunks + len heap.large
 
 -- the account uses the bytes of what its selectors name, of its sliced blocks, and of its heap's chunks and large blocks,
--- and a capability for each but the sessions, and no more
+-- and a capability for each but the sessions and their buffers, and no more
 pub record UsesWhatItHolds (s : OwnState) : Type 0 where
   pub ram : s.account.ram_used ≡ total object_size s.selectors + total block_size s.sliced + heap_size s.heap
   pub caps : s.account.caps_used ≡ total object_caps s.selectors + len s.sliced + heap_count s.heap

@@ -4,6 +4,7 @@ use Rattle.std.specs.Option.{option_map, option_and_then}
 use Rattle.std.specs.FinMap.{get, insert, remove, len}
 use Rattle.trade_base.specs.Page.{page_of}
 use Rattle.trade_base.specs.declared.id.DsId.{DsId}
+use Rattle.trade_base.specs.declared.id.Selector.{Selector}
 use Rattle.trade_base.specs.declared.refusal.Refusal.{Refusal}
 use Rattle.trade_base.specs.declared.refusal.Refusal.TheVariants.{InvalidCap}
 use Rattle.own_model.specs.Account.{shortage, alloc_refusal, credited, Fits}
@@ -11,7 +12,7 @@ use Rattle.own_model.specs.Call.Call.{Alloc, Free, Capalloc, Capfree}
 use Rattle.own_model.specs.NatMap.{NatMap}
 use Rattle.own_model.specs.OwnHeap.{OwnHeap}
 use Rattle.own_model.specs.OwnState.{OwnState, Object, zeros, new_selector}
-use Rattle.own_model.specs.OwnState.Object.{Dataspace as ADataspace, RpcObject as AnRpcObject, OpenSession}
+use Rattle.own_model.specs.OwnState.Object.{Dataspace as ADataspace, RpcObject as AnRpcObject, OpenSession, Buffer as ABuffer}
 use Rattle.own_model.specs.Session.{Session as AnOpenSession}
 use Rattle.own_model.specs.OwnStep.{Outcome, refused, allocated, freed, cap_allocated, cap_freed, unless, script_step}
 use Rattle.own_model.specs.Region.{Region, without}
@@ -22,7 +23,7 @@ use Rattle.own_model.proofs.StepLemmas.{covers, accepted_size}
 use Rattle.own_model.proofs.Totals.{len-insert_new, len-remove_at, total_at_le}
 use Rattle.cap_space.specs.Space.{Space, dataspace_of, is_rpc_object, with_cap, without_cap}
 use Rattle.cap_space.specs.declared.cap.Cap.{Cap}
-use Rattle.cap_space.specs.declared.cap.Cap.TheVariants.{Dataspace, RpcObject, Session}
+use Rattle.cap_space.specs.declared.cap.Cap.TheVariants.{Dataspace, RpcObject, Session, Buffer}
 use Rattle.region_map.specs.Regions.{Regions, all_detached}
 use Rattle.dataspace_core.specs.Store.{Part, account_of, part_with_space, part_without_space, charged_part, credited_part, bytes_of}
 use Rattle.pd_core.specs.Own.{Sessions, object_of, selector_of, regions_of, own_of}
@@ -35,6 +36,7 @@ pub taken_dataspace : (o : Option Cap) (ds : DsId) → Some ds ≡ dataspace_of 
 taken_dataspace None ds h = cc
 taken_dataspace (Some (Dataspace d)) ds h = cc
 taken_dataspace (Some RpcObject) ds h = cc
+taken_dataspace (Some (Buffer space session)) ds h = cc
 taken_dataspace (Some (Session server session)) ds h = cc
 
 -- and as an RPC object is one
@@ -42,6 +44,7 @@ pub found_rpc : (o : Option Cap) → is_rpc_object o ≡ true → o ≡ Some Rpc
 found_rpc None h = absurd (true≢false (sym h))
 found_rpc (Some (Dataspace d)) h = absurd (true≢false (sym h))
 found_rpc (Some RpcObject) h = refl
+found_rpc (Some (Buffer space session)) h = absurd (true≢false (sym h))
 found_rpc (Some (Session server session)) h = absurd (true≢false (sym h))
 
 -- equal capabilities
@@ -58,20 +61,22 @@ no_session : (step : Option Object → Outcome) (b : OwnState) → step None ≡
 no_session step b none known None = sym none
 no_session step b none known (Some session) = sym (known session)
 
--- a call that refuses what names nothing, an RPC object or a session refuses what names no dataspace
+-- a call that refuses what names nothing, an RPC object, a session or a buffer refuses what names no dataspace
 pub refuses : (step : Option Object → Outcome) (b : OwnState) → step None ≡ refused b InvalidCap → step (Some AnRpcObject) ≡ refused b InvalidCap →
-    ((session : AnOpenSession) → step (Some (OpenSession session)) ≡ refused b InvalidCap) →
-    (sessions : Sessions) (p : Part) (o : Option Cap) → dataspace_of o ≡ None → refused b InvalidCap ≡ step (option_and_then (object_of sessions p) o)
-refuses step b none rpc known sessions p None h = sym none
-refuses step b none rpc known sessions p (Some (Dataspace d)) h = cc
-refuses step b none rpc known sessions p (Some RpcObject) h = sym rpc
-refuses step b none rpc known sessions p (Some (Session server session)) h = no_session step b none known (sessions server session.0)
+    ((session : AnOpenSession) → step (Some (OpenSession session)) ≡ refused b InvalidCap) → (sessions : Sessions) (p : Part) (o : Option Cap) →
+    ((space : DsId) (session : Selector) → o ≡ Some (Buffer space session) → step (Some (ABuffer session.0 [])) ≡ refused b InvalidCap) → dataspace_of o ≡ None → refused b InvalidCap ≡ step (option_and_then (object_of sessions p) o)
+refuses step b none rpc known sessions p None buffer h = sym none
+refuses step b none rpc known sessions p (Some (Dataspace d)) buffer h = cc
+refuses step b none rpc known sessions p (Some RpcObject) buffer h = sym rpc
+refuses step b none rpc known sessions p (Some (Session server session)) buffer h = no_session step b none known (sessions server session.0)
+refuses step b none rpc known sessions p (Some (Buffer space session)) buffer h = sym (buffer space session refl)
 
 -- what is no RPC object isn't freed as one
 no_rpc : (sessions : Sessions) (p : Part) (s : ℕ) (b : OwnState) (o : Option Cap) → is_rpc_object o ≡ false → refused b InvalidCap ≡ cap_freed s (option_and_then (object_of sessions p) o) b
 no_rpc sessions p s b None h = refl
 no_rpc sessions p s b (Some (Dataspace d)) h = elim (get p.spaces d.0) as (λ o. refused b InvalidCap ≡ cap_freed s (option_map ADataspace o) b) [ None ↦ refl | Some bytes ↦ refl ]
 no_rpc sessions p s b (Some RpcObject) h = absurd (true≢false h)
+no_rpc sessions p s b (Some (Buffer space session)) h = refl
 no_rpc sessions p s b (Some (Session server session)) h = no_session (λ o. cap_freed s o b) b refl (λ session. refl) (sessions server session.0)
 
 module _ (p : Part) (space : Space) (regions : Regions) (heap : OwnHeap) (sliced : NatMap (List ℕ)) (sound : IsScript p space regions heap sliced) where
@@ -115,7 +120,7 @@ module _ (p : Part) (space : Space) (regions : Regions) (heap : OwnHeap) (sliced
     pub free_refused : dataspace_of (get space.caps s) ≡ None → (sessions : Sessions) → refused (before p space regions heap sliced sound sessions) InvalidCap ≡ script_step (Free s) (before p space regions heap sliced sound sessions)
     free_refused h sessions =
         let b = before p space regions heap sliced sound sessions in
-        refuses (λ o. freed s o b) b refl refl (λ session. refl) sessions p (get space.caps s) h ∙ ap (λ o. freed s o b) (sym (object_is p space regions heap sliced sound sessions s))
+        refuses (λ o. freed s o b) b refl refl (λ session. refl) sessions p (get space.caps s) (λ of session named. refl) h ∙ ap (λ o. freed s o b) (sym (object_is p space regions heap sliced sound sessions s))
 
     module _ (ds : DsId) (named : get space.caps s ≡ Some (Dataspace ds)) where
       -- what the selector names is under one key

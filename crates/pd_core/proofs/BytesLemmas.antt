@@ -1,6 +1,7 @@
 -- A script's peeks and pokes.
 use Rattle.std.proofs.Common.{◌≡◌, ℕ, ◌+◌, ◌≤◌, List, [], length, Option, Some, None, is_some, IsSome, subst, refl, sym, ap, ◌∙◌, slice_range, arith}
 use Rattle.std.specs.Option.{option_map, option_and_then, option_or}
+use Rattle.std.proofs.lemmas.Option.{same_Some}
 use Rattle.std.specs.Prelude.{◌||◌, if◌then◌else◌}
 use Rattle.std.proofs.lemmas.Bool.Decides.{nat_tests}
 use Rattle.std.specs.FinMap.{get, insert}
@@ -11,7 +12,7 @@ use Rattle.own_model.specs.OwnState.Object.{Dataspace as ADataspace}
 use Rattle.own_model.specs.OwnStep.{Outcome, refused, unless, count_refusal, most_bytes, peeked, poked, script_step}
 use Rattle.own_model.specs.NatMap.{NatMap}
 use Rattle.own_model.specs.OwnHeap.{OwnHeap}
-use Rattle.own_model.specs.OwnState.{OwnState}
+use Rattle.own_model.specs.OwnState.{OwnState, named_bytes}
 use Rattle.own_model.specs.Place.{Place, in_dataspace, in_payload, in_block, found}
 use Rattle.own_model.specs.Sliced.{block_found}
 use Rattle.own_model.specs.Region.{resolved}
@@ -47,10 +48,6 @@ counted (Some r) other is = cc
 -- it is within the most
 count_within : (count : ℕ) → count_refusal count ≡ None → count ≤ most_bytes
 count_within count h = grind (arith, nat_tests)
-
--- equal bytes of equal dataspaces
-same_bytes : (a b : List ℕ) → Some (ADataspace a) ≡ Some (ADataspace b) → a ≡ b
-same_bytes a b e = cc
 
 module _ (p : Part) (space : Space) (regions : Regions) (heap : OwnHeap) (sliced : NatMap (List ℕ)) (sound : IsScript p space regions heap sliced) (address count : ℕ) where
   -- the own state before a call
@@ -123,11 +120,11 @@ module _ (p : Part) (space : Space) (regions : Regions) (heap : OwnHeap) (sliced
     fits =
         let law = (sound.lawful all_sessions (λ q server session there. refl)).sound in
         let range = range_fits (own all_sessions) address count selector.0 offset law (own_found all_sessions) in
-        subst (λ (l : List ℕ). offset + count ≤ length l) (same_bytes range.0 (bytes_of p key) (sym range.1 ∙ object all_sessions)) range.2
+        subst (λ (l : List ℕ). offset + count ≤ length l) (same_Some range.0 (bytes_of p key) (sym range.1 ∙ ap named_bytes (object all_sessions))) range.2
 
     -- a peek tells the bytes of the dataspace
     pub peek_is : (sessions : Sessions) → record { reply = Bytes (slice_range (bytes_of p key) offset (offset + count)); lines = []; next = own sessions } ≡ script_step (Peek address count) (own sessions)
-    peek_is sessions = sym (peeks (own sessions) address count selector.0 offset (bytes_of p key) some (own_found sessions) (object sessions))
+    peek_is sessions = sym (peeks (own sessions) address count selector.0 offset (bytes_of p key) some (own_found sessions) (ap named_bytes (object sessions)))
 
     -- a poke puts its bytes over those of the dataspace
     pub poke_settles : (bytes : List ℕ) → count ≡ length bytes → Settles (Poke address bytes) p space regions heap sliced Done (part_with_bytes p key offset bytes) space regions

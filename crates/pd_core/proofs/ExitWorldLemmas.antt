@@ -9,7 +9,7 @@ use Rattle.own_model.specs.Call.Call.{Close, Exit}
 use Rattle.own_model.specs.Donation.{raised}
 use Rattle.own_model.specs.Limits.{ram_with, caps_with, ram_limits, caps_limits}
 use Rattle.own_model.specs.OwnState.{OwnState, Object, session_named}
-use Rattle.own_model.specs.OwnState.Object.{Dataspace, RpcObject, OpenSession}
+use Rattle.own_model.specs.OwnState.Object.{Dataspace, RpcObject, OpenSession, Buffer as ABuffer}
 use Rattle.own_model.specs.OwnStep.{Outcome, own_step, session_closed, exited, gone_state}
 use Rattle.own_model.specs.Session.{Session}
 use Rattle.own_model.specs.StartList.{Entry}
@@ -87,6 +87,7 @@ closed_more i q count old mid new before is script here within stepped =
 no_limits : (o : Object) → session_named (Some o) ≡ None → (ram_with o ≡ 0) × (caps_with o ≡ 0)
 no_limits (Dataspace bytes) none = (refl, refl)
 no_limits RpcObject none = (refl, refl)
+no_limits (ABuffer session bytes) none = (refl, refl)
 no_limits (OpenSession session) none = absurd (none-some session (sym none))
 
 -- without a session the limits are the account's

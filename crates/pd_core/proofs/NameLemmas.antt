@@ -10,7 +10,7 @@ use Rattle.own_model.specs.Region.{Region}
 use Rattle.own_model.proofs.EntryLemmas.{found_in_map, finds_in_map}
 use Rattle.own_model.proofs.NatMapLemmas.{picked_alike, some_of}
 use Rattle.cap_space.specs.declared.cap.Cap.{Cap}
-use Rattle.cap_space.specs.declared.cap.Cap.TheVariants.{Dataspace, RpcObject, Session}
+use Rattle.cap_space.specs.declared.cap.Cap.TheVariants.{Dataspace, RpcObject, Session, Buffer}
 use Rattle.pd_core.specs.Own.{is_of, selector_of, regions_of}
 use Rattle.pd_core.specs.Sound.{IsOne, AreNamed}
 
@@ -27,6 +27,7 @@ pub record Names (caps : NatMap Cap) (s key : ℕ) : Type 0 where
 is_of_some : (key : ℕ) (cap : Cap) → is_of key cap ≡ true → (ds : DsId) × (cap ≡ Dataspace ds) × (ds.0 ≡ key)
 is_of_some key (Dataspace ds) h = (ds, refl, eqb-true ds.0 key h)
 is_of_some key RpcObject h = absurd (true≢false (sym h))
+is_of_some key (Buffer space session) h = absurd (true≢false (sym h))
 is_of_some key (Session server session) h = absurd (true≢false (sym h))
 
 -- the selector of an entry that is found names the dataspace under the key

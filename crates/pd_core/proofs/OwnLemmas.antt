@@ -4,17 +4,18 @@ use Rattle.std.specs.Option.{option_map, option_and_then, unwrap_or}
 use Rattle.std.specs.FinMap.{get, insert, remove, len}
 use Rattle.std.specs.Prelude.{Result, IsErrAnd}
 use Rattle.std.proofs.lemmas.Bool.{cases_eq}
-use Rattle.std.proofs.lemmas.Option.{same_Some}
+use Rattle.std.proofs.lemmas.Option.{none-some, same_Some}
 use Rattle.std.proofs.lemmas.Result.{err_from_is_err_and}
 use Rattle.trade_base.specs.declared.id.DsId.{DsId}
+use Rattle.trade_base.specs.declared.id.Selector.{Selector}
 use Rattle.trade_base.specs.declared.id.SessionId.{SessionId}
 use Rattle.trade_base.specs.declared.refusal.Refusal.{Refusal}
 use Rattle.own_model.specs.NatMap.{NatMap, picked, total}
 use Rattle.own_model.specs.Account.{opened, charged, credited}
 use Rattle.own_model.specs.Call.{Call}
 use Rattle.own_model.specs.OwnHeap.{OwnHeap}
-use Rattle.own_model.specs.OwnState.{OwnState, Object, new_selector, pages_in}
-use Rattle.own_model.specs.OwnState.Object.{Dataspace as ADataspace, OpenSession}
+use Rattle.own_model.specs.OwnState.{OwnState, named_bytes, Object, new_selector, pages_in}
+use Rattle.own_model.specs.OwnState.Object.{Dataspace as ADataspace, OpenSession, Buffer as ABuffer}
 use Rattle.own_model.specs.OwnStep.{Outcome, refused, script_step, unrouted}
 use Rattle.own_model.specs.Region.{Region}
 use Rattle.own_model.specs.Reply.{Reply}
@@ -30,7 +31,7 @@ use Rattle.own_model.proofs.UseLemmas.{run_uses}
 use Rattle.own_model.proofs.LimitLemmas.{step_within}
 use Rattle.cap_space.specs.Space.{Space, with_cap, without_cap}
 use Rattle.cap_space.specs.declared.cap.Cap.{Cap}
-use Rattle.cap_space.specs.declared.cap.Cap.TheVariants.{Dataspace, RpcObject, Session}
+use Rattle.cap_space.specs.declared.cap.Cap.TheVariants.{Dataspace, RpcObject, Session, Buffer}
 use Rattle.region_map.specs.Regions.{Regions}
 use Rattle.dataspace_core.specs.Store.{Store, Part, part, space_at, account_of, bytes_of, PartBecomes}
 use Rattle.dataspace_core.proofs.PartLaws.{paid_in_part}
@@ -93,6 +94,7 @@ object_alike : (sessions : Sessions) (p p' : Part) (cap : Cap) → ((ds : DsId) 
 object_alike sessions p p' (Dataspace ds) alike = ap (option_map ADataspace) (alike ds refl)
 object_alike sessions p p' RpcObject alike = refl
 object_alike sessions p p' (Session server session) alike = refl
+object_alike sessions p p' (Buffer space session) alike = refl
 
 -- what is there is its value
 pub value_of : (o : Option (List ℕ)) → IsSome o → o ≡ Some (unwrap_or o [])
@@ -110,7 +112,19 @@ has_object : (sessions : Sessions) (p : Part) (o : Option Cap) → ((ds : DsId) 
 has_object sessions p None there ready = refl
 has_object sessions p (Some (Dataspace ds)) there ready = map_some ADataspace (get p.spaces ds.0) ∙ there ds refl
 has_object sessions p (Some RpcObject) there ready = refl
+has_object sessions p (Some (Buffer space session)) there ready = refl
 has_object sessions p (Some (Session server session)) there ready = map_some OpenSession (sessions server session.0) ∙ ready server session refl
+
+-- what is no capability of a buffer is no buffer
+not_buffer : (sessions : Sessions) (p : Part) (o : Option Cap) (session : ℕ) (bytes : List ℕ) → ((of : DsId) (other : Selector) → o ≡ Some (Buffer of other) → ⊥) →
+    option_and_then (object_of sessions p) o ≡ Some (ABuffer session bytes) → ⊥
+not_buffer sessions p None session bytes none is = none-some _ is
+not_buffer sessions p (Some (Dataspace ds)) session bytes none is =
+    elim (get p.spaces ds.0) as (λ o. option_map ADataspace o ≡ Some (ABuffer session bytes) → ⊥) [ None ↦ λ h. none-some _ h | Some x ↦ λ h. cc ] is
+not_buffer sessions p (Some RpcObject) session bytes none is = cc
+not_buffer sessions p (Some (Session server key)) session bytes none is =
+    elim (sessions server key.0) as (λ o. option_map OpenSession o ≡ Some (ABuffer session bytes) → ⊥) [ None ↦ λ h. none-some _ h | Some x ↦ λ h. cc ] is
+not_buffer sessions p (Some (Buffer of other)) session bytes none is = none of other refl
 
 -- ---- sessions
 
@@ -123,6 +137,7 @@ session_is : (o : Option Cap) (server : ℕ) (session : SessionId) → session_a
 session_is None server session h = cc
 session_is (Some (Dataspace ds)) server session h = cc
 session_is (Some RpcObject) server session h = cc
+session_is (Some (Buffer space of)) server session h = cc
 session_is (Some (Session a b)) server session h =
     let e : (a, b) ≡ (server, session) = same_Some (a, b) (server, session) h in ap (λ (x : ℕ × SessionId). Some (Session x.0 x.1)) e
 
@@ -135,6 +150,7 @@ open_before sessions caps caps' alike ready q server session there =
 no_weight : (cap : Cap) → session_at (Some cap) ≡ None → session_weight cap ≡ 0
 no_weight (Dataspace ds) plain = refl
 no_weight RpcObject plain = refl
+no_weight (Buffer space session) plain = refl
 no_weight (Session server session) plain = cc
 
 module _ (p : Part) (space : Space) (regions : Regions) (heap : OwnHeap) (sliced : NatMap (List ℕ)) (sound : IsScript p space regions heap sliced) where
@@ -171,6 +187,18 @@ module _ (p : Part) (space : Space) (regions : Regions) (heap : OwnHeap) (sliced
           new_selector_is _ _ (new_selector_positive space.caps)
           (none_at _ _ (selects _ ∙ ap is_some (new_selector_free space.caps)))
           (λ t positive below. selects t ∙ new_selector_least space.caps t positive below)
+
+  -- no selector names a buffer, as that would be of no pages
+  pub no_buffer : (s : ℕ) (of : DsId) (session : Selector) → get space.caps s ≡ Some (Buffer of session) → ⊥
+  no_buffer s of session names =
+      let law = (sound.lawful all_sessions (λ q server session there. refl)).sound in
+      let whole = law.whole s [] (ap named_bytes (object_is all_sessions s ∙ ap (option_and_then (object_of all_sessions p)) names)) in
+      absurd (omega (arith, whole.some))
+
+  -- so the own state has none
+  pub holds_no_buffer : (sessions : Sessions) (s session : ℕ) (bytes : List ℕ) → get (before sessions).selectors s ≡ Some (ABuffer session bytes) → ⊥
+  holds_no_buffer sessions s session bytes is =
+      not_buffer sessions p (get space.caps s) session bytes (λ of other named. no_buffer s of other named) (sym (object_is sessions s) ∙ is)
 
   -- the bytes of a dataspace that a selector names are no more than the machine's
   pub few_bytes : (s : ℕ) (ds : DsId) → get space.caps s ≡ Some (Dataspace ds) → length (bytes_of p ds.0) ≤ regions.pages * 4096

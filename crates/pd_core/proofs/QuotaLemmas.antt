@@ -15,7 +15,7 @@ use Rattle.own_model.specs.Session.{Session as AnOpenSession, Labelled}
 use Rattle.own_model.specs.Transcript.{nothing, state_at}
 use Rattle.own_model.proofs.NatMapLemmas.{get-empty, get-picked, get-picked_none}
 use Rattle.cap_space.specs.declared.cap.Cap.{Cap}
-use Rattle.cap_space.specs.declared.cap.Cap.TheVariants.{Dataspace, RpcObject, Session}
+use Rattle.cap_space.specs.declared.cap.Cap.TheVariants.{Dataspace, RpcObject, Session, Buffer}
 use Rattle.dataspace_core.specs.Store.{Store, Part, part, account_in}
 use Rattle.dataspace_core.proofs.PartLaws.{account_of-part}
 use Rattle.dataspace_core.specs.Share.{Share}
@@ -112,6 +112,7 @@ by_cap : (sessions : Sessions) (part : Part) (o : Option Cap) → session_named 
 by_cap sessions part None = refl
 by_cap sessions part (Some (Dataspace ds)) = no_space (get part.spaces ds.0)
 by_cap sessions part (Some RpcObject) = refl
+by_cap sessions part (Some (Buffer space session)) = refl
 by_cap sessions part (Some (Session server session)) = itself (sessions server session.0)
 
 -- a server's own state names none

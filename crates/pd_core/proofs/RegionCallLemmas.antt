@@ -10,9 +10,7 @@ use Rattle.own_model.specs.Call.{Call}
 use Rattle.own_model.specs.Call.Call.{Attach, AttachAt, Detach}
 use Rattle.own_model.specs.NatMap.{NatMap}
 use Rattle.own_model.specs.OwnHeap.{OwnHeap}
-use Rattle.own_model.specs.OwnState.{Object, pages_in}
-use Rattle.own_model.specs.OwnState.Object.{RpcObject, OpenSession}
-use Rattle.own_model.specs.Session.{Session as AnOpenSession}
+use Rattle.own_model.specs.OwnState.{Object, named_bytes, pages_in}
 use Rattle.own_model.specs.OwnStep.{Outcome, refused, unless, attached_first, attached_at, with_region, region_detached, script_step}
 use Rattle.own_model.specs.Region.{Region, user_low, user_high, first_gap, user_gap, attach_refusal, attach_at_refusal, detach_refusal, most_regions}
 use Rattle.own_model.specs.Reply.Reply.{Attached, Done}
@@ -21,13 +19,13 @@ use Rattle.own_model.proofs.NatMapLemmas.{after_insert, before_remove}
 use Rattle.own_model.proofs.RegionLemmas.{AreAlike, AreAlike-renamed, attach_refusal_alike, attach_at_refusal_alike, detach_refusal_alike, first_gap_alike, renamed-insert, renamed-remove}
 use Rattle.cap_space.specs.Space.{Space, dataspace_of}
 use Rattle.cap_space.specs.declared.cap.Cap.{Cap}
-use Rattle.cap_space.specs.declared.cap.Cap.TheVariants.{Dataspace, RpcObject as AnRpcCap, Session}
+use Rattle.cap_space.specs.declared.cap.Cap.TheVariants.{Dataspace, RpcObject as AnRpcCap, Session, Buffer}
 use Rattle.region_map.specs.Regions.{Regions, attached, detached}
 use Rattle.dataspace_core.specs.Store.{Part, bytes_of}
 use Rattle.pd_core.specs.Own.{Sessions, selector_of, regions_of, own_of, sized_at}
 use Rattle.pd_core.specs.Sound.{AreNamed, IsScript}
 use Rattle.pd_core.proofs.NameLemmas.{named_is}
-use Rattle.pd_core.proofs.OwnLemmas.{Settles, all_sessions, before, object_is, few_bytes, names_object, remaps}
+use Rattle.pd_core.proofs.OwnLemmas.{Settles, all_sessions, before, object_is, no_buffer, few_bytes, names_object, remaps}
 use Rattle.pd_core.proofs.AccountLemmas.{refuses}
 
 -- what a look-up finds, with its pages
@@ -37,6 +35,7 @@ found_dataspace p (Some (Dataspace d)) found h =
     let same : found ≡ (d, pages_in (bytes_of p d.0)) = cc in
     (ap (λ (f : DsId × ℕ). Some (Dataspace f.0)) (sym same), ap (λ (f : DsId × ℕ). f.1) same ∙ ap (λ (f : DsId × ℕ). pages_in (bytes_of p f.0.0)) (sym same))
 found_dataspace p (Some AnRpcCap) found h = cc
+found_dataspace p (Some (Buffer space session)) found h = cc
 found_dataspace p (Some (Session server session)) found h = cc
 
 -- what a look-up finds nothing for names no dataspace
@@ -44,6 +43,7 @@ unsized : (p : Part) (o : Option Cap) (refusal : Refusal) → Err refusal ≡ si
 unsized p None refusal h = (cc, refl)
 unsized p (Some (Dataspace d)) refusal h = cc
 unsized p (Some AnRpcCap) refusal h = (cc, refl)
+unsized p (Some (Buffer space session)) refusal h = (cc, refl)
 unsized p (Some (Session server session)) refusal h = (cc, refl)
 
 module _ (p : Part) (space : Space) (regions : Regions) (heap : OwnHeap) (sliced : NatMap (List ℕ)) (sound : IsScript p space regions heap sliced) where
@@ -55,22 +55,23 @@ module _ (p : Part) (space : Space) (regions : Regions) (heap : OwnHeap) (sliced
   -- ---- attach
 
   module _ (s : ℕ) (refusal : Refusal) (none : Err refusal ≡ sized_at p (get space.caps s)) where
-    -- a call that attaches what is no dataspace is refused
-    unnamed : (sessions : Sessions) (step : Option Object → Outcome) → step None ≡ refused (before p space regions heap sliced sound sessions) InvalidCap → step (Some RpcObject) ≡ refused (before p space regions heap sliced sound sessions) InvalidCap →
-        ((session : AnOpenSession) → step (Some (OpenSession session)) ≡ refused (before p space regions heap sliced sound sessions) InvalidCap) →
-        refused (before p space regions heap sliced sound sessions) refusal ≡ step (get (before p space regions heap sliced sound sessions).selectors s)
-    unnamed sessions step nothing rpc known =
+    -- a call that attaches what has no bytes is refused
+    unnamed : (sessions : Sessions) (step : Option (List ℕ) → Outcome) → step None ≡ refused (before p space regions heap sliced sound sessions) InvalidCap →
+        refused (before p space regions heap sliced sound sessions) refusal ≡ step (named_bytes (get (before p space regions heap sliced sound sessions).selectors s))
+    unnamed sessions step nothing =
         let b = before p space regions heap sliced sound sessions in
         let un = unsized p (get space.caps s) refusal none in
-        ap (refused b) un.0 ∙ refuses step b nothing rpc known sessions p (get space.caps s) un.1 ∙ ap step (sym (object_is p space regions heap sliced sound sessions s))
+        let by : Option Object → Outcome = λ o. step (named_bytes o) in
+        ap (refused b) un.0 ∙ refuses by b nothing nothing (λ session. nothing) sessions p (get space.caps s)
+        (λ of session named. absurd (no_buffer p space regions heap sliced sound s of session named)) un.1 ∙ ap by (sym (object_is p space regions heap sliced sound sessions s))
 
     -- so an attach is
     pub attach_unnamed : (sessions : Sessions) → refused (before p space regions heap sliced sound sessions) refusal ≡ script_step (Attach s) (before p space regions heap sliced sound sessions)
-    attach_unnamed sessions = let b = before p space regions heap sliced sound sessions in unnamed sessions (λ o. attached_first s o b) refl refl (λ session. refl)
+    attach_unnamed sessions = let b = before p space regions heap sliced sound sessions in unnamed sessions (λ o. attached_first s o b) refl
 
     -- and so is one at an address
     pub attach_at_unnamed : (address : ℕ) (sessions : Sessions) → refused (before p space regions heap sliced sound sessions) refusal ≡ script_step (AttachAt s address) (before p space regions heap sliced sound sessions)
-    attach_at_unnamed address sessions = let b = before p space regions heap sliced sound sessions in unnamed sessions (λ o. attached_at s address o b) refl refl (λ session. refl)
+    attach_at_unnamed address sessions = let b = before p space regions heap sliced sound sessions in unnamed sessions (λ o. attached_at s address o b) refl
 
   module _ (s : ℕ) (found : DsId × ℕ) (is : Ok found ≡ sized_at p (get space.caps s)) where
     -- the dataspace and its pages
@@ -90,7 +91,7 @@ module _ (p : Part) (space : Space) (regions : Regions) (heap : OwnHeap) (sliced
 
     -- what is attached is pages
     whole : IsPages (bytes_of p ds.0)
-    whole = (sound.lawful all_sessions (λ q server session there. refl)).sound.whole s (bytes_of p ds.0) (names_object p space regions heap sliced sound all_sessions s ds named)
+    whole = (sound.lawful all_sessions (λ q server session there. refl)).sound.whole s (bytes_of p ds.0) (ap named_bytes (names_object p space regions heap sliced sound all_sessions s ds named))
 
     -- at least one
     pub some_pages : 1 ≤ pages
@@ -106,7 +107,7 @@ module _ (p : Part) (space : Space) (regions : Regions) (heap : OwnHeap) (sliced
         (with_region s pages (unwrap_or (first_gap user_low user_high regions.user pages) 0) (before p space regions heap sliced sound sessions))
     first_is sessions =
         let b = before p space regions heap sliced sound sessions in
-        ap (λ x. attached_first s x b) (names_object p space regions heap sliced sound sessions s ds named)
+        ap (λ x. attached_first s (named_bytes x) b) (names_object p space regions heap sliced sound sessions s ds named)
         ∙ ap (λ n. unless (attach_refusal most_regions b.regions n) b (with_region s n (user_gap b.regions n) b)) (sym size)
         ∙ ap (λ r. unless r b (with_region s pages (user_gap b.regions pages) b))
         (sym (attach_refusal_alike regions.user b.regions (alike sessions) most_regions pages) ∙ ap (λ m. attach_refusal m regions.user pages) (sym sound.most))
@@ -117,7 +118,7 @@ module _ (p : Part) (space : Space) (regions : Regions) (heap : OwnHeap) (sliced
         ≡ unless (attach_at_refusal regions.most regions.user pages address) (before p space regions heap sliced sound sessions) (with_region s pages address (before p space regions heap sliced sound sessions))
     place_is address sessions =
         let b = before p space regions heap sliced sound sessions in
-        ap (λ x. attached_at s address x b) (names_object p space regions heap sliced sound sessions s ds named)
+        ap (λ x. attached_at s address (named_bytes x) b) (names_object p space regions heap sliced sound sessions s ds named)
         ∙ ap (λ n. unless (attach_at_refusal most_regions b.regions n address) b (with_region s n address b)) (sym size)
         ∙ ap (λ r. unless r b (with_region s pages address b))
         (sym (attach_at_refusal_alike regions.user b.regions (alike sessions) most_regions pages address) ∙ ap (λ m. attach_at_refusal m regions.user pages address) (sym sound.most))

@@ -1,5 +1,5 @@
 -- What a script's selectors name goes, one selector after another.
-use Rattle.std.proofs.Common.{◌≡◌, ◌⊎◌, ℕ, ◌<◌, ◌≤◌, Option, Some, None, is_some, IsSome, refl, sym, ap, subst, ◌∙◌, inl, inr}
+use Rattle.std.proofs.Common.{◌≡◌, ◌⊎◌, ℕ, ◌<◌, ◌≤◌, List, Option, Some, None, is_some, IsSome, refl, sym, ap, subst, ◌∙◌, inl, inr}
 use Rattle.std.proofs.lemmas.Option.{none-some}
 use Rattle.std.specs.Option.{option_map, option_and_then}
 use Rattle.std.specs.Prelude.{Result}
@@ -7,18 +7,18 @@ use Rattle.std.specs.FinMap.{get, remove}
 use Rattle.trade_base.specs.declared.refusal.Refusal.{Refusal}
 use Rattle.own_model.specs.Call.Call.{Free, Capfree}
 use Rattle.own_model.specs.OwnState.{OwnState, Object, session_named}
-use Rattle.own_model.specs.OwnState.Object.{Dataspace as ADataspace, RpcObject as AnRpcObject, OpenSession}
+use Rattle.own_model.specs.OwnState.Object.{Dataspace as ADataspace, RpcObject as AnRpcObject, OpenSession, Buffer as ABuffer}
 use Rattle.own_model.specs.OwnStep.{Outcome, freed, cap_freed, script_step}
 use Rattle.own_model.proofs.NatMapLemmas.{get-remove_same, before_remove, none_at, some_of}
 use Rattle.cap_space.specs.declared.cap.Cap.{Cap}
-use Rattle.cap_space.specs.declared.cap.Cap.TheVariants.{Dataspace, RpcObject, Session}
+use Rattle.cap_space.specs.declared.cap.Cap.TheVariants.{Dataspace, RpcObject, Session, Buffer}
 use Rattle.dataspace_core.specs.Store.{Store, Part}
 use Rattle.pd_core.specs.declared.answer.Answer.{Answer}
 use Rattle.pd_core.specs.declared.script.Script.{Script}
 use Rattle.pd_core.specs.Does.{Does}
 use Rattle.pd_core.specs.Own.{object_of, own_at, own_heap_at, part_at, sliced_at}
 use Rattle.pd_core.specs.Sound.{IsSoundScript, Keeps, session_at}
-use Rattle.pd_core.proofs.OwnLemmas.{all_sessions, object_is, selects}
+use Rattle.pd_core.proofs.OwnLemmas.{all_sessions, object_is, selects, holds_no_buffer}
 
 -- ---- a free and a capfree of a selector, in the model
 
@@ -29,6 +29,7 @@ module _ (s : ℕ) where
   free_before b (Some (ADataspace bytes)) k some = let at = some_of (get (remove b.selectors s) k) some in ap is_some (before_remove b.selectors s k at.0 at.1)
   free_before b (Some AnRpcObject) k some = some
   free_before b (Some (OpenSession session)) k some = some
+  free_before b (Some (ABuffer session bytes)) k some = some
 
   -- and what a capfree leaves
   capfree_before : (b : OwnState) (o : Option Object) (k : ℕ) → IsSome (get (cap_freed s o b).next.selectors k) → IsSome (get b.selectors k)
@@ -36,14 +37,16 @@ module _ (s : ℕ) where
   capfree_before b (Some (ADataspace bytes)) k some = some
   capfree_before b (Some AnRpcObject) k some = let at = some_of (get (remove b.selectors s) k) some in ap is_some (before_remove b.selectors s k at.0 at.1)
   capfree_before b (Some (OpenSession session)) k some = some
+  capfree_before b (Some (ABuffer session bytes)) k some = some
 
-  -- after a free an RPC object is left under a selector that named no session, or nothing
-  free_leaves : (b : OwnState) (o : Option Object) → get b.selectors s ≡ o → session_named o ≡ None →
+  -- after a free an RPC object is left under a selector that named no session and no buffer, or nothing
+  free_leaves : (b : OwnState) (o : Option Object) → get b.selectors s ≡ o → session_named o ≡ None → ((session : ℕ) (bytes : List ℕ) → o ≡ Some (ABuffer session bytes) → ⊥) →
       (get (freed s o b).next.selectors s ≡ None) ⊎ (get (freed s o b).next.selectors s ≡ Some AnRpcObject)
-  free_leaves b None is plain = inl is
-  free_leaves b (Some (ADataspace bytes)) is plain = inl (get-remove_same b.selectors s s refl)
-  free_leaves b (Some AnRpcObject) is plain = inr is
-  free_leaves b (Some (OpenSession session)) is plain = absurd (none-some session (sym plain))
+  free_leaves b None is plain none = inl is
+  free_leaves b (Some (ADataspace bytes)) is plain none = inl (get-remove_same b.selectors s s refl)
+  free_leaves b (Some AnRpcObject) is plain none = inr is
+  free_leaves b (Some (OpenSession session)) is plain none = absurd (none-some session (sym plain))
+  free_leaves b (Some (ABuffer session bytes)) is plain none = absurd (none session bytes refl)
 
   -- and after a capfree nothing
   capfree_leaves : (b : OwnState) → (get b.selectors s ≡ None) ⊎ (get b.selectors s ≡ Some AnRpcObject) → get (cap_freed s (get b.selectors s) b).next.selectors s ≡ None
@@ -59,6 +62,7 @@ no_session : (p : Part) (o : Option Cap) → session_at o ≡ None → session_n
 no_session p None plain = refl
 no_session p (Some (Dataspace ds)) plain = elim (get p.spaces ds.0) as (λ o. session_named (option_map ADataspace o) ≡ None) [ None ↦ refl | Some bytes ↦ refl ]
 no_session p (Some RpcObject) plain = refl
+no_session p (Some (Buffer space session)) plain = refl
 no_session p (Some (Session server session)) plain = absurd (none-some (server, session) (sym plain))
 
 module _ {store : Store} {script : Script} (sound : IsSoundScript store script) where
@@ -85,7 +89,8 @@ module _ (s : ℕ) (first second : Result Answer Refusal) {old mid new : Store} 
   pub both_leave : session_at (get before.caps.caps s) ≡ None → get after.caps.caps s ≡ None
   both_leave plain =
       let was = own_at all_sessions old before in
-      let left = free_leaves s was (get was.selectors s) refl (names_plain sound s plain) in
+      let left = free_leaves s was (get was.selectors s) refl (names_plain sound s plain)
+          (λ session bytes. holds_no_buffer _ _ _ _ _ sound.own all_sessions s session bytes) in
       let then_left : (get (own_at all_sessions mid between).selectors s ≡ None) ⊎ (get (own_at all_sessions mid between).selectors s ≡ Some AnRpcObject)
       = subst (λ (b : OwnState). (get b.selectors s ≡ None) ⊎ (get b.selectors s ≡ Some AnRpcObject)) (sym mid_own) left in
       let none = ap (λ (b : OwnState). get b.selectors s) new_own ∙ capfree_leaves s (own_at all_sessions mid between) then_left in

@@ -28,7 +28,7 @@ use Rattle.own_model.specs.World.{World, with_state}
 use Rattle.own_model.proofs.BalanceLemmas.{with_state_same}
 use Rattle.own_model.proofs.NatMapLemmas.{get-picked, get-empty}
 use Rattle.cap_space.specs.declared.cap.Cap.{Cap}
-use Rattle.cap_space.specs.declared.cap.Cap.TheVariants.{Dataspace, RpcObject, Session}
+use Rattle.cap_space.specs.declared.cap.Cap.TheVariants.{Dataspace, RpcObject, Session, Buffer}
 use Rattle.dataspace_core.specs.Store.{Store, Part}
 use Rattle.server_frame.specs.Frame.{Row}
 use Rattle.pd_core.specs.Answer.{told_alone, reply_of}
@@ -88,6 +88,7 @@ no_object : (S : Sessions) (part : Part) (o : Option Cap) → session_at o ≡ N
 no_object S part None none = refl
 no_object S part (Some (Dataspace ds)) none = no_space (get part.spaces ds.0)
 no_object S part (Some RpcObject) none = refl
+no_object S part (Some (Buffer space session)) none = refl
 no_object S part (Some (Session server session)) none = absurd (none-some (server, session) (sym none))
 
 unnamed : (S : Sessions) (store : Store) (script : Script) (selector : ℕ) → session_at (get script.caps.caps selector) ≡ None →
@@ -201,6 +202,7 @@ cap_of : (o : Option Cap) (named : ℕ × SessionId) → session_at o ≡ Some n
 cap_of None named is = absurd (none-some named is)
 cap_of (Some (Dataspace ds)) named is = absurd (none-some named is)
 cap_of (Some RpcObject) named is = absurd (none-some named is)
+cap_of (Some (Buffer space session)) named is = absurd (none-some named is)
 cap_of (Some (Session server session)) named is =
     let same = same_Some (server, session) named is in ap (λ (p : ℕ × SessionId). Some (Session p.0 p.1)) same
 

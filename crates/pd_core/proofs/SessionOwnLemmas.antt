@@ -11,7 +11,7 @@ use Rattle.trade_base.specs.declared.refusal.Refusal.TheVariants.{Gone}
 use Rattle.own_model.specs.Call.{Call}
 use Rattle.own_model.specs.NatMap.{NatMap, picked, total}
 use Rattle.own_model.specs.OwnHeap.{OwnHeap}
-use Rattle.own_model.specs.OwnState.{OwnState}
+use Rattle.own_model.specs.OwnState.{OwnState, named_bytes}
 use Rattle.own_model.specs.OwnState.Object.{Dataspace as ADataspace, OpenSession}
 use Rattle.own_model.specs.OwnStep.{Outcome, own_step, entry_step, unless, turned_away}
 use Rattle.own_model.specs.Region.{Region}
@@ -25,7 +25,7 @@ use Rattle.own_model.proofs.SoundLemmas.{step_sound}
 use Rattle.own_model.proofs.UseLemmas.{run_uses}
 use Rattle.own_model.proofs.LimitLemmas.{step_within}
 use Rattle.cap_space.specs.declared.cap.Cap.{Cap}
-use Rattle.cap_space.specs.declared.cap.Cap.TheVariants.{Dataspace, RpcObject, Session}
+use Rattle.cap_space.specs.declared.cap.Cap.TheVariants.{Dataspace, RpcObject, Session, Buffer}
 use Rattle.cap_space.specs.Space.{Space}
 use Rattle.region_map.specs.Regions.{Regions}
 use Rattle.dataspace_core.specs.Store.{Part, account_of}
@@ -44,31 +44,34 @@ costless : (o : Option AnOpenSession) → unwrap_or (option_map object_caps (opt
 costless None = refl
 costless (Some session) = refl
 
--- nor is it a dataspace
-no_dataspace : (o : Option AnOpenSession) (bytes : List ℕ) → option_map OpenSession o ≢ Some (ADataspace bytes)
-no_dataspace None bytes is = none-some _ is
-no_dataspace (Some session) bytes is = cc
+-- nor has it bytes
+no_bytes : (o : Option AnOpenSession) → named_bytes (option_map OpenSession o) ≡ None
+no_bytes None = refl
+no_bytes (Some session) = refl
 
 no_size : (S S' : Sessions) (p : Part) (cap : Cap) → unwrap_or (option_map object_size (object_of S' p cap)) 0 ≡ unwrap_or (option_map object_size (object_of S p cap)) 0
 no_size S S' p (Dataspace ds) = refl
 no_size S S' p RpcObject = refl
+no_size S S' p (Buffer space session) = refl
 no_size S S' p (Session server session) = nothing (S' server session.0) ∙ sym (nothing (S server session.0))
 
 no_caps : (S S' : Sessions) (p : Part) (cap : Cap) → unwrap_or (option_map object_caps (object_of S' p cap)) 0 ≡ unwrap_or (option_map object_caps (object_of S p cap)) 0
 no_caps S S' p (Dataspace ds) = refl
 no_caps S S' p RpcObject = refl
+no_caps S S' p (Buffer space session) = refl
 no_caps S S' p (Session server session) = costless (S' server session.0) ∙ sym (costless (S server session.0))
 
--- an object that is a dataspace is one whatever the sessions are
-dataspace_still : (S S' : Sessions) (p : Part) (o : Option Cap) (bytes : List ℕ) → option_and_then (object_of S p) o ≡ Some (ADataspace bytes) → option_and_then (object_of S' p) o ≡ Some (ADataspace bytes)
-dataspace_still S S' p None bytes is = absurd (none-some _ is)
-dataspace_still S S' p (Some (Dataspace ds)) bytes is = is
-dataspace_still S S' p (Some RpcObject) bytes is = is
-dataspace_still S S' p (Some (Session server session)) bytes is = absurd (no_dataspace (S server session.0) bytes is)
+-- an object has its bytes whatever the sessions are
+bytes_still : (S S' : Sessions) (p : Part) (o : Option Cap) → named_bytes (option_and_then (object_of S' p) o) ≡ named_bytes (option_and_then (object_of S p) o)
+bytes_still S S' p None = refl
+bytes_still S S' p (Some (Dataspace ds)) = refl
+bytes_still S S' p (Some RpcObject) = refl
+bytes_still S S' p (Some (Buffer space session)) = refl
+bytes_still S S' p (Some (Session server session)) = no_bytes (S' server session.0) ∙ sym (no_bytes (S server session.0))
 
 module _ (p : Part) (caps : NatMap Cap) (user : NatMap Region) (heap : OwnHeap) (sliced : NatMap (List ℕ)) (S S' : Sessions) where
-  selectors_still : (q : ℕ) (bytes : List ℕ) → get (picked (object_of S p) caps) q ≡ Some (ADataspace bytes) → get (picked (object_of S' p) caps) q ≡ Some (ADataspace bytes)
-  selectors_still q bytes is = get-picked (object_of S' p) caps q ∙ dataspace_still S S' p (get caps q) bytes (sym (get-picked (object_of S p) caps q) ∙ is)
+  selectors_still : (q : ℕ) → named_bytes (get (picked (object_of S' p) caps) q) ≡ named_bytes (get (picked (object_of S p) caps) q)
+  selectors_still q = ap named_bytes (get-picked (object_of S' p) caps q) ∙ bytes_still S S' p (get caps q) ∙ ap named_bytes (sym (get-picked (object_of S p) caps q))
 
   size_same : total object_size (picked (object_of S' p) caps) ≡ total object_size (picked (object_of S p) caps)
   size_same = total-picked object_size (object_of S' p) caps ∙ total_same _ _ caps (λ k cap there. no_size S S' p cap) ∙ sym (total-picked object_size (object_of S p) caps)
@@ -80,11 +83,11 @@ module _ (p : Part) (caps : NatMap Cap) (user : NatMap Region) (heap : OwnHeap) 
   unfolding own_of
   lawful_whichever law = record {
     sound = record {
-      whole = λ q bytes is. law.sound.whole q bytes (get-picked (object_of S p) caps q ∙ dataspace_still S' S p (get caps q) bytes (sym (get-picked (object_of S' p) caps q) ∙ is));
+      whole = λ q bytes is. law.sound.whole q bytes (sym (selectors_still q) ∙ is);
       mapped = record {
         named = λ start region there.
             let its = law.sound.mapped.named start region there in
-            record { bytes = its.bytes; there = selectors_still region.of its.bytes its.there; pages = its.pages };
+            record { bytes = its.bytes; there = selectors_still region.of ∙ its.there; pages = its.pages };
         lie = law.sound.mapped.lie;
         few = law.sound.mapped.few;
       };
@@ -122,6 +125,7 @@ lawful_step entry call s script here law =
 object_same : (S S' : Sessions) (p p' : Part) (cap : Cap) → p'.spaces ≡ p.spaces → ((server : ℕ) (session : SessionId) → cap ≡ Session server session → S' server session.0 ≡ S server session.0) → object_of S' p' cap ≡ object_of S p cap
 object_same S S' p p' (Dataspace ds) spaces agrees = ap (λ (m : NatMap (List ℕ)). option_map ADataspace (get m ds.0)) spaces
 object_same S S' p p' RpcObject spaces agrees = refl
+object_same S S' p p' (Buffer space session) spaces agrees = refl
 object_same S S' p p' (Session server session) spaces agrees = ap (option_map OpenSession) (agrees server session refl)
 
 objects_same : (S S' : Sessions) (p p' : Part) (o : Option Cap) → p'.spaces ≡ p.spaces → ((server : ℕ) (session : SessionId) → o ≡ Some (Session server session) → S' server session.0 ≡ S server session.0) → option_and_then (object_of S' p') o ≡ option_and_then (object_of S p) o

@@ -9,7 +9,7 @@ use Rattle.own_model.specs.OwnState.Object.{OpenSession}
 use Rattle.own_model.proofs.NatMapLemmas.{picked_alike}
 use Rattle.own_model.specs.Session.{Labelled}
 use Rattle.cap_space.specs.declared.cap.Cap.{Cap}
-use Rattle.cap_space.specs.declared.cap.Cap.TheVariants.{Dataspace, RpcObject, Session}
+use Rattle.cap_space.specs.declared.cap.Cap.TheVariants.{Dataspace, RpcObject, Session, Buffer}
 use Rattle.dataspace_core.specs.Store.{Store, Part, account_of}
 use Rattle.server_frame.specs.Frame.{Row}
 use Rattle.pd_core.specs.Own.{Sessions, object_of, regions_of, own_of, own_at, own_heap_at, sliced_at, part_at}
@@ -39,6 +39,7 @@ module _ (rows rows' : ℕ → NatMap (Row Labelled)) (server key : ℕ) (others
 named_alike : (S S' : Sessions) (p : Part) (cap : Cap) → ((server : ℕ) (session : SessionId) → cap ≡ Session server session → S' server session.0 ≡ S server session.0) → object_of S' p cap ≡ object_of S p cap
 named_alike S S' p (Dataspace ds) agrees = refl
 named_alike S S' p RpcObject agrees = refl
+named_alike S S' p (Buffer space session) agrees = refl
 named_alike S S' p (Session server session) agrees = ap (option_map OpenSession) (agrees server session refl)
 
 module _ (S S' : Sessions) (script : Script) (agrees : (q server : ℕ) (session : SessionId) → get script.caps.caps q ≡ Some (Session server session) → S' server session.0 ≡ S server session.0) where

@@ -7,7 +7,7 @@ use Rattle.own_model.specs.NatMap.{NatMap}
 use Rattle.own_model.specs.Account.{Account, coded_account}
 use Rattle.own_model.specs.OwnHeap.{OwnHeap, coded_heap}
 use Rattle.own_model.specs.OwnState.{OwnState, Object}
-use Rattle.own_model.specs.OwnState.Object.{Dataspace, RpcObject, OpenSession}
+use Rattle.own_model.specs.OwnState.Object.{Dataspace, RpcObject, OpenSession, Buffer}
 use Rattle.own_model.specs.CodedSession.{coded_rule, coded_session}
 use Rattle.own_model.specs.Routes.{Rule}
 use Rattle.own_model.specs.Session.{Session}
@@ -17,24 +17,31 @@ use Rattle.own_model.specs.World.{World}
 use Rattle.own_model.specs.Region.{Region}
 use Rattle.region_map.specs.Regions.{coded_region}
 
--- an object is stored as its bytes, if it has any, or as a session
-abbrev pub object_parts : Object → Option (List ℕ) ⊎ Session
+-- an object is stored as its bytes, if it has any, as a session, or as a buffer's session and bytes
+abbrev pub object_parts : Object → Option (List ℕ) ⊎ (Session ⊎ (ℕ × List ℕ))
 object_parts (Dataspace bytes) = inl (Some bytes)
 object_parts RpcObject = inl None
-object_parts (OpenSession session) = inr session
+object_parts (OpenSession session) = inr (inl session)
+object_parts (Buffer session bytes) = inr (inr (session, bytes))
 
-abbrev pub object_from : Option (List ℕ) ⊎ Session → Object
+abbrev pub object_from : Option (List ℕ) ⊎ (Session ⊎ (ℕ × List ℕ)) → Object
 object_from (inl (Some bytes)) = Dataspace bytes
 object_from (inl None) = RpcObject
-object_from (inr session) = OpenSession session
+object_from (inr (inl session)) = OpenSession session
+object_from (inr (inr buffer)) = Buffer buffer.0 buffer.1
 
 abbrev pub object_back : (o : Object) → object_from (object_parts o) ≡ o
 object_back (Dataspace bytes) = refl
 object_back RpcObject = refl
 object_back (OpenSession session) = refl
+object_back (Buffer session bytes) = refl
 
 abbrev pub coded_object : Coded Object
-coded_object = code_by (Option (List ℕ) ⊎ Session) (coded⊎ (coded_option (coded_list coded_ℕ)) coded_session) object_parts object_from object_back
+coded_object =
+    code_by
+    (Option (List ℕ) ⊎ (Session ⊎ (ℕ × List ℕ)))
+    (coded⊎ (coded_option (coded_list coded_ℕ)) (coded⊎ coded_session (coded× coded_ℕ (coded_list coded_ℕ))))
+    object_parts object_from object_back
 
 -- a kind is stored as whether it is a script
 abbrev pub is_script : Kind → Bool

@@ -1,5 +1,5 @@
 -- A script's own state, read out of its account's part of the memory, its capabilities, its regions and its heaps.
-use Rattle.std.specs.Prelude.{◌≡◌, ◌⊎◌, ℕ, ◌==◌, ◌||◌, Bool, false, List, Option, Some, None, IsSome, Result, Ok, Err, is_some, if◌then◌else◌}
+use Rattle.std.specs.Prelude.{◌≡◌, ◌⊎◌, ℕ, ◌==◌, ◌||◌, Bool, false, List, [], Option, Some, None, IsSome, Result, Ok, Err, is_some, if◌then◌else◌}
 use Rattle.std.specs.List.{find}
 use Rattle.std.specs.Option.{option_map, option_or}
 use Rattle.std.specs.FinMap.{get, entries}
@@ -10,13 +10,13 @@ use Rattle.trade_base.specs.declared.refusal.Refusal.TheVariants.{InvalidCap, Pa
 use Rattle.own_model.specs.NatMap.{NatMap, picked}
 use Rattle.own_model.specs.OwnHeap.{OwnHeap}
 use Rattle.own_model.specs.OwnState.{OwnState, Object, pages_in}
-use Rattle.own_model.specs.OwnState.Object.{Dataspace as ADataspace, RpcObject as AnRpcObject, OpenSession}
+use Rattle.own_model.specs.OwnState.Object.{Dataspace as ADataspace, RpcObject as AnRpcObject, OpenSession, Buffer as ABuffer}
 use Rattle.own_model.specs.OwnStep.{count_refusal}
 use Rattle.own_model.specs.Region.{Region, resolved}
 use Rattle.own_model.specs.Session.{Session as AnOpenSession}
 use Rattle.own_model.specs.Sliced.{block_found}
 use Rattle.cap_space.specs.declared.cap.Cap.{Cap}
-use Rattle.cap_space.specs.declared.cap.Cap.TheVariants.{Dataspace, RpcObject, Session}
+use Rattle.cap_space.specs.declared.cap.Cap.TheVariants.{Dataspace, RpcObject, Session, Buffer}
 use Rattle.dataspace_core.specs.Store.{Store, Part, part, account_of, bytes_of}
 use Rattle.heap_core.specs.Calls.{HoldsRange as HoldsRangeInBlock}
 use Rattle.heap_core.specs.Heap.{heap_at}
@@ -40,17 +40,19 @@ HasSessions sessions caps =
 
 -- ---- the own state
 
--- what a capability is to a component
+-- what a capability is to a component. No call gives a capability of a buffer, so none has bytes
 abbrev pub object_of : Sessions → Part → Cap → Option Object
 object_of sessions part (Dataspace ds) = option_map ADataspace (get part.spaces ds.0)
 object_of sessions part RpcObject = Some AnRpcObject
 object_of sessions part (Session server session) = option_map OpenSession (sessions server session.0)
+object_of sessions part (Buffer space session) = Some (ABuffer session.0 [])
 
 -- a capability is of the dataspace under this key
 abbrev pub is_of : ℕ → Cap → Bool
 is_of key (Dataspace ds) = ds.0 == key
 is_of key RpcObject = false
 is_of key (Session server session) = false
+is_of key (Buffer space session) = false
 
 -- the selector that names the dataspace under a key
 unfoldable pub selector_of : NatMap Cap → ℕ → Option ℕ
@@ -95,6 +97,7 @@ abbrev pub sized_at : Part → Option Cap → Result (DsId × ℕ) Refusal
 sized_at part (Some (Dataspace ds)) = Ok (ds, pages_in (bytes_of part ds.0))
 sized_at part (Some RpcObject) = Err InvalidCap
 sized_at part (Some (Session server session)) = Err InvalidCap
+sized_at part (Some (Buffer space session)) = Err InvalidCap
 sized_at part None = Err InvalidCap
 
 -- why so many bytes from an address on aren't found

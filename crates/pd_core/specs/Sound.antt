@@ -12,7 +12,7 @@ use Rattle.own_model.specs.Sound.{IsSound}
 use Rattle.own_model.specs.Use.{UsesWhatItHolds, heap_count}
 use Rattle.cap_space.specs.Space.{Space}
 use Rattle.cap_space.specs.declared.cap.Cap.{Cap}
-use Rattle.cap_space.specs.declared.cap.Cap.TheVariants.{Dataspace, RpcObject, Session}
+use Rattle.cap_space.specs.declared.cap.Cap.TheVariants.{Dataspace, RpcObject, Session, Buffer}
 use Rattle.region_map.specs.Regions.{Regions}
 use Rattle.dataspace_core.specs.Share.{Share, IsWindowOf}
 use Rattle.dataspace_core.specs.Store.{Store, Part, part, account_of, root_in, parents_in, room_in, ram_limits_in, IsOpenIn}
@@ -30,18 +30,21 @@ abbrev pub rpc_weight : Cap → ℕ
 rpc_weight (Dataspace ds) = 0
 rpc_weight RpcObject = 1
 rpc_weight (Session server session) = 0
+rpc_weight (Buffer space session) = 0
 
 -- what counts the sessions
 abbrev pub session_weight : Cap → ℕ
 session_weight (Dataspace ds) = 0
 session_weight RpcObject = 0
 session_weight (Session server session) = 1
+session_weight (Buffer space session) = 0
 
 -- the session that what a selector has is a capability of, by its server's entry and its key there
 abbrev pub session_at : Option Cap → Option (ℕ × SessionId)
 session_at (Some (Dataspace ds)) = None
 session_at (Some RpcObject) = None
 session_at (Some (Session server session)) = Some (server, session)
+session_at (Some (Buffer space session)) = None
 session_at None = None
 
 -- a dataspace has one selector at most
