@@ -1,6 +1,6 @@
 -- A session stays as it is but for the calls that are of it.
 use Rattle.std.proofs.lemmas.Bool.Decides.{nat_tests}
-use Rattle.std.proofs.Common.{arith, rules, ◌≡◌, ◌≢◌, ℕ, ◌==◌, Bool, true, false, List, Some, refl, sym, ap, ◌∙◌, true≢false, eqb-true}
+use Rattle.std.proofs.Common.{arith, rules, ◌≡◌, ◌≢◌, ℕ, ◌==◌, Bool, true, false, List, Some, refl, sym, ap, ◌∙◌, true≢false, eqb-true, eqb}
 use Rattle.std.proofs.lemmas.Bool.{eqb-false}
 use Rattle.std.proofs.lemmas.Option.{none-some, same_Some}
 use Rattle.std.specs.Prelude.{Option, None, Result, Ok, Err}
@@ -55,11 +55,7 @@ module _ (selector : ℕ) (session : Session) where
     poked k offset bytes (Dataspace old) named = replaced k _ (apart k (Dataspace old) named (dataspace_is_none old))
     poked k offset bytes RpcObject named = replaced k _ (apart k RpcObject named rpc_is_none)
     poked k offset bytes (Buffer of old) named = replaced k _ (apart k (Buffer of old) named (buffer_is_none of old))
-    poked k offset bytes (OpenSession other) named =
-        elim (eqb selector k) as (λ t. eqb selector k ≡ t → get (insert s.selectors k (OpenSession other)) selector ≡ Some (OpenSession session)) [
-          | true ↦ λ e. let at = eqb-true selector k e in get-insert_same s.selectors k (OpenSession other) selector at ∙ sym named ∙ ap (get s.selectors) (sym at) ∙ there
-          | false ↦ λ e. replaced k (OpenSession other) (eqb-false selector k e)
-        ] refl
+    poked k offset bytes (OpenSession other) named = grind (arith, nat_tests, eqb-true, get-insert_same, replaced, eqb-false)
 
     -- so calls that are of no session leave it
     effects_leave : KeptByEffects IsThere s

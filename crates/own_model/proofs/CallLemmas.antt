@@ -1,5 +1,5 @@
 -- What a peek and a poke do, by what their lookups find.
-use Rattle.std.proofs.Common.{rules, ◌≡◌, ℕ, ◌+◌, List, [], Some, length, ap, slice_range}
+use Rattle.std.proofs.Common.{rules, ◌≡◌, ℕ, ◌+◌, List, [], Some, length, ap, slice_range, ◌∙◌}
 use Rattle.std.specs.Prelude.{Option, None}
 use Rattle.std.specs.Option.{option_map, option_or}
 use Rattle.std.specs.FinMap.{get}
@@ -35,10 +35,7 @@ module _ (s : OwnState) where
   pub peeks : (address count selector offset : ℕ) (bytes : List ℕ) → count_refusal count ≡ None → resolved s.regions address count ≡ Some (selector, offset) →
       named_bytes (get s.selectors selector) ≡ Some bytes →
       script_step (Peek address count) s ≡ record { reply = Bytes (slice_range bytes offset (offset + count)); lines = []; next = s }
-  peeks address count selector offset bytes some at there =
-      ap (λ r. unless r s (peeked count (found s address count) s)) some
-      ∙ ap (λ o. peeked count o s) (found_region address count selector offset at)
-      ∙ ap (λ o. record { reply = Bytes (slice_range (unwrap_or o []) offset (offset + count)); lines = []; next = s }) there
+  peeks address count selector offset bytes some at there = search (rules, found_region)
 
   -- or those of the payload that holds it
   pub peeks_payload : (address count block offset : ℕ) (payload : List ℕ) → count_refusal count ≡ None → found s address count ≡ Some (InPayload block offset) →

@@ -1,5 +1,5 @@
 -- Calls keep an own state sound: each region is of bytes that a selector names, and lies apart from the others.
-use Rattle.std.proofs.Common.{◌≡◌, ◌≢◌, ℕ, ◌+◌, ◌-◌, ◌*◌, ◌/◌, ◌<◌, ◌≤◌, true, false, cond, eqb, List, length, nat_le, Some, refl, sym, ap, subst, ◌∙◌, eqb-true, nat_cmp, arith, is_some, Bool}
+use Rattle.std.proofs.Common.{◌≡◌, ◌≢◌, ℕ, ◌+◌, ◌-◌, ◌*◌, ◌/◌, ◌<◌, ◌≤◌, true, false, cond, eqb, List, length, nat_le, Some, refl, sym, ap, subst, ◌∙◌, eqb-true, nat_cmp, arith, is_some, Bool, rules}
 use Rattle.std.proofs.lemmas.Bool.Decides.{nat_tests}
 use Rattle.std.proofs.lemmas.Option.{none-some, same_Some}
 use Rattle.std.specs.Prelude.{Option, None}
