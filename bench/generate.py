@@ -9,7 +9,8 @@ same of 1 to 16 bytes), regions (attaches and detaches, up to 128 regions), full
 at a time), holes (blocks taken and given back among 48 holes), sessions (sessions of the log service opened, written to and
 closed, up to 8), log (log lines of 1 to 200 bytes), files (small files made, written, read and dropped), contents (the same
 with writes of up to 1,000 bytes), eight (eight clients of the machine `eight.json` that use everything at once), hostile
-(lines that are refused, of all kinds).
+(lines that are refused, of all kinds), every (rounds of every call, by both scripts in turn, some refused; at the end both
+hold something of each kind, and exit).
 """
 import random
 import sys
@@ -359,6 +360,38 @@ def hostile(lines, rng):
         yield rng.choice(bad)
 
 
+ROUND = [
+    "alloc 5000", "attach 1", "attach_at 1 0x10010000", "poke 0x10000ffe 6869", "peek 0x10010ffe 2", "detach 0x10000000",
+    "new 65536", "del 0x100000000", "new 100", "poke 0x100000010 00ff", "peek 0x100000010 100", "del 0x100000010",
+    "snew 256", "poke 0x100004020 68", "peek 0x100004020 256", "sdel 0x100004020", "capalloc", "capfree 2", "quota",
+    'open LOG ram_quota=4K, cap_quota=2, label="main"', "call 2 WRITE 68690a", "call 2 WRITE 6869", "call 2 FROB",
+    "open File_system ram_quota=20K, cap_quota=3", "upgrade 3 ram_quota=8K, cap_quota=2",
+    "call 3 CREATE a", "call 3 WRITE a 0 6869", "call 3 WRITE a 2 00", "call 3 READ a 0 9", "call 3 SIZE a", "call 3 NAME 0",
+    "call 3 STAT", "call 3 CREATE a", "call 3 CLEAR a", "call 3 DROP a", "call 3 NAME 0",
+    "open Nic", "open LOG x", "upgrade 1", "close 2", "close 3", "close 3", "free 1", "free 1", "frob",
+]
+
+HELD = [
+    "alloc 5000", "attach 1", "new 100", "snew 256", "capalloc",
+    "open LOG ram_quota=4K, cap_quota=2", "call 3 WRITE 6869",
+    "open File_system ram_quota=24K, cap_quota=4", "call 4 CREATE a", "call 4 WRITE a 0 68",
+]
+
+ENDS = ["bob exit", "bob quota", "carol quota", "log quota", "alice exit", "alice quota"]
+
+
+def every(lines, _):
+    """Rounds of every call, and then exits of scripts that hold something of each kind."""
+    tail = [f"{name} {call}" for name in ("alice", "bob") for call in HELD] + ENDS
+    for number in range(max(lines - len(tail), 0)):
+        name = "alice" if number // len(ROUND) % 2 == 0 else "bob"
+        yield f"{name} {ROUND[number % len(ROUND)]}"
+    for name in ("alice", "bob"):
+        # What an unfinished round left.
+        yield from (f"{name} {call}" for call in ("close 2", "close 3", "free 1"))
+    yield from tail
+
+
 SHAPES = {
     "quota": quota,
     "churn": churn,
@@ -378,6 +411,7 @@ SHAPES = {
     "contents": contents,
     "eight": eight,
     "hostile": hostile,
+    "every": every,
 }
 
 

@@ -13,7 +13,7 @@ use Rattle.json.specs.Word.{word, after_number}
 use Rattle.serde_json.specs.Data as values
 use Rattle.serde_json.specs.Read.{number_of, of_json, max_depth}
 use Rattle.init_core.specs.declared.machine_a.TheConstants.{MACHINE_A}
-use Rattle.init_core.specs.MachineA.{machine_a}
+use Rattle.own_model.specs.MachineA.{machine_a}
 use Rattle.init_core.specs.StartText.{list_in, list_of}
 
 unfoldable pub the_tokens : List Token

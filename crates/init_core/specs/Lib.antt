@@ -5,4 +5,3 @@ pub mod StartText
 pub mod View
 pub mod Range
 pub mod Boot
-pub mod MachineA

@@ -1,7 +1,7 @@
 //! The built-in machine.
 ghost use Rattle.std.specs.Prelude.{◌≡◌, Ok};
 ghost use Rattle.init_core.specs.StartText.{list_in};
-ghost use Rattle.init_core.specs.MachineA.{machine_a};
+ghost use Rattle.own_model.specs.MachineA.{machine_a};
 
 /// The text of its start list: two servers and two scripts.
 pub const MACHINE_A: &str = r#"{"machine":{"pages":64,"caps":64},

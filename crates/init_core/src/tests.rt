@@ -1,5 +1,6 @@
 //! Start lists that are read, and those that aren't.
 mod boots;
+mod wants;
 
 use crate::{BootFault, MACHINE_A, StartList, route};
 use std::alloc::{AllocError, Global};

@@ -11,7 +11,8 @@ use Rattle.own_model.specs.Account.{Account, parted_with}
 use Rattle.own_model.specs.Limits.{ram_with, caps_with, ram_limits, caps_limits, AreWithinLimits}
 use Rattle.own_model.specs.OwnState.{EachSession}
 use Rattle.own_model.specs.OwnState.Object.{OpenSession}
-use Rattle.own_model.specs.StartList.{machine_a, StartEntry, StartList, Boots, AllCovered, start_state, init_keeps}
+use Rattle.own_model.specs.Rows.{start_of_a}
+use Rattle.own_model.specs.StartList.{StartEntry, StartList, Boots, AllCovered, start_state, init_keeps}
 use Rattle.own_model.specs.World.{HasItsBudget, ram_returned, caps_returned, IsBalanced, IsBalancedFor, start_world}
 
 -- nobody starts with a session
@@ -63,11 +64,11 @@ pub start_balanced_for : (list : StartList) → Boots list → IsBalancedFor lis
 start_balanced_for list covered = grind (arith, nat_tests, none_returned, start_balanced, length-map, budgets_handed)
 
 -- machine A covers each of its budgets in turn, and so starts balanced
-pub machine_a_covers : Boots machine_a
+pub machine_a_covers : Boots start_of_a
 machine_a_covers = search rules
 
-pub machine_a_balanced : IsBalanced 64 64 (start_world machine_a)
-machine_a_balanced = start_balanced machine_a machine_a_covers
+pub machine_a_balanced : IsBalanced 64 64 (start_world start_of_a)
+machine_a_balanced = start_balanced start_of_a machine_a_covers
 
-pub machine_a_balanced_for : IsBalancedFor machine_a (start_world machine_a)
-machine_a_balanced_for = start_balanced_for machine_a machine_a_covers
+pub machine_a_balanced_for : IsBalancedFor start_of_a (start_world start_of_a)
+machine_a_balanced_for = start_balanced_for start_of_a machine_a_covers

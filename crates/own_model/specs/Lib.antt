@@ -29,7 +29,6 @@ pub mod Table
 pub mod Laws
 pub mod SlicedLaws
 pub mod HeapLaws
-pub mod Rows
 pub mod SessionArgs
 pub mod LogText
 pub mod FileText
@@ -43,6 +42,8 @@ pub mod FileLaws
 pub mod SessionLaws
 pub mod CodedSession
 pub mod Listed
+pub mod MachineA
+pub mod Rows
 pub mod AccountList
 pub mod Shortage
 pub mod SaidBy

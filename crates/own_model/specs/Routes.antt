@@ -1,5 +1,5 @@
 -- Routes: which kind of server a client's wish for a session leads to.
-use Rattle.std.specs.Prelude.{ℕ, ◌&&◌, Bool, true, List, [], ◌∷◌, codes, nat_eq, if◌then◌else◌, Option, Some, None}
+use Rattle.std.specs.Prelude.{ℕ, ◌&&◌, Bool, true, List, [], ◌∷◌, nat_eq, if◌then◌else◌, Option, Some, None}
 use Rattle.std.specs.List.{starts_with, ends_with}
 use Rattle.std.specs.Str.{bytes_eq}
 
@@ -33,12 +33,3 @@ matches rule service label =
 abbrev pub provider : List Rule → List ℕ → List ℕ → Option Service
 provider [] service label = None
 provider (rule ∷ rules) service label = if matches rule service label then rule.to else provider rules service label
-
--- a rule that asks for nothing but the service
-abbrev pub rule_for : List ℕ → Service → Rule
-rule_for service to = record { service = Some service; label = None; label_prefix = None; label_suffix = None; to = Some to }
-
--- the rules of the built-in machine: the log service leads to the log server, the file service to the file server, and every
--- other service to none
-abbrev pub fixed_routes : List Rule
-fixed_routes = rule_for (codes "LOG") Service.Log ∷ rule_for (codes "File_system") Service.Files ∷ []

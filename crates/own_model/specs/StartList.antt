@@ -1,10 +1,10 @@
 -- The components of a machine, and how they start.
-use Rattle.std.specs.Prelude.{ℕ, ◌*◌, false, List, [], ◌∷◌, map, codes}
+use Rattle.std.specs.Prelude.{ℕ, ◌*◌, false, List, [], ◌∷◌, map}
 use Rattle.std.specs.FinMap as map
 use Rattle.own_model.specs.Account.{Account, opened, parted_with, Fits}
 use Rattle.own_model.specs.OwnHeap.{no_heap}
 use Rattle.own_model.specs.OwnState.{OwnState}
-use Rattle.own_model.specs.Routes.{Rule, fixed_routes}
+use Rattle.own_model.specs.Routes.{Rule}
 
 -- a script makes calls, a server answers those of others
 pub data Kind : Type 0 where
@@ -57,15 +57,3 @@ AllCovered init (start ∷ starts) =
 -- a start list boots where each entry in turn is covered
 abbrev pub Boots : StartList → Type 0
 Boots list = AllCovered (machine_account list) list.starts
-
--- the built-in machine A: two servers and two scripts
-abbrev pub machine_a : StartList
-machine_a = record {
-  pages = 64;
-  caps = 64;
-  starts = record { entry = record { name = codes "log"; kind = Server; routes = fixed_routes }; ram = 16384; caps = 8 }
-      ∷ record { entry = record { name = codes "files"; kind = Server; routes = fixed_routes }; ram = 16384; caps = 8 }
-      ∷ record { entry = record { name = codes "alice"; kind = Script; routes = fixed_routes }; ram = 65536; caps = 16 }
-      ∷ record { entry = record { name = codes "bob"; kind = Script; routes = fixed_routes }; ram = 65536; caps = 16 }
-      ∷ [];
-}

@@ -24,6 +24,7 @@ use clap::Error;
 use command_line::{Options, words_given};
 pub use config::{ConfigFault, LONGEST_CONFIG_READ, read_config, read_config_at};
 pub use device::{DeviceFault, Sink, Source};
+use init_core::MACHINE_A;
 pub use input::Input;
 pub use line::read_line;
 pub use output::Output;

@@ -15,11 +15,10 @@ mod sessions;
 mod sliced;
 
 use crate::{
-    Failure, Input, MACHINE_A, Output, RunFault, Sink, Source, Summary, Task, boot_and_run, run,
-    run_bytes,
+    Failure, Input, Output, RunFault, Sink, Source, Summary, Task, boot_and_run, run, run_bytes,
 };
 use devices::Pieces;
-use init_core::{StartList, boot};
+use init_core::{MACHINE_A, StartList, boot};
 use pd_core::Reply;
 use std::alloc::Global;
 use std::process::Abort;

@@ -37,7 +37,8 @@ pub trait Service {
     // What a request does.
     ghost step: { List ℕ → Account → Value → Served Value };
 
-    /// A new session with this label.
+    /// A new session with this label. What the service keeps in the memory for it, it will charge to this account: a heap of
+    /// its own, where it has one, is made for the account here.
     fn open(&self, account: AccountId, label: &[u8]) -> Self::State
         requires { length label.now ≤ LONGEST_LABEL }
         ensures first { (share : Share) → HasBlocksAlone share → value result share ≡ first label.now }

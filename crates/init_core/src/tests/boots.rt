@@ -1,6 +1,6 @@
 //! Machines that boot, and the first entry of those that don't.
 use super::{LOG, MACHINE, RULE, scripts};
-use crate::{BootFault, MACHINE_A, StartList, boot};
+use crate::{StartList, boot};
 use std::alloc::{AllocError, Global};
 use std::test::Fail;
 
@@ -79,13 +79,10 @@ fn machines_boot_with_16_to_4096_pages(rt: HostRuntime) -> Result<(), Fail> {
     Ok(())
 }
 
-// Run with each allocation failing in turn: want of memory is all that keeps a covered list from booting.
 #[test]
-fn want_of_memory_is_told_at_boot(rt: HostRuntime) {
-    let Ok(list) = StartList::read(rt.alloc(), MACHINE_A.as_bytes()) else {
-        return;
-    };
-    if let Err(fault) = boot(rt.alloc(), &list) {
-        assert!(rt; matches!(fault, BootFault::NoMemory));
-    }
+fn servers_boot_on_the_largest_machine(rt: HostRuntime) -> Result<(), Fail> {
+    let machine = "\"machine\":{\"pages\":4096,\"caps\":4096},";
+    let entries = format!(in rt.alloc(); "{LOG},{FILES}")?;
+    assert!(rt; boot_told(rt.alloc(), machine, entries.as_str())?.as_str() == "booted");
+    Ok(())
 }

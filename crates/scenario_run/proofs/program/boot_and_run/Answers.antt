@@ -1,11 +1,6 @@
 -- A task is done, or was stopped, on the machine of its text.
-use Rattle.own_model.specs.Listed.{start_list_of}
-use Rattle.scenario_run.proofs.TaskLemmas.{balanced_at_start, done_check, stopped_check, done_run, stopped_run}
+use Rattle.scenario_run.proofs.TaskLemmas.{done_check, stopped_check, done_run, stopped_run}
 use Rattle.scenario_run.proofs.program.boot_and_run.Goals as goal
-
-pub answer_scenario-requires-clause-balanced : goal.answer_scenario-requires-clause-balanced
-answer_scenario-requires-clause-balanced g c =
-    balanced_at_start (start_list_of c.in_ok-list.list) c.in_ok-core.core c.in_ok-core.ensures.covered c.in_ok-core.ensures.started
 
 pub returns-in-Ok-clause-done : goal.returns-in-Ok-clause-done
 returns-in-Ok-clause-done g c =

@@ -1,4 +1,4 @@
--- The built-in machine A.
+-- The built-in machine A, as its text tells it.
 use Rattle.std.specs.Prelude.{ℕ, List, [], ◌∷◌, true, false, codes, Some, None}
 use Rattle.own_model.specs.Listed.{Listed, ListedEntry, ListedRule, Binary}
 use Rattle.own_model.specs.Listed.Binary.{Script, LogServer, FileServer}
