@@ -1,18 +1,14 @@
--- A component that is a script, and one that makes no call; and what another's call leaves of it.
+-- A component that is a script; the accounts of components; and what a plain call keeps of the memory.
 use Rattle.std.proofs.Common.{◌≡◌, ◌≢◌, ℕ, List, ◌∙◌, Some, IsSome, unwrap_or, refl, sym, ap, subst}
 use Rattle.std.specs.Prelude.{Option}
 use Rattle.own_model.specs.Account.{Account, opened}
 use Rattle.own_model.specs.NatMap.{total}
 use Rattle.own_model.proofs.NatMapLemmas.{some_of, value_at}
 use Rattle.own_model.proofs.Totals.{total-insert_same}
-use Rattle.region_map.specs.Regions.{Regions}
 use Rattle.dataspace_core.specs.Room.{HasRoom}
 use Rattle.dataspace_core.proofs.LimitLaws.{accounts_after}
 use Rattle.dataspace_core.proofs.PartLaws.{account_of-part, open_in_part}
 use Rattle.dataspace_core.proofs.RoomLaws.{room_stays}
-use Rattle.server_frame.proofs.FrameLemmas.{Stays}
-use Rattle.server_frame.proofs.FrameLaws.{stays_of_others}
-use Rattle.server_frame.proofs.RowLaws.{IsNoRows}
 use Rattle.own_model.proofs.RouteLemmas.{routes_alike}
 use Rattle.own_model.specs.Routes.{Rule}
 use Rattle.pd_core.specs.Call.{model_call, IsPlain}
@@ -23,11 +19,13 @@ use Rattle.pd_core.specs.declared.script.Script.{Script}
 use Rattle.trade_base.specs.declared.id.AccountId.{AccountId}
 use Rattle.pd_core.specs.Own.{Sessions, own_of, own_at}
 use Rattle.pd_core.specs.Sound.{Keeps as ScriptKeeps}
-use Rattle.pd_core.specs.Component.{IsLiveRole, IsLive, entry_of, kind_of, payer_in, payer_of, rows_of, own_in, own, IsSoundRole, IsSound, Keeps}
+use Rattle.pd_core.specs.Component.{Pays, entry_of, kind_of, payer_in, payer_of, served_by, own_in, own, IsSoundRole, IsSound, Keeps}
+use Rattle.pd_core.specs.Exit.{IsScriptRole}
+use Rattle.trade_base.specs.declared.refusal.Refusal.TheVariants.{Gone as IsGone}
+use Rattle.std.proofs.lemmas.Option.{none-some}
 use Rattle.pd_core.specs.declared.component.Role.{Role}
 use Rattle.pd_core.specs.declared.component.Role.TheVariants.{Script as AScript, Log as ALog, Files as AFiles, Gone as AGone}
 use Rattle.pd_core.specs.declared.component.Component.{Component}
-use Rattle.pd_core.proofs.RoleLemmas.{rows_stay, role_sound, own_stays}
 
 -- its own step is the script's
 pub script_outcome : (rules : List Rule) (sessions : Sessions) (store : Store) (component : Component) (script : Script) (call : Call) → component.role ≡ AScript script → IsPlain call →
@@ -45,7 +43,8 @@ script_keeps {store} {store'} component script script' is keeps =
       sound = keeps.sound;
       entry = λ rules. refl;
       service = refl;
-      account = ap (λ (a : AccountId). a.0) keeps.account;
+      pays = λ account pays. ap (λ (a : AccountId). a.0) (sym keeps.account) ∙ pays;
+      paid = λ account pays. ap (λ (a : AccountId). a.0) keeps.account ∙ pays;
       is_open = subst (λ (a : AccountId). IsSome (part a.0 store').account) keeps.account keeps.sound.own.paid.is_open;
       caps_limit = ap (λ (a : AccountId). (account_of (part a.0 store')).caps_limit) (sym keeps.account) ∙ keeps.caps_limit;
       places = ap Some keeps.places;
@@ -58,48 +57,45 @@ script_keeps {store} {store'} component script script' is keeps =
       limits = keeps.limits;
     })
 
--- ---- a component that makes no call
+-- ---- accounts
 
--- the account of a component that hasn't exited is open
-role_open : (store : Store) (role : Role) → IsSoundRole store role → IsLiveRole role → IsSome (part (payer_in role) store).account
-role_open store (AScript script) sound live = sound.own.paid.is_open
-role_open store (ALog account server) sound live = sound.is_open
-role_open store (AFiles account server) sound live = sound.is_open
-role_open store AGone sound live = absurd live
+-- the account that a role pays for is the one that it is charged on
+pub pays_is : (role : Role) (account : ℕ) → Pays role account → payer_in role ≡ account
+pays_is (AScript script) account pays = pays
+pays_is (ALog key server) account pays = pays
+pays_is (AFiles key server) account pays = pays
+pays_is AGone account pays = absurd pays
 
-pub component_open : (store : Store) (component : Component) → IsSound store component → IsLive component → IsSome (part (payer_of component) store).account
-component_open store component sound live = role_open store component.role sound live
+-- a script and a server have it
+pub pays_script : (role : Role) → IsScriptRole role → Pays role (payer_in role)
+pays_script (AScript script) is = refl
+pays_script (ALog key server) is = refl
+pays_script (AFiles key server) is = refl
+pays_script AGone is = absurd (none-some IsGone (sym is))
 
--- ---- another's call
+pub pays_server : (role : Role) → IsSome (served_by role) → Pays role (payer_in role)
+pays_server (AScript script) serving = refl
+pays_server (ALog key server) serving = refl
+pays_server (AFiles key server) serving = refl
+pays_server AGone serving = absurd (cc)
 
--- a component stays as it is
-pub record StaysAs (store : Store) (component : Component) (store' : Store) : Type 0 where
-  pub sound : IsSound store' component
-  pub own : (sessions : Sessions) → own sessions store' component ≡ own sessions store component
-  pub rows : rows_of store' component ≡ rows_of store component
-
--- a call for one account that leaves all limits leaves a component that isn't charged on it, and none of whose sessions is on it
-pub component_stays : (store store' : Store) (caller : ℕ) → PartBecomes caller (part caller store') store store' → ram_limits_in store' ≡ ram_limits_in store → caps_limits_in store' ≡ caps_limits_in store →
-    (component : Component) → IsSound store component → (IsLive component → payer_of component ≢ caller) → IsNoRows (rows_of store component) caller → StaysAs store component store'
-component_stays store store' caller becomes limits caps_limits component sound apart none =
-    let IsOther : ℕ → Type 0 = λ other. other ≢ caller in
-    let stays : (regions : Regions) (other : ℕ) → IsOther other → Stays other store store' regions regions = λ regions other differs. stays_of_others caller other (part caller store') store store' regions becomes differs in
-    record {
-      sound = role_sound store store' IsOther stays limits caps_limits component.role sound apart none;
-      own = λ sessions. own_stays store store' IsOther stays limits caps_limits sessions sessions component.role sound apart (λ q server session is. refl);
-      rows = rows_stay store store' IsOther stays limits caps_limits component.role none;
-    }
+-- and it is open
+pub account_open : (store : Store) (role : Role) → IsSoundRole store role → (account : ℕ) → Pays role account → IsSome (part account store).account
+account_open store (AScript script) sound account pays = subst (λ k. IsSome (part k store).account) pays sound.own.paid.is_open
+account_open store (ALog key server) sound account pays = subst (λ k. IsSome (part k store).account) pays sound.is_open
+account_open store (AFiles key server) sound account pays = subst (λ k. IsSome (part k store).account) pays sound.is_open
+account_open store AGone sound account pays = absurd pays
 
 -- ---- what a plain call keeps of the memory
 
-module _ (store : Store) (before : Component) (store' : Store) (after : Component) (sound : IsSound store before) (live : IsLive before) (keeps : Keeps store before store' after) where
+module _ (store : Store) (before : Component) (store' : Store) (after : Component) (sound : IsSound store before) (script : IsScriptRole before.role) (keeps : Keeps store before store' after) where
   -- only the part of the caller's account changes
   pub part_becomes : PartBecomes (payer_of before) (part (payer_of before) store') store store'
   part_becomes = record { own = refl; others = keeps.others; root = keeps.root; parents = keeps.parents; room = keeps.room }
 
   -- it was open, and has its limit still
   was_open : IsOpenIn store (payer_of before)
-  was_open = open_in_part (payer_of before) store (component_open store before sound live)
+  was_open = open_in_part (payer_of before) store (account_open store before.role sound (payer_of before) (pays_script before.role script))
 
   has : (a : Account) × ((part (payer_of before) store').account ≡ Some a)
   has = some_of (part (payer_of before) store').account keeps.is_open

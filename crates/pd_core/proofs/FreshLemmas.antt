@@ -1,9 +1,10 @@
 -- A core of fresh parts is sound, and its own states are the start states.
-use Rattle.std.proofs.Common.{◌≡◌, ℕ, zero, suc, ◌+◌, ◌*◌, ◌≤◌, Option, is_some, List, [], ◌∷◌, map, subst, refl, sym, ap, ◌∙◌, arith, nat_cmp}
+use Rattle.std.proofs.Common.{◌≡◌, ℕ, zero, suc, ◌+◌, ◌*◌, ◌<◌, ◌≤◌, Option, Some, is_some, List, [], ◌∷◌, inl, inr, get_or, length, map, subst, refl, sym, ap, ◌∙◌, arith, nat_cmp}
 use Rattle.std.specs.Prelude.{IfSome, IsSome, None}
 use Rattle.std.proofs.lemmas.Option.{none-some}
 use Rattle.std.specs.Option.{option_map, unwrap_or}
 use Rattle.std.specs.List.{All, enumerate_from}
+use Rattle.trade_base.specs.declared.id.SessionId.{SessionId}
 use Rattle.std.specs.FinMap as finmap
 use Rattle.std.specs.FinMap.{get, empty, len}
 use Rattle.std.proofs.lemmas.List.Elements.{All-head, All-tail}
@@ -31,7 +32,7 @@ use Rattle.server_frame.specs.Frame.{Row, row_of}
 use Rattle.server_frame.specs.declared.server.Session.{Session as Kept}
 use Rattle.server_frame.proofs.FrameLaws.{server_at_first}
 use Rattle.cap_space.specs.declared.cap.Cap.{Cap}
-use Rattle.dataspace_core.specs.Store.{Store, Part, part, root_in, account_in, accounts_in, account_of, IsOpenIn, ram_limits_in, caps_limits_in}
+use Rattle.dataspace_core.specs.Store.{Store, Part, part, root_in, account_in, accounts_in, account_of, IsOpenIn, IsChildIn, ram_limits_in, caps_limits_in}
 use Rattle.dataspace_core.specs.Share.{Share}
 use Rattle.dataspace_core.proofs.PartLaws.{open_in_part}
 use Rattle.own_model.specs.Use.{heap_count}
@@ -49,8 +50,12 @@ use Rattle.pd_core.specs.declared.script.Script.{Script}
 use Rattle.sliced_heap.proofs.HeapLaws.{empty_map}
 use Rattle.pd_core.specs.Own.{Sessions, no_sessions, own_of, own_at, part_at, own_heap_at, sliced_at, object_of, regions_of, selector_of}
 use Rattle.pd_core.specs.Sound.{session_at, rpc_weight, session_weight, IsLawful, IsSoundScript}
-use Rattle.pd_core.specs.Component.{entry_of, payer_in, payer_of, caps_in, caps_of, places_in, places_of, rows_in, rows_of, tables_in, NamesItsSessions, HasPlaces, HasNewHeap, HasNewHeaps, own_in, own, IsSoundServer, IsSoundRole}
-use Rattle.pd_core.specs.Core.{Rules, rows_at, sessions_in, world_of, IsCore}
+use Rattle.pd_core.specs.Component.{Pays, entry_of, payer_in, payer_of, caps_in, caps_of, places_in, places_of, rows_in, rows_of, tables_in, NamesItsSessions, HasPlaces, HasNewHeap, HasNewHeaps, own_in, own, IsSoundServer, IsSoundRole}
+use Rattle.pd_core.specs.Core.{Rules, Roles, roles_of, rows_at, sessions_in, world_of, Owner, Owns, IsCore}
+use Rattle.pd_core.specs.Core.Owner.{Init, Place, SessionAt}
+use Rattle.pd_core.proofs.ComponentLemmas.{pays_is}
+use Rattle.pd_core.proofs.WorldLemmas.{all_roles, place_of, role_at, one_of}
+use Rattle.std.proofs.lemmas.Bool.{cases_lt}
 use Rattle.pd_core.specs.Fresh.{account_at, start_of, opened_part, started_world, AreEmpty, HasNoSessions, IsNewServer, IsFresh, AreFresh}
 
 -- a start with this budget
@@ -198,7 +203,7 @@ module _ (store : Store) (component : Component) (fresh : IsFresh store componen
   fresh_state rules = role.state
 
   -- it names no session
-  fresh_named : (rows : ℕ → NatMap (Row Labelled)) → NamesItsSessions rows (payer_of component) (caps_of component)
+  fresh_named : (rows : ℕ → NatMap (Row Labelled)) → NamesItsSessions rows component.role
   fresh_named rows =
       let none : (q : ℕ) → session_at (get (caps_of component) q) ≡ None = λ q. ap session_at (ap (λ (m : NatMap Cap). get m q) role.no_caps ∙ get-empty q) in
       record {
@@ -207,16 +212,10 @@ module _ (store : Store) (component : Component) (fresh : IsFresh store componen
       }
 
   -- there is a place for each capability of its budget
-  fresh_places : (sessions : Sessions) → HasPlaces sessions store component
+  fresh_places : (sessions : Sessions) → HasPlaces sessions store component.role
   fresh_places sessions =
       let all : caps_limits (own sessions store component) ≡ (account_at store component).caps_limit = omega (arith, ap caps_limits (fresh_state [] sessions), total-empty caps_with) in
       subst (λ n. IfSome (places_of component) (λ places. n ≤ places)) (sym all) role.places
-
--- where each component serves none, no session is open
-no_rows_at : (store : Store) (components : List Component) → All (λ c. rows_of store c ≡ empty) components → (k : ℕ) → rows_at store components k ≡ empty
-no_rows_at store [] all k = refl
-no_rows_at store (c ∷ rest) all zero = All-head (λ c. rows_of store c ≡ empty) c rest all
-no_rows_at store (c ∷ rest) all (suc k) = no_rows_at store rest (All-tail (λ c. rows_of store c ≡ empty) c rest all) k
 
 -- the entries are those of the starts
 fresh_entries : (rules : Rules) (store : Store) (components : List (ℕ × Component)) →
@@ -234,25 +233,67 @@ fresh_states rules sessions store n (c ∷ rest) fresh =
     λ j. first j ∷ others j
 
 module _ (store : Store) (components : List Component) (fresh : AreFresh store components) where
+  abbrev roles : Roles
+  roles = roles_of components
+
+  -- each is fresh
+  fresh_at : (k : ℕ) → k < length components → (d : Component) → RoleIsFresh store (account_at store (get_or components k d)).ram_limit (account_at store (get_or components k d)).caps_limit (get_or components k d).role
+  fresh_at k h d = role store (get_or components k d) (fresh.each k d h)
+
   -- no session is open
-  none_open : (server session : ℕ) → get (rows_at store components server) session ≡ None
-  none_open server session =
-      ap (λ (m : NatMap (Row Labelled)). get m session) (no_rows_at store components (λ k d h. (role store _ (fresh.each k d h)).no_rows) server) ∙ get-empty session
+  none_open : (server id : ℕ) → get (rows_at store roles server) id ≡ None
+  none_open server id =
+      ap (λ (m : NatMap (Row Labelled)). get m id) (all_roles (λ _ r. rows_in store r ≡ empty) components (λ _. refl) (λ k h d. (fresh_at k h d).no_rows) server) ∙ get-empty id
+
+  no_row : {X : Type 0} (server id : ℕ) (row : Row Labelled) → get (rows_at store roles server) id ≡ Some row → X
+  no_row server id row there = absurd (none-some row (sym (none_open server id) ∙ there))
+
+  -- who pays stands at a place
+  payer_at : (k account : ℕ) → Pays (roles k) account → (k < length components) × ((d : Component) → payer_of (get_or components k d) ≡ account)
+  payer_at k account pays =
+      let within = place_of components k (λ none. subst (λ r. Pays r account) none pays) in
+      (within, λ d. pays_is (get_or components k d).role account (subst (λ r. Pays r account) (role_at components k d within) pays))
+
+  differs : (j k account : ℕ) → j < k → Pays (roles j) account → Pays (roles k) account → ⊥
+  differs j k account before one two =
+      let d = one_of components k (payer_at k account two).0 in
+      fresh.apart j k d before (payer_at k account two).0 ((payer_at j account one).1 d ∙ sym ((payer_at k account two).1 d))
+
+  no_init : (k account : ℕ) → root_in store ≡ account → Pays (roles k) account → ⊥
+  no_init k account root pays =
+      let at = payer_at k account pays in
+      let d = one_of components k at.0 in
+      (fresh.each k d at.0).not_init (at.1 d ∙ sym root)
+
+  apart : (one other : Owner) (account : ℕ) → Owns store roles one account → Owns store roles other account → one ≡ other
+  apart Init Init account first second = refl
+  apart Init (Place k) account first second = absurd (no_init k account first second)
+  apart (Place j) Init account first second = absurd (no_init j account second first)
+  apart (Place j) (Place k) account first second = elim (cases_lt j k) [
+    | inl before ↦ absurd (differs j k account before first second)
+    | inr after ↦ elim (cases_lt k j) [
+      | inl before ↦ absurd (differs k j account before second first)
+      | inr same ↦ ap Place (omega (arith, after, same))
+    ]
+  ]
+  apart (SessionAt server id) other account first second = absurd (none-some account (sym (ap (option_map (λ (r : Row Labelled). r.key)) (none_open server id)) ∙ first))
+  apart one (SessionAt server id) account first second = absurd (none-some account (sym (ap (option_map (λ (r : Row Labelled). r.key)) (none_open server id)) ∙ second))
 
   -- fresh components are a sound core
   pub fresh_core : HasRoom store → IsCore store components
   fresh_core room = record {
     init = fresh.init;
-    sound = λ k d h. (role store _ (fresh.each k d h)).sound;
-    not_init = λ k d h live. (fresh.each k d h).not_init;
-    children = λ k d h live. (fresh.each k d h).child;
-    apart = λ j k d before h one two. fresh.apart j k d before h;
-    named = λ k d h. fresh_named store _ (fresh.each k d h) (rows_at store components);
-    placed = λ k d h. fresh_places store _ (fresh.each k d h) (sessions_in store components);
-    sessions = record {
-      each = λ server session row there. absurd (none-some row (sym (none_open server session) ∙ there));
-      apart = λ server other a b row next there _ _. absurd (none-some row (sym (none_open server a) ∙ there));
-    };
+    sound = all_roles (λ _ r. IsSoundRole store r) components (λ _. tt) (λ k h d. (fresh_at k h d).sound);
+    children = λ k account pays.
+        let at = payer_at k account pays in
+        let d = one_of components k at.0 in
+        subst (λ n. IsChildIn store n (root_in store)) (at.1 d) (fresh.each k d at.0).child;
+    apart = apart;
+    clients = λ server id row there. no_row server id row there;
+    named = all_roles (λ _ r. NamesItsSessions (rows_at store roles) r) components
+        (λ _. record { its = λ q server session is. absurd (none-some (server, session) (sym (ap session_at (get-empty q)) ∙ is)); once = λ p q server a b is _ _. absurd (none-some (server, a) (sym (ap session_at (get-empty p)) ∙ is)) })
+        (λ k h d. fresh_named store _ (fresh.each k d h) (rows_at store roles));
+    placed = all_roles (λ _ r. HasPlaces (sessions_in store roles) store r) components (λ _. tt) (λ k h d. fresh_places store _ (fresh.each k d h) (sessions_in store roles));
     held = λ child parent is inner. absurd (inner (fresh.outer child parent is));
     room = room;
   }
@@ -261,7 +302,7 @@ module _ (store : Store) (components : List Component) (fresh : AreFresh store c
   pub fresh_world : (rules : Rules) → world_of rules store components ≡ started_world rules store components
   fresh_world rules =
       let entries = fresh_entries rules store (enumerate_from 0 components) in
-      let states = fresh_states rules (sessions_in store components) store 0 components fresh.each in
+      let states = fresh_states rules (sessions_in store roles) store 0 components fresh.each in
       λ j. record { entries = entries j; init = account_in store (root_in store); states = states j }
 
 -- a new server is still new while other accounts are opened

@@ -25,40 +25,42 @@ use Rattle.slab.specs.Slab as slab
 use Rattle.server_frame.specs.Frame.{Row, sessions_of}
 use Rattle.server_frame.specs.declared.server.Session.{Session as Kept}
 use Rattle.pd_core.specs.Own.{Sessions, no_sessions, object_of, own_of, part_at}
-use Rattle.pd_core.specs.Component.{IsLiveRole, payer_in, caps_in, own_in, own, rows_of}
-use Rattle.pd_core.specs.Core.{Rules, rows_at, sessions_in, world_of, IsCore}
+use Rattle.pd_core.specs.Component.{Pays, caps_in, rows_in, own_in, own, rows_of}
+use Rattle.pd_core.specs.Core.{Rules, roles_of, rows_at, sessions_in, world_of, IsCore}
 use Rattle.pd_core.specs.Exit.{HasSelectorsTo}
 use Rattle.pd_core.specs.SessionCalls.{named_in}
 use Rattle.pd_core.specs.Sound.{session_at}
 use Rattle.pd_core.proofs.ServerLemmas.{row_is}
-use Rattle.pd_core.proofs.SessionCallsLemmas.{Names, named_session, server_by_row}
+use Rattle.pd_core.proofs.SessionAccountLemmas.{its as named_row}
+use Rattle.pd_core.proofs.SessionGoesLemmas.{Names, named_two, named_cap, host_within}
+use Rattle.pd_core.proofs.WorldLemmas.{role_at}
 use Rattle.pd_core.specs.declared.component.Component.{Component}
 use Rattle.pd_core.specs.declared.component.Role.{Role}
 use Rattle.pd_core.specs.declared.component.Role.TheVariants.{Script as AScript, Log as ALog, Files as AFiles, Gone as AGone}
 
 -- ---- a component's account
 
--- the account of an own state is the memory's, until its component exits
-account_of_role : (sessions : Sessions) (store : Store) (role : Role) → IsLiveRole role → (own_in sessions store role).account ≡ account_in store (payer_in role)
+-- the account of an own state is the one that its role pays with
+account_of_role : (sessions : Sessions) (store : Store) (role : Role) (account : ℕ) → Pays role account → (own_in sessions store role).account ≡ account_in store account
 unfolding own_of
-account_of_role sessions store (AScript script) live = account_of-part script.account.0 store
-account_of_role sessions store (ALog account server) live = account_of-part account.0 store
-account_of_role sessions store (AFiles account server) live = account_of-part account.0 store
-account_of_role sessions store AGone live = absurd live
+account_of_role sessions store (AScript script) account pays = account_of-part script.account.0 store ∙ ap (account_in store) pays
+account_of_role sessions store (ALog key server) account pays = account_of-part key.0 store ∙ ap (account_in store) pays
+account_of_role sessions store (AFiles key server) account pays = account_of-part key.0 store ∙ ap (account_in store) pays
+account_of_role sessions store AGone account pays = absurd pays
 
 -- so it is where a role is known
-pub account_of_known : (sessions : Sessions) (store : Store) (role known : Role) → role ≡ known → IsLiveRole known → account_in store (payer_in known) ≡ (own_in sessions store role).account
-account_of_known sessions store role known is live =
-    sym (account_of_role sessions store known live) ∙ ap (λ r. (own_in sessions store r).account) (sym is)
+pub account_of_known : (sessions : Sessions) (store : Store) (role known : Role) (account : ℕ) → role ≡ known → Pays known account → account_in store account ≡ (own_in sessions store role).account
+account_of_known sessions store role known account is pays =
+    sym (account_of_role sessions store known account pays) ∙ ap (λ r. (own_in sessions store r).account) (sym is)
 
 -- a component's own state is the one at its place of the world
 own_at_place : (rules : Rules) (store : Store) (components : List Component) (i : ℕ) (d : Component) → i < length components →
-    state_at (world_of rules store components).states i ≡ own (sessions_in store components) store (get_or components i d)
-own_at_place rules store components i d here = get_or-map (own (sessions_in store components) store) components i d nothing here
+    state_at (world_of rules store components).states i ≡ own (sessions_in store (roles_of components)) store (get_or components i d)
+own_at_place rules store components i d here = get_or-map (own (sessions_in store (roles_of components)) store) components i d nothing here
 
 -- and so is its account
 pub account_at_place : (rules : Rules) (store : Store) (components : List Component) (i : ℕ) (d : Component) → i < length components →
-    (state_at (world_of rules store components).states i).account ≡ (own (sessions_in store components) store (get_or components i d)).account
+    (state_at (world_of rules store components).states i).account ≡ (own (sessions_in store (roles_of components)) store (get_or components i d)).account
 account_at_place rules store components i d here = ap (λ (s : OwnState). s.account) (own_at_place rules store components i d here)
 
 -- ---- the last selector
@@ -83,12 +85,11 @@ no_object sessions store (AFiles account server) q none = get-picked_none (objec
 no_object sessions store AGone q none = get-empty q
 
 -- so at each place of the world none does past the selectors in use
-pub none_at_place : (rules : Rules) (store : Store) (components : List Component) (i : ℕ) (c : Component) (last : ℕ) → i < length components → c ≡ get_or components i c →
-    HasSelectorsTo last c.role → (q : ℕ) → last < q → get (state_at (world_of rules store components).states i).selectors q ≡ None
-none_at_place rules store components i c last here read to q past =
-    let sessions = sessions_in store components in
-    ap (λ (s : OwnState). get s.selectors q) (own_at_place rules store components i c here ∙ ap (own sessions store) (sym read))
-    ∙ no_object sessions store c.role q (none_past last (caps_in c.role) to q past)
+pub none_at_place : (rules : Rules) (store : Store) (components : List Component) (i : ℕ) (d : Component) (last : ℕ) → i < length components → d ≡ get_or components i d →
+    HasSelectorsTo last d.role → (q : ℕ) → last < q → get (state_at (world_of rules store components).states i).selectors q ≡ None
+none_at_place rules store components i d last here read to q past =
+    let S = sessions_in store (roles_of components) in
+    ap (λ (s : OwnState). get s.selectors q) (own_at_place rules store components i d here ∙ ap (own S store) (sym read)) ∙ no_object S store d.role q (none_past last (caps_in d.role) to q past)
 
 -- ---- the sessions that selectors name
 
@@ -129,27 +130,27 @@ by_role sessions store (AFiles account server) q = by_none (part account.0 store
 by_role sessions store AGone q = ap session_named (get-empty q)
 
 -- so it is at each place of the world
-pub session_at_place : (rules : Rules) (store : Store) (components : List Component) (i : ℕ) (caller : Component) (q : ℕ) → i < length components → caller ≡ get_or components i caller →
-    session_named (get (state_at (world_of rules store components).states i).selectors q) ≡ found_in (sessions_in store components) (named_in caller.role q)
-session_at_place rules store components i caller q here read =
-    let sessions = sessions_in store components in
-    ap (λ (s : OwnState). session_named (get s.selectors q)) (own_at_place rules store components i caller here ∙ ap (own sessions store) (sym read))
-    ∙ by_role sessions store caller.role q
+pub session_at_place : (rules : Rules) (store : Store) (components : List Component) (i : ℕ) (d : Component) (q : ℕ) → i < length components →
+    session_named (get (state_at (world_of rules store components).states i).selectors q) ≡ found_in (sessions_in store (roles_of components)) (named_in (get_or components i d).role q)
+session_at_place rules store components i d q here =
+    ap (λ (s : OwnState). session_named (get s.selectors q)) (own_at_place rules store components i d here)
+    ∙ by_role (sessions_in store (roles_of components)) store (get_or components i d).role q
 
 -- a session that is found is in its server's table
 pub record IsServed (store : Store) (components : List Component) (named : ℕ × SessionId) : Type 0 where
   pub row : Row Labelled
-  pub there : get (rows_at store components named.0) named.1.0 ≡ Some row
+  pub there : get (rows_at store (roles_of components) named.0) named.1.0 ≡ Some row
   pub within : named.0 < length components
   pub its : (d : Component) → get (rows_of store (get_or components named.0 d)) named.1.0 ≡ Some row
 
-pub served_where : {store : Store} {components : List Component} {i : ℕ} {caller : Component} (q : ℕ) {found : Result (ℕ × SessionId) Refusal} {named : ℕ × SessionId} →
-    IsCore store components → i < length components → caller ≡ get_or components i caller → found ≡ named_in caller.role q → found ≡ Ok named → IsServed store components named
-served_where {store} {components} {i} {caller} q {named = named} core here read result was =
-    let names : Names store components i caller q named = record { core = core; here = here; read = read; is = sym result ∙ was } in
-    let session = named_session names in
-    let server = server_by_row store components named.0 named.1.0 session.row session.there in
-    record { row = session.row; there = session.there; within = server.0; its = server.1 }
+pub served_where : {store : Store} {components : List Component} {i : ℕ} {d : Component} (q : ℕ) {named : ℕ × SessionId} →
+    IsCore store components → i < length components → d ≡ get_or components i d → named_in d.role q ≡ Ok named → IsServed store components named
+served_where {store} {components} {i} {d} q {named} core here read is =
+    let names : Names store components i d q named = record { core = core; here = here; is = ap (λ (c : Component). named_in c.role q) (sym read) ∙ is } in
+    let two = named_two names in
+    let within = host_within components named.0 two.serving in
+    let its = named_row two q named.1 (named_cap names) in
+    record { row = its.row; there = its.there; within = within; its = λ e. ap (λ r. get (rows_in store r) named.1.0) (sym (role_at components named.0 e within)) ∙ its.there }
 
 -- the account that a server tells of a session is its row's
 module _ {T : Type 0} (value : T → Share → Labelled) (sessions : Slab (Kept T)) (store : Store) (regions : Regions) (id : ℕ) (account : AccountId)

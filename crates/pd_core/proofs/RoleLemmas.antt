@@ -1,4 +1,4 @@
--- What a call leaves of a role whose accounts it doesn't touch.
+-- What a call leaves of the roles whose accounts it doesn't touch.
 use Rattle.std.proofs.Common.{◌≡◌, ℕ, ◌∙◌, Some, refl, sym, ap, is_some, arith}
 use Rattle.std.specs.Prelude.{Option, None}
 use Rattle.std.specs.Option.{option_map}
@@ -22,9 +22,12 @@ use Rattle.server_frame.proofs.FrameLaws.{server_stays}
 use Rattle.pd_core.specs.Own.{Sessions, no_sessions, own_of}
 use Rattle.pd_core.specs.Sessions.{log_value, IsLogKept, files_value, IsFilesKept}
 use Rattle.pd_core.specs.Sound.{session_at}
-use Rattle.pd_core.specs.Component.{IsLiveRole, payer_in, caps_in, rows_in, own_in, IsSoundServer, IsSoundRole}
+use Rattle.pd_core.specs.Component.{Pays, caps_in, rows_in, own_in, IsSoundServer, IsSoundRole}
 use Rattle.pd_core.specs.declared.component.Role.{Role}
 use Rattle.pd_core.specs.declared.component.Role.TheVariants.{Script as AScript, Log as ALog, Files as AFiles, Gone as AGone}
+use Rattle.pd_core.specs.Core.{Roles, Owner, Owns}
+use Rattle.pd_core.specs.Core.Owner.{Place, SessionAt}
+use Rattle.pd_core.proofs.ChangeLemmas.{AgreeOn, Follows}
 use Rattle.pd_core.proofs.ScriptLemmas.{stays_elsewhere}
 use Rattle.pd_core.proofs.SessionRowLemmas.{own_alike}
 
@@ -72,10 +75,10 @@ module _ (store store' : Store) (Beside : ℕ → Type 0) (stays : (regions : Re
   rows_stay AGone beside = refl
 
   -- it stays sound
-  pub role_sound : (role : Role) → IsSoundRole store role → (IsLiveRole role → Beside (payer_in role)) → AreBeside (rows_in store role) → IsSoundRole store' role
-  role_sound (AScript script) sound apart beside = (stays_elsewhere store script sound store' (stays script.regions script.account.0 (apart tt)).own limits).sound
-  role_sound (ALog account server) sound apart beside = table_sound log_value IsLogKept server.sessions server.map beside account.0 (apart tt) sound
-  role_sound (AFiles account server) sound apart beside = table_sound files_value IsFilesKept server.sessions server.map beside account.0 (apart tt) sound
+  pub role_sound : (role : Role) → IsSoundRole store role → ((account : ℕ) → Pays role account → Beside account) → AreBeside (rows_in store role) → IsSoundRole store' role
+  role_sound (AScript script) sound apart beside = (stays_elsewhere store script sound store' (stays script.regions script.account.0 (apart _ refl)).own limits).sound
+  role_sound (ALog account server) sound apart beside = table_sound log_value IsLogKept server.sessions server.map beside account.0 (apart _ refl) sound
+  role_sound (AFiles account server) sound apart beside = table_sound files_value IsFilesKept server.sessions server.map beside account.0 (apart _ refl) sound
   role_sound AGone sound apart beside = tt
 
   -- the own state of a server
@@ -83,11 +86,47 @@ module _ (store store' : Store) (Beside : ℕ → Type 0) (stays : (regions : Re
   server_own regions account apart = ap (λ p. own_of no_sessions p empty empty no_heap empty) (stays regions account apart).own
 
   -- and with the own state that it had, where the sessions that it names are the same
-  pub own_stays : (S S' : Sessions) (role : Role) → IsSoundRole store role → (IsLiveRole role → Beside (payer_in role)) →
-      ((q server : ℕ) (session : SessionId) → session_at (get (caps_in role) q) ≡ Some (server, session) → S' server session.0 ≡ S server session.0) → own_in S' store' role ≡ own_in S store role
+  pub own_stays : (S S' : Sessions) (role : Role) → IsSoundRole store role → ((account : ℕ) → Pays role account → Beside account) →
+      AgreeOn (caps_in role) S S' → own_in S' store' role ≡ own_in S store role
   own_stays S S' (AScript script) sound apart agrees =
       own_alike S S' script (λ q server session is. agrees q server session (ap session_at is)) store'
-      ∙ (stays_elsewhere store script sound store' (stays script.regions script.account.0 (apart tt)).own limits).own S
-  own_stays S S' (ALog account server) sound apart agrees = server_own server.map account.0 (apart tt)
-  own_stays S S' (AFiles account server) sound apart agrees = server_own server.map account.0 (apart tt)
+      ∙ (stays_elsewhere store script sound store' (stays script.regions script.account.0 (apart _ refl)).own limits).own S
+  own_stays S S' (ALog account server) sound apart agrees = server_own server.map account.0 (apart _ refl)
+  own_stays S S' (AFiles account server) sound apart agrees = server_own server.map account.0 (apart _ refl)
   own_stays S S' AGone sound apart agrees = refl
+
+-- ---- the roles of a core
+
+-- what is seen of the accounts of all owners but these stays, and so do all limits
+pub record Leaves (store : Store) (roles : Roles) (store' : Store) (Touched : Owner → Type 0) : Type 0 where
+  pub stays : (owner : Owner) (account : ℕ) → (Touched owner → ⊥) → Owns store roles owner account → (regions : Regions) → Stays account store store' regions regions
+  pub ram : ram_limits_in store' ≡ ram_limits_in store
+  pub caps : caps_limits_in store' ≡ caps_limits_in store
+
+module _ {store store' : Store} {roles : Roles} {Touched : Owner → Type 0} (leaves : Leaves store roles store' Touched) (k : ℕ) (no_session : (id : ℕ) → Touched (SessionAt k id) → ⊥) where
+  -- an account of another owner
+  abbrev IsBeside : ℕ → Type 0
+  IsBeside account = (owner : Owner) × ((Touched owner → ⊥) × Owns store roles owner account)
+
+  stays_beside : (regions : Regions) (account : ℕ) → IsBeside account → Stays account store store' regions regions
+  stays_beside regions account (owner, (other, owns)) = leaves.stays owner account other owns regions
+
+  rows_beside : AreBeside store store' IsBeside stays_beside leaves.ram leaves.caps (rows_in store (roles k))
+  rows_beside id row there = (SessionAt k id, (no_session id, ap (option_map (λ (r : Row Labelled). r.key)) there))
+
+  -- it has the rows that it had
+  pub rows_left : rows_in store' (roles k) ≡ rows_in store (roles k)
+  rows_left = rows_stay store store' IsBeside stays_beside leaves.ram leaves.caps (roles k) rows_beside
+
+  -- and is what it was
+  pub role_left : (Touched (Place k) → ⊥) → IsSoundRole store (roles k) → Follows store (roles k) store' (roles k)
+  role_left other sound =
+      let its : (account : ℕ) → Pays (roles k) account → IsBeside account = λ account pays. (Place k, (other, pays)) in
+      record {
+        sound = role_sound store store' IsBeside stays_beside leaves.ram leaves.caps (roles k) sound its rows_beside;
+        own = λ S S'. own_stays store store' IsBeside stays_beside leaves.ram leaves.caps S S' (roles k) sound its;
+        caps = refl;
+        places = refl;
+        pays = λ account pays. pays;
+        paid = λ account pays. pays;
+      }

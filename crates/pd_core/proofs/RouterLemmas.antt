@@ -1,4 +1,4 @@
--- Where the routes of components lead, before and after a call.
+-- Where the routes of components lead.
 use Rattle.std.proofs.Common.{◌≡◌, ℕ, ◌<◌, ◌≤◌, List, [], Option, None, Some, Err, length, map, get_or, set, refl, sym, ap, subst, ◌∙◌, inl, inr, arith}
 use Rattle.std.proofs.lemmas.Bool.{cases_lt}
 use Rattle.std.proofs.lemmas.Option.{none-some, same_Some}
@@ -18,72 +18,6 @@ use Rattle.pd_core.specs.SessionCalls.{Agrees, Leads, service_at, with_session, 
 use Rattle.pd_core.specs.declared.component.Component.{Component}
 use Rattle.pd_core.specs.declared.component.Role.{Role}
 use Rattle.pd_core.specs.declared.component.Role.TheVariants.{Script as AScript, Log as ALog, Files as AFiles, Gone as AGone}
-
--- ---- what calls leave
-
--- the name of a component
-abbrev name_in : Component → List ℕ
-name_in component = component.name.items
-
--- where an entry stays under all rules, its name does
-pub same_name : (before after : Component) → ((rules : List Rule) → entry_of rules after ≡ entry_of rules before) → after.name.items ≡ before.name.items
-same_name before after entry = ap (λ (e : Entry). e.name) (entry [])
-
--- where all names and services stay, the routes lead where they did
-pub agrees_alike : (before after : List Component) → map name_in after ≡ map name_in before → map service_of after ≡ map service_of before →
-    (rules : Rules) (leads : Leads) → Agrees rules leads before → Agrees rules leads after
-agrees_alike before after names services rules leads agrees =
-    let many : length after ≡ length before = sym (length-map after service_of) ∙ ap length services ∙ length-map before service_of in
-    record {
-      names = λ k d within.
-          subst (λ (name : List ℕ). length name ≤ 32)
-          (sym (get_or-map name_in before k d [] (omega (arith, within, many))) ∙ ap (λ l. get_or l k []) (sym names) ∙ get_or-map name_in after k d [] within)
-          (agrees.names k d (omega (arith, within, many)));
-      each = λ i service label within.
-          ap (λ l. option_map (λ p. get_or l p None) (leads i service label)) services
-          ∙ agrees.each i service label (omega (arith, within, many));
-    }
-
--- a component is replaced by one of its name and service
-pub agrees_one : (components : List Component) (i : ℕ) (d after : Component) → after.name.items ≡ (get_or components i d).name.items → service_of after ≡ service_of (get_or components i d) →
-    (rules : Rules) (leads : Leads) → Agrees rules leads components → Agrees rules leads (set components i after)
-agrees_one components i d after name service =
-    agrees_alike components (set components i after) (map-set_same name_in components i after d name) (map-set_same service_of components i after d service)
-
--- a server's call leaves where the routes lead
-pub agrees_server : (components : List Component) (s : ℕ) (host : Component) (store' : Store) (host' : Component) → StaysServer host store' host' → host ≡ get_or components s host →
-    (rules : Rules) (leads : Leads) → Agrees rules leads components → Agrees rules leads (set components s host')
-agrees_server components s host store' host' stays read =
-    agrees_one components s host host' (same_name host host' stays.entry ∙ ap name_in read) (stays.service ∙ ap service_of read)
-
--- a role serves what it did without a selector
-served_without : (role : Role) (selector : ℕ) → served_by (without_selector role selector) ≡ served_by role
-served_without (AScript script) selector = refl
-served_without (ALog account server) selector = refl
-served_without (AFiles account server) selector = refl
-served_without AGone selector = refl
-
--- and with one for a session
-pub served_with : (role : Role) (selector entry : ℕ) (session : SessionId) → served_by (with_session role selector entry session) ≡ served_by role
-served_with (AScript script) selector entry session = refl
-served_with (ALog account server) selector entry session = refl
-served_with (AFiles account server) selector entry session = refl
-served_with AGone selector entry session = refl
-
--- so a session that comes leaves where the routes lead
-pub agrees_kept : (components : List Component) (i selector entry : ℕ) (session : SessionId) (caller client : Component) →
-    caller ≡ get_or components i caller → client ≡ record caller { role = with_session caller.role selector entry session } →
-    (rules : Rules) (leads : Leads) → Agrees rules leads components → Agrees rules leads (set components i client)
-agrees_kept components i selector entry session caller client read kept =
-    agrees_one components i caller client (ap name_in kept ∙ ap name_in read) (ap service_of kept ∙ served_with caller.role selector entry session ∙ ap service_of read)
-
--- and so does one that goes
-pub agrees_closed : (components : List Component) (i s selector : ℕ) (caller client host : Component) (store' : Store) (host' : Component) → StaysServer host store' host' →
-    caller ≡ get_or components i caller → client ≡ record caller { role = without_selector caller.role selector } → host ≡ get_or (set components i client) s host →
-    (rules : Rules) (leads : Leads) → Agrees rules leads components → Agrees rules leads (set (set components i client) s host')
-agrees_closed components i s selector caller client host store' host' stays read gone host_read rules leads agrees =
-    agrees_server (set components i client) s host store' host' stays host_read rules leads
-    (agrees_one components i caller client (ap name_in gone ∙ ap name_in read) (ap service_of gone ∙ served_without caller.role selector ∙ ap service_of read) rules leads agrees)
 
 -- ---- where a component is led
 

@@ -8,7 +8,6 @@ use Rattle.slab.specs.Slab.{Slab, ContainsKey}
 use Rattle.slab.specs.Slab as slab
 use Rattle.trade_base.specs.declared.id.AccountId.{AccountId}
 use Rattle.trade_base.specs.declared.id.SessionId.{SessionId}
-use Rattle.trade_base.specs.declared.refusal.Refusal.TheVariants.{Gone as IsGone}
 use Rattle.own_model.specs.Account.{Fits}
 use Rattle.own_model.specs.OwnHeap.{no_heap}
 use Rattle.own_model.specs.Session.{Labelled}
@@ -27,11 +26,9 @@ use Rattle.log_service.specs.declared.service.LogService.{LogService}
 use Rattle.log_service.specs.Session.{LabelledLine}
 use Rattle.file_service.specs.declared.service.FileService.{FileService}
 use Rattle.file_service.specs.declared.session.FileSession.{FileSession}
-use Rattle.pd_core.specs.Component.{IsLiveRole, payer_in, caps_in, places_in, rows_in, capacity_in, served_by, own_in, HasPlace, Works, IsSoundRole}
-use Rattle.pd_core.specs.Exit.{IsScriptRole}
+use Rattle.pd_core.specs.Component.{payer_in, caps_in, places_in, rows_in, capacity_in, served_by, own_in, HasPlace, Works, IsSoundRole}
 use Rattle.pd_core.specs.Own.{Sessions, no_sessions, own_of}
 use Rattle.pd_core.specs.Sessions.{log_value, IsLogKept, files_value, IsFilesKept}
-use Rattle.pd_core.specs.Sound.{session_at}
 use Rattle.pd_core.specs.declared.component.Role.{Role}
 use Rattle.pd_core.specs.declared.component.Role.TheVariants.{Script as AScript, Log as ALog, Files as AFiles, Gone as AGone}
 use Rattle.pd_core.specs.declared.script.Script.{Script}
@@ -191,24 +188,3 @@ script_open store role script id is there =
 pub gone_open : (store : Store) (role : Role) (id : ℕ) → role ≡ AGone → IsSome (get (rows_in store role) id) → ⊥
 gone_open store role id is there =
     (let none : false ≡ true = sym (ap is_some (get-empty id)) ∙ ap (λ r. is_some (get (rows_in store r) id)) (sym is) ∙ there in cc)
-
--- a server hasn't exited
-pub live_server : (role : Role) → IsSome (served_by role) → IsLiveRole role
-live_server (AScript script) serving = tt
-live_server (ALog account server) serving = tt
-live_server (AFiles account server) serving = tt
-live_server AGone serving = absurd (cc)
-
--- nor has a script
-pub live_script : (role : Role) → IsScriptRole role → IsLiveRole role
-live_script (AScript script) is = tt
-live_script (ALog account server) is = tt
-live_script (AFiles account server) is = tt
-live_script AGone is = absurd (none-some IsGone (sym is))
-
--- or who names a session
-pub live_named : (role : Role) (q : ℕ) (named : ℕ × SessionId) → session_at (get (caps_in role) q) ≡ Some named → IsLiveRole role
-live_named (AScript script) q named is = tt
-live_named (ALog account server) q named is = tt
-live_named (AFiles account server) q named is = tt
-live_named AGone q named is = absurd (none-some named (sym (ap session_at (get-empty q)) ∙ is))

@@ -1,131 +1,173 @@
 -- A session that the component at a place asks for: the server that it is led to, and how it goes.
-use Rattle.std.proofs.Common.{◌≡◌, ℕ, ◌<◌, List, length, get_or, set, is_some, Option, None, Some, Ok, sym, ap, subst, ◌∙◌}
-use Rattle.std.proofs.lemmas.List.{get_or_default, set_comm, get_or-set_other}
+use Rattle.std.proofs.Common.{◌≡◌, ℕ, ◌<◌, List, [], length, get_or, set, is_some, Option, None, Some, Ok, refl, sym, ap, subst, ◌∙◌}
+use Rattle.std.proofs.lemmas.List.{get_or_default, get_or-set_other}
+use Rattle.std.specs.FinMap.{get}
+use Rattle.std.specs.Option.{option_map}
+use Rattle.std.specs.Prelude.{IsSome}
 use Rattle.trade_base.specs.declared.id.Selector.{Selector}
 use Rattle.trade_base.specs.declared.id.SessionId.{SessionId}
 use Rattle.trade_base.specs.declared.refusal.Refusal.{Refusal}
 use Rattle.own_model.specs.Call.Call.{Open}
+use Rattle.own_model.specs.NatMap.{NatMap}
 use Rattle.own_model.specs.OwnState.{new_selector}
+use Rattle.own_model.specs.OwnStep.{own_step, entry_step, refused, unless, opened_by, session_opened}
 use Rattle.own_model.specs.Reply.{reply_text}
 use Rattle.own_model.specs.Reply.Reply.{Selected, Refused}
 use Rattle.own_model.specs.Routes.{Service, provider}
-use Rattle.own_model.specs.Session.{donation_refusal, label_with, state_at_first, wish, wish_in, wish_of}
+use Rattle.own_model.specs.Session.{Wish, donation_refusal, label_with, state_at_first, wish, wish_in, wish_of, Labelled}
 use Rattle.own_model.specs.SessionArgs.{Arguments, arguments_of}
+use Rattle.own_model.proofs.NatMapLemmas.{get-insert_same}
+use Rattle.own_model.proofs.NewSelector.{new_selector_free}
 use Rattle.dataspace_core.specs.Store.{Store, account_in, ram_limits_in}
-use Rattle.server_frame.specs.Frame.{OpensSession}
+use Rattle.dataspace_core.proofs.PartLaws.{account_of-part}
+use Rattle.server_frame.specs.Frame.{Row, OpensSession}
+use Rattle.server_frame.proofs.RowLaws.{IsNoRows}
 use Rattle.pd_core.specs.Answer.{told_alone}
-use Rattle.pd_core.specs.Component.{caps_of, caps_in, rows_of, service_of, StaysServer}
-use Rattle.pd_core.specs.Core.{Rules, IsCore}
-use Rattle.pd_core.specs.SessionCalls.{Agrees, Answers, HasSelectorLeft, Leads, IsServing, with_session}
+use Rattle.pd_core.specs.Component.{entry_of, kind_of, served_by, caps_of, caps_in, rows_in, rows_of, service_of, own_in, HasPlace, IsSoundRole, IsSound, StaysServer}
+use Rattle.pd_core.specs.Core.{Rules, Roles, roles_of, sessions_in, IsCore}
+use Rattle.pd_core.specs.Own.{Sessions, HasSessions, own_of, own_at}
+use Rattle.pd_core.specs.Sessions.{row_session}
+use Rattle.pd_core.specs.SessionCalls.{Agrees, Goes, HasSelectorLeft, Leads, with_session}
 use Rattle.pd_core.specs.declared.component.Component.{Component}
 use Rattle.pd_core.specs.declared.component.Role.TheVariants.{Script as AScript}
 use Rattle.pd_core.specs.declared.script.Script.{Script}
+use Rattle.pd_core.proofs.HeldLemmas.{names_open as all_open}
+use Rattle.pd_core.proofs.PlainLemmas.{face_is}
 use Rattle.pd_core.proofs.RouterLemmas.{led_to_service}
-use Rattle.pd_core.proofs.SessionCallsLemmas.{not_serving, ServerStands}
-use Rattle.pd_core.proofs.SessionChangesLemmas.{names_open}
-use Rattle.pd_core.proofs.SessionCore.{AreTwo, Goes}
-use Rattle.pd_core.proofs.SessionOpenLemmas.{has_place as has_selector}
-use Rattle.pd_core.proofs.SessionOpenedLemmas.{wish_for, not_opened, opened_goes}
-use Rattle.pd_core.proofs.SessionWorldLemmas.{script_sound}
+use Rattle.pd_core.proofs.SessionAccountLemmas.{no_session, has_place, script_sound, names_open, new_alone, new_row, changes_opened}
+use Rattle.pd_core.proofs.SessionChangeLemmas.{AreTwo, ReplacesTwo, two_places, sessions_agree, now_there, step_goes}
+use Rattle.pd_core.proofs.SessionGoesLemmas.{caller_within, host_within, kept_put}
+use Rattle.pd_core.proofs.SessionOpenLemmas.{OpensFor, opens_for, script_with, has_place as has_selector}
+use Rattle.pd_core.proofs.SessionOwnLemmas.{is_step}
+use Rattle.pd_core.proofs.WorldLemmas.{Face, face_of, SameFaces, face_set, refused_goes, role_at}
 
 -- the component at a place is a script that asks for a session with these arguments, and is led to a place
-pub record IsLed (rules : Rules) (leads : Leads) (store : Store) (components : List Component) (i s : ℕ) (caller : Component) (script : Script) (service text : List ℕ) (args : Arguments) : Type 0 where
+pub record IsLed (rules : Rules) (leads : Leads) (store : Store) (components : List Component) (i s : ℕ) (d : Component) (script : Script) (service text : List ℕ) (args : Arguments) : Type 0 where
   pub core : IsCore store components
   pub here : i < length components
-  pub read : caller ≡ get_or components i caller
   pub agrees : Agrees rules leads components
-  pub is_script : caller.role ≡ AScript script
+  pub is_script : (get_or components i d).role ≡ AScript script
   pub reads : arguments_of text ≡ Some args
   pub led : leads i service args.label ≡ Some s
 
--- so is the one that is read there, where a place is found
-pub led_by : {rules : Rules} {leads : Leads} {store : Store} {components : List Component} {i s : ℕ} {d : Component} {script : Script} {service : List ℕ} (text : List ℕ) {args : Arguments} {found : Option ℕ} →
-    IsCore store components → i < length components → d ≡ get_or components i d → Agrees rules leads components → (get_or components i d).role ≡ AScript script → arguments_of text ≡ Some args →
-    found ≡ leads i service args.label → found ≡ Some s → IsLed rules leads store components i s (get_or components i d) script service text args
-led_by {components = components} {i = i} text core here read agrees is_script reads result was = record {
-  core = core;
-  here = here;
-  read = ap (get_or components i) read;
-  agrees = agrees;
-  is_script = is_script;
-  reads = reads;
-  led = sym result ∙ was;
-}
+module _ {rules : Rules} {leads : Leads} {store : Store} {components : List Component} {i s : ℕ} {d : Component} {script : Script} {service text : List ℕ} {args : Arguments}
+    (is_led : IsLed rules leads store components i s d script service text args) where
+  open is_led use {core, here, agrees, is_script, reads, led}
 
-module _ {rules : Rules} {leads : Leads} {store : Store} {components : List Component} {i s : ℕ} {caller : Component} {script : Script} {service text : List ℕ} {args : Arguments}
-    (is_led : IsLed rules leads store components i s caller script service text args) where
-  open is_led use {core, here, read, agrees, is_script, reads, led}
+  abbrev caller : Component
+  caller = get_or components i d
 
-  to_service : (kind : Service) × (provider (rules i) service args.label ≡ Some kind) × ((s < length components) × ((d : Component) → service_of (get_or components s d) ≡ Some kind))
+  abbrev roles : Roles
+  roles = roles_of components
+
+  abbrev S : Sessions
+  S = sessions_in store (roles_of components)
+
+  -- a server of this service stands there
+  to_service : (kind : Service) × (provider (rules i) service args.label ≡ Some kind) × ((s < length components) × ((e : Component) → service_of (get_or components s e) ≡ Some kind))
   to_service = led_to_service rules leads components i service args.label agrees here s led
 
-  -- a server of this service stands there, and isn't the caller
   abbrev kind : Service
   kind = to_service.0
 
-  pub led_stands : ServerStands components i s
-  led_stands =
-      let serving : (d : Component) → IsServing (get_or components s d) = λ d. ap is_some (to_service.2.1 d) in
-      record {
-        within = to_service.2.0;
-        apart = λ e. not_serving caller script is_script (subst IsServing (sym (read ∙ ap (λ k. get_or components k caller) e)) (serving caller));
-        serving = serving;
-      }
+  pub led_two : AreTwo store (roles_of components) i s script
+  led_two = record {
+    core = core;
+    is_script = role_at components i d here ∙ is_script;
+    serving = ap (λ r. is_some (served_by r)) (role_at components s d to_service.2.0) ∙ ap is_some (to_service.2.1 d);
+  }
 
   -- what is asked for
-  asks : wish caller.name.items (rules i) service text ≡ Ok (wish_for kind caller.name.items args)
-  asks = ap (wish_in caller.name.items (rules i) service) reads ∙ ap (wish_of caller.name.items args) to_service.1
+  abbrev wished : Wish
+  wished = record { service = to_service.0; label = label_with (get_or components i d).name.items args.label; ram = args.ram; caps = args.caps }
 
-  module _ (d : Component) where
+  asks : wish (get_or components i d).name.items (rules i) service text ≡ Ok wished
+  asks = ap (wish_in (get_or components i d).name.items (rules i) service) reads ∙ ap (wish_of (get_or components i d).name.items args) to_service.1
+
+  -- a donation that is refused
+  pub led_refused : (refusal : Refusal) → Some refusal ≡ donation_refusal (account_in store script.account.0) args.ram args.caps →
+      Goes rules (Open service text) i (told_alone (reply_text (Refused refusal))) store components store components
+  unfolding own_of
+  led_refused refusal is =
+      let before = own_at S store script in
+      refused_goes rules components i d (Open service text) refusal core here
+      (subst (λ r. own_step (entry_of (rules i) (get_or components i d)) (Open service text) (own_in S store r) ≡ refused (own_in S store r) refusal) (sym is_script)
+      (is_step (entry_of (rules i) (get_or components i d)) (Open service text) before (ap kind_of is_script) refl
+      ∙ ap (λ w. opened_by w before) asks ∙ ap (λ o. unless o before (session_opened wished before))
+      (ap (λ a. donation_refusal a args.ram args.caps) (account_of-part script.account.0 store) ∙ sym is)))
+
+  -- the server is read at its place
+  module _ (e : Component) where
     abbrev host : Component
-    host = get_or components s d
+    host = get_or components s e
 
-    pub led_two : AreTwo store components i s caller host script
-    led_two = record {
-      here = here;
-      there = led_stands.within;
-      caller_read = read;
-      host_read = get_or_default components s d host led_stands.within;
-      is_script = is_script;
-      serving = led_stands.serving d;
-      core = core;
-    }
+    host_is : roles_of components s ≡ (get_or components s e).role
+    host_is = role_at components s e to_service.2.0
 
-    -- it is refused
-    pub led_refused : (refusal : Refusal) → Some refusal ≡ donation_refusal (account_in store script.account.0) args.ram args.caps →
-        Answers rules (Open service text) i (told_alone (reply_text (Refused refusal))) store components store components
-    led_refused refusal is = not_opened led_two rules kind service text args asks refusal is
+    pub led_sound : IsSound store (get_or components s e)
+    led_sound = subst (IsSoundRole store) host_is (core.sound s)
 
-    -- it is opened, and the script is read again
-    module _ (store' : Store) (host' : Component) (stays : StaysServer host store' host') (limits : ram_limits_in store' ≡ ram_limits_in store)
-        (accepted : None ≡ donation_refusal (account_in store script.account.0) args.ram args.caps) (session : SessionId) (whole : List ℕ) (labelled : whole ≡ label_with caller.name.items args.label)
-        (opening : (k : Service) → service_of host ≡ Some k →
-        OpensSession script.account.0 args.ram args.caps session.0 (record { label = whole; state = state_at_first k }) store store' (rows_of store host) (rows_of store' host')) (e : Component) where
-      opens : OpensSession script.account.0 args.ram args.caps session.0 (record { label = label_with caller.name.items args.label; state = state_at_first kind }) store store' (rows_of store host) (rows_of store' host')
+    pub led_serving : IsSome (service_of (get_or components s e))
+    led_serving = ap is_some (to_service.2.1 e)
+
+    -- it has a place for the session, and none is on the script's account
+    pub led_none : IsNoRows (rows_of store (get_or components s e)) script.account.0
+    led_none = subst (λ r. IsNoRows (rows_in store r) script.account.0) host_is (no_session led_two)
+
+    pub led_place : donation_refusal (account_in store script.account.0) args.ram args.caps ≡ None → HasPlace (get_or components s e).role
+    led_place accepted = subst HasPlace host_is (has_place led_two args.ram args.caps accepted)
+
+    -- a session is opened, and the script is read again
+    module _ (store' : Store) (host' : Component) (stays : StaysServer (get_or components s e) store' host') (limits : ram_limits_in store' ≡ ram_limits_in store)
+        (accepted : None ≡ donation_refusal (account_in store script.account.0) args.ram args.caps) (session : SessionId) (whole : List ℕ) (labelled : whole ≡ label_with (get_or components i d).name.items args.label)
+        (opening : (k : Service) → service_of (get_or components s e) ≡ Some k →
+        OpensSession script.account.0 args.ram args.caps session.0 (record { label = whole; state = state_at_first k }) store store' (rows_of store (get_or components s e)) (rows_of store' host')) (d' : Component) where
+      abbrev first : Labelled
+      first = record { label = label_with (get_or components i d).name.items args.label; state = state_at_first (to_service.0) }
+
+      opens : OpensSession script.account.0 args.ram args.caps session.0 first store store' (rows_in store (roles_of components s)) (rows_of store' host')
       opens =
-          subst (λ l. OpensSession script.account.0 args.ram args.caps session.0 (record { label = l; state = state_at_first kind }) store store' (rows_of store host) (rows_of store' host')) labelled
-          (opening kind (to_service.2.1 d))
+          subst (λ r. OpensSession script.account.0 args.ram args.caps session.0 first store store' (rows_in store r) (rows_of store' host')) (sym host_is)
+          (subst (λ l. OpensSession script.account.0 args.ram args.caps session.0 (record { label = l; state = state_at_first (to_service.0) }) store store' (rows_of store (get_or components s e)) (rows_of store' host')) labelled
+          (opening (to_service.0) (to_service.2.1 e)))
 
       abbrev again : Component
-      again = get_or (set components s host') i e
+      again = get_or (set components s host') i d'
 
-      same_caller : again ≡ caller
-      same_caller = get_or-set_other components s i host' e led_stands.apart ∙ get_or_default components i e caller here ∙ sym read
+      same_caller : get_or (set components s host') i d' ≡ get_or components i d
+      same_caller = get_or-set_other components s i host' d' (λ at. two_places led_two (sym at)) ∙ get_or_default components i d' d here
 
-      same_role : again.role ≡ AScript script
+      same_role : (get_or (set components s host') i d').role ≡ AScript script
       same_role = ap (λ (c : Component). c.role) same_caller ∙ is_script
 
       -- it has a place for the selector
-      pub led_selector : HasSelectorLeft again.role
+      pub led_selector : HasSelectorLeft (get_or (set components s host') i d').role
       led_selector =
           subst HasSelectorLeft (sym same_role)
-          (has_selector store store' script (rows_of store host) s session args.ram args.caps (script_sound led_two) (names_open led_two) opens.free limits opens.parted (sym accepted))
+          (has_selector store store' script (rows_in store (roles_of components s)) s session args.ram args.caps (script_sound led_two) (names_open led_two) opens.free limits opens.parted (sym accepted))
 
-      pub led_opened : (selector : Selector) (kept : Component) → selector.0 ≡ new_selector (caps_of again) → kept ≡ record again { role = with_session again.role selector.0 s session } →
+      -- it goes as the model's
+      pub led_opened : (selector : Selector) (kept : Component) → selector.0 ≡ new_selector (caps_of (get_or (set components s host') i d')) →
+          kept ≡ record (get_or (set components s host') i d') { role = with_session (get_or (set components s host') i d').role selector.0 s session } →
           Goes rules (Open service text) i (told_alone (reply_text (Selected selector.0))) store components store' (set (set components s host') i kept)
       led_opened selector kept least is =
-          let same : kept ≡ record caller { role = with_session (AScript script) selector.0 s session } =
-          is ∙ (λ j. record (same_caller j) { role = with_session (same_role j) selector.0 s session }) in
-          subst (Goes rules (Open service text) i (told_alone (reply_text (Selected selector.0))) store components store')
-          (set_comm components i s (record caller { role = with_session (AScript script) selector.0 s session }) host' led_stands.apart ∙ ap (set (set components s host') i) (sym same))
-          (opened_goes led_two rules kind service text args asks store' host' stays limits (sym accepted) session opens selector.0 (least ∙ ap (λ r. new_selector (caps_in r)) same_role))
+          let after : List Component = set (set components s host') i kept in
+          let script' : Script = script_with script selector.0 s session in
+          let is_new : selector.0 ≡ new_selector script.caps.caps = least ∙ ap (λ r. new_selector (caps_in r)) same_role in
+          let unused : get script.caps.caps selector.0 ≡ None = ap (get script.caps.caps) is_new ∙ new_selector_free script.caps.caps in
+          let for_it : OpensFor selector.0 s session args.ram args.caps store store' script
+          = opens_for store store' script (rows_in store (roles_of components s)) s session args.ram args.caps (script_sound led_two) (names_open led_two) opens.free limits opens.parted (sym accepted) selector.0 unused is_new in
+          let changes = changes_opened led_two args.ram args.caps (sym accepted) store' opens selector.0 unused for_it.sound limits in
+          let alone = new_alone led_two args.ram args.caps (sym accepted) store' opens in
+          let kept_role : kept.role ≡ AScript script' = ap (λ (c : Component). c.role) is ∙ ap (λ r. with_session r selector.0 s session) same_role in
+          let replaced = subst (λ r. ReplacesTwo (roles_of components) (roles_of after) i s r host'.role) kept_role (kept_put components led_two host' kept) in
+          let name = (get_or (set components s host') i d').name.items in
+          let faces : SameFaces components after
+          = face_set (set components s host') i kept d' (ap face_of is
+          ∙ (λ j. record { name = name; kind = kind_of (with_session (same_role j) selector.0 s session); service = served_by (with_session (same_role j) selector.0 s session) })
+          ∙ (λ j. record { name = name; kind = kind_of (sym same_role j); service = served_by (sym same_role j) }))
+          ∙ face_set components s host' e (face_is (get_or components s e) host' stays.entry stays.service) in
+          let ready : HasSessions S script.caps.caps = subst (λ r. HasSessions S (caps_in r)) led_two.is_script (all_open core i) in
+          step_goes components after led_two d host_is replaced faces alone changes stays rules (Open service text) refl (Selected selector.0) [] (told_alone (reply_text (Selected selector.0))) refl refl
+          (for_it.does (entry_of (rules i) (get_or components i d)) S (sessions_in store' (roles_of after)) service text wished ready asks refl refl
+          (sessions_agree led_two host_is replaced alone changes stays) (ap (option_map row_session) (now_there led_two host_is replaced alone changes stays)))

@@ -30,17 +30,14 @@ use Rattle.pd_core.specs.declared.component.Role.TheVariants.{Script, Log, Files
 use Rattle.pd_core.specs.declared.component.Component.{Component}
 use Rattle.pd_core.specs.declared.script.Script.{Script as AnyScript}
 
--- a component that hasn't exited
-abbrev pub IsLiveRole : Role → Type 0
-IsLiveRole (Script script) = Unit {0}
-IsLiveRole (Log account server) = Unit {0}
-IsLiveRole (Files account server) = Unit {0}
-IsLiveRole Gone = ⊥
+-- an account is a role's: one that has exited has none
+abbrev pub Pays : Role → ℕ → Type 0
+Pays (Script script) account = script.account.0 ≡ account
+Pays (Log key server) account = key.0 ≡ account
+Pays (Files key server) account = key.0 ≡ account
+Pays Gone account = ⊥
 
-abbrev pub IsLive : Component → Type 0
-IsLive component = IsLiveRole component.role
-
--- the key of the account that a role is charged on: one that has exited has none
+-- the key of the account that a role is charged on, and 0 of one that has exited
 abbrev pub payer_in : Role → ℕ
 payer_in (Script script) = script.account.0
 payer_in (Log account server) = account.0
@@ -147,18 +144,18 @@ Works store (Log account server) = IsServer IsLogKept server.sessions store serv
 Works store (Files account server) = IsServer IsFilesKept server.sessions store server.map
 Works store Gone = Unit {0}
 
--- a session is there, and its client's account is this one
-pub record IsSessionOf (account : ℕ) (session : Option (Row Labelled)) : Type 0 where
+-- a session is there, and its client's account is the role's
+pub record IsSessionOf (role : Role) (session : Option (Row Labelled)) : Type 0 where
   pub row : Row Labelled
   pub there : session ≡ Some row
-  pub client : row.client ≡ account
+  pub client : Pays role row.client
 
--- each session that a selector names is one of the account, and no other selector names it
-pub record NamesItsSessions (rows : ℕ → NatMap (Row Labelled)) (account : ℕ) (caps : NatMap Cap) : Type 0 where
-  pub its : (selector server : ℕ) (session : SessionId) → session_at (get caps selector) ≡ Some (server, session) →
-      IsSessionOf account (get (rows server) session.0)
-  pub once : (p q server : ℕ) (a b : SessionId) → session_at (get caps p) ≡ Some (server, a) → session_at (get caps q) ≡ Some (server, b) →
-      a.0 ≡ b.0 → p ≡ q
+-- each session that a selector of a role names is the role's, and no other selector names it
+pub record NamesItsSessions (rows : ℕ → NatMap (Row Labelled)) (role : Role) : Type 0 where
+  pub its : (selector server : ℕ) (session : SessionId) → session_at (get (caps_in role) selector) ≡ Some (server, session) →
+      IsSessionOf role (get (rows server) session.0)
+  pub once : (p q server : ℕ) (a b : SessionId) →
+      session_at (get (caps_in role) p) ≡ Some (server, a) → session_at (get (caps_in role) q) ≡ Some (server, b) → a.0 ≡ b.0 → p ≡ q
 
 -- ---- the own state
 
@@ -174,8 +171,8 @@ abbrev pub own : Sessions → Store → Component → OwnState
 own sessions store component = own_in sessions store component.role
 
 -- there is a place for each capability that a script and its sessions can pay for
-abbrev pub HasPlaces : Sessions → Store → Component → Type 0
-HasPlaces sessions store component = IfSome (places_of component) (λ places. caps_limits (own sessions store component) ≤ places)
+abbrev pub HasPlaces : Sessions → Store → Role → Type 0
+HasPlaces sessions store role = IfSome (places_in role) (λ places. caps_limits (own_in sessions store role) ≤ places)
 
 -- a server's account is open, it works on this memory, and it has a place for each two capabilities of the machine
 pub record IsSoundServer {T : Type 0} (kept : T → Share → Type 0) (store : Store) (account : ℕ) (sessions : Slab (Kept T)) (regions : Regions) : Type 0 where
@@ -208,7 +205,8 @@ pub record Keeps (old : Store) (before : Component) (new : Store) (after : Compo
   pub sound : IsSound new after
   pub entry : (rules : List Rule) → entry_of rules after ≡ entry_of rules before
   pub service : service_of after ≡ service_of before
-  pub account : payer_of after ≡ payer_of before
+  pub pays : (account : ℕ) → Pays after.role account → Pays before.role account
+  pub paid : (account : ℕ) → Pays before.role account → Pays after.role account
   pub is_open : IsSome (part (payer_of before) new).account
   pub caps_limit : (account_of (part (payer_of before) new)).caps_limit ≡ (account_of (part (payer_of before) old)).caps_limit
   pub places : places_of after ≡ places_of before

@@ -1,7 +1,7 @@
 -- The core as the model sees it, and what is true of it between calls.
-use Rattle.std.specs.Prelude.{◌≡◌, ◌≢◌, ◌<◌, ℕ, List, length, map, get_or, Some}
-use Rattle.std.specs.FinMap.{get, empty}
-use Rattle.std.specs.List.{All, AllPairs, enumerate_from}
+use Rattle.std.specs.Prelude.{◌≡◌, ◌≢◌, ℕ, List, map, get_or, Some}
+use Rattle.std.specs.FinMap.{get}
+use Rattle.std.specs.List.{enumerate_from}
 use Rattle.std.specs.Option.{option_map}
 use Rattle.own_model.specs.NatMap.{NatMap}
 use Rattle.own_model.specs.Routes.{Rule}
@@ -15,16 +15,25 @@ use Rattle.pd_core.specs.Own.{Sessions}
 use Rattle.pd_core.specs.Sessions.{row_session}
 use Rattle.trade_base.specs.declared.id.SessionId.{SessionId}
 use Rattle.pd_core.specs.Sound.{session_at}
-use Rattle.pd_core.specs.Component.{IsLive, entry_of, payer_of, caps_of, rows_of, own, NamesItsSessions, HasPlaces, IsSound}
+use Rattle.pd_core.specs.Component.{Pays, entry_of, caps_in, rows_in, own, NamesItsSessions, HasPlaces, IsSoundRole}
 use Rattle.pd_core.specs.declared.component.Component.{Component}
+use Rattle.pd_core.specs.declared.component.Role.{Role}
+use Rattle.pd_core.specs.declared.component.Role.TheVariants.{Gone}
 
--- the sessions of the server at an entry, by their keys
-abbrev pub rows_at : Store → List Component → ℕ → NatMap (Row Labelled)
-rows_at store components server = get_or (map (rows_of store) components) server empty
+-- the role at each place: past the components it is that of one that has exited
+abbrev pub Roles : Type 0
+Roles = ℕ → Role
 
--- the open sessions, each by its server's entry and its key there
-abbrev pub sessions_in : Store → List Component → Sessions
-sessions_in store components server session = option_map row_session (get (rows_at store components server) session)
+abbrev pub roles_of : List Component → Roles
+roles_of components place = get_or (map (λ c. c.role) components) place Gone
+
+-- the sessions of the server at a place, by their keys
+abbrev pub rows_at : Store → Roles → ℕ → NatMap (Row Labelled)
+rows_at store roles server = rows_in store (roles server)
+
+-- the open sessions, each by its server's place and its key there
+abbrev pub sessions_in : Store → Roles → Sessions
+sessions_in store roles server session = option_map row_session (get (rows_at store roles server) session)
 
 -- the rules by which the wishes of the component at each place lead
 abbrev pub Rules : Type 0
@@ -39,50 +48,52 @@ abbrev pub world_of : Rules → Store → List Component → World
 world_of rules store components = record {
   entries = entries_of rules components;
   init = account_in store (root_in store);
-  states = map (own (sessions_in store components) store) components;
+  states = map (own (sessions_in store (roles_of components)) store) components;
 }
 
--- a session: its client isn't the root, and its account is neither the root nor a component's
-pub record IsSession (root : ℕ) (components : List Component) (row : Row Labelled) : Type 0 where
-  pub client : row.client ≢ root
-  pub not_init : row.key ≢ root
-  pub others : All (λ c. IsLive c → payer_of c ≢ row.key) components
+-- who has accounts: init, the component at a place, and the session of the server at a place under a key
+pub data Owner : Type 0 where
+  Init : Owner
+  Place : ℕ → Owner
+  SessionAt : ℕ → ℕ → Owner
 
--- each is one, and no two servers have a session on one account
-pub record AreSessions (root : ℕ) (components : List Component) (rows : ℕ → NatMap (Row Labelled)) : Type 0 where
-  pub each : (server session : ℕ) (row : Row Labelled) → get (rows server) session ≡ Some row → IsSession root components row
-  pub apart : (server other a b : ℕ) (row next : Row Labelled) → get (rows server) a ≡ Some row → get (rows other) b ≡ Some next →
-      row.key ≡ next.key → server ≡ other
+-- an account is an owner's
+abbrev pub Owns : Store → Roles → Owner → ℕ → Type 0
+Owns store roles Init account = root_in store ≡ account
+Owns store roles (Place place) account = Pays (roles place) account
+Owns store roles (SessionAt server id) account = option_map (λ (row : Row Labelled). row.key) (get (rows_at store roles server) id) ≡ Some account
 
--- an account under another one is that of a session that a component names by a selector
-pub record IsHeld (components : List Component) (rows : ℕ → NatMap (Row Labelled)) (child parent : ℕ) : Type 0 where
-  pub place : ℕ
-  pub within : place < length components
+-- a selector of a role names the session on an account, whose client has the other account
+pub record NamesAccount (rows : ℕ → NatMap (Row Labelled)) (role : Role) (account client : ℕ) : Type 0 where
   pub selector : ℕ
   pub server : ℕ
   pub session : SessionId
-  pub named : (d : Component) → session_at (get (caps_of (get_or components place d)) selector) ≡ Some (server, session)
+  pub names : session_at (get (caps_in role) selector) ≡ Some (server, session)
   pub row : Row Labelled
   pub there : get (rows server) session.0 ≡ Some row
-  pub key : row.key ≡ child
-  pub client : row.client ≡ parent
+  pub key : row.key ≡ account
+  pub its : row.client ≡ client
 
--- so is each account that was opened under another than init's
-abbrev pub AreHeld : Store → List Component → Type 0
-AreHeld store components =
-    (child parent : ℕ) → IsChildIn store child parent → parent ≢ root_in store → IsHeld components (rows_at store components) child parent
+-- each account that was opened under another than init's is that of a session, which a component's selector names
+abbrev pub AreHeld : Store → Roles → Type 0
+AreHeld store roles =
+    (child parent : ℕ) → IsChildIn store child parent → parent ≢ root_in store →
+    (place : ℕ) × NamesAccount (rows_at store roles) (roles place) child parent
 
--- init's account is open; each component is sound and, until it exits, has an account of its own below it, each session that
--- it names is its own, and its capabilities find places; sessions have accounts of their own, and each is named; and the
--- memory has room for those still to be opened
-pub record IsCore (store : Store) (components : List Component) : Type 0 where
+-- init's account is open; each component is sound, and its accounts are below init's; no account has two owners, and init is
+-- no session's client; each session that a component names is its own, and its capabilities find places; each session is
+-- named; and the memory has room for those still to be opened
+pub record IsSoundCore (store : Store) (roles : Roles) : Type 0 where
   pub init : IsOpenIn store (root_in store)
-  pub sound : All (IsSound store) components
-  pub not_init : All (λ c. IsLive c → payer_of c ≢ root_in store) components
-  pub children : All (λ c. IsLive c → IsChildIn store (payer_of c) (root_in store)) components
-  pub apart : AllPairs (λ c d. IsLive c → IsLive d → payer_of c ≢ payer_of d) components
-  pub named : All (λ c. NamesItsSessions (rows_at store components) (payer_of c) (caps_of c)) components
-  pub placed : All (HasPlaces (sessions_in store components) store) components
-  pub sessions : AreSessions (root_in store) components (rows_at store components)
-  pub held : AreHeld store components
+  pub sound : (place : ℕ) → IsSoundRole store (roles place)
+  pub children : (place account : ℕ) → Pays (roles place) account → IsChildIn store account (root_in store)
+  pub apart : (one other : Owner) (account : ℕ) → Owns store roles one account → Owns store roles other account → one ≡ other
+  pub clients : (server id : ℕ) (row : Row Labelled) → get (rows_at store roles server) id ≡ Some row → row.client ≢ root_in store
+  pub named : (place : ℕ) → NamesItsSessions (rows_at store roles) (roles place)
+  pub placed : (place : ℕ) → HasPlaces (sessions_in store roles) store (roles place)
+  pub held : AreHeld store roles
   pub room : HasRoom store
+
+-- so are the components on a memory
+abbrev pub IsCore : Store → List Component → Type 0
+IsCore store components = IsSoundCore store (roles_of components)

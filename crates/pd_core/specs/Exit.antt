@@ -1,5 +1,5 @@
 -- How a component exits: what its sessions' closes leave, one after another.
-use Rattle.std.specs.Prelude.{◌≡◌, ◌≤◌, ℕ, slice_set, Option, Some, None, IsSome, Result, Ok, Err}
+use Rattle.std.specs.Prelude.{◌≡◌, ◌≤◌, ℕ, List, slice_set, Option, Some, None, IsSome, Result, Ok, Err}
 use Rattle.std.specs.FinMap.{get}
 use Rattle.trade_base.specs.declared.refusal.Refusal.{Refusal}
 use Rattle.trade_base.specs.declared.refusal.Refusal.TheVariants.{Gone as IsGone, NotAScript}
@@ -8,6 +8,10 @@ use Rattle.own_model.specs.OwnState.{OwnState, session_named}
 use Rattle.own_model.specs.Transcript.{state_at}
 use Rattle.own_model.specs.World.{World}
 use Rattle.pd_core.specs.Component.{caps_in}
+use Rattle.dataspace_core.specs.Store.{Store}
+use Rattle.pd_core.specs.Core.{Rules, world_of, IsCore}
+use Rattle.pd_core.specs.SessionCalls.{Agrees, Leads}
+use Rattle.pd_core.specs.declared.component.Component.{Component}
 use Rattle.pd_core.specs.declared.component.Role.{Role}
 use Rattle.pd_core.specs.declared.component.Role.TheVariants.{Script, Log, Files, Gone}
 
@@ -44,3 +48,9 @@ pub record HasClosed (count : ℕ) (old new : OwnState) : Type 0 where
 pub record HasClosedAt (i count : ℕ) (old new : World) : Type 0 where
   pub closed : HasClosed count (state_at old.states i) (state_at new.states i)
   pub others : new ≡ record old { states = slice_set old.states i (state_at new.states i) }
+
+-- so many sessions of the component at a place are closed, the core is sound after it, and routes lead where they did
+pub record ClosesTo (i count : ℕ) (old : Store) (before : List Component) (new : Store) (after : List Component) : Type 0 where
+  pub closed : (rules : Rules) → HasClosedAt i count (world_of rules old before) (world_of rules new after)
+  pub core : IsCore new after
+  pub leads : (rules : Rules) (leads : Leads) → Agrees rules leads before → Agrees rules leads after

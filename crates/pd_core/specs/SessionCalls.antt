@@ -14,8 +14,10 @@ use Rattle.cap_space.specs.Space.{with_cap, without_cap}
 use Rattle.cap_space.specs.declared.cap.Cap.TheVariants.{Session as ASession}
 use Rattle.dataspace_core.specs.Store.{Store}
 use Rattle.server_frame.specs.Told.{Told}
+use Rattle.pd_core.specs.Answer.{told_alone, reply_of}
+use Rattle.pd_core.specs.declared.answer.Answer.{Answer}
 use Rattle.pd_core.specs.Component.{service_of}
-use Rattle.pd_core.specs.Core.{Rules, world_of}
+use Rattle.pd_core.specs.Core.{Rules, world_of, IsCore}
 use Rattle.pd_core.specs.Sound.{session_at}
 use Rattle.pd_core.specs.declared.component.Role.{Role}
 use Rattle.pd_core.specs.declared.component.Role.TheVariants.{Script, Log, Files, Gone as GoneRole}
@@ -74,3 +76,13 @@ pub record Answers (rules : Rules) (call : Call) (i : ℕ) (reply : Told) (old :
   pub answered : reply.text ≡ reply_text (outcome_at (world_of rules old before) i call).reply
   pub lines : reply.lines ≡ flat_map log_text (outcome_at (world_of rules old before) i call).lines
   pub stepped : world_of rules new after ≡ with_state (world_of rules old before) i (outcome_at (world_of rules old before) i call).next
+
+-- so it goes, the core is sound after it, and routes lead where they did
+pub record Goes (rules : Rules) (call : Call) (i : ℕ) (reply : Told) (old : Store) (before : List Component) (new : Store) (after : List Component) : Type 0 where
+  pub answers : Answers rules call i reply old before new after
+  pub core : IsCore new after
+  pub leads : (all : Rules) (leads : Leads) → Agrees all leads before → Agrees all leads after
+
+-- so does one that is answered alone
+abbrev pub GoesWith : Rules → Call → ℕ → Result Answer Refusal → Store → List Component → Store → List Component → Type 0
+GoesWith rules call i result old before new after = Goes rules call i (told_alone (reply_text (reply_of result))) old before new after

@@ -1,11 +1,9 @@
 //! How a component exits.
 ghost use Rattle.std.specs.Prelude.{◌<◌, length, get_or};
 ghost use Rattle.own_model.specs.Call.Call.{Exit as ModelledExit};
-ghost use Rattle.own_model.specs.Reply.{reply_text};
-ghost use Rattle.pd_core.specs.Answer.{reply_of, told_alone};
-ghost use Rattle.pd_core.specs.Core.{Rules, world_of, IsCore};
-ghost use Rattle.pd_core.specs.Exit.{HasClosedAt, IsScriptRole};
-ghost use Rattle.pd_core.specs.SessionCalls.{Agrees, Answers, Leads};
+ghost use Rattle.pd_core.specs.Core.{Rules, IsCore};
+ghost use Rattle.pd_core.specs.Exit.{ClosesTo, IsScriptRole};
+ghost use Rattle.pd_core.specs.SessionCalls.{GoesWith};
 ghost use Rattle.pd_core.specs.declared.component.Component.{Component as AnyComponent};
 
 use crate::answer::Answer;
@@ -23,10 +21,8 @@ pub(crate) fn exit(
 ) -> Result<Answer, Refusal>
     requires core { IsCore memory.old components.old }
     requires caller { caller < length components.old }
-    ensures does { (rules : Rules) → Answers rules ModelledExit caller (told_alone (reply_text (reply_of result)))
+    ensures { (rules : Rules) → GoesWith rules ModelledExit caller result
         memory.old components.old memory.new components.new }
-    ensures core { IsCore memory.new components.new }
-    ensures leads { (rules : Rules) (leads : Leads) → Agrees rules leads components.old → Agrees rules leads components.new }
 {
     let places = components[caller].places()?;
     close_all(memory, components, caller, places);
@@ -39,9 +35,7 @@ fn close_all(memory: &mut Memory, components: &mut [Component], caller: usize, s
     requires core { IsCore memory.old components.old }
     requires caller { caller < length components.old }
     requires script { (d : AnyComponent) → IsScriptRole (get_or components.old caller d).role }
-    ensures closed { (rules : Rules) → HasClosedAt caller selectors (world_of rules memory.old components.old) (world_of rules memory.new components.new) }
-    ensures core { IsCore memory.new components.new }
-    ensures leads { (rules : Rules) (leads : Leads) → Agrees rules leads components.old → Agrees rules leads components.new }
+    ensures { ClosesTo caller selectors memory.old components.old memory.new components.new }
 {
     for place in 0..selectors {
         // A selector that names no session is refused.

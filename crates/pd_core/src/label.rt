@@ -3,6 +3,7 @@ ghost use Rattle.std.specs.Prelude.{◌≡◌, ◌≤◌, length};
 ghost use Rattle.own_model.specs.Session.{label_with};
 
 use arrayvec::ArrayVec;
+use server_frame::LONGEST_LABEL;
 
 /// The most bytes of a component's name.
 pub(crate) const LONGEST_NAME: usize = 32;
@@ -17,10 +18,7 @@ pub(crate) fn name_of(name: &[u8]) -> ArrayVec<u8, LONGEST_NAME>
     copy
 }
 
-/// The most bytes of a session's label: those of a name, an arrow, and those of the label that its client gave.
-pub(crate) const LONGEST_LABEL: usize = 100;
-
-/// The label of a session: its client's name, and what that gave.
+/// The label of a session: its client's name, an arrow and what that gave, or the name alone.
 pub(crate) fn label_of(name: &[u8], given: &[u8]) -> ArrayVec<u8, LONGEST_LABEL>
     requires name { length name.now ≤ 32 }
     requires given { length given.now ≤ 64 }

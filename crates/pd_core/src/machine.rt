@@ -1,8 +1,8 @@
 //! The core: the memory, and the components whose calls it carries out.
-ghost use Rattle.std.specs.Prelude.{◌≡◌, ◌<◌, ℕ, length};
+ghost use Rattle.std.specs.Prelude.{◌<◌, length};
 ghost use Rattle.pd_core.specs.Call.{model_call, IsWellFormed};
-ghost use Rattle.pd_core.specs.Core.{Rules, IsCore};
-ghost use Rattle.pd_core.specs.SessionCalls.{Agrees, Answers, Leads};
+ghost use Rattle.pd_core.specs.Core.{IsCore};
+ghost use Rattle.pd_core.specs.SessionCalls.{Agrees, Goes};
 
 use crate::answer::tell;
 use crate::call::Call;
@@ -107,9 +107,8 @@ fn carry_out<R: Router>(
     requires routes { Agrees (R.rules routes.now) (R.leads routes.now) components.old }
     requires caller { caller < length components.old }
     requires call { IsWellFormed call }
-    ensures does { Answers (R.rules routes.now) (model_call call.entry) caller reply.new memory.old components.old memory.new components.new }
-    ensures core { IsCore memory.new components.new }
-    ensures leads { (rules : Rules) (leads : Leads) → Agrees rules leads components.old → Agrees rules leads components.new }
+    ensures { Goes (R.rules routes.now) (model_call call.entry) caller reply.new
+        memory.old components.old memory.new components.new }
 {
     match call {
         Call::Open { service, args } => {

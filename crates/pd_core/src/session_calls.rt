@@ -1,11 +1,9 @@
 //! The calls of sessions in the core: each finds the component that makes it and the one that serves it.
-ghost use Rattle.std.specs.Prelude.{◌≡◌, ◌<◌, ℕ, length};
+ghost use Rattle.std.specs.Prelude.{◌<◌, length};
 ghost use Rattle.own_model.specs.Call.Call.{Open as ModelledOpen, Upgrade as ModelledUpgrade};
 ghost use Rattle.own_model.specs.Call.Call.{CallSession as ModelledCallSession, Close as ModelledClose};
-ghost use Rattle.own_model.specs.Reply.{reply_text};
-ghost use Rattle.pd_core.specs.Answer.{reply_of, told_alone};
 ghost use Rattle.pd_core.specs.Core.{Rules, IsCore};
-ghost use Rattle.pd_core.specs.SessionCalls.{Agrees, Answers, Leads};
+ghost use Rattle.pd_core.specs.SessionCalls.{Agrees, Goes, GoesWith};
 
 use crate::answer::{Answer, tell};
 use crate::component::{Component, Role};
@@ -26,10 +24,8 @@ pub(crate) fn close(
 ) -> Result<Answer, Refusal>
     requires core { IsCore memory.old components.old }
     requires caller { caller < length components.old }
-    ensures does { (rules : Rules) → Answers rules (ModelledClose selector) caller (told_alone (reply_text (reply_of result)))
+    ensures { (rules : Rules) → GoesWith rules (ModelledClose selector) caller result
         memory.old components.old memory.new components.new }
-    ensures core { IsCore memory.new components.new }
-    ensures leads { (rules : Rules) (leads : Leads) → Agrees rules leads components.old → Agrees rules leads components.new }
 {
     let (entry, session) = components[caller].take_session(selector)?;
     components[entry].close_session(memory, session);
@@ -47,10 +43,8 @@ pub(crate) fn upgrade(
 ) -> Result<Answer, Refusal>
     requires core { IsCore memory.old components.old }
     requires caller { caller < length components.old }
-    ensures does { (rules : Rules) → Answers rules (ModelledUpgrade selector text.now) caller (told_alone (reply_text (reply_of result)))
+    ensures { (rules : Rules) → GoesWith rules (ModelledUpgrade selector text.now) caller result
         memory.old components.old memory.new components.new }
-    ensures core { IsCore memory.new components.new }
-    ensures leads { (rules : Rules) (leads : Leads) → Agrees rules leads components.old → Agrees rules leads components.new }
 {
     let (entry, session) = components[caller].session(selector)?;
     let more = SessionArgs::read(text)?;
@@ -70,10 +64,8 @@ pub(crate) fn call(
 )
     requires core { IsCore memory.old components.old }
     requires caller { caller < length components.old }
-    ensures does { (rules : Rules) → Answers rules (ModelledCallSession selector request.now) caller reply.new
+    ensures { (rules : Rules) → Goes rules (ModelledCallSession selector request.now) caller reply.new
         memory.old components.old memory.new components.new }
-    ensures core { IsCore memory.new components.new }
-    ensures leads { (rules : Rules) (leads : Leads) → Agrees rules leads components.old → Agrees rules leads components.new }
 {
     let (entry, session) = match components[caller].session(selector) {
         Ok(named) => named,
@@ -97,10 +89,8 @@ pub(crate) fn open<R: Router>(
     requires core { IsCore memory.old components.old }
     requires routes { Agrees (R.rules routes.now) (R.leads routes.now) components.old }
     requires caller { caller < length components.old }
-    ensures does { Answers (R.rules routes.now) (ModelledOpen service.now text.now) caller (told_alone (reply_text (reply_of result)))
+    ensures { GoesWith (R.rules routes.now) (ModelledOpen service.now text.now) caller result
         memory.old components.old memory.new components.new }
-    ensures core { IsCore memory.new components.new }
-    ensures leads { (rules : Rules) (leads : Leads) → Agrees rules leads components.old → Agrees rules leads components.new }
 {
     let client = &components[caller];
     let Role::Script(script) = &client.role else {

@@ -1,16 +1,22 @@
 -- A component's own state is the one at its place of the world.
-use Rattle.std.proofs.Common.{ap, sym, ◌∙◌}
-use Rattle.pd_core.specs.Component.{own}
-use Rattle.pd_core.specs.Core.{sessions_in}
+use Rattle.std.proofs.Common.{ap, subst, sym, ◌∙◌}
+use Rattle.pd_core.specs.Component.{own, IsSoundRole}
+use Rattle.pd_core.specs.Core.{roles_of, sessions_in}
 use Rattle.pd_core.specs.declared.component.Component.{Component}
+use Rattle.pd_core.proofs.WorldLemmas.{role_read}
 use Rattle.pd_core.proofs.QuotaLemmas.{account_at_place}
 use Rattle.pd_core.proofs.accounts.component_quotas.Goals as goal
+
+pub quotas-requires : goal.quotas-requires
+quotas-requires c =
+    let at = c.index-components-place in
+    subst (IsSoundRole c.args.memory.now) (role_read c.args.components.now c.args.place at.result c.requires.place at.is) (c.requires.core.sound c.args.place)
 
 pub returns : goal.returns
 returns c = λ rules.
     let memory = c.args.memory.now in
     let components = c.args.components.now in
-    let sessions = sessions_in memory components in
+    let sessions = sessions_in memory (roles_of components) in
     let at = c.index-components-place in
     c.quotas.ensures sessions ∙ ap (λ (d : Component). (own sessions memory d).account) at.is
     ∙ sym (account_at_place rules memory components c.args.place at.result c.requires.place)

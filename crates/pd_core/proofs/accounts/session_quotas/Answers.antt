@@ -5,30 +5,33 @@ use Rattle.std.specs.Option.{option_map}
 use Rattle.std.specs.FinMap.{get}
 use Rattle.own_model.specs.Session.{Session as AnOpenSession, Labelled}
 use Rattle.server_frame.specs.Frame.{Row}
-use Rattle.pd_core.specs.Component.{rows_of, IsSound}
-use Rattle.pd_core.specs.Core.{sessions_in}
+use Rattle.pd_core.specs.Component.{rows_of, IsSoundRole}
+use Rattle.pd_core.proofs.WorldLemmas.{role_read}
+use Rattle.pd_core.specs.Core.{roles_of, sessions_in}
+use Rattle.pd_core.specs.SessionCalls.{named_in}
 use Rattle.pd_core.specs.Sessions.{row_session}
+use Rattle.pd_core.specs.declared.component.Component.{Component}
 use Rattle.pd_core.proofs.QuotaLemmas.{found_in, session_at_place, served_where}
 use Rattle.pd_core.proofs.accounts.session_quotas.Goals as goal
 
 pub bounds-components-server : goal.bounds-components-server
 bounds-components-server c =
-    (served_where c.args.selector c.requires.core c.requires.place c.index-components-place.is c.session.ensures c.in-Ok.is).within
+    (served_where c.args.selector c.requires.core c.requires.place c.index-components-place.is (sym c.session.ensures ∙ c.in-Ok.is)).within
 
 pub offset_bounds-components-server : goal.offset_bounds-components-server
 offset_bounds-components-server c =
-    let served = served_where c.args.selector c.requires.core c.requires.place c.index-components-place.is c.session.ensures c.in-Ok.is in
+    let served = served_where c.args.selector c.requires.core c.requires.place c.index-components-place.is (sym c.session.ensures ∙ c.in-Ok.is) in
     let within = served.within in search rules
 
 pub session_quotas-requires-clause-sound : goal.session_quotas-requires-clause-sound
 session_quotas-requires-clause-sound c =
-    let served = served_where c.args.selector c.requires.core c.requires.place c.index-components-place.is c.session.ensures c.in-Ok.is in
+    let served = served_where c.args.selector c.requires.core c.requires.place c.index-components-place.is (sym c.session.ensures ∙ c.in-Ok.is) in
     let at = c.index-components-server in
-    subst (IsSound c.args.memory.now) (sym at.is) (c.requires.core.sound c.in-Ok.server at.result served.within)
+    subst (IsSoundRole c.args.memory.now) (role_read c.args.components.now c.in-Ok.server at.result served.within at.is) (c.requires.core.sound c.in-Ok.server)
 
 pub session_quotas-requires-clause-there : goal.session_quotas-requires-clause-there
 session_quotas-requires-clause-there c =
-    let served = served_where c.args.selector c.requires.core c.requires.place c.index-components-place.is c.session.ensures c.in-Ok.is in
+    let served = served_where c.args.selector c.requires.core c.requires.place c.index-components-place.is (sym c.session.ensures ∙ c.in-Ok.is) in
     let at = c.index-components-server in
     ap is_some (ap (λ d. get (rows_of c.args.memory.now d) c.in-Ok.session.0) at.is ∙ served.its at.result)
 
@@ -38,16 +41,16 @@ returns-in-Ok c = λ rules.
     let components = c.args.components.now in
     let caller = c.index-components-place in
     let at = c.index-components-server in
-    let served = served_where c.args.selector c.requires.core c.requires.place caller.is c.session.ensures c.in-Ok.is in
-    let state = session_at_place rules memory components c.args.place caller.result c.args.selector c.requires.place caller.is in
+    let served = served_where c.args.selector c.requires.core c.requires.place caller.is (sym c.session.ensures ∙ c.in-Ok.is) in
+    let state = session_at_place rules memory components c.args.place caller.result c.args.selector c.requires.place ∙ ap (λ (d : Component). found_in (sessions_in memory (roles_of components)) (named_in d.role c.args.selector)) (sym caller.is) in
     ap Some (c.session_quotas.ensures served.row (ap (λ d. get (rows_of memory d) c.in-Ok.session.0) at.is ∙ served.its at.result))
     ∙ sym (ap (λ (o : Option (Row Labelled)). option_map (λ (s : AnOpenSession). s.account) (option_map row_session o)) served.there)
-    ∙ sym (ap (option_map (λ (s : AnOpenSession). s.account)) (state ∙ ap (found_in (sessions_in memory components)) (sym c.session.ensures ∙ c.in-Ok.is)))
+    ∙ sym (ap (option_map (λ (s : AnOpenSession). s.account)) (state ∙ ap (found_in (sessions_in memory (roles_of components))) (sym c.session.ensures ∙ c.in-Ok.is)))
 
 pub returns-in-Err : goal.returns-in-Err
 returns-in-Err c = λ rules.
     let memory = c.args.memory.now in
     let components = c.args.components.now in
     let caller = c.index-components-place in
-    let state = session_at_place rules memory components c.args.place caller.result c.args.selector c.requires.place caller.is in
-    sym (ap (option_map (λ (s : AnOpenSession). s.account)) (state ∙ ap (found_in (sessions_in memory components)) (sym c.session.ensures ∙ c.in-Err.is)))
+    let state = session_at_place rules memory components c.args.place caller.result c.args.selector c.requires.place ∙ ap (λ (d : Component). found_in (sessions_in memory (roles_of components)) (named_in d.role c.args.selector)) (sym caller.is) in
+    sym (ap (option_map (λ (s : AnOpenSession). s.account)) (state ∙ ap (found_in (sessions_in memory (roles_of components))) (sym c.session.ensures ∙ c.in-Err.is)))

@@ -1,5 +1,5 @@
 -- The sessions of the places that were passed are closed.
-use Rattle.pd_core.proofs.ExitCallLemmas.{ClosesTo}
+use Rattle.pd_core.specs.Exit.{ClosesTo}
 use Rattle.pd_core.proofs.exiting.close_all.Given as goal
 
 abbrev pub invariant-loop-place : goal.invariant-loop-place

@@ -1,23 +1,26 @@
 -- A refused exit changes nothing; else all sessions are closed, and then the script ends.
+use Rattle.std.proofs.Common.{rules, sym, subst}
+use Rattle.pd_core.specs.Component.{IsSoundRole}
+use Rattle.pd_core.proofs.ExitCallLemmas.{alone_after, exit_goes, exit_refused_goes}
 use Rattle.pd_core.proofs.ExitLemmas.{alone_child, alone_leaf}
-use Rattle.pd_core.proofs.ExitCallLemmas.{alone_after, exits, exit_refused_answers}
-use Rattle.pd_core.proofs.SessionCallsLemmas.{passed_on}
+use Rattle.pd_core.proofs.SessionRefusedLemmas.{passed_on}
+use Rattle.pd_core.proofs.WorldLemmas.{role_at}
 use Rattle.pd_core.proofs.exiting.exit.Goals as goal
 
-pub returns-in_err-places-clause-does : goal.returns-in_err-places-clause-does
-returns-in_err-places-clause-does c = λ rules.
+pub returns-in_err-places : goal.returns-in_err-places
+returns-in_err-places c = λ rules.
     let refusal = c.in_err-places.field-0.0 in
     passed_on refusal c.from_residual.result c.from_residual.ensures.1
-    (exit_refused_answers rules c.requires.caller c.index-components-caller.is refusal c.in_err-places.ensures.told)
+    (exit_refused_goes rules c.args.components.now c.index-components-caller.result c.requires.core c.requires.caller refusal c.in_err-places.ensures.told)
 
 pub end-requires : goal.end-requires
 end-requires c =
     let places = c.in_ok-places.ensures in
-    let closed = c.close_all.ensures in
-    let at = c.index-components-caller-2 in
-    let alone = alone_after c.requires.core c.requires.caller c.index-components-caller.is places.told places.within closed.closed closed.core closed.leads at.is in
+    let closes = c.close_all.ensures in
+    let e = c.index-components-caller-2.result in
+    let alone = alone_after c.index-components-caller.result e c.requires.core c.requires.caller places.told places.within closes in
     record {
-      sound = closed.core.sound c.args.caller at.result alone.here;
+      sound = subst (IsSoundRole c.close_all.new.memory) (role_at c.close_all.new.components c.args.caller e alone.here) (closes.core.sound c.args.caller);
       script = alone.is_script;
       none = alone.none;
       child = alone_child alone;
@@ -27,8 +30,5 @@ end-requires c =
 pub returns : goal.returns
 returns c =
     let places = c.in_ok-places.ensures in
-    let closed = c.close_all.ensures in
     let ended = c.end.ensures in
-    let done = exits c.requires.core c.requires.caller c.index-components-caller.is places.told places.within closed.closed closed.core closed.leads c.index-components-caller-2.is
-    ended.gone ended.closes ended.machine ended.caps in
-    record { does = done.does; core = done.core; leads = done.leads }
+    exit_goes c.index-components-caller.result c.index-components-caller-2.result c.requires.core c.requires.caller places.told places.within c.close_all.ensures ended.gone ended.closes ended.machine ended.caps

@@ -1,11 +1,19 @@
 -- Calls of sessions do what they promise; any other is the component's alone.
-use Rattle.std.proofs.Common.{rules, arith, ◌≡◌, false, get_or, ap}
+use Rattle.std.proofs.Common.{rules, arith, subst, ◌≡◌, false, get_or, ap, refl}
 use Rattle.std.proofs.lemmas.Grind.{common_steps}
 use Rattle.own_model.specs.Call.{is_exit}
 use Rattle.pd_core.specs.Call.{model_call}
-use Rattle.pd_core.specs.Core.{sessions_in}
-use Rattle.pd_core.proofs.CoreLemmas.{caller_ready, plain_answers, plain_keeps, plain_leads}
+use Rattle.pd_core.specs.Core.{roles_of, sessions_in}
+use Rattle.pd_core.proofs.PlainLemmas.{plain_goes}
+use Rattle.pd_core.proofs.HeldLemmas.{names_open}
+use Rattle.pd_core.proofs.WorldLemmas.{goes_as, role_at}
+use Rattle.pd_core.specs.Component.{caps_in, IsSoundRole}
+use Rattle.pd_core.specs.Own.{HasSessions}
 use Rattle.pd_core.proofs.machine.carry_out.Goals as goal
+
+pub step-requires-clause-sound : goal.step-requires-clause-sound
+step-requires-clause-sound g c =
+    subst (IsSoundRole c.args.memory.now) (role_at c.args.components.now c.args.caller c.index-components-caller.result c.requires.caller) (c.requires.core.sound c.args.caller)
 
 pub step-requires-clause-plain : goal.step-requires-clause-plain
 step-requires-clause-plain g c = search rules
@@ -15,16 +23,24 @@ returns-in_default g c =
     let memory = c.args.memory.now in
     let components = c.args.components.now in
     let i = c.args.caller in
-    let caller = get_or components i c.index-components-caller.result in
-    let read = ap (get_or components i) c.index-components-caller.is in
+    let d = c.index-components-caller.result in
     let step = c.step.new in
     let done = c.step.ensures in
     let rules = g.R.Router.rules c.args.routes.now in
     let call = model_call c.args.call in
-    let told = done.outcome (rules i) (sessions_in memory components) (caller_ready memory components i caller c.requires.caller read c.requires.core) in
+    let roles = roles_of components in
+    let ready = subst (λ r. HasSessions (sessions_in memory roles) (caps_in r)) (role_at components i d c.requires.caller) (names_open c.requires.core i) in
     let on : is_exit call ≡ false = (let is_not = c.in_default.not-Exit in grind (arith, common_steps, is_not)) in
-    record {
-      does = plain_answers memory components i caller c.requires.caller read c.requires.core step.memory step.self done.keeps done.stays rules call step.reply on told;
-      core = plain_keeps memory components i caller c.requires.caller read c.requires.core step.memory step.self done.keeps done.stays rules call step.reply on told;
-      leads = plain_leads memory components i caller c.requires.caller read c.requires.core step.memory step.self done.keeps done.stays rules call step.reply on told;
-    }
+    plain_goes memory components i d c.requires.caller c.requires.core step.memory step.self done.keeps done.stays rules call step.reply on (done.outcome (rules i) (sessions_in memory roles) ready)
+
+pub returns-in-Upgrade : goal.returns-in-Upgrade
+returns-in-Upgrade g c = goes_as (ap model_call c.in-Upgrade.is) c.tell-in-Upgrade.ensures (c.upgrade-upgraded.ensures (g.R.Router.rules c.args.routes.now))
+
+pub returns-in-CallSession : goal.returns-in-CallSession
+returns-in-CallSession g c = goes_as (ap model_call c.in-CallSession.is) refl (c.call.ensures (g.R.Router.rules c.args.routes.now))
+
+pub returns-in-Close : goal.returns-in-Close
+returns-in-Close g c = goes_as (ap model_call c.in-Close.is) c.tell-in-Close.ensures (c.close-closed.ensures (g.R.Router.rules c.args.routes.now))
+
+pub returns-in-Exit : goal.returns-in-Exit
+returns-in-Exit g c = goes_as (ap model_call c.in-Exit.is) c.tell-in-Exit.ensures (c.exit-gone.ensures (g.R.Router.rules c.args.routes.now))

@@ -1,51 +1,54 @@
 -- A refused call changes nothing; else a session serves.
-use Rattle.std.proofs.Common.{rules, [], get_or, ap, refl, sym, subst}
+use Rattle.std.proofs.Common.{rules, get_or, refl, sym, subst, ◌∙◌}
 use Rattle.own_model.specs.Call.Call.{CallSession}
-use Rattle.pd_core.specs.SessionCalls.{Answers}
-use Rattle.pd_core.proofs.RouterLemmas.{agrees_server}
-use Rattle.pd_core.proofs.SessionCallsLemmas.{call_asks, unnamed_answers, names_by, named_cap, named_two, stands}
-use Rattle.pd_core.proofs.SessionChangesLemmas.{server_sound}
-use Rattle.pd_core.proofs.SessionWorldLemmas.{named_open, call_goes}
+use Rattle.pd_core.specs.SessionCalls.{Goes}
+use Rattle.pd_core.proofs.SessionRefusedLemmas.{call_asks, unnamed_goes}
+use Rattle.pd_core.proofs.SessionGoesLemmas.{Names, named_two, named_cap, host_within, host_sound, named_open, call_goes}
+use Rattle.pd_core.proofs.WorldLemmas.{role_at}
 use Rattle.pd_core.proofs.session_calls.call.Goals as goal
 
-pub returns-in-Err-clause-does : goal.returns-in-Err-clause-does
-returns-in-Err-clause-does c = λ rules.
-    subst (λ told. Answers rules (CallSession c.args.selector c.args.request.now) c.args.caller told c.args.memory.now c.args.components.now c.args.memory.now c.args.components.now) (sym c.tell.ensures)
-    (unnamed_answers rules c.requires.core c.requires.caller c.index-components-caller.is c.args.selector (call_asks c.args.selector c.args.request.now) c.in-Err.refusal c.session.ensures c.in-Err.is)
+pub returns-in-Err : goal.returns-in-Err
+returns-in-Err c = λ rules.
+    let components = c.args.components.now in
+    subst (λ told. Goes rules (CallSession c.args.selector c.args.request.now) c.args.caller told c.args.memory.now components c.args.memory.now components) (sym c.tell.ensures)
+    (unnamed_goes rules components c.index-components-caller.result c.requires.core c.requires.caller (CallSession c.args.selector c.args.request.now) c.args.selector (call_asks c.args.selector c.args.request.now)
+    c.in-Err.refusal c.session.ensures c.in-Err.is)
 
 pub bounds-components-entry : goal.bounds-components-entry
-bounds-components-entry c = (stands (names_by c.requires.core c.requires.caller c.index-components-caller.is c.session.ensures c.in-Ok.is)).within
+bounds-components-entry c =
+    let names : Names c.args.memory.now c.args.components.now c.args.caller c.index-components-caller.result c.args.selector c.in-Ok.named
+    = record { core = c.requires.core; here = c.requires.caller; is = sym c.session.ensures ∙ c.in-Ok.is } in
+    host_within c.args.components.now c.in-Ok.named.0 (named_two names).serving
 
 pub offset_bounds-components-entry : goal.offset_bounds-components-entry
 offset_bounds-components-entry c =
-    let within = (stands (names_by c.requires.core c.requires.caller c.index-components-caller.is c.session.ensures c.in-Ok.is)).within in
-    search rules
+    let within = bounds-components-entry c in search rules
 
 pub serve_session-requires-clause-sound : goal.serve_session-requires-clause-sound
 serve_session-requires-clause-sound c =
-    let names = names_by c.requires.core c.requires.caller c.index-components-caller.is c.session.ensures c.in-Ok.is in
-    server_sound (named_two names c.index-components-entry.result refl)
+    let components = c.args.components.now in
+    let names : Names c.args.memory.now components c.args.caller c.index-components-caller.result c.args.selector c.in-Ok.named
+    = record { core = c.requires.core; here = c.requires.caller; is = sym c.session.ensures ∙ c.in-Ok.is } in
+    let two = named_two names in
+    let e = c.index-components-entry.result in
+    host_sound components two c.index-components-caller.result (get_or components c.in-Ok.named.0 e) (role_at components c.in-Ok.named.0 e (host_within components c.in-Ok.named.0 two.serving)) c.args.selector c.in-Ok.named.1 (named_cap names)
 
 pub serve_session-requires-clause-open : goal.serve_session-requires-clause-open
 serve_session-requires-clause-open c =
-    let names = names_by c.requires.core c.requires.caller c.index-components-caller.is c.session.ensures c.in-Ok.is in
-    named_open (named_two names c.index-components-entry.result refl) c.args.selector c.in-Ok.named.1 (named_cap names)
+    let components = c.args.components.now in
+    let names : Names c.args.memory.now components c.args.caller c.index-components-caller.result c.args.selector c.in-Ok.named
+    = record { core = c.requires.core; here = c.requires.caller; is = sym c.session.ensures ∙ c.in-Ok.is } in
+    let two = named_two names in
+    let e = c.index-components-entry.result in
+    named_open components two c.index-components-caller.result (get_or components c.in-Ok.named.0 e) (role_at components c.in-Ok.named.0 e (host_within components c.in-Ok.named.0 two.serving)) c.args.selector c.in-Ok.named.1 (named_cap names)
 
-pub returns-clause-does : goal.returns-clause-does
-returns-clause-does c = λ rules.
-    let names = names_by c.requires.core c.requires.caller c.index-components-caller.is c.session.ensures c.in-Ok.is in
-    (call_goes (named_two names c.index-components-entry.result refl) c.args.selector c.in-Ok.named.1 (named_cap names)
-    c.serve_session.new.memory c.serve_session.new.self c.serve_session.ensures.stays c.serve_session.ensures.machine
-    rules c.args.request.now c.serve_session.new.reply c.serve_session.ensures.serves c.serve_session.ensures.text c.serve_session.ensures.lines).answers
-
-pub returns-clause-core : goal.returns-clause-core
-returns-clause-core c =
-    let names = names_by c.requires.core c.requires.caller c.index-components-caller.is c.session.ensures c.in-Ok.is in
-    (call_goes (named_two names c.index-components-entry.result refl) c.args.selector c.in-Ok.named.1 (named_cap names)
-    c.serve_session.new.memory c.serve_session.new.self c.serve_session.ensures.stays c.serve_session.ensures.machine
-    (λ _. []) c.args.request.now c.serve_session.new.reply c.serve_session.ensures.serves c.serve_session.ensures.text c.serve_session.ensures.lines).core
-
-pub returns-clause-leads : goal.returns-clause-leads
-returns-clause-leads c =
-    agrees_server c.args.components.now c.in-Ok.named.0 (get_or c.args.components.now c.in-Ok.named.0 c.index-components-entry.result) c.serve_session.new.memory c.serve_session.new.self
-    c.serve_session.ensures.stays (ap (get_or c.args.components.now c.in-Ok.named.0) c.index-components-entry.is)
+pub returns : goal.returns
+returns c = λ rules.
+    let components = c.args.components.now in
+    let names : Names c.args.memory.now components c.args.caller c.index-components-caller.result c.args.selector c.in-Ok.named
+    = record { core = c.requires.core; here = c.requires.caller; is = sym c.session.ensures ∙ c.in-Ok.is } in
+    let two = named_two names in
+    let e = c.index-components-entry.result in
+    let done = c.serve_session in
+    call_goes components two c.index-components-caller.result (get_or components c.in-Ok.named.0 e) (role_at components c.in-Ok.named.0 e (host_within components c.in-Ok.named.0 two.serving)) c.args.selector c.in-Ok.named.1
+    (named_cap names) done.new.memory done.new.self done.ensures.stays done.ensures.machine rules e refl c.args.request.now done.new.reply done.ensures.serves done.ensures.text done.ensures.lines

@@ -1,5 +1,5 @@
 -- The account of a component is open, and its own state's.
-use Rattle.std.proofs.Common.{subst, ◌∙◌}
+use Rattle.std.proofs.Common.{refl, subst, ◌∙◌}
 use Rattle.dataspace_core.proofs.PartLaws.{open_in_part}
 use Rattle.pd_core.specs.Component.{IsSoundRole}
 use Rattle.pd_core.specs.declared.component.Role.TheVariants.{Script as AScript, Log as ALog, Files as AFiles}
@@ -17,12 +17,12 @@ quotas_of-requires-in-Files c = open_in_part _ _ (subst (IsSoundRole c.args.memo
 
 pub returns-in-Script : goal.returns-in-Script
 returns-in-Script c = λ sessions.
-    c.quotas_of.ensures ∙ account_of_known sessions c.args.memory.now c.args.self.now.role (AScript c.in-Script.script) c.in-Script.is tt
+    c.quotas_of.ensures ∙ account_of_known sessions c.args.memory.now c.args.self.now.role (AScript c.in-Script.script) c.in-Script.script.account.0 c.in-Script.is refl
 
 pub returns-in-Log : goal.returns-in-Log
 returns-in-Log c = λ sessions.
-    c.quotas_of-in-Log.ensures ∙ account_of_known sessions c.args.memory.now c.args.self.now.role (ALog c.in-Log.account c.in-Log.field-1) c.in-Log.is tt
+    c.quotas_of-in-Log.ensures ∙ account_of_known sessions c.args.memory.now c.args.self.now.role (ALog c.in-Log.account c.in-Log.field-1) c.in-Log.account.0 c.in-Log.is refl
 
 pub returns-in-Files : goal.returns-in-Files
 returns-in-Files c = λ sessions.
-    c.quotas_of-in-Files.ensures ∙ account_of_known sessions c.args.memory.now c.args.self.now.role (AFiles c.in-Files.account c.in-Files.field-1) c.in-Files.is tt
+    c.quotas_of-in-Files.ensures ∙ account_of_known sessions c.args.memory.now c.args.self.now.role (AFiles c.in-Files.account c.in-Files.field-1) c.in-Files.account.0 c.in-Files.is refl

@@ -1,10 +1,13 @@
 -- The account is the one that the world has.
-use Rattle.std.proofs.Common.{ap, ◌∙◌}
+use Rattle.std.proofs.Common.{ap, subst, sym, ◌∙◌}
 use Rattle.own_model.specs.Transcript.{state_at}
 use Rattle.own_model.specs.World.{World}
-use Rattle.pd_core.specs.Core.{world_of}
-use Rattle.pd_core.proofs.CoreLemmas.{place_within}
+use Rattle.pd_core.specs.Core.{world_of, IsCore}
+use Rattle.pd_core.proofs.WorldLemmas.{place_within}
 use Rattle.pd_core.proofs.machine.Core.account.Goals as goal
+
+pub component_quotas-requires-clause-core : goal.component_quotas-requires-clause-core
+component_quotas-requires-clause-core g c = subst (IsCore c.self.inside.memory) (sym c.as_slice.ensures.value) c.self.invariant.0
 
 pub component_quotas-requires-clause-place : goal.component_quotas-requires-clause-place
 component_quotas-requires-clause-place g c =

@@ -1,14 +1,17 @@
 -- The account is the one that the world has.
-use Rattle.std.proofs.Common.{ap, ◌∙◌}
+use Rattle.std.proofs.Common.{ap, subst, sym, ◌∙◌}
 use Rattle.std.specs.FinMap.{get}
 use Rattle.std.specs.Option.{option_map}
 use Rattle.own_model.specs.OwnState.{session_named}
 use Rattle.own_model.specs.Session.{Session as AnOpenSession}
 use Rattle.own_model.specs.Transcript.{state_at}
 use Rattle.own_model.specs.World.{World}
-use Rattle.pd_core.specs.Core.{world_of}
-use Rattle.pd_core.proofs.CoreLemmas.{place_within}
+use Rattle.pd_core.specs.Core.{world_of, IsCore}
+use Rattle.pd_core.proofs.WorldLemmas.{place_within}
 use Rattle.pd_core.proofs.machine.Core.session_account.Goals as goal
+
+pub session_quotas-requires-clause-core : goal.session_quotas-requires-clause-core
+session_quotas-requires-clause-core g c = subst (IsCore c.self.inside.memory) (sym c.as_slice.ensures.value) c.self.invariant.0
 
 pub session_quotas-requires-clause-place : goal.session_quotas-requires-clause-place
 session_quotas-requires-clause-place g c =

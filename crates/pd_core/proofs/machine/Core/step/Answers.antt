@@ -3,18 +3,23 @@ use Rattle.std.proofs.Common.{◌≡◌, List, length, subst, sym, ap, ◌∙◌
 use Rattle.std.proofs.lemmas.List.{with_items_is}
 use Rattle.std.specs.Global.{Vec}
 use Rattle.std.specs.Vec.{with_items}
+use Rattle.std.specs.List.{flat_map}
+use Rattle.own_model.specs.Reply.{reply_text, log_text}
 use Rattle.own_model.specs.World.{IsBalanced, IsBalancedFor, outcome_at, with_state}
 use Rattle.own_model.proofs.BalanceLemmas.{step_balanced, step_balanced_for}
 use Rattle.pd_core.specs.Call.{model_call}
 use Rattle.pd_core.specs.Core.{IsCore, world_of}
 use Rattle.pd_core.specs.SessionCalls.{Agrees}
 use Rattle.pd_core.specs.declared.component.Component.{Component}
-use Rattle.pd_core.proofs.CoreLemmas.{place_within, same_many}
+use Rattle.pd_core.proofs.WorldLemmas.{place_within, same_many}
 use Rattle.pd_core.proofs.machine.Core.step.Goals as goal
 
 -- components that are lent come back as they are then, where they are as many
 written : (v : Vec Component) (lent after : List Component) → lent ≡ v.items → length after ≡ length lent → (with_items v after).items ≡ after
 written v lent after is many = with_items_is v after (many ∙ ap length is ∙ sym v.ok.0)
+
+pub carry_out-requires-clause-core : goal.carry_out-requires-clause-core
+carry_out-requires-clause-core g c = subst (IsCore c.self.inside.memory) (sym c.as_mut_slice.ensures.value) c.self.invariant.0
 
 pub carry_out-requires-clause-caller : goal.carry_out-requires-clause-caller
 carry_out-requires-clause-caller g c =
@@ -30,8 +35,20 @@ invariant_of-self g c =
     let rules = g.R.Router.rules c.self.inside.routes in
     let leads = g.R.Router.leads c.self.inside.routes in
     subst (λ items. IsCore done.new.memory items × Agrees rules leads items)
-    (sym (written c.self.inside.components.items lent.result.now done.new.components lent.ensures.value (same_many done.ensures.does)))
+    (sym (written c.self.inside.components.items lent.result.now done.new.components lent.ensures.value (same_many done.ensures.answers)))
     (done.ensures.core, done.ensures.leads rules leads (subst (Agrees rules leads) (sym lent.ensures.value) c.self.invariant.1))
+
+pub returns-clause-answered : goal.returns-clause-answered
+returns-clause-answered g c =
+    let rules = g.R.Router.rules c.self.inside.routes in
+    c.carry_out.ensures.answers.answered
+    ∙ ap (λ w. reply_text (outcome_at w c.args.component (model_call c.args.call)).reply) (ap (world_of rules c.self.inside.memory) c.as_mut_slice.ensures.value ∙ c.self.view_is)
+
+pub returns-clause-lines : goal.returns-clause-lines
+returns-clause-lines g c =
+    let rules = g.R.Router.rules c.self.inside.routes in
+    c.carry_out.ensures.answers.lines
+    ∙ ap (λ w. flat_map log_text (outcome_at w c.args.component (model_call c.args.call)).lines) (ap (world_of rules c.self.inside.memory) c.as_mut_slice.ensures.value ∙ c.self.view_is)
 
 pub returns-clause-stepped : goal.returns-clause-stepped
 returns-clause-stepped g c =
@@ -40,8 +57,8 @@ returns-clause-stepped g c =
     let i = c.args.component in
     let call = model_call c.args.call in
     let rules = g.R.Router.rules c.self.inside.routes in
-    ap (world_of rules done.new.memory) (written c.self.inside.components.items lent.result.now done.new.components lent.ensures.value (same_many done.ensures.does))
-    ∙ done.ensures.does.stepped
+    ap (world_of rules done.new.memory) (written c.self.inside.components.items lent.result.now done.new.components lent.ensures.value (same_many done.ensures.answers))
+    ∙ done.ensures.answers.stepped
     ∙ ap (λ w. with_state w i (outcome_at w i call).next) (ap (world_of rules c.self.inside.memory) lent.ensures.value ∙ c.self.view_is)
 
 pub returns-clause-balance : goal.returns-clause-balance

@@ -1,0 +1,88 @@
+-- What follows of the accounts and the sessions of a sound core.
+use Rattle.std.proofs.Common.{◌≡◌, ◌≢◌, ℕ, Some, is_some, refl, sym, ap, subst, ◌∙◌, inl, inr}
+use Rattle.std.proofs.lemmas.Bool.{cases_eq}
+use Rattle.std.proofs.lemmas.Option.{none-some, same_Some}
+use Rattle.std.specs.FinMap.{get}
+use Rattle.std.specs.Option.{option_map}
+use Rattle.std.specs.Prelude.{Option, None, IsSome}
+use Rattle.own_model.specs.NatMap.{NatMap}
+use Rattle.own_model.specs.Session.{Labelled}
+use Rattle.own_model.proofs.NatMapLemmas.{get-empty}
+use Rattle.dataspace_core.specs.Store.{Store, part, root_in, IsOpenIn, IsChildIn}
+use Rattle.dataspace_core.proofs.PartLaws.{open_in_part}
+use Rattle.server_frame.specs.Frame.{Row}
+use Rattle.pd_core.specs.Component.{Pays, caps_in, rows_in}
+use Rattle.pd_core.specs.Core.{Roles, rows_at, sessions_in, Owner, Owns, NamesAccount, IsSoundCore}
+use Rattle.pd_core.specs.Core.Owner.{Init, Place, SessionAt}
+use Rattle.pd_core.specs.Own.{HasSessions}
+use Rattle.pd_core.specs.Sessions.{row_session}
+use Rattle.pd_core.specs.Sound.{session_at}
+use Rattle.pd_core.proofs.ComponentLemmas.{account_open}
+use Rattle.pd_core.proofs.ServerLemmas.{IsPaidRow, paid_in, sound_works}
+
+-- ---- owners
+
+-- a place is one
+pub same_place : (j k : ℕ) → Place j ≡ Place k → j ≡ k
+same_place j k e = cc
+
+pub not_place : (k : ℕ) → Init ≢ Place k
+not_place k e = cc
+
+pub not_session : (server id : ℕ) → Init ≢ SessionAt server id
+not_session server id e = cc
+
+pub no_place : (k server id : ℕ) → SessionAt server id ≢ Place k
+no_place k server id e = cc
+
+pub same_session : (a b c d : ℕ) → SessionAt a b ≡ SessionAt c d → (a ≡ c) × (b ≡ d)
+same_session a b c d e = (cc, cc)
+
+-- ---- whose accounts there are
+
+module _ {store : Store} {roles : Roles} (core : IsSoundCore store roles) where
+  -- a row's account is its session's
+  pub owns_row : (server id : ℕ) (row : Row Labelled) → get (rows_at store roles server) id ≡ Some row → Owns store roles (SessionAt server id) row.key
+  owns_row server id row there = ap (option_map (λ (r : Row Labelled). r.key)) there
+
+  -- and its client's child
+  pub row_paid : (server id : ℕ) (row : Row Labelled) → get (rows_at store roles server) id ≡ Some row → IsPaidRow store row
+  row_paid server id row there = paid_in store (roles server) (sound_works store (roles server) (core.sound server)) id row there
+
+  -- each account that somebody has is open
+  row_open : (server id account : ℕ) (o : Option (Row Labelled)) → get (rows_at store roles server) id ≡ o → option_map (λ (r : Row Labelled). r.key) o ≡ Some account → IsOpenIn store account
+  row_open server id account None there is = absurd (none-some account is)
+  row_open server id account (Some row) there is = subst (IsOpenIn store) (same_Some row.key account is) (row_paid server id row there).opens
+
+  pub owned_open : (owner : Owner) (account : ℕ) → Owns store roles owner account → IsOpenIn store account
+  owned_open Init account owns = subst (IsOpenIn store) owns core.init
+  owned_open (Place k) account owns = open_in_part account store (account_open store (roles k) (core.sound k) account owns)
+  owned_open (SessionAt server id) account owns = row_open server id account (get (rows_at store roles server) id) refl owns
+
+  -- the client of a session that a component names pays
+  pub client_pays : (k child parent : ℕ) → NamesAccount (rows_at store roles) (roles k) child parent → Pays (roles k) parent
+  client_pays k child parent names =
+      let row = (core.named k).its names.selector names.server names.session names.names in
+      let same : row.row ≡ names.row = same_Some row.row names.row (sym row.there ∙ names.there) in
+      subst (Pays (roles k)) (ap (λ (r : Row Labelled). r.client) same ∙ names.its) row.client
+
+  module _ (i account : ℕ) (pays : Pays (roles i) account) where
+    -- a component's account isn't init's, and no other owner's
+    pub pays_no_init : account ≢ root_in store
+    pays_no_init e = not_place i (core.apart Init (Place i) account (sym e) pays)
+
+    pub pays_alone : (owner : Owner) → Owns store roles owner account → owner ≡ Place i
+    pays_alone owner owns = core.apart owner (Place i) account owns pays
+
+    -- each account below it is that of a session that one of its selectors names
+    pub held_by : (child : ℕ) → IsChildIn store child account → NamesAccount (rows_at store roles) (roles i) child account
+    held_by child below =
+        let held = core.held child account below pays_no_init in
+        let k = held.0 in
+        let names = held.1 in
+        let its = client_pays k child account names in
+        subst (λ n. NamesAccount (rows_at store roles) (roles n) child account) (same_place k i (core.apart (Place k) (Place i) account its pays)) names
+
+  -- each session that a selector names is open
+  pub names_open : (i : ℕ) → HasSessions (sessions_in store roles) (caps_in (roles i))
+  names_open i q server session there = ap is_some (ap (option_map row_session) ((core.named i).its q server session (ap session_at there)).there)

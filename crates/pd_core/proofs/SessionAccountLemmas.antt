@@ -1,0 +1,300 @@
+-- Calls of a session between a script and a server: what they require follows from the core, and what they change is one
+-- session.
+use Rattle.std.proofs.Common.{◌≡◌, ◌≢◌, ℕ, ◌+◌, ◌<◌, ◌≤◌, List, Some, is_some, unwrap_or, refl, sym, ap, subst, ◌∙◌, arith}
+use Rattle.std.specs.FinMap.{get, insert, remove}
+use Rattle.std.specs.Prelude.{Option, None, IfSome, IsSome}
+use Rattle.std.specs.Option.{option_map}
+use Rattle.std.proofs.lemmas.Option.{none-some, same_Some}
+use Rattle.trade_base.specs.declared.id.SessionId.{SessionId}
+use Rattle.own_model.specs.Account.{Account, Fits, opened, parted_with}
+use Rattle.own_model.specs.Donation.{raised}
+use Rattle.own_model.specs.Limits.{caps_limits, caps_with}
+use Rattle.own_model.specs.NatMap.{NatMap, total}
+use Rattle.own_model.specs.OwnState.Object.{OpenSession}
+use Rattle.own_model.specs.Session.{session_account, donation_refusal, Labelled}
+use Rattle.own_model.proofs.NatMapLemmas.{apart_from_free, some_of, value_at, get-insert_same, get-insert_other, get-remove_same, get-remove_other, before_remove}
+use Rattle.own_model.proofs.SessionLemmas.{donation_covered, large_enough}
+use Rattle.own_model.proofs.Totals.{total-remove, total_le, total-picked, total-insert_same}
+use Rattle.cap_space.specs.Space.{without_cap, with_cap}
+use Rattle.cap_space.specs.declared.cap.Cap.{Cap}
+use Rattle.cap_space.specs.declared.cap.Cap.TheVariants.{Dataspace, RpcObject, Session}
+use Rattle.dataspace_core.specs.Room.{IsOuter}
+use Rattle.dataspace_core.specs.Store.{Store, Part, part, root_in, account_in, account_of, accounts_in, parents_in, room_in, ram_limits_in, IsChildIn, IsOpenIn, PartBecomes, RaisesPart, ClosesPart}
+use Rattle.dataspace_core.proofs.LimitLaws.{accounts_after}
+use Rattle.dataspace_core.proofs.PartLaws.{account_of-part, open_in_part, part_open}
+use Rattle.dataspace_core.proofs.RoomLaws.{limits_moved, limits_opened, room_for_one_more, room_is_taken, room_is_raised, room_stays, room_is_given_back}
+use Rattle.server_frame.specs.Frame.{OpensSession, ServesSession, Row}
+use Rattle.server_frame.specs.Session.{Served}
+use Rattle.server_frame.proofs.PlaceLaws.{opens_an_account}
+use Rattle.server_frame.proofs.RowLaws.{IsNoRows}
+use Rattle.pd_core.specs.Component.{Pays, caps_in, places_in, rows_in, own_in, IsSessionOf, NamesItsSessions, HasPlace, IsSoundRole}
+use Rattle.pd_core.specs.Core.{Roles, rows_at, sessions_in, Owner, Owns}
+use Rattle.pd_core.specs.Core.Owner.{Place, SessionAt}
+use Rattle.pd_core.specs.Own.{object_of, own_of, part_at}
+use Rattle.pd_core.specs.Sessions.{row_session, NamesSession}
+use Rattle.pd_core.specs.Sound.{session_at, session_weight, IsSoundScript}
+use Rattle.pd_core.specs.declared.component.Role.{Role}
+use Rattle.pd_core.specs.declared.component.Role.TheVariants.{Script as AScript}
+use Rattle.pd_core.specs.declared.script.Script.{Script}
+use Rattle.pd_core.proofs.HeldLemmas.{no_place, owned_open, owns_row, pays_no_init, row_paid as paid_row}
+use Rattle.pd_core.proofs.ServerLemmas.{IsPaidRow, place_in}
+use Rattle.pd_core.proofs.SessionChangeLemmas.{AreTwo, MovesAccounts, IsTied, ChangesSession, at_script, pays_client}
+use Rattle.pd_core.proofs.SessionOpenLemmas.{NamesOpen, script_with}
+
+module _ {store : Store} {roles : Roles} {i s : ℕ} {script : Script} (two : AreTwo store roles i s script) where
+  open two use {core, is_script, serving}
+
+  abbrev payer : ℕ
+  payer = script.account.0
+
+  abbrev rows : NatMap (Row Labelled)
+  rows = rows_in store (roles s)
+
+  pub script_sound : IsSoundScript store script
+  script_sound = at_script two (IsSoundRole store) (core.sound i)
+
+  pub payer_open : IsOpenIn store payer
+  payer_open = owned_open core (Place i) payer (pays_client two)
+
+  payer_outer : IsOuter store payer
+  payer_outer parent is = same_Some _ _ (sym is ∙ core.children i payer (pays_client two))
+
+  pub named : NamesItsSessions (rows_at store roles) (AScript script)
+  named = at_script two (NamesItsSessions (rows_at store roles)) (core.named i)
+
+  -- a session has two capabilities
+  row_covers : (at id : ℕ) (row : Row Labelled) → get (rows_at store roles at) id ≡ Some row → 2 ≤ row.account.caps_limit
+  row_covers at id row is =
+      let paid = paid_row core at id row is in
+      subst (λ (a : Account). 2 ≤ a.caps_limit) paid.account (core.room.paid row.key row.client paid.child (core.clients at id row is))
+
+  -- ---- the session that a selector names
+
+  module _ (q : ℕ) (session : SessionId) (names : get script.caps.caps q ≡ Some (Session s session)) where
+    pub its : IsSessionOf (AScript script) (get rows session.0)
+    its = named.its q s session (ap session_at names)
+
+    abbrev pub row : Row Labelled
+    row = its.row
+
+    pub row_paid : IsPaidRow store row
+    row_paid = paid_row core s session.0 row its.there
+
+    -- what a capability stands for has a capability where it is a session
+    abbrev cost : Cap → ℕ
+    cost cap = unwrap_or (option_map caps_with (object_of (sessions_in store roles) (part_at store script) cap)) 0
+
+    cost_covers : (k : ℕ) (cap : Cap) → get script.caps.caps k ≡ Some cap → session_weight cap ≤ cost cap
+    cost_covers k (Dataspace ds) is = omega arith
+    cost_covers k RpcObject is = omega arith
+    cost_covers k (Session at other) is =
+        let one = named.its k at other (ap session_at is) in
+        let least = row_covers at other.0 one.row one.there in
+        let found = ap (λ o. unwrap_or (option_map caps_with (option_map OpenSession (option_map row_session o))) 0) one.there in
+        omega (arith, least, found)
+
+    -- there is a place for each selector that the account could pay for with the session's limits
+    pub placed : (account_in store payer).caps_limit + row.account.caps_limit + total session_weight script.caps.caps ≤ script.caps.places + 1
+    unfolding own_of
+    placed =
+        let all = at_script two (λ r. IfSome (places_in r) (λ p. caps_limits (own_in (sessions_in store roles) store r) ≤ p)) (core.placed i) in
+        let selectors = total-picked caps_with (object_of (sessions_in store roles) (part_at store script)) script.caps.caps in
+        let weights = total-remove session_weight script.caps.caps q (Session s session) names in
+        let costs = total-remove cost script.caps.caps q (Session s session) names in
+        let found = ap (λ o. unwrap_or (option_map caps_with (option_map OpenSession (option_map row_session o))) 0) its.there in
+        let rest = total_le session_weight cost (remove script.caps.caps q) (λ k cap is. cost_covers k cap (before_remove script.caps.caps q k cap is)) in
+        let account = ap (λ (a : Account). a.caps_limit) (account_of-part payer store) in
+        omega (arith, all, selectors, weights, costs, found, rest, account)
+
+    abbrev pub names_session : NamesSession script store rows q s session
+    names_session = record {
+      row = row;
+      there = its.there;
+      client = sym its.client;
+      named = names;
+      once = λ p other is e. named.once p q s other session (ap session_at is) (ap session_at names) e;
+      placed = placed;
+    }
+
+    -- its account is no other owner's
+    pub row_alone : (owner : Owner) → Owns store roles owner row.key → owner ≡ SessionAt s session.0
+    row_alone owner owns = core.apart owner (SessionAt s session.0) row.key owns (owns_row core s session.0 row its.there)
+
+    tied : IsTied payer row.key s q session script.caps.caps rows (Some row)
+    tied = record {
+      names = ap session_at names;
+      there = its.there;
+      client = λ r is. ap (λ (x : Row Labelled). x.client) (sym (same_Some row r is)) ∙ sym its.client;
+      key = λ r is. ap (λ (x : Row Labelled). x.key) (sym (same_Some row r is));
+    }
+
+    -- its account is its client's child
+    child : IsChildIn store row.key payer
+    child = subst (IsChildIn store row.key) (sym its.client) row_paid.child
+
+    apart : payer ≢ row.key
+    apart e = row_paid.apart (sym its.client ∙ e)
+
+    module _ (store' : Store) where
+      -- more is donated
+      pub raise_moves : (ram caps : ℕ) → RaisesPart payer row.key ram caps store store' → Fits (account_in store payer) ram caps → MovesAccounts payer row.key store store'
+      raise_moves ram caps raises fits = record {
+        others = raises.others;
+        parents = λ other _. ap (λ (m : NatMap ℕ). get m other) raises.parents;
+        parent = λ other is. same_Some _ _ (sym is ∙ ap (λ (m : NatMap ℕ). get m row.key) raises.parents ∙ child);
+        root = raises.root;
+        caps = limits_moved (λ x. x.caps_limit) payer row.key (parted_with (account_in store payer) ram caps) (raised (account_in store row.key) ram caps) store store'
+            (ap (λ (p : Part). p.account) raises.parted_one ∙ ap (λ a. Some (parted_with a ram caps)) (account_of-part payer store))
+            (ap (λ (p : Part). p.account) raises.raised_one ∙ ap (λ a. Some (raised a ram caps)) (account_of-part row.key store))
+            raises.others apart payer_open row_paid.opens (let fit = fits.caps_fit in omega arith);
+        room = room_is_raised payer row.key ram caps store store' raises payer_open payer_outer child apart fits core.room;
+      }
+
+      -- a request is served
+      pub serve_moves : {served : Served Labelled} {rows' : NatMap (Row Labelled)} → ServesSession row session.0 served store store' rows rows' → IsOpenIn store' row.key →
+          (account_in store' row.key).caps_limit ≡ row.account.caps_limit → MovesAccounts payer row.key store store'
+      serve_moves serves opens same_limit =
+          let becomes : PartBecomes row.key (part row.key store') store store' = record { own = refl; others = serves.others; root = serves.root; parents = serves.parents; room = serves.room } in
+          let has = some_of (part row.key store').account (part_open row.key store' opens) in
+          let was = value_at (accounts_in store) row.key row_paid.opens in
+          let limit_stays : has.0.caps_limit ≡ (account_in store row.key).caps_limit
+          = ap (λ (o : Option Account). (unwrap_or o (opened 0 0)).caps_limit) (sym has.1)
+          ∙ ap (λ (a : Account). a.caps_limit) (account_of-part row.key store') ∙ same_limit ∙ ap (λ (a : Account). a.caps_limit) (sym row_paid.account) in
+          record {
+            others = λ other _. serves.others other;
+            parents = λ other _. ap (λ (m : NatMap ℕ). get m other) serves.parents;
+            parent = λ other is. same_Some _ _ (sym is ∙ ap (λ (m : NatMap ℕ). get m row.key) serves.parents ∙ child);
+            root = serves.root;
+            caps = ap (total (λ (a : Account). a.caps_limit)) (accounts_after row.key (part row.key store') store store' has.0 becomes has.1)
+                ∙ total-insert_same (λ a. a.caps_limit) (accounts_in store) row.key has.0 was.0 was.1 (limit_stays ∙ ap (λ (o : Option Account). (unwrap_or o (opened 0 0)).caps_limit) was.1);
+            room = room_stays row.key (part row.key store') store store' has.0 becomes has.1 row_paid.opens limit_stays core.room;
+          }
+
+      -- its row is written
+      pub changes_written : {next : Row Labelled} {rows' : NatMap (Row Labelled)} → next.client ≡ row.client → next.key ≡ row.key → rows' ≡ insert rows session.0 next →
+          MovesAccounts payer row.key store store' → IsSoundScript store' script → ram_limits_in store' ≡ ram_limits_in store →
+          ChangesSession row.key s q session store store' script script rows rows' (Some row) (Some next)
+      changes_written {next} {rows'} client key written moves sound ram = record {
+        moves = moves;
+        ram = ram;
+        sound = sound;
+        pays = refl;
+        places = refl;
+        caps_stay = λ p _. refl;
+        rows_stay = λ id other. ap (λ (m : NatMap (Row Labelled)). get m id) written ∙ get-insert_other rows session.0 next id other;
+        tied = tied;
+        tied_after = record {
+          names = ap session_at names;
+          there = ap (λ (m : NatMap (Row Labelled)). get m session.0) written ∙ get-insert_same rows session.0 next session.0 refl;
+          client = λ r is. ap (λ (x : Row Labelled). x.client) (sym (same_Some next r is)) ∙ client ∙ sym its.client;
+          key = λ r is. ap (λ (x : Row Labelled). x.key) (sym (same_Some next r is)) ∙ key;
+        };
+        below = λ _ _. refl;
+      }
+
+      -- it is closed
+      module _ (closes : ClosesPart row.key payer store store') where
+        key_gone : (other : ℕ) → IsChildIn store' row.key other → ⊥
+        key_gone other is = none-some other (sym (ap (λ (m : NatMap ℕ). get m row.key) closes.parents ∙ get-remove_same (parents_in store) row.key row.key refl) ∙ is)
+
+        close_moves : MovesAccounts payer row.key store store'
+        unfolding part
+        close_moves =
+            let client_had = some_of (part payer store).account (part_open payer store payer_open) in
+            let key_had = some_of (part row.key store).account (part_open row.key store row_paid.opens) in
+            let one = ap (λ (o : Option Account). (unwrap_or o (opened 0 0)).caps_limit) client_had.1 in
+            let other = ap (λ (o : Option Account). (unwrap_or o (opened 0 0)).caps_limit) key_had.1 in
+            let now = ap (λ (a : Account). a.caps_limit) (sym (account_of-part payer store') ∙ ap account_of closes.raised_one) in
+            record {
+              others = λ other not_payer not_account. closes.others other not_account not_payer;
+              parents = λ other apart. ap (λ (m : NatMap ℕ). get m other) closes.parents ∙ get-remove_other (parents_in store) row.key other apart;
+              parent = λ other is. absurd (key_gone other is);
+              root = closes.root;
+              caps = sym (limits_opened (λ x. x.caps_limit) payer row.key client_had.0 key_had.0 store' store client_had.1 key_had.1
+                  (λ other not_client not_key. sym (closes.others other not_key not_client)) (ap (λ (p : Part). p.account) closes.closed_one)
+                  (open_in_part payer store' (ap (λ (p : Part). is_some p.account) closes.raised_one)) (omega (arith, one, other, now)));
+              room = room_is_given_back row.key payer store store' closes payer_open payer_outer child apart (pays_no_init core i payer (pays_client two)) core.room;
+            }
+
+        pub changes_closed : {rows' : NatMap (Row Labelled)} → rows' ≡ remove rows session.0 → IsSoundScript store' (record script { caps = without_cap script.caps q }) →
+            ram_limits_in store' ≡ ram_limits_in store →
+            ChangesSession row.key s q session store store' script (record script { caps = without_cap script.caps q }) rows rows' (Some row) None
+        changes_closed written sound ram = record {
+          moves = close_moves;
+          ram = ram;
+          sound = sound;
+          pays = refl;
+          places = refl;
+          caps_stay = λ p other. get-remove_other script.caps.caps q p other;
+          rows_stay = λ id other. ap (λ (m : NatMap (Row Labelled)). get m id) written ∙ get-remove_other rows session.0 id other;
+          tied = tied;
+          tied_after = record {
+            names = ap session_at (get-remove_same script.caps.caps q q refl);
+            there = ap (λ (m : NatMap (Row Labelled)). get m session.0) written ∙ get-remove_same rows session.0 session.0 refl;
+            client = λ r is. absurd (none-some r is);
+            key = λ r is. absurd (none-some r is);
+          };
+          below = λ other is. absurd (key_gone other is);
+        }
+
+  -- ---- a session is opened
+
+  -- no session is on the script's account
+  pub no_session : IsNoRows rows payer
+  no_session id row is e = no_place i s id (core.apart (SessionAt s id) (Place i) payer (owns_row core s id row is ∙ ap Some e) (pays_client two))
+
+  -- each session that it names is open
+  pub names_open : NamesOpen script rows s
+  names_open q session is = ap is_some ((named.its q s session (ap session_at is)).there)
+
+  module _ (ram caps : ℕ) (accepted : donation_refusal (account_in store payer) ram caps ≡ None) where
+    fits : Fits (account_in store payer) ram caps
+    fits = (donation_covered (account_in store payer) ram caps accepted).0
+
+    least : 2 ≤ caps
+    least = (large_enough ram caps (donation_covered (account_in store payer) ram caps accepted).1).1
+
+    -- there is a place for it, and for its account
+    pub has_place : HasPlace (roles s)
+    has_place = place_in store (roles s) serving (core.sound s) (core.clients s) core.room payer ram caps no_session fits least
+
+    pub has_room : 0 < room_in store
+    has_room = room_for_one_more store payer ram caps core.room payer_outer fits least
+
+    module _ (store' : Store) {session : SessionId} {first : Labelled} {rows' : NatMap (Row Labelled)} (opens : OpensSession payer ram caps session.0 first store store' rows rows') where
+      -- nobody had its account
+      pub new_alone : (owner : Owner) → Owns store roles owner opens.key → owner ≡ SessionAt s session.0
+      new_alone owner owns = absurd (apart_from_free (accounts_in store) opens.key opens.key opens.fresh (owned_open core owner opens.key owns) refl)
+
+      abbrev pub new_row : Row Labelled
+      new_row = record { client = payer; key = opens.key; account = session_account ram caps; value = first }
+
+      pub changes_opened : (selector : ℕ) → get script.caps.caps selector ≡ None → IsSoundScript store' (script_with script selector s session) → ram_limits_in store' ≡ ram_limits_in store →
+          ChangesSession opens.key s selector session store store' script (script_with script selector s session) rows rows' None (Some new_row)
+      changes_opened selector free sound limits = record {
+        moves = record {
+          others = opens.others;
+          parents = λ other apart. ap (λ (m : NatMap ℕ). get m other) opens.parents ∙ get-insert_other (parents_in store) opens.key payer other apart;
+          parent = λ other is. same_Some _ _ (sym is ∙ ap (λ (m : NatMap ℕ). get m opens.key) opens.parents ∙ get-insert_same (parents_in store) opens.key payer opens.key refl);
+          root = opens.root;
+          caps = limits_opened (λ x. x.caps_limit) payer opens.key (parted_with (account_in store payer) ram caps) (session_account ram caps) store store'
+              (ap (λ (p : Part). p.account) opens.parted ∙ ap (λ a. Some (parted_with a ram caps)) (account_of-part payer store))
+              opens.charge opens.others opens.fresh payer_open (let fit = fits.caps_fit in omega arith);
+          room = room_is_taken payer opens.key ram caps (session_account ram caps) store store' (opens_an_account Labelled payer ram caps session.0 first store store' rows rows' opens)
+              payer_open payer_outer (pays_no_init core i payer (pays_client two)) fits least core.room;
+        };
+        ram = limits;
+        sound = sound;
+        pays = refl;
+        places = refl;
+        caps_stay = λ p other. get-insert_other script.caps.caps selector (Session s session) p other;
+        rows_stay = λ id other. ap (λ (m : NatMap (Row Labelled)). get m id) opens.sessions ∙ get-insert_other rows session.0 new_row id other;
+        tied = record { names = ap session_at free; there = opens.free; client = λ r is. absurd (none-some r is); key = λ r is. absurd (none-some r is) };
+        tied_after = record {
+          names = ap session_at (get-insert_same script.caps.caps selector (Session s session) selector refl);
+          there = ap (λ (m : NatMap (Row Labelled)). get m session.0) opens.sessions ∙ get-insert_same rows session.0 new_row session.0 refl;
+          client = λ r is. ap (λ (x : Row Labelled). x.client) (sym (same_Some new_row r is));
+          key = λ r is. ap (λ (x : Row Labelled). x.key) (sym (same_Some new_row r is));
+        };
+        below = λ _ _. refl;
+      }

@@ -1,0 +1,245 @@
+-- A call of a session that a selector names, or that is opened: the components after it, and that it goes as the model's.
+use Rattle.std.proofs.Common.{◌≡◌, ◌≢◌, false, true, ℕ, ◌<◌, List, [], Option, None, Some, Ok, Result, is_some, length, get_or, set, refl, sym, ap, subst, ◌∙◌}
+use Rattle.std.proofs.lemmas.List.{get_or-set_other, length-set}
+use Rattle.std.proofs.lemmas.Option.{none-some, same_Some}
+use Rattle.std.specs.FinMap.{get, insert, remove}
+use Rattle.std.specs.Option.{option_map}
+use Rattle.std.specs.Prelude.{IsSome}
+use Rattle.trade_base.specs.declared.id.SessionId.{SessionId}
+use Rattle.trade_base.specs.declared.refusal.Refusal.{Refusal}
+use Rattle.trade_base.specs.declared.refusal.Refusal.TheVariants.{BadArgs}
+use Rattle.own_model.specs.Account.{Account, shortage}
+use Rattle.own_model.specs.Call.{Call}
+use Rattle.own_model.specs.Call.Call.{Upgrade, CallSession, Close}
+use Rattle.own_model.specs.Donation.{raised}
+use Rattle.own_model.specs.NatMap.{NatMap}
+use Rattle.own_model.specs.OwnStep.{own_step, entry_step, refused}
+use Rattle.own_model.specs.Reply.{reply_text}
+use Rattle.own_model.specs.Reply.Reply.{Done, Refused, Told as AnswerTold}
+use Rattle.own_model.specs.Session.{served, Labelled}
+use Rattle.own_model.specs.SessionArgs.{Arguments, arguments_of}
+use Rattle.own_model.proofs.StepLemmas.{covers}
+use Rattle.own_model.proofs.LimitLemmas.{serve_keeps}
+use Rattle.own_model.proofs.NatMapLemmas.{get-empty, get-insert_same}
+use Rattle.cap_space.specs.Space.{without_cap}
+use Rattle.cap_space.specs.declared.cap.Cap.{Cap}
+use Rattle.cap_space.specs.declared.cap.Cap.TheVariants.{Dataspace, RpcObject, Session}
+use Rattle.dataspace_core.specs.Store.{Store, account_in, ram_limits_in, ClosesPart, RaisesPart}
+use Rattle.server_frame.specs.Frame.{Row, ServesSession}
+use Rattle.server_frame.specs.Session.{service_step}
+use Rattle.server_frame.specs.Told.{Told}
+use Rattle.pd_core.specs.Answer.{told_alone}
+use Rattle.pd_core.specs.Component.{entry_of, kind_of, served_by, caps_in, rows_in, rows_of, own, own_in, IsSoundRole, IsSound, StaysServer}
+use Rattle.pd_core.specs.Core.{Rules, Roles, roles_of, rows_at, sessions_in, IsCore}
+use Rattle.pd_core.specs.Own.{Sessions, own_of, own_at}
+use Rattle.pd_core.specs.Sessions.{row_session, NamesSession}
+use Rattle.pd_core.specs.SessionCalls.{Goes, named_in, without_selector}
+use Rattle.pd_core.specs.Sound.{session_at}
+use Rattle.pd_core.specs.declared.component.Component.{Component}
+use Rattle.pd_core.specs.declared.component.Role.{Role}
+use Rattle.pd_core.specs.declared.component.Role.TheVariants.{Script as AScript, Log as ALog, Files as AFiles, Gone as AGone}
+use Rattle.pd_core.specs.declared.script.Script.{Script}
+use Rattle.pd_core.proofs.PlainLemmas.{face_is}
+use Rattle.pd_core.proofs.ServerLemmas.{paid_in}
+use Rattle.pd_core.proofs.SessionAccountLemmas.{its as its_row, row_paid, names_session, row_alone, raise_moves, serve_moves, changes_written, changes_closed, script_sound}
+use Rattle.pd_core.proofs.SessionChangeLemmas.{AreTwo, ReplacesTwo, session_goes, two_places}
+use Rattle.pd_core.proofs.SessionDoneLemmas.{closes_done, upgrades_done, serves_done, upgrade_unread, upgrade_refused}
+use Rattle.pd_core.proofs.SessionOwnLemmas.{is_step}
+use Rattle.pd_core.proofs.SessionRefusedLemmas.{named_script}
+use Rattle.pd_core.proofs.WorldLemmas.{Face, face_of, SameFaces, face_set, place_of, refused_goes, role_at, role_set, role_kept}
+
+-- a role with a session serves
+serving_role : (store : Store) (role : Role) (id : ℕ) (row : Row Labelled) → get (rows_in store role) id ≡ Some row → IsSome (served_by role)
+serving_role store (AScript script) id row there = absurd (none-some row (sym (get-empty id) ∙ there))
+serving_role store (ALog account server) id row there = refl
+serving_role store (AFiles account server) id row there = refl
+serving_role store AGone id row there = absurd (none-some row (sym (get-empty id) ∙ there))
+
+-- a capability that names a session
+cap_of : (o : Option Cap) (named : ℕ × SessionId) → session_at o ≡ Some named → o ≡ Some (Session named.0 named.1)
+cap_of None named is = absurd (none-some named is)
+cap_of (Some (Dataspace ds)) named is = absurd (none-some named is)
+cap_of (Some RpcObject) named is = absurd (none-some named is)
+cap_of (Some (Session server session)) named is =
+    let same = same_Some (server, session) named is in ap (λ (p : ℕ × SessionId). Some (Session p.0 p.1)) same
+
+-- ---- the components that a call is between
+
+-- a server's place is one of a component
+pub host_within : (components : List Component) (s : ℕ) → IsSome (served_by (roles_of components s)) → s < length components
+host_within components s serving = place_of components s (λ none. (let no : false ≡ true = ap (λ r. is_some (served_by r)) (sym none) ∙ serving in cc))
+
+module _ {store : Store} (components : List Component) {i s : ℕ} {script : Script} (two : AreTwo store (roles_of components) i s script) where
+  pub caller_within : i < length components
+  caller_within = place_of components i (λ none. (let no : AScript script ≡ AGone = sym two.is_script ∙ none in cc))
+
+  not_host : i ≢ s
+  not_host e = two_places two (sym e)
+
+  -- the server is put back
+  pub host_put : (host : Component) → ReplacesTwo (roles_of components) (roles_of (set components s host)) i s (AScript script) host.role
+  host_put host = record {
+    client_at = role_kept components s host i not_host ∙ two.is_script;
+    host_at = role_set components s host s refl (host_within components s two.serving);
+    others = λ k _ other. role_kept components s host k other;
+  }
+
+  -- and so is the caller
+  pub both_put : (client host : Component) → ReplacesTwo (roles_of components) (roles_of (set (set components i client) s host)) i s client.role host.role
+  both_put client host = record {
+    client_at = role_kept (set components i client) s host i not_host ∙ role_set components i client i refl caller_within;
+    host_at = role_set (set components i client) s host s refl (subst (λ n. s < n) (sym (length-set components i client)) (host_within components s two.serving));
+    others = λ k not_caller other. role_kept (set components i client) s host k other ∙ role_kept components i client k not_caller;
+  }
+
+  -- or first the server
+  pub kept_put : (host client : Component) → ReplacesTwo (roles_of components) (roles_of (set (set components s host) i client)) i s client.role host.role
+  kept_put host client = record {
+    client_at = role_set (set components s host) i client i refl (subst (λ n. i < n) (sym (length-set components s host)) caller_within);
+    host_at = role_kept (set components s host) i client s (two_places two) ∙ role_set components s host s refl (host_within components s two.serving);
+    others = λ k not_caller other. role_kept (set components s host) i client k not_caller ∙ role_kept components s host k other;
+  }
+
+  -- the server is read beside the caller that was put back
+  pub host_read : (client e : Component) → roles_of components s ≡ (get_or (set components i client) s e).role
+  host_read client e =
+      sym (role_kept components i client s (two_places two))
+      ∙ role_at (set components i client) s e (subst (λ n. s < n) (sym (length-set components i client)) (host_within components s two.serving))
+
+-- ---- a session that a selector names
+
+-- a selector of the component at a place names a session, by its server's place and its key there
+pub record Names (store : Store) (components : List Component) (i : ℕ) (d : Component) (selector : ℕ) (named : ℕ × SessionId) : Type 0 where
+  pub core : IsCore store components
+  pub here : i < length components
+  pub is : named_in (get_or components i d).role selector ≡ Ok named
+
+module _ {store : Store} {components : List Component} {i : ℕ} {d : Component} {selector : ℕ} {named : ℕ × SessionId} (names : Names store components i d selector named) where
+  open names use {core, here, is}
+
+  pub its : (script : Script) × ((get_or components i d).role ≡ AScript script) × (session_at (get script.caps.caps selector) ≡ Some named)
+  its = named_script (get_or components i d).role selector named is
+
+  role_is : roles_of components i ≡ AScript (its.0)
+  role_is = role_at components i d here ∙ its.1
+
+  -- the component is a script, and there is the server
+  pub named_two : AreTwo store (roles_of components) i named.0 (its.0)
+  named_two =
+      let row = (core.named i).its selector named.0 named.1 (ap (λ r. session_at (get (caps_in r) selector)) role_is ∙ its.2) in
+      record { core = core; is_script = role_is; serving = serving_role store (roles_of components named.0) named.1.0 row.row row.there }
+
+  pub named_cap : get (its.0).caps.caps selector ≡ Some (Session named.0 named.1)
+  named_cap = cap_of (get (its.0).caps.caps selector) named its.2
+
+-- the server that is read at its place
+module _ {store : Store} (components : List Component) {i s : ℕ} {script : Script} (two : AreTwo store (roles_of components) i s script) (d host : Component) (host_is : roles_of components s ≡ host.role)
+    (q : ℕ) (session : SessionId) (names : get script.caps.caps q ≡ Some (Session s session)) where
+  abbrev row : Row Labelled
+  row = (its_row two q session names).row
+
+  abbrev named : NamesSession script store (rows_in store (roles_of components s)) q s session
+  named = names_session two q session names
+
+  there : get (rows_of store host) session.0 ≡ Some row
+  there = ap (λ r. get (rows_in store r) session.0) (sym host_is) ∙ (its_row two q session names).there
+
+  -- it is sound, and the session is open
+  pub host_sound : IsSound store host
+  host_sound = subst (IsSoundRole store) host_is (two.core.sound s)
+
+  pub named_open : IsSome (get (rows_of store host) session.0)
+  named_open = ap is_some there
+
+  pays : row.client ≡ script.account.0
+  pays = sym (its_row two q session names).client
+
+  caller_is : (get_or components i d).role ≡ AScript script
+  caller_is = sym (role_at components i d (caller_within components two)) ∙ two.is_script
+
+  -- ---- refusals of an upgrade
+
+  module _ (rules : Rules) (text : List ℕ) where
+    abbrev S : Sessions
+    S = sessions_in store (roles_of components)
+
+    refused_step : (refusal : Refusal) → entry_step (entry_of (rules i) (get_or components i d)) (Upgrade q text) (own_at S store script) ≡ refused (own_at S store script) refusal →
+        Goes rules (Upgrade q text) i (told_alone (reply_text (Refused refusal))) store components store components
+    unfolding own_of
+    refused_step refusal is =
+        refused_goes rules components i d (Upgrade q text) refusal two.core (caller_within components two)
+        (subst (λ r. own_step (entry_of (rules i) (get_or components i d)) (Upgrade q text) (own_in S store r) ≡ refused (own_in S store r) refusal) (sym caller_is)
+        (is_step (entry_of (rules i) (get_or components i d)) (Upgrade q text) (own_at S store script) (ap kind_of caller_is) refl ∙ is))
+
+    -- arguments that can't be read
+    pub unread_goes : arguments_of text ≡ None → Goes rules (Upgrade q text) i (told_alone (reply_text (Refused BadArgs))) store components store components
+    unread_goes none =
+        refused_step BadArgs (upgrade_unread store script (rows_in store (roles_of components s)) q s session named (entry_of (rules i) (get_or components i d)) S (ap (option_map row_session) named.there) text none)
+
+    -- more than its client covers
+    pub short_goes : {more : Arguments} (refusal : Refusal) → arguments_of text ≡ Some more →
+        ((one : Row Labelled) → get (rows_of store host) session.0 ≡ Some one → Some refusal ≡ shortage (account_in store one.client) more.ram more.caps) →
+        Goes rules (Upgrade q text) i (told_alone (reply_text (Refused refusal))) store components store components
+    short_goes {more} refusal reads short =
+        refused_step refusal (upgrade_refused store script (rows_in store (roles_of components s)) q s session named (entry_of (rules i) (get_or components i d)) S
+        (ap (option_map row_session) named.there) text more refusal reads (sym (short row there)))
+
+  -- ---- the call is made
+
+  module _ (store' : Store) (host' : Component) (stays : StaysServer host store' host') (limits : ram_limits_in store' ≡ ram_limits_in store) (rules : Rules) where
+    face : face_of host' ≡ face_of host
+    face = face_is host host' stays.entry stays.service
+
+    -- it is closed
+    pub close_goes : (client e : Component) → host ≡ get_or (set components i client) s e → client ≡ record (get_or components i d) { role = without_selector (get_or components i d).role q } →
+        ((one : Row Labelled) → get (rows_of store host) session.0 ≡ Some one → ClosesPart one.key one.client store store') → rows_of store' host' ≡ remove (rows_of store host) session.0 →
+        Goes rules (Close q) i (told_alone (reply_text Done)) store components store' (set (set components i client) s host')
+    close_goes client e read is closes written =
+        let script' : Script = record script { caps = without_cap script.caps q } in
+        let client_is : client.role ≡ AScript script' = ap (λ (c : Component). c.role) is ∙ ap (λ r. without_selector r q) caller_is in
+        let faces = face_set (set components i client) s host' e (face ∙ ap face_of read)
+        ∙ face_set components i client d (ap face_of is ∙ (λ j. record { name = (get_or components i d).name.items; kind = kind_of (without_selector (caller_is j) q); service = served_by (without_selector (caller_is j) q) })
+        ∙ (λ j. record { name = (get_or components i d).name.items; kind = kind_of (sym caller_is j); service = served_by (sym caller_is j) })) in
+        let done = closes_done store store' script (rows_in store (roles_of components s)) q s session (script_sound two) named limits (row_paid two q session names).account (closes row there) in
+        session_goes components (set (set components i client) s host') two d host_is
+        (subst (λ r. ReplacesTwo (roles_of components) (roles_of (set (set components i client) s host')) i s r host'.role) client_is (both_put components two client host')) faces (row_alone two q session names)
+        (changes_closed two q session names store' (subst (λ k. ClosesPart row.key k store store') pays (closes row there)) (written ∙ ap (λ r. remove (rows_in store r) session.0) (sym host_is)) done.sound limits) stays
+        rules (Close q) refl Done [] (told_alone (reply_text Done)) refl refl done.does
+
+    -- more is donated for it
+    pub upgrade_goes : (e : Component) → host ≡ get_or components s e → (text : List ℕ) {more : Arguments} → arguments_of text ≡ Some more →
+        ((one : Row Labelled) → get (rows_of store host) session.0 ≡ Some one → None ≡ shortage (account_in store one.client) more.ram more.caps) →
+        ((one : Row Labelled) → get (rows_of store host) session.0 ≡ Some one → RaisesPart one.client one.key more.ram more.caps store store') →
+        ((one : Row Labelled) → get (rows_of store host) session.0 ≡ Some one →
+        rows_of store' host' ≡ insert (rows_of store host) session.0 (record one { account = raised one.account more.ram more.caps })) →
+        Goes rules (Upgrade q text) i (told_alone (reply_text Done)) store components store' (set components s host')
+    upgrade_goes e read text {more} reads accepted raised_by written_by =
+        let enough = sym (accepted row there) in
+        let raises = raised_by row there in
+        let next : Row Labelled = record row { account = raised row.account more.ram more.caps } in
+        let done = upgrades_done store store' script (rows_in store (roles_of components s)) q s session (script_sound two) named limits text more reads enough raises in
+        let moves = raise_moves two q session names store' more.ram more.caps (subst (λ k. RaisesPart k row.key more.ram more.caps store store') pays raises)
+        (covers (account_in store script.account.0) more.ram more.caps (ap (λ k. shortage (account_in store k) more.ram more.caps) (sym pays) ∙ enough)) in
+        session_goes components (set components s host') two d host_is (host_put components two host') (face_set components s host' e (face ∙ ap face_of read)) (row_alone two q session names)
+        (changes_written two q session names store' refl refl (written_by row there ∙ ap (λ r. insert (rows_in store r) session.0 next) (sym host_is)) moves done.sound limits) stays
+        rules (Upgrade q text) refl Done [] (told_alone (reply_text Done)) refl refl done.does
+
+    -- a request is served on it
+    pub call_goes : (e : Component) → host ≡ get_or components s e → (request : List ℕ) (written : Told) →
+        ((one : Row Labelled) → get (rows_of store host) session.0 ≡ Some one → ServesSession one session.0 (service_step request one.account one.value) store store' (rows_of store host) (rows_of store' host')) →
+        ((one : Row Labelled) → get (rows_of store host) session.0 ≡ Some one → written.text ≡ (service_step request one.account one.value).text) →
+        ((one : Row Labelled) → get (rows_of store host) session.0 ≡ Some one → written.lines ≡ (service_step request one.account one.value).lines) →
+        Goes rules (CallSession q request) i written store components store' (set components s host')
+    call_goes e read request written served_by text lines =
+        let step = service_step request row.account row.value in
+        let serves = subst (λ r. ServesSession row session.0 step store store' (rows_in store r) (rows_of store' host')) (sym host_is) (served_by row there) in
+        let next : Row Labelled = record row { account = step.account; value = step.value } in
+        let now : get (rows_of store' host') session.0 ≡ Some next
+        = ap (λ (m : NatMap (Row Labelled)). get m session.0) serves.sessions ∙ get-insert_same (rows_in store (roles_of components s)) session.0 next session.0 refl in
+        let paid = paid_in store' host'.role stays.works session.0 next now in
+        let limit = (serve_keeps (row_session row).state (row_session row) request).1 in
+        let done = serves_done store store' script (rows_in store (roles_of components s)) q s session (script_sound two) named limits request
+        (serves.others script.account.0 (λ same. (row_paid two q session names).apart (pays ∙ same))) in
+        session_goes components (set components s host') two d host_is (host_put components two host') (face_set components s host' e (face ∙ ap face_of read)) (row_alone two q session names)
+        (changes_written two q session names store' refl refl serves.sessions (serve_moves two q session names store' serves paid.opens (ap (λ (a : Account). a.caps_limit) paid.account ∙ limit)) done.sound limits) stays
+        rules (CallSession q request) refl (AnswerTold (served (row_session row) request).reply) (served (row_session row) request).lines written (text row there) (lines row there) done.does
