@@ -5,3 +5,4 @@ pub mod ApartLemmas
 pub mod TableLemmas
 pub mod HeapLemmas
 pub mod FoundLaws
+pub mod PackedLemmas

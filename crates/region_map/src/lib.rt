@@ -2,6 +2,7 @@
 #![tactic(auto)]
 
 mod map;
+mod packed;
 mod row;
 mod search;
 mod table;

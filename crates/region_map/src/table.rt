@@ -6,6 +6,7 @@ ghost use Rattle.std.specs.FinMap.{get, len};
 ghost use Rattle.own_model.specs.Region.{meets, can_stand, first_gap as gap_in, region_at, without};
 ghost use Rattle.region_map.specs.Window.{fresh_window, window_with, window_without};
 
+use super::packed::Packed;
 use super::row::Row;
 use super::search::{count_to, gap_from, last_to};
 use std::alloc::Global;
@@ -17,6 +18,7 @@ use trade_base::{DsId, NoMemory, PAGE};
 pub struct Table {
     /// One row a region, in the order of their starts. It has room for as many as there are at most.
     rows: Vec<Row>,
+    packed: Packed,
     /// The first address of the window.
     low: u64,
     /// The address after the window.
@@ -25,7 +27,7 @@ pub struct Table {
 
 impl Model for Table {
     ghost use Rattle.std.specs.Prelude.{vec_capacity};
-    ghost use Rattle.region_map.specs.Rows.{map_of, region_of, tag_of, IsTable};
+    ghost use Rattle.region_map.specs.Rows.{map_of, region_of, tag_of, IsKept};
     ghost use Rattle.region_map.specs.Window.{Window, coded_window};
 
     ghost Value = { Window };
@@ -34,7 +36,7 @@ impl Model for Table {
 
     ghost view = { λ t. record { low = t.low; high = t.high; regions = map_of region_of t.rows.items; tags = map_of tag_of t.rows.items; most = vec_capacity t.rows } };
 
-    ghost invariant = { λ t. IsTable t.low t.high t.rows.items };
+    ghost invariant = { λ t. IsKept t.low t.high t.rows.items t.packed.count t.packed.end };
 }
 
 impl Table {
@@ -51,8 +53,14 @@ impl Table {
         ensures fresh { IfOk result (λ table. table ≡ fresh_window low high most) }
         ensures sound { IfOk result IsWindow }
     {
+        let packed = Packed::none(low);
         let rows = Vec::with_capacity(alloc, most).map_err(|_| NoMemory)?;
-        Ok(Table { rows, low, high })
+        Ok(Table {
+            rows,
+            packed,
+            low,
+            high,
+        })
     }
 
     /// Whether there are as many regions as there can be.
@@ -63,11 +71,16 @@ impl Table {
     }
 
     /// The first gap for so many pages.
-    pub fn first_gap(&self, pages: u64) -> Option<u64>
-        requires { pages ≤ 4096 }
-        ensures { result ≡ gap_in self.now.low self.now.high self.now.regions pages }
+    pub fn first_gap(&mut self, pages: u64) -> Option<u64>
+        requires some { 1 ≤ pages }
+        requires few { pages ≤ 4096 }
+        ensures gap { result ≡ gap_in self.old.low self.old.high self.old.regions pages }
+        ensures kept { self.new ≡ self.old }
     {
-        gap_from(self.low, self.high, &self.rows, pages)
+        let packed = self.packed.raised(&self.rows);
+        self.packed = packed;
+        let behind = packed.rows_behind(&self.rows);
+        gap_from(packed.end, self.high, behind, pages)
     }
 
     /// Whether so many pages can stand at an address.
@@ -132,6 +145,7 @@ impl Table {
         ensures sound { IsWindow self.new }
     {
         let at = count_to(&self.rows, row.start);
+        self.packed = self.packed.with_row(at, row);
 
         // There is room, so it is never refused.
         let _ = self.rows.insert(at, row);
@@ -146,6 +160,7 @@ impl Table {
     {
         match self.rows.binary_search_by_key(&address, |row| row.start) {
             Ok(at) => {
+                self.packed = self.packed.without_row(at, address);
                 self.rows.remove(at);
                 true
             }
@@ -161,6 +176,7 @@ impl Table {
         ensures high { self.new.high ≡ self.old.high }
         ensures sound { IsWindow self.new }
     {
+        self.packed = Packed::none(self.low);
         self.rows.retain(|row| row.ds.0 != ds.0);
     }
 

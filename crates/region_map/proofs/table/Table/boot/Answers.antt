@@ -14,7 +14,7 @@ is_table : (c : goal.In_ok-rows) → IsTable c.args.low c.args.high c.in_ok-rows
 is_table c = subst (λ (rows : List Row). IsTable c.args.low c.args.high rows) (sym (no_rows c)) (IsTable-none c.args.low c.args.high c.requires.aligned c.requires.within c.requires.small)
 
 pub invariant_of-result : goal.invariant_of-result
-invariant_of-result c = is_table c
+invariant_of-result c = record { table = is_table c; packed = c.none-packed.ensures _ }
 
 pub returns-clause-fresh : goal.returns-clause-fresh
 returns-clause-fresh c =

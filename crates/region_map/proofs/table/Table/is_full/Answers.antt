@@ -6,4 +6,4 @@ use Rattle.region_map.proofs.table.Table.is_full.Goals as goal
 
 pub returns : goal.returns
 returns c =
-    rw (← c.self.view_is, len-map_of region_of c.self.inside.low c.self.inside.high c.self.inside.rows.items c.self.invariant.in_order) (search rules)
+    rw (← c.self.view_is, len-map_of region_of c.self.inside.low c.self.inside.high c.self.inside.rows.items c.self.invariant.table.in_order) (search rules)

@@ -14,7 +14,7 @@ use Rattle.region_map.proofs.TableLemmas.{Added, added}
 use Rattle.region_map.proofs.table.Table.put.Goals as goal
 
 pub count_to-at-requires : goal.count_to-at-requires
-count_to-at-requires c = rw c.deref.ensures.value (rising c.self.inside.low c.self.inside.high c.self.inside.rows.items c.self.invariant.in_order)
+count_to-at-requires c = rw c.deref.ensures.value (rising c.self.inside.low c.self.inside.high c.self.inside.rows.items c.self.invariant.table.in_order)
 
 -- a count that a test leaves below
 below : (most count n : ℕ) → nat_le most count ≡ false → count ≡ n → n < most
@@ -26,25 +26,31 @@ room c =
     let long : length c.self.inside.rows.items ≡ vec_len c.self.inside.rows = search rules in
     below _ _ _
     (subst (λ (w : Window). nat_le w.most (len w.regions) ≡ false) (sym c.self.view_is) c.requires.room)
-    (len-map_of region_of c.self.inside.low c.self.inside.high c.self.inside.rows.items c.self.invariant.in_order ∙ long)
+    (len-map_of region_of c.self.inside.low c.self.inside.high c.self.inside.rows.items c.self.invariant.table.in_order ∙ long)
 
 -- so the row is put in
-items : (c : goal.After-insert) → c.insert.new.self.items ≡ insert c.self.inside.rows.items (count_to c.args.row.start c.self.inside.rows.items) c.args.row
-items c =
+put_in : (c : goal.After-insert) → c.insert.new.self.items ≡ insert c.self.inside.rows.items c.count_to-at.result c.args.row
+put_in c =
     let ok : is_ok c.insert.result ≡ true = c.insert.ensures.succeeds (room c) in
-    rw (ok, c.count_to-at.ensures.count, c.deref.ensures.value) at c.insert.ensures.items
+    rw ok at c.insert.ensures.items
+
+items : (c : goal.After-insert) → c.insert.new.self.items ≡ insert c.self.inside.rows.items (count_to c.args.row.start c.self.inside.rows.items) c.args.row
+items c = rw (c.count_to-at.ensures.count, c.deref.ensures.value) at (put_in c)
 
 -- at a place
 facts : (c : goal.After-insert) → Added c.self.inside.low c.self.inside.high c.self.inside.rows.items c.args.row
 facts c =
-    added c.self.inside.low c.self.inside.high c.self.inside.rows.items c.args.row c.self.invariant
+    added c.self.inside.low c.self.inside.high c.self.inside.rows.items c.args.row c.self.invariant.table
     (subst (λ (w : Window). can_stand w.low w.high w.regions c.args.row.pages c.args.row.start ≡ true) (sym c.self.view_is) c.requires.place)
 
 is_table : (c : goal.After-insert) → IsTable c.self.inside.low c.self.inside.high c.insert.new.self.items
 is_table c = rw (items c) (facts c).table
 
 pub invariant_of-self : goal.invariant_of-self
-invariant_of-self c = is_table c
+invariant_of-self c = record {
+  table = is_table c;
+  packed = rw (put_in c) (c.with_row-self-inside.ensures c.self.inside.low c.self.inside.high c.self.inside.rows.items (rw (put_in c) at (is_table c).in_order) c.self.invariant.packed);
+}
 
 pub returns-clause-added : goal.returns-clause-added
 returns-clause-added c =

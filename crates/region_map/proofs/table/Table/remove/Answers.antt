@@ -12,20 +12,27 @@ use Rattle.region_map.proofs.ApartLemmas.{is_window}
 use Rattle.region_map.proofs.TableLemmas.{Removed, removed, same_start, not_found}
 use Rattle.region_map.proofs.table.Table.remove.Goals as goal
 
+bound : (c : goal.After-remove) → c.in-Ok.at < length c.self.inside.rows.items
+bound c = rw c.deref.ensures.value at c.in-Ok.ensures.bound
+
 -- the row that is found starts at the address
-facts : (c : goal.After-remove) → Removed c.self.inside.low c.self.inside.high c.self.inside.rows.items c.in-Ok.at c.args.address
-facts c =
-    let bound : c.in-Ok.at < length c.self.inside.rows.items = rw c.deref.ensures.value at c.in-Ok.ensures.bound in
+start : (c : goal.After-remove) → c.remove.result.start ≡ c.args.address
+start c =
     let position : IsBinarySearchResult (λ (row : Row). nat_cmp row.start c.args.address) c.deref.result.now (Ok c.in-Ok.at) =
     c.in-Ok.ensures.position (λ row. row.start) (answers_always _ _ _ (λ f a r g called. search rules)) in
-    removed c.self.inside.low c.self.inside.high c.self.inside.rows.items c.in-Ok.at c.remove.result c.args.address c.self.invariant bound c.remove.ensures.value
-    (ap (λ (row : Row). row.start) c.remove.ensures.value ∙ same_start c.args.address c.in-Ok.at c.self.inside.rows.items c.remove.result (rw c.deref.ensures.value at position))
+    ap (λ (row : Row). row.start) c.remove.ensures.value ∙ same_start c.args.address c.in-Ok.at c.self.inside.rows.items c.remove.result (rw c.deref.ensures.value at position)
+
+facts : (c : goal.After-remove) → Removed c.self.inside.low c.self.inside.high c.self.inside.rows.items c.in-Ok.at c.args.address
+facts c = removed c.self.inside.low c.self.inside.high c.self.inside.rows.items c.in-Ok.at c.remove.result c.args.address c.self.invariant.table (bound c) c.remove.ensures.value (start c)
 
 is_table : (c : goal.After-remove) → IsTable c.self.inside.low c.self.inside.high c.remove.new.self.items
 is_table c = rw c.remove.ensures.items (facts c).table
 
 pub invariant_of-self : goal.invariant_of-self
-invariant_of-self c = is_table c
+invariant_of-self c = record {
+  table = is_table c;
+  packed = rw c.remove.ensures.items (c.without_row-self-inside.ensures c.self.inside.low c.self.inside.rows.items c.remove.result (bound c) c.remove.ensures.value (start c) c.self.invariant.packed);
+}
 
 pub returns-in-Ok : goal.returns-in-Ok
 returns-in-Ok c =
@@ -46,10 +53,10 @@ returns-in-Err c =
     let position : IsBinarySearchResult (λ (row : Row). nat_cmp row.start c.args.address) c.deref.result.now (Err c.in-Err.field-0) =
     c.in-Err.ensures.position (λ row. row.start) (answers_always _ _ _ (λ f a r g called. search rules)) in
     let none : get (map_of region_of c.self.inside.rows.items) c.args.address ≡ None =
-    not_found c.args.address c.self.inside.low c.self.inside.high c.in-Err.field-0 c.self.inside.rows.items c.self.invariant.in_order (rw c.deref.ensures.value at position) in
+    not_found c.args.address c.self.inside.low c.self.inside.high c.in-Err.field-0 c.self.inside.rows.items c.self.invariant.table.in_order (rw c.deref.ensures.value at position) in
     record {
       found = rw (← c.self.view_is) (sym (ap is_some none));
       removed = tt;
       kept = refl;
-      sound = subst IsWindow c.self.view_is (is_window c.self.inside.low c.self.inside.high (vec_capacity c.self.inside.rows) c.self.inside.rows.items c.self.invariant);
+      sound = subst IsWindow c.self.view_is (is_window c.self.inside.low c.self.inside.high (vec_capacity c.self.inside.rows) c.self.inside.rows.items c.self.invariant.table);
     }

@@ -17,18 +17,18 @@ is_table : (c : goal.After-retain) → IsTable c.self.inside.low c.self.inside.h
 is_table c =
     rw (others_stay c)
     (record {
-      aligned = c.self.invariant.aligned;
-      small = c.self.invariant.small;
-      in_order = AreInOrder-filter (λ row. not (row.ds.0 == c.args.ds.0)) c.self.inside.low c.self.inside.high c.self.inside.rows.items c.self.invariant.in_order;
+      aligned = c.self.invariant.table.aligned;
+      small = c.self.invariant.table.small;
+      in_order = AreInOrder-filter (λ row. not (row.ds.0 == c.args.ds.0)) c.self.inside.low c.self.inside.high c.self.inside.rows.items c.self.invariant.table.in_order;
     })
 
 pub invariant_of-self : goal.invariant_of-self
-invariant_of-self c = is_table c
+invariant_of-self c = record { table = is_table c; packed = c.none-self-inside.ensures _ }
 
 pub returns-clause-regions : goal.returns-clause-regions
 returns-clause-regions c =
     ap (map_of region_of) (others_stay c)
-    ∙ map_of-others c.args.ds.0 c.self.inside.low c.self.inside.high c.self.inside.rows.items c.self.invariant.in_order
+    ∙ map_of-others c.args.ds.0 c.self.inside.low c.self.inside.high c.self.inside.rows.items c.self.invariant.table.in_order
     ∙ ap (λ (w : Window). without c.args.ds.0 w.regions) c.self.view_is
 
 pub returns-clause-sound : goal.returns-clause-sound
