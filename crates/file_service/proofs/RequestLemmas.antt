@@ -1,5 +1,5 @@
 -- How long the bytes of a request are, and what the text of a request for a name is told.
-use Rattle.std.proofs.Common.{◌≡◌, ℕ, ◌≤◌, List, [], length, Option, Some, None, refl, sym, ap, ◌∙◌, arith}
+use Rattle.std.proofs.Common.{◌≡◌, ◌++◌, ℕ, ◌≤◌, List, [], length, Option, Some, None, refl, sym, ap, ◌∙◌, arith}
 use Rattle.std.specs.Prelude.{IsSome, slice_get}
 use Rattle.std.specs.Option.{option_map, unwrap_or}
 use Rattle.own_model.specs.Account.{Account}
@@ -36,8 +36,8 @@ pub read_as : (text : List ℕ) (read request : FileRequest) → read ≡ reques
 read_as text read request same is = sym is ∙ ap (λ r. Some (model_request r)) same
 
 -- what is told is the reply and nothing else
-pub told_text : (new old : Told) (reply : model.FileReply) (text : List ℕ) → new ≡ record old { text = file_reply reply } → old ≡ nothing_told → file_reply reply ≡ text → new ≡ record nothing_told { text = text }
-told_text new old reply text is none same = is ∙ (λ i. record (none i) { text = same i })
+pub told_text : (new old : Told) (reply : model.FileReply) (text : List ℕ) → new ≡ record old { text = old.text ++ file_reply reply } → old ≡ nothing_told → file_reply reply ≡ text → new ≡ record nothing_told { text = text }
+told_text new old reply text is none same = is ∙ (λ i. record (none i) { text = (none i).text ++ same i })
 
 -- ---- NAME
 

@@ -1,7 +1,6 @@
 //! The file service: what it answers to the requests of a session.
 ghost use Rattle.std.specs.Prelude.{◌≡◌, ◌*◌, ◌/◌, ◌≤◌, length, [], Some};
 ghost use Rattle.own_model.specs.FileService.{file_served};
-ghost use Rattle.own_model.specs.FileText.{file_reply};
 ghost use Rattle.own_model.specs.FileText.FileRequest.{Write};
 ghost use Rattle.own_model.specs.Routes.Service.{Files};
 ghost use Rattle.own_model.specs.Session.{Labelled, state_at_first};
@@ -10,22 +9,19 @@ ghost use Rattle.dataspace_core.specs.Store.{account_in, IsOpenIn};
 ghost use Rattle.sliced_heap.specs.Heap.{payer_of};
 ghost use Rattle.server_frame.specs.Session.{service_step};
 ghost use Rattle.server_frame.specs.Told.{nothing_told};
-ghost use Rattle.session_proto.specs.FileReply.{model_reply, room_for, account_of, IsShort};
+ghost use Rattle.session_proto.specs.FileReply.{model_reply, account_of};
 ghost use Rattle.file_service.specs.Furnished.{stock, IsFurnished, KeepsSession};
 ghost use Rattle.file_service.specs.Session.{files_in, HasFiles, Leaves, Serves, done_reply, counted_reply, served_in};
 
 use crate::furnished::{end_nodes, furnish};
 use crate::session::FileSession;
-use arrayvec::ArrayVec;
 use dataspace_core::Memory;
 use region_map::RegionMap;
 use server_frame::{Reply, Service};
 use session_proto::{FileError, FileReply, FileRequest, Shares};
 use sliced_heap::SlicedHeap;
+use text_read::decode_hex;
 use trade_base::AccountId;
-
-/// The most bytes of the text of a reply: of 1024 bytes.
-const LONGEST_TEXT: usize = 2051;
 
 /// The most bytes that a request writes.
 const MOST_WRITTEN: usize = 4096;
@@ -101,37 +97,34 @@ fn answer(
     ensures keeps { KeepsSession heap.old session.new.heap heap.new memory.old memory.new map.old map.new }
 {
     match FileRequest::read(request) {
-        None => tell(FileReply::Refused(FileError::BadRequest), reply),
+        None => FileReply::Refused(FileError::BadRequest).write(reply),
         Some(FileRequest::Create(name)) => {
-            tell(done(session.create(heap, memory, map, name)), reply)
+            done(session.create(heap, memory, map, name)).write(reply)
         }
         Some(FileRequest::Write { file, offset, hex }) => {
-            tell(
-                counted(write(session, heap, memory, map, file, offset, hex)),
-                reply,
-            )
+            counted(write(session, heap, memory, map, file, offset, hex)).write(reply)
         }
         Some(FileRequest::Read { file, offset, len }) => {
             let mut buffer = [0; MOST_READ];
             match session.read(heap, memory, map, file, offset, len, &mut buffer) {
-                Ok(count) => tell(FileReply::Bytes(&buffer[..count]), reply),
-                Err(error) => tell(FileReply::Refused(error), reply),
+                Ok(count) => FileReply::Bytes(&buffer[..count]).write(reply),
+                Err(error) => FileReply::Refused(error).write(reply),
             }
         }
         Some(FileRequest::Size(name)) => {
-            tell(counted(session.size(heap, memory, map, name)), reply)
+            counted(session.size(heap, memory, map, name)).write(reply)
         }
         Some(FileRequest::Clear(name)) => {
-            tell(done(session.clear(heap, memory, map, name)), reply)
+            done(session.clear(heap, memory, map, name)).write(reply)
         }
         Some(FileRequest::Drop(name)) => {
-            tell(done(session.remove(heap, memory, map, name)), reply)
+            done(session.remove(heap, memory, map, name)).write(reply)
         }
         Some(FileRequest::Name(place)) => match session.file_at(heap, memory, map, place) {
-            Some(node) => tell(FileReply::Named(&node.name), reply),
-            None => tell(FileReply::Refused(FileError::End), reply),
+            Some(node) => FileReply::Named(&node.name).write(reply),
+            None => FileReply::Refused(FileError::End).write(reply),
         },
-        Some(FileRequest::Stat) => tell(FileReply::Quotas(shares(heap, memory)), reply),
+        Some(FileRequest::Stat) => FileReply::Quotas(shares(heap, memory)).write(reply),
     }
 }
 
@@ -155,7 +148,7 @@ fn write(
 {
     let mut buffer = [0; MOST_WRITTEN];
     let bytes = &mut buffer[..hex.len() / 2];
-    decode(hex, bytes);
+    decode_hex(hex, bytes);
     session.write(heap, memory, map, file, offset, bytes)
 }
 
@@ -193,25 +186,4 @@ fn counted(outcome: Result<u64, FileError>) -> FileReply<'static>
         Ok(count) => FileReply::Count(count),
         Err(error) => FileReply::Refused(error),
     }
-}
-
-/// The bytes that a text of hexadecimal digits stands for.
-fn decode(hex: &[u8], bytes: &mut [u8])
-    requires hex { bytes_of_hex hex.now ≡ Some (hex_bytes hex.now) }
-    requires len { length bytes.old ≡ length hex.now / 2 }
-    ensures { bytes.new ≡ hex_bytes hex.now }
-{
-    let _ = hex::decode_to_slice(hex, bytes);
-}
-
-/// Writes the text of a reply.
-fn tell(text: FileReply<'_>, reply: &mut Reply)
-    requires short { IsShort text }
-    requires room { room_for text ≤ 2051 }
-    requires empty { reply.old.text ≡ [] }
-    ensures { reply.new ≡ record reply.old { text = file_reply (model_reply text.entry) } }
-{
-    let mut buffer = ArrayVec::<u8, LONGEST_TEXT>::new();
-    text.write(&mut buffer);
-    reply.add_text(&buffer);
 }

@@ -1,15 +1,17 @@
--- Finished lines as the log prints them, and bytes that are written one after another.
-use Rattle.std.proofs.Common.{◌≡◌, ℕ, ◌+◌, ◌*◌, List, [], ◌∷◌, ◌++◌, length, Option, Some, None, is_some, refl, sym, ap, true≢false, append_assoc, ◌<◌, ◌≤◌, drop, arith}
-use Rattle.std.proofs.lemmas.List.{append-nil, map-append}
+-- Finished lines as the log prints them, and runs of bytes that are written.
+use Rattle.std.proofs.Common.{◌≡◌, ◌≢◌, ℕ, ◌+◌, ◌*◌, ◌/◌, ◌<◌, ◌≤◌, List, [], ◌∷◌, ◌++◌, length, take, drop, get_or, true, Option, Some, None, refl, sym, ap, ◌∙◌, append_assoc, arith, length-append, length-take-le}
+use Rattle.std.proofs.lemmas.List.{append-nil, map-append, take-append-drop, take-take, drop-take, take_all, drop_all, take_more, take_at, get_or-take}
+use Rattle.std.proofs.lemmas.List.Elements.{All-append, All-from_get_or}
+use Rattle.std.proofs.lemmas.List.Sums.{fails_before_first, passes_at_first}
+use Rattle.std.proofs.lemmas.Bool.Decides.{nat_tests}
+use Rattle.std.proofs.lemmas.List.Splits.{slice_split_none}
 use Rattle.std.proofs.lemmas.Grind.{flat_map-append}
-use Rattle.std.specs.Prelude.{slice_index}
-use Rattle.std.specs.Option.{option_map, option_and_then, unwrap_or}
-use Rattle.own_model.specs.LogService.{labelled, written, IsPartial}
-use Rattle.own_model.proofs.LogLemmas.{written-none, writes_add}
+use Rattle.std.specs.List.{All, position, position_or_len}
+use Rattle.own_model.specs.LogService.{labelled, written, Logged, IsPartial, IsUnbroken, is_newline}
+use Rattle.own_model.proofs.LogLemmas.{written-none, written_newline, writes_add, writes_lines}
 use Rattle.own_model.specs.Reply.{log_text}
-use Rattle.own_model.specs.Text.{hex_digit_of, bytes_of_hex}
-use Rattle.own_model.specs.Text.{hex_bytes}
-use Rattle.log_service.specs.Session.{lines_text, digit_value}
+use Rattle.server_frame.specs.Told.{Told}
+use Rattle.log_service.specs.Session.{LabelledLine, lines_text, Writes}
 
 -- one line
 pub lines_text-one : (label line before : List ℕ) → before ++ log_text (record { label = label; text = line }) ≡ before ++ lines_text label (line ∷ [])
@@ -21,47 +23,122 @@ lines_text-append label xs ys =
     let all : labelled label (xs ++ ys) ≡ labelled label xs ++ labelled label ys = map-append (λ text. record { label = label; text = text }) xs ys in
     rw all (flat_map-append log_text (labelled label xs) (labelled label ys))
 
--- two digits and the rest that stand for bytes have values each
-digits_by : (h l : Option ℕ) (bytes : Option (List ℕ)) →
-    let all = option_and_then (λ byte. option_map (λ (bytes : List ℕ). byte ∷ bytes) bytes) (option_and_then (λ h. option_map (λ l. h * 16 + l) l) h) in
-    all ≡ Some (unwrap_or all []) →
-    (unwrap_or all [] ≡ (unwrap_or h 0 * 16 + unwrap_or l 0) ∷ unwrap_or bytes []) × (bytes ≡ Some (unwrap_or bytes []))
-digits_by None l bytes is = absurd (true≢false (sym (ap is_some is)))
-digits_by (Some h) None bytes is = absurd (true≢false (sym (ap is_some is)))
-digits_by (Some h) (Some l) None is = absurd (true≢false (sym (ap is_some is)))
-digits_by (Some h) (Some l) (Some rest) is = (refl, refl)
+-- a run without a newline that leaves the line unfinished is put to it
+pub run_added : (partial run : List ℕ) → IsPartial partial → All IsUnbroken run → length partial + length run < 200 →
+    written partial run ≡ record { lines = []; partial = partial ++ run }
+unfolding written
+run_added partial run is whole short =
+    let none : length (partial ++ run) / 200 ≡ 0 = omega (arith, length-append partial run, short) in
+    rw (slice_split_none is_newline (partial ++ run) (All-append IsUnbroken partial run is.whole whole), none) refl
 
--- what hex stands for is the byte of its first two digits, and what the others stand for
-pub first_byte : (text : List ℕ) → 2 ≤ length text → bytes_of_hex text ≡ Some (hex_bytes text) →
-    (hex_bytes text ≡ (digit_value (slice_index text 0) * 16 + digit_value (slice_index text 1)) ∷ hex_bytes (drop 2 text))
-    × (bytes_of_hex (drop 2 text) ≡ Some (hex_bytes (drop 2 text)))
-first_byte [] long is = absurd (omega arith)
-first_byte (digit ∷ []) long is = absurd (omega arith)
-first_byte (high ∷ low ∷ rest) long is = digits_by (hex_digit_of high) (hex_digit_of low) (bytes_of_hex rest) is
+-- one with which the line has all its bytes finishes it
+pub run_fills : (partial run : List ℕ) → IsPartial partial → All IsUnbroken run → length partial + length run ≡ 200 →
+    written partial run ≡ record { lines = (partial ++ run) ∷ []; partial = [] }
+unfolding written
+run_fills partial run is whole full =
+    let size : length (partial ++ run) ≡ 200 = length-append partial run ∙ full in
+    let all = take_all 200 (partial ++ run) (omega (arith, size)) in
+    let none = drop_all 200 (partial ++ run) (omega (arith, size)) in
+    rw (slice_split_none is_newline (partial ++ run) (All-append IsUnbroken partial run is.whole whole), size, all, none) refl
 
--- fewer than two digits stand for no bytes
-pub no_digits : (text : List ℕ) → length text < 2 → bytes_of_hex text ≡ Some (hex_bytes text) → hex_bytes text ≡ []
-no_digits [] short is = refl
-no_digits (digit ∷ []) short is = refl
-no_digits (high ∷ low ∷ rest) short is = absurd (omega arith)
+-- one before a newline finishes the line without it
+pub run_ended : (partial run : List ℕ) (b : ℕ) → IsPartial partial → All IsUnbroken run → length partial + length run < 200 → b ≡ 10 →
+    written partial (run ++ b ∷ []) ≡ record { lines = (partial ++ run) ∷ []; partial = [] }
+run_ended partial run b is whole short newline =
+    let more : IsPartial (partial ++ run) = record { short = omega (arith, length-append partial run, short); whole = All-append IsUnbroken partial run is.whole whole } in
+    rw (writes_add partial run (b ∷ []) is, run_added partial run is whole short, written_newline (partial ++ run) b more newline) refl
 
--- a byte, and then others: what is left at the end
-pub left_then : (partial bytes rest : List ℕ) (b : ℕ) → IsPartial partial → bytes ≡ b ∷ rest →
-    (written (written partial (b ∷ [])).partial rest).partial ≡ (written partial bytes).partial
-left_then partial bytes rest b is e = rw (e, writes_add partial (b ∷ []) rest is) refl
+-- a line that bytes finish leaves one that isn't finished yet
+pub partial_after : {before after : LabelledLine} {told reply : Told} (bytes : List ℕ) → IsPartial before.partial → Writes before told bytes after reply → IsPartial after.partial
+partial_after {before} bytes is w = rw w.session (writes_lines before.partial bytes is).1
 
--- and the lines that are finished, behind others
-pub lines_then : (label before partial bytes rest : List ℕ) (b : ℕ) → IsPartial partial → bytes ≡ b ∷ rest →
-    (before ++ lines_text label (written partial (b ∷ [])).lines) ++ lines_text label (written (written partial (b ∷ [])).partial rest).lines
-    ≡ before ++ lines_text label (written partial bytes).lines
-lines_then label before partial bytes rest b is e =
-    let first = written partial (b ∷ []) in
-    rw (e, writes_add partial (b ∷ []) rest is, lines_text-append label first.lines (written first.partial rest).lines)
-    (append_assoc before (lines_text label first.lines) (lines_text label (written first.partial rest).lines))
+-- no bytes
+pub writes_none : (before : LabelledLine) (told : Told) → IsPartial before.partial → Writes before told [] before told
+writes_none before told is = record {
+  session = rw (written-none before.partial is) refl;
+  reply = rw (written-none before.partial is, append-nil told.lines) refl;
+  added = omega arith;
+}
 
--- nothing more is written
-pub left_none : (partial bytes : List ℕ) → IsPartial partial → bytes ≡ [] → (written partial bytes).partial ≡ partial
-left_none partial bytes is e = rw (e, written-none partial is) refl
+-- bytes and more
+pub writes_then : (a b c : LabelledLine) (t u v : Told) (xs ys : List ℕ) → IsPartial a.partial → Writes a t xs b u → Writes b u ys c v → Writes a t (xs ++ ys) c v
+writes_then a b c t u v xs ys is first more =
+    let l = written a.partial xs in
+    let all = writes_add a.partial xs ys is in
+    let left : b.partial ≡ l.partial = ap (λ s. s.partial) first.session in
+    let label : b.label ≡ a.label = ap (λ s. s.label) first.session in
+    let lines : v.lines ≡ t.lines ++ lines_text a.label (written a.partial (xs ++ ys)).lines =
+    ap (λ r. r.lines) more.reply ∙ rw (all, left, label, ap (λ r. r.lines) first.reply, lines_text-append a.label l.lines (written l.partial ys).lines)
+    (append_assoc t.lines (lines_text a.label l.lines) (lines_text a.label (written l.partial ys).lines)) in
+    let partial : c.partial ≡ (written a.partial (xs ++ ys)).partial = ap (λ s. s.partial) more.session ∙ rw (all, left) refl in
+    record {
+      session = λ i. record { label = (ap (λ s. s.label) more.session ∙ label) i; partial = partial i };
+      reply = λ i. record { lines = lines i; text = (ap (λ r. r.text) more.reply ∙ ap (λ r. r.text) first.reply) i };
+      added = omega (arith, first.added, more.added, length-append xs ys);
+    }
 
-pub lines_none : (label before partial bytes : List ℕ) → IsPartial partial → bytes ≡ [] → before ++ lines_text label (written partial bytes).lines ≡ before
-lines_none label before partial bytes is e = rw (e, written-none partial is) (append-nil before)
+-- ---- the first newline of a run
+
+-- where there is none
+pub unbroken : (run : List ℕ) → position is_newline run ≡ None → All IsUnbroken run
+unbroken run none =
+    let whole : length run ≤ position_or_len is_newline run = grind (arith, nat_tests) in
+    All-from_get_or IsUnbroken run 0 (λ i here. fails_before_first is_newline run i 0 (omega (arith, here, whole)))
+
+-- what stands before it, and what stands up to it
+pub record Broken (run : List ℕ) (end : ℕ) : Type 0 where
+  pub before : All IsUnbroken (take end run)
+  pub within : end < length run
+  pub at : get_or run end 0 ≡ 10
+  pub up_to : take (end + 1) run ≡ take end run ++ get_or run end 0 ∷ []
+
+pub broken : (run : List ℕ) (end : ℕ) → position is_newline run ≡ Some end → Broken run end
+broken run end found =
+    let first : position_or_len is_newline run ≡ end = grind (arith, nat_tests) in
+    let within : end < length run = grind (arith, nat_tests) in
+    let newline : is_newline (get_or run end 0) ≡ true = rw first at (passes_at_first is_newline run 0 (omega (arith, first, within))) in
+    record {
+      before = All-from_get_or IsUnbroken (take end run) 0 (λ i here.
+          let i_before : i < end = omega (arith, here, length-take-le end run) in
+          rw (get_or-take end run i 0 i_before) (fails_before_first is_newline run i 0 (omega (arith, i_before, first))));
+      within = within;
+      at = grind (arith, nat_tests, newline);
+      up_to = take_more run end 0 within;
+    }
+
+-- ---- a call that writes a run
+
+-- a run that is put to the line
+pub adds : (label partial run bytes line : List ℕ) (told : Told) → written partial bytes ≡ record { lines = []; partial = partial ++ run } →
+    line ≡ partial ++ run → length run ≤ length bytes →
+    Writes (record { label = label; partial = partial }) told bytes (record { label = label; partial = line }) told
+adds label partial run bytes line told is e few = record {
+  session = rw (is, e) refl;
+  reply = rw (is, append-nil told.lines) refl;
+  added = omega (arith, ap length e, length-append partial run, few);
+}
+
+-- a run that finishes the line
+pub finishes : (label partial run bytes line : List ℕ) (told next : Told) → written partial bytes ≡ record { lines = (partial ++ run) ∷ []; partial = [] } →
+    line ≡ partial ++ run → next ≡ record told { lines = told.lines ++ log_text (record { label = label; text = line }) } →
+    length next.lines ≡ length told.lines + (length label + length line + 4) → length label ≤ 100 → length run ≤ length bytes → 0 < length bytes →
+    Writes (record { label = label; partial = partial }) told bytes (record { label = label; partial = [] }) next
+finishes label partial run bytes line told next is e told_so size short few some = record {
+  session = rw is refl;
+  reply = told_so ∙ rw (is, e, lines_text-one label (partial ++ run) told.lines) refl;
+  added = omega (arith, size, ap length e, length-append partial run, short, few, some);
+}
+
+-- ---- parts of bytes
+
+-- as many as are taken
+pub taken_whole : (n : ℕ) (xs : List ℕ) → take (length (take n xs)) xs ≡ take n xs
+taken_whole n xs = ap (take (length (take n xs))) (sym (take-append-drop n xs)) ∙ take_at (take n xs) (drop n xs) (length (take n xs)) refl
+
+-- so many bytes, and so many more
+pub take_then : (n m : ℕ) (xs : List ℕ) → take (n + m) xs ≡ take n xs ++ take m (drop n xs)
+take_then n m xs = sym (take-append-drop n (take (n + m) xs)) ∙ rw (take-take n (n + m) xs (omega arith), drop-take n m xs) refl
+
+-- the bytes so far and those that are next
+pub taken_next : (n m : ℕ) (xs ys : List ℕ) → ys ≡ take m (drop n xs) → take (n + length ys) xs ≡ take n xs ++ ys
+taken_next n m xs ys is = take_then n (length ys) xs ∙ rw is (ap (λ more. take n xs ++ more) (taken_whole m (drop n xs)))

@@ -1,12 +1,11 @@
 -- What a session of the log service keeps.
-use Rattle.std.specs.Prelude.{ℕ, List}
+use Rattle.std.specs.Prelude.{◌≡◌, ℕ, ◌+◌, ◌*◌, ◌≤◌, List, ◌++◌, length}
 use Rattle.std.specs.List.{flat_map}
-use Rattle.std.specs.Option.{unwrap_or}
-use Rattle.own_model.specs.LogService.{labelled}
+use Rattle.own_model.specs.LogService.{labelled, written}
 use Rattle.own_model.specs.Reply.{log_text}
 use Rattle.own_model.specs.Session.{Labelled}
 use Rattle.own_model.specs.Session.ServiceState.{Logging}
-use Rattle.own_model.specs.Text.{hex_digit_of}
+use Rattle.server_frame.specs.Told.{Told}
 
 -- its label, and its line that isn't finished yet
 pub record LabelledLine : Type 0 where
@@ -21,6 +20,9 @@ lines_text label lines = flat_map log_text (labelled label lines)
 abbrev pub as_kept : LabelledLine → Labelled
 as_kept line = record { label = line.label; state = Logging line.partial }
 
--- the value of a hex digit
-abbrev pub digit_value : ℕ → ℕ
-digit_value digit = unwrap_or (hex_digit_of digit) 0
+-- bytes that are written after a line that isn't finished yet, and what they make of a reply: the lines that they finish go
+-- behind its lines, and each byte makes these and the line that is left longer by at most 105 bytes
+pub record Writes (before : LabelledLine) (told : Told) (bytes : List ℕ) (after : LabelledLine) (next : Told) : Type 0 where
+  pub session : after ≡ record before { partial = (written before.partial bytes).partial }
+  pub reply : next ≡ record told { lines = told.lines ++ lines_text before.label (written before.partial bytes).lines }
+  pub added : length next.lines + length after.partial ≤ length told.lines + length before.partial + 105 * length bytes

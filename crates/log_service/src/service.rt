@@ -1,7 +1,6 @@
 //! The log service: what it answers to the requests of a session.
 ghost use Rattle.std.specs.Prelude.{◌≡◌, []};
 ghost use Rattle.own_model.specs.LogService.{log_served};
-ghost use Rattle.session_proto.specs.LogReply.{log_reply_text};
 ghost use Rattle.own_model.specs.Session.{Labelled};
 ghost use Rattle.own_model.specs.Session.ServiceState.{Logging};
 ghost use Rattle.log_service.specs.Session.{lines_text, as_kept};
@@ -9,16 +8,12 @@ ghost use Rattle.server_frame.specs.Session.{HasBlocksAlone, service_step};
 ghost use Rattle.server_frame.specs.Told.{nothing_told};
 
 use crate::session::LogSession;
-use arrayvec::ArrayVec;
 use dataspace_core::Memory;
 use region_map::RegionMap;
 use server_frame::{Reply, Service};
 use session_proto::{LogReply, LogRequest};
 use sliced_heap::SlicedHeap;
 use trade_base::AccountId;
-
-/// The most bytes of the text of a reply.
-const LONGEST_TEXT: usize = 24;
 
 /// The log service. It keeps nothing but its sessions.
 #[derive(Clone, Copy)]
@@ -36,9 +31,9 @@ impl LogService {
         match LogRequest::read(request) {
             Some(request) => {
                 session.write(request.hex, reply);
-                tell(LogReply::Wrote(request.hex.len() as u64 / 2), reply);
+                LogReply::Wrote(request.hex.len() as u64 / 2).write(reply);
             }
-            None => tell(LogReply::BadRequest, reply),
+            None => LogReply::BadRequest.write(reply),
         }
     }
 }
@@ -79,14 +74,4 @@ impl Service for LogService {
         _memory: &mut Memory,
         _map: &mut RegionMap,
     ) {}
-}
-
-/// Writes the text of a reply behind the lines.
-fn tell(text: LogReply, reply: &mut Reply)
-    requires { reply.old.text ≡ [] }
-    ensures { reply.new ≡ record reply.old { text = log_reply_text text } }
-{
-    let mut buffer = ArrayVec::<u8, LONGEST_TEXT>::new();
-    text.write(&mut buffer);
-    reply.add_text(&buffer);
 }

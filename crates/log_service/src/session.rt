@@ -1,18 +1,20 @@
 //! One session: its label, and its line that isn't finished yet.
-ghost use Rattle.std.specs.Prelude.{◌≡◌, ◌+◌, ◌*◌, ◌<◌, ◌≤◌, [], ◌∷◌, ◌++◌, length, Some, IfSome, IfNone};
+ghost use Rattle.std.specs.Prelude.{◌≡◌, ◌+◌, ◌*◌, ◌<◌, ◌≤◌, [], ◌++◌, length, take, Some};
 ghost use Rattle.arrayvec.specs.ArrayVec.{array_vec_len};
-ghost use Rattle.own_model.specs.LogService.{written};
 ghost use Rattle.own_model.specs.Reply.{log_text};
-ghost use Rattle.own_model.specs.Text.{bytes_of_hex};
-ghost use Rattle.own_model.specs.Text.{hex_bytes};
-ghost use Rattle.log_service.specs.Session.{lines_text, digit_value};
+ghost use Rattle.own_model.specs.Text.{bytes_of_hex, hex_bytes};
+ghost use Rattle.log_service.specs.Session.{Writes};
 
 use arrayvec::ArrayVec;
 use server_frame::{LONGEST_LABEL, MOST_LINES, Reply};
 use std::marker::Model;
+use text_read::{decode_hex_from, find_byte};
 
 /// A line of so many bytes is finished.
 const LONGEST_LINE: usize = 200;
+
+/// So many bytes are decoded at once.
+const PIECE: usize = 256;
 
 /// The most bytes that a byte that is written adds to the lines that are finished and to the one that isn't: itself, and
 /// what stands around a line.
@@ -54,37 +56,66 @@ impl LogSession {
     pub(crate) fn write(&mut self, hex: &[u8], reply: &mut Reply)
         requires hex { bytes_of_hex hex.now ≡ Some (hex_bytes hex.now) }
         requires room { length reply.old.lines + LONGEST_LINE + MOST_ADDED * length (hex_bytes hex.now) ≤ MOST_LINES }
-        ensures session { self.new ≡ record self.old { partial = (written self.old.partial (hex_bytes hex.now)).partial } }
-        ensures reply { reply.new ≡ record reply.old {
-          lines = reply.old.lines ++ lines_text self.old.label (written self.old.partial (hex_bytes hex.now)).lines;
-        } }
+        ensures { Writes self.old reply.old (hex_bytes hex.now) self.new reply.new }
     {
         let _ = &self.line;
-        let mut rest = hex;
-        while let Some((byte, more)) = split_byte(rest) {
-            self.push(byte, reply);
-            rest = more;
+        let count = hex.len() / 2;
+        let mut buffer = [0; PIECE];
+        let mut done = 0;
+        while done < count {
+            let bytes = &mut buffer[..(count - done).min(PIECE)];
+            decode_hex_from(hex, done, bytes);
+            self.write_bytes(bytes, reply);
+            done += bytes.len();
         }
     }
 
-    /// Writes a byte. A line that it finishes goes to the reply.
-    fn push(&mut self, byte: u8, reply: &mut Reply)
-        requires { length reply.old.lines + length self.old.partial + MOST_ADDED ≤ MOST_LINES }
-        ensures session { self.new ≡ record self.old { partial = (written self.old.partial (byte ∷ [])).partial } }
-        ensures reply { reply.new ≡ record reply.old {
-          lines = reply.old.lines ++ lines_text self.old.label (written self.old.partial (byte ∷ [])).lines;
-        } }
-        ensures added { length reply.new.lines + length self.new.partial ≤ length reply.old.lines + length self.old.partial + MOST_ADDED }
+    /// Writes bytes. Lines that they finish go to the reply.
+    fn write_bytes(&mut self, bytes: &[u8], reply: &mut Reply)
+        requires { length reply.old.lines + length self.old.partial + MOST_ADDED * length bytes.now ≤ MOST_LINES }
+        ensures { Writes self.old reply.old bytes.now self.new reply.new }
     {
-        if byte == b'\n' {
-            finish(&self.label, &mut self.line, reply);
-        } else {
-            self.line.push(byte);
-            if self.line.is_full() {
+        let _ = &self.line;
+        let mut done = 0;
+        while done < bytes.len() {
+            done += self.write_some(&bytes[done..], reply);
+        }
+    }
+
+    /// Writes bytes up to the one that finishes the line, or all, and tells how many these are. They are copied as one
+    /// run, so a byte costs next to nothing.
+    fn write_some(&mut self, bytes: &[u8], reply: &mut Reply) -> usize
+        requires some { 0 < length bytes.now }
+        requires room { length reply.old.lines + length self.old.partial + MOST_ADDED * length bytes.now ≤ MOST_LINES }
+        ensures some { 0 < result }
+        ensures within { result ≤ length bytes.now }
+        ensures writes { Writes self.old reply.old (take result bytes.now) self.new reply.new }
+    {
+        let room = LONGEST_LINE - self.line.len();
+        let run = &bytes[..bytes.len().min(room)];
+        match find_byte(b'\n', run) {
+            Some(end) => {
+                add_run(&mut self.line, &run[..end]);
                 finish(&self.label, &mut self.line, reply);
+                end + 1
+            }
+            None => {
+                add_run(&mut self.line, run);
+                if self.line.is_full() {
+                    finish(&self.label, &mut self.line, reply);
+                }
+                run.len()
             }
         }
     }
+}
+
+/// Adds bytes to a line, which has room for them.
+fn add_run(line: &mut ArrayVec<u8, LONGEST_LINE>, run: &[u8])
+    requires { array_vec_len line.old + length run.now ≤ LONGEST_LINE }
+    ensures { line.new.items ≡ line.old.items ++ run.now }
+{
+    let _ = line.try_extend_from_slice(run);
 }
 
 /// Adds a line to the reply, and leaves it empty.
@@ -96,32 +127,4 @@ fn finish(label: &[u8], line: &mut ArrayVec<u8, LONGEST_LINE>, reply: &mut Reply
 {
     reply.add_line(label, line);
     line.clear();
-}
-
-/// The byte of the first two hexadecimal digits, if there are any, and the digits behind them.
-fn split_byte(hex: &[u8]) -> Option<(u8, &[u8])>
-    requires { bytes_of_hex hex.now ≡ Some (hex_bytes hex.now) }
-    ensures none { IfNone result (hex_bytes hex.now ≡ []) }
-    ensures first { IfSome result (λ parts. hex_bytes hex.now ≡ parts.0 ∷ hex_bytes parts.1.now) }
-    ensures rest { IfSome result (λ parts. bytes_of_hex parts.1.now ≡ Some (hex_bytes parts.1.now)) }
-    ensures shorter { IfSome result (λ parts. length parts.1.now < length hex.now) }
-{
-    if hex.len() < 2 {
-        return None;
-    }
-    let byte = digit_value(hex[0]) * 16 + digit_value(hex[1]);
-    Some((byte, &hex[2..]))
-}
-
-/// The value of a hexadecimal digit of either case.
-fn digit_value(digit: u8) -> u8
-    ensures value { result ≡ digit_value digit }
-    ensures small { result < 16 }
-{
-    match digit {
-        b'0'..=b'9' => digit - b'0',
-        b'a'..=b'f' => digit - b'a' + 10,
-        b'A'..=b'F' => digit - b'A' + 10,
-        _ => 0,
-    }
 }

@@ -7,14 +7,16 @@ use Rattle.own_model.proofs.NatMapLemmas.{some_of}
 use Rattle.own_model.specs.Text.{bytes_of_hex, hex_digit_of}
 use Rattle.std.proofs.lemmas.Option.{same_Some}
 use Rattle.heap_core.specs.Words.{are_bytes}
-use Rattle.session_proto.proofs.HexLemmas.{half, parts, same_list}
+use Rattle.own_model.proofs.LogLemmas.{bytes_of_digits}
+use Rattle.text_read.proofs.HexLemmas.{parts}
 use Rattle.pd_core.specs.Call.{bytes_in}
 
 -- the same of the bytes that text stands for
 pub half_is : (text : List ℕ) → IsSome (bytes_of_hex text) → length text / 2 ≡ length (bytes_in text)
 half_is text some =
     let bytes = some_of (bytes_of_hex text) some in
-    half text bytes.0 bytes.1 ∙ ap (λ o. length (unwrap_or o [])) (sym bytes.1)
+    let same : length (bytes_in text) ≡ length bytes.0 = ap (λ o. length (unwrap_or o [])) bytes.1 in
+    omega (arith, bytes_of_digits text bytes.0 bytes.1, same)
 
 -- a digit's value is below 16
 digit_small : (b d : ℕ) → hex_digit_of b ≡ Some d → d < 16
@@ -26,7 +28,7 @@ byte_small high low h l = grind (arith, nat_tests)
 
 -- what is decoded are bytes
 decoded_small : (text bytes : List ℕ) → bytes_of_hex text ≡ Some bytes → are_bytes bytes ≡ true
-decoded_small [] bytes is = ap are_bytes (same_list [] bytes is)
+decoded_small [] bytes is = ap are_bytes (sym (same_Some [] bytes is))
 decoded_small (digit ∷ []) bytes is = absurd (true≢false (sym (ap is_some is)))
 decoded_small (high ∷ low ∷ rest) bytes is =
     let p = parts (hex_digit_of high) (hex_digit_of low) (bytes_of_hex rest) bytes is in

@@ -2,7 +2,7 @@
 
 use crate::accounts::quotas_of;
 use crate::answer::{Answer, Quotas, tell};
-use crate::bytes::{MOST_BYTES, decode, tell_range};
+use crate::bytes::{MOST_BYTES, tell_range};
 use crate::call::Call;
 use cap_space::{Cap, CapSpace};
 use dataspace_core::Memory;
@@ -10,6 +10,7 @@ use heap_core::Heap;
 use region_map::RegionMap;
 use server_frame::Reply;
 use sliced_heap::SlicedHeap;
+use text_read::decode_hex;
 use trade_base::{AccountId, DsId, PAGE, Refusal};
 
 /// A script: the account that it is charged on, its capabilities, its regions, its heap and the heap of its sliced blocks.
@@ -175,7 +176,7 @@ impl Script {
         let (space, offset) = self.range(memory, address, count as u64)?;
         let mut buffer = [0; MOST_BYTES];
         let bytes = &mut buffer[..count];
-        decode(hex, bytes);
+        decode_hex(hex, bytes);
         memory.write(space, offset, bytes);
         Ok(Answer::Done)
     }

@@ -1,11 +1,16 @@
 //! Bytes in memory that doesn't grow.
-ghost use Rattle.std.specs.Prelude.{◌≡◌, ◌+◌, ◌≤◌, [], ◌++◌, length, map, IfOk};
-ghost use Rattle.own_model.specs.Reply.{printed};
+ghost use Rattle.std.specs.Prelude.{◌≡◌, ◌+◌, ◌*◌, ◌≤◌, [], ◌++◌, length, map, decimal, IfOk};
+ghost use Rattle.own_model.specs.Reply.{hex_text, printed};
 
+use itoa::write_digits;
 use std::alloc::Global;
 use std::boxed::BoxedSlice;
 use std::marker::Model;
+use text_read::encode_hex;
 use trade_base::NoMemory;
+
+/// The most digits of a number.
+const LONGEST_NUMBER: usize = 20;
 
 /// Bytes with all the memory that they may take, from the boot on: a boxed slice can't grow.
 #[derive(Drop)]
@@ -61,6 +66,27 @@ impl Buffer {
     {
         let end = self.len + more.len();
         self.bytes[self.len..end].copy_from_slice(more);
+        self.len = end;
+    }
+
+    /// Appends a number in decimal digits.
+    pub(crate) fn add_number(&mut self, number: u64)
+        requires { length self.old.text + LONGEST_NUMBER ≤ self.old.size }
+        ensures added { self.new ≡ record self.old { text = self.old.text ++ decimal number } }
+        ensures len { length self.new.text ≤ length self.old.text + LONGEST_NUMBER }
+    {
+        let mut digits = [0; LONGEST_NUMBER];
+        let start = write_digits(number, &mut digits, LONGEST_NUMBER);
+        self.add(&digits[start..]);
+    }
+
+    /// Appends bytes in hexadecimal digits.
+    pub(crate) fn add_hex(&mut self, bytes: &[u8])
+        requires { length self.old.text + 2 * length bytes.now ≤ self.old.size }
+        ensures added { self.new ≡ record self.old { text = self.old.text ++ hex_text bytes.now } }
+    {
+        let end = self.len + 2 * bytes.len();
+        encode_hex(bytes, &mut self.bytes[self.len..end]);
         self.len = end;
     }
 

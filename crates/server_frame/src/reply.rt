@@ -1,6 +1,6 @@
 //! What a call is answered: finished log lines, and the text of a reply.
-ghost use Rattle.std.specs.Prelude.{◌≡◌, ◌+◌, ◌≤◌, [], ◌++◌, length, IfOk};
-ghost use Rattle.own_model.specs.Reply.{log_text};
+ghost use Rattle.std.specs.Prelude.{◌≡◌, ◌+◌, ◌*◌, ◌≤◌, [], ◌++◌, length, decimal, IfOk};
+ghost use Rattle.own_model.specs.Reply.{hex_text, log_text};
 ghost use Rattle.server_frame.specs.Told.{nothing_told};
 
 use crate::buffer::Buffer;
@@ -86,5 +86,21 @@ impl Reply {
         ensures len { length self.new.text ≡ length self.old.text + length text.now }
     {
         self.text.add(text);
+    }
+    /// Appends to the text a number in decimal digits, for which there is room.
+    pub fn add_number(&mut self, number: u64)
+        requires { length self.old.text + 20 ≤ LONGEST_TEXT }
+        ensures added { self.new ≡ record self.old { text = self.old.text ++ decimal number } }
+        ensures len { length self.new.text ≤ length self.old.text + 20 }
+    {
+        self.text.add_number(number);
+    }
+
+    /// Appends to the text bytes in hexadecimal digits of small letters, which still fit.
+    pub fn add_hex(&mut self, bytes: &[u8])
+        requires { length self.old.text + 2 * length bytes.now ≤ LONGEST_TEXT }
+        ensures { self.new ≡ record self.old { text = self.old.text ++ hex_text bytes.now } }
+    {
+        self.text.add_hex(bytes);
     }
 }

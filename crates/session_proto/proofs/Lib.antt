@@ -1,4 +1,3 @@
 pub mod PieceLemmas
 pub mod ArgsLemmas
 pub mod ReplyLemmas
-pub mod HexLemmas

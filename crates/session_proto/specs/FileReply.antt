@@ -1,5 +1,5 @@
 -- The file service's replies, as the model's words.
-use Rattle.std.specs.Prelude.{ℕ, ◌+◌, ◌*◌, ◌≤◌, length}
+use Rattle.std.specs.Prelude.{ℕ, ◌+◌, ◌*◌, length}
 use Rattle.own_model.specs.Account.{Account}
 use Rattle.own_model.specs.FileText as model
 use Rattle.session_proto.specs.declared.file_reply.FileError.{FileError}
@@ -45,8 +45,3 @@ room_for (Bytes bytes) = 3 + 2 * length bytes.now
 room_for (Named name) = 3 + length name.now
 room_for (Quotas shares) = 103
 room_for (Refused e) = 24
-
--- a reply tells at most 1024 bytes
-abbrev pub IsShort : FileReply → Type 0
-IsShort (Bytes bytes) = length bytes.now ≤ 1024
-IsShort _ = Unit {0}

@@ -1,16 +1,11 @@
 //! The file service's replies.
-ghost use Rattle.std.specs.Prelude.{◌≡◌, ◌+◌, ◌*◌, ◌≤◌, ◌++◌, codes, decimal, length};
-ghost use Rattle.arrayvec.specs.ArrayVec.{array_vec_len};
+ghost use Rattle.std.specs.Prelude.{◌≡◌, ◌+◌, ◌*◌, ◌≤◌, ◌++◌, length};
 ghost use Rattle.own_model.specs.FileText.{file_reply, bytes_reply, error_name};
-ghost use Rattle.own_model.specs.Reply.{hex_text, share_text, quota_text};
-ghost use Rattle.session_proto.specs.FileReply.{model_reply, model_error, room_for, account_of, IsShort};
+ghost use Rattle.own_model.specs.Reply.{share_text, quota_text};
+ghost use Rattle.session_proto.specs.FileReply.{model_reply, model_error, room_for, account_of};
 
-use crate::buffer::{add, add_number};
-use arrayvec::ArrayVec;
+use server_frame::Reply;
 use trade_base::{Caps, Ram};
-
-/// The most bytes that a reply tells.
-const MOST_BYTES: usize = 1024;
 
 /// Why a request is refused.
 #[derive(Clone, Copy, Debug, PartialEq, Eq)]
@@ -84,30 +79,29 @@ pub enum FileReply<'a> {
 }
 
 impl<'a> FileReply<'a> {
-    /// Appends the text of a reply, of at most 1024 bytes or a name of at most 32.
-    pub fn write<const N: usize>(self, text: &mut ArrayVec<u8, N>)
-        requires short { IsShort self }
-        requires room { array_vec_len text.old + room_for self ≤ N }
-        ensures { text.new.items ≡ text.old.items ++ file_reply (model_reply self.entry) }
+    /// Appends the text of a reply to another, where there is room for it.
+    pub fn write(self, reply: &mut Reply)
+        requires { length reply.old.text + room_for self ≤ 2100 }
+        ensures { reply.new ≡ record reply.old { text = reply.old.text ++ file_reply (model_reply self.entry) } }
     {
         match self {
-            FileReply::Done => add(text, b"OK"),
+            FileReply::Done => reply.add_text(b"OK"),
             FileReply::Count(count) => {
-                add(text, b"OK ");
-                add_number(text, count);
+                reply.add_text(b"OK ");
+                reply.add_number(count);
             }
-            FileReply::Bytes(bytes) => add_bytes(text, bytes),
+            FileReply::Bytes(bytes) => add_bytes(reply, bytes),
             FileReply::Named(name) => {
-                add(text, b"OK ");
-                add(text, name);
+                reply.add_text(b"OK ");
+                reply.add_text(name);
             }
             FileReply::Quotas(shares) => {
-                add(text, b"OK ");
-                add_shares(text, shares);
+                reply.add_text(b"OK ");
+                add_shares(reply, shares);
             }
             FileReply::Refused(error) => {
-                add(text, b"ERR ");
-                add(text, error.name().as_bytes());
+                reply.add_text(b"ERR ");
+                reply.add_text(error.name().as_bytes());
             }
         }
     }
@@ -115,56 +109,40 @@ impl<'a> FileReply<'a> {
 
 /// Appends the reply that tells bytes, without a space where there are none.
 #[tactic(auto, using(crate::proofs::ReplyLemmas::reply_of_none, crate::proofs::ReplyLemmas::reply_of_some))]
-fn add_bytes<const N: usize>(text: &mut ArrayVec<u8, N>, bytes: &[u8])
-    requires few { length bytes.now ≤ MOST_BYTES }
-    requires room { array_vec_len text.old + (3 + 2 * length bytes.now) ≤ N }
-    ensures { text.new.items ≡ text.old.items ++ bytes_reply bytes.now }
+fn add_bytes(reply: &mut Reply, bytes: &[u8])
+    requires { length reply.old.text + (3 + 2 * length bytes.now) ≤ 2100 }
+    ensures { reply.new ≡ record reply.old { text = reply.old.text ++ bytes_reply bytes.now } }
 {
     if bytes.is_empty() {
-        add(text, b"OK");
+        reply.add_text(b"OK");
     } else {
-        add(text, b"OK ");
-        add_hex(text, bytes);
-    }
-}
-
-/// Appends bytes in hexadecimal digits.
-#[tactic(auto, using(own_model::proofs::HexLemmas::hex_text_is))]
-fn add_hex<const N: usize>(text: &mut ArrayVec<u8, N>, bytes: &[u8])
-    requires few { length bytes.now ≤ MOST_BYTES }
-    requires room { array_vec_len text.old + 2 * length bytes.now ≤ N }
-    ensures { text.new.items ≡ text.old.items ++ hex_text bytes.now }
-{
-    let mut hex = [0; 2 * MOST_BYTES];
-    let digits = &mut hex[..2 * bytes.len()];
-    match hex::encode_to_slice(bytes, digits) {
-        Ok(()) => add(text, digits),
-        Err(_) => unreachable!(),
+        reply.add_text(b"OK ");
+        reply.add_hex(bytes);
     }
 }
 
 /// Appends use and limit of RAM and of capabilities.
-fn add_shares<const N: usize>(text: &mut ArrayVec<u8, N>, shares: Shares)
-    requires { array_vec_len text.old + 100 ≤ N }
-    ensures { text.new.items ≡ text.old.items ++ quota_text (account_of shares) }
+fn add_shares(reply: &mut Reply, shares: Shares)
+    requires { length reply.old.text + 100 ≤ 2100 }
+    ensures { reply.new ≡ record reply.old { text = reply.old.text ++ quota_text (account_of shares) } }
 {
-    add(text, b"ram ");
-    add_share(text, shares.ram_used.0, shares.ram_limit.0);
-    add(text, b" caps ");
+    reply.add_text(b"ram ");
+    add_share(reply, shares.ram_used.0, shares.ram_limit.0);
+    reply.add_text(b" caps ");
     add_share(
-        text,
+        reply,
         u64::from(shares.caps_used.0),
         u64::from(shares.caps_limit.0),
     );
 }
 
 /// Appends a use and a limit.
-fn add_share<const N: usize>(text: &mut ArrayVec<u8, N>, used: u64, limit: u64)
-    requires { array_vec_len text.old + 41 ≤ N }
-    ensures items { text.new.items ≡ text.old.items ++ share_text used limit }
-    ensures len { array_vec_len text.new ≤ array_vec_len text.old + 41 }
+fn add_share(reply: &mut Reply, used: u64, limit: u64)
+    requires { length reply.old.text + 41 ≤ 2100 }
+    ensures added { reply.new ≡ record reply.old { text = reply.old.text ++ share_text used limit } }
+    ensures len { length reply.new.text ≤ length reply.old.text + 41 }
 {
-    add_number(text, used);
-    add(text, b"/");
-    add_number(text, limit);
+    reply.add_number(used);
+    reply.add_text(b"/");
+    reply.add_number(limit);
 }

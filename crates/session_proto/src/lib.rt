@@ -2,7 +2,6 @@
 #![tactic(auto)]
 
 mod args;
-mod buffer;
 mod file;
 mod file_reply;
 mod hex_text;

@@ -1,13 +1,11 @@
 //! The log service's requests and replies.
 ghost use Rattle.std.specs.Prelude.{◌≡◌, ◌+◌, ◌≤◌, ◌++◌, length, None, Some, IfSome, IfNone, IsSome};
-ghost use Rattle.arrayvec.specs.ArrayVec.{array_vec_len};
 ghost use Rattle.own_model.specs.Text.{bytes_of_hex, hex_bytes};
 ghost use Rattle.own_model.specs.LogText.{log_request};
 ghost use Rattle.session_proto.specs.LogReply.{log_reply_text};
 
-use crate::buffer::{add, add_number};
 use crate::hex_text::hex_or_nothing;
-use arrayvec::ArrayVec;
+use server_frame::Reply;
 use text_read::split_first_word;
 
 /// The most bytes of a request.
@@ -50,17 +48,17 @@ pub enum LogReply {
 }
 
 impl LogReply {
-    /// Appends the text of a reply.
-    pub fn write<const N: usize>(self, text: &mut ArrayVec<u8, N>)
-        requires { array_vec_len text.old + 24 ≤ N }
-        ensures { text.new.items ≡ text.old.items ++ log_reply_text self }
+    /// Appends the text of a reply to another, where there is room for 24 bytes.
+    pub fn write(self, reply: &mut Reply)
+        requires { length reply.old.text + 24 ≤ 2100 }
+        ensures { reply.new ≡ record reply.old { text = reply.old.text ++ log_reply_text self } }
     {
         match self {
             LogReply::Wrote(count) => {
-                add(text, b"OK ");
-                add_number(text, count);
+                reply.add_text(b"OK ");
+                reply.add_number(count);
             }
-            LogReply::BadRequest => add(text, b"ERR BAD_REQUEST"),
+            LogReply::BadRequest => reply.add_text(b"ERR BAD_REQUEST"),
         }
     }
 }

@@ -1,7 +1,8 @@
 //! The texts of worked inputs.
 
 use crate::{FileError, FileReply, FileRequest, LogReply, LogRequest, SessionArgs, Shares};
-use arrayvec::ArrayVec;
+use server_frame::Reply;
+use std::test::Fail;
 use trade_base::{Caps, Ram};
 
 // What a text gives, as plain values.
@@ -128,16 +129,18 @@ fn long_requests_are_none(rt: HostRuntime) {
 }
 
 #[test]
-fn log_replies_are_written(rt: HostRuntime) {
+fn log_replies_are_written(rt: HostRuntime) -> Result<(), Fail> {
+    let mut told = Reply::boot(rt.alloc())?;
     for (reply, want) in [
         (LogReply::Wrote(0), b"OK 0".as_slice()),
         (LogReply::Wrote(4096), b"OK 4096"),
         (LogReply::BadRequest, b"ERR BAD_REQUEST"),
     ] {
-        let mut text = ArrayVec::<u8, 24>::new();
-        reply.write(&mut text);
-        assert_eq!(rt; text.as_slice(), want);
+        told.clear();
+        reply.write(&mut told);
+        assert_eq!(rt; told.text(), want);
     }
+    Ok(())
 }
 
 #[test]
@@ -220,7 +223,8 @@ fn other_file_requests_are_none(rt: HostRuntime) {
 }
 
 #[test]
-fn file_replies_are_written(rt: HostRuntime) {
+fn file_replies_are_written(rt: HostRuntime) -> Result<(), Fail> {
+    let mut told = Reply::boot(rt.alloc())?;
     let shares = Shares {
         ram_used: Ram(20480),
         ram_limit: Ram(32768),
@@ -240,8 +244,9 @@ fn file_replies_are_written(rt: HostRuntime) {
         ),
         (FileReply::Refused(FileError::NotFound), b"ERR NOT_FOUND"),
     ] {
-        let mut text = ArrayVec::<u8, 2100>::new();
-        reply.write(&mut text);
-        assert_eq!(rt; text.as_slice(), want);
+        told.clear();
+        reply.write(&mut told);
+        assert_eq!(rt; told.text(), want);
     }
+    Ok(())
 }

@@ -2,3 +2,4 @@ pub mod SearchLemmas
 pub mod WordLemmas
 pub mod AddressLemmas
 pub mod HexLemmas
+pub mod PairLemmas

@@ -3,6 +3,7 @@
 
 mod address;
 mod bytes;
+mod hex_pairs;
 mod hex_text;
 #[cfg(test)]
 mod tests;
@@ -10,5 +11,6 @@ mod words;
 
 pub use address::read_address;
 pub use bytes::find_byte;
+pub use hex_pairs::{decode_hex, decode_hex_from, encode_hex};
 pub use hex_text::read_hex;
 pub use words::{has_name_bytes, is_name, split_first_word};

@@ -1,6 +1,9 @@
 //! Each reader, on texts that it takes and on others.
 
-use crate::{find_byte, has_name_bytes, is_name, read_address, read_hex, split_first_word};
+use crate::{
+    decode_hex, encode_hex, find_byte, has_name_bytes, is_name, read_address, read_hex,
+    split_first_word,
+};
 
 #[test]
 fn bytes_are_found(rt: HostRuntime) {
@@ -53,4 +56,17 @@ fn hex_is_read(rt: HostRuntime) {
     for text in [b"".as_slice(), b"0", b"000", b"0g", b"00 "] {
         assert!(rt; read_hex(text).is_none());
     }
+}
+
+#[test]
+fn bytes_are_decoded_and_encoded(rt: HostRuntime) {
+    let mut bytes = [0; 11];
+    decode_hex(b"00fF0aA96f9B7e80c35D1b", &mut bytes);
+    assert_eq!(rt; &bytes, &[0, 255, 10, 169, 111, 155, 126, 128, 195, 93, 27]);
+    let mut hex = [0; 22];
+    encode_hex(&bytes, &mut hex);
+    assert_eq!(rt; &hex, b"00ff0aa96f9b7e80c35d1b");
+    decode_hex(b"", &mut bytes[..0]);
+    encode_hex(b"", &mut hex[..0]);
+    assert_eq!(rt; &hex, b"00ff0aa96f9b7e80c35d1b");
 }

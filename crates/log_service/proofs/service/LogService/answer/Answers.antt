@@ -22,4 +22,5 @@ pub returns-in-Some-clause-text : goal.returns-in-Some-clause-text
 returns-in-Some-clause-text c =
     let hex = c.in-Some.request.hex.now in
     let half : length hex / 2 ≡ length (hex_bytes hex) = omega (arith, bytes_of_digits hex (hex_bytes hex) (has_bytes hex c.in-Some.ensures.hex)) in
-    ap (λ told. told.text) c.tell.ensures ∙ ap log_reply half ∙ sym (ap (λ o. (log_served_bytes c.args.session.now.partial o).reply) c.in-Some.ensures.bytes)
+    let empty : c.write.new.reply.text ≡ [] = ap (λ told. told.text) c.write.ensures.reply ∙ ap (λ told. told.text) c.requires in
+    ap (λ told. told.text) c.write-in-Some.ensures ∙ rw (empty, half) (sym (ap (λ o. (log_served_bytes c.args.session.now.partial o).reply) c.in-Some.ensures.bytes))

@@ -1,50 +1,30 @@
--- Each byte takes what is written one on.
-use Rattle.std.proofs.Common.{◌∷◌, ◌∙◌, [], length, refl, sym, ap, subst, arith}
+-- Each call takes what is written some bytes on.
+use Rattle.std.proofs.Common.{◌≡◌, ◌≤◌, length, take, subst, arith, length-take-le}
+use Rattle.std.proofs.lemmas.List.{take_all}
 use Rattle.own_model.specs.LogService.{IsPartial}
-use Rattle.own_model.proofs.LogLemmas.{writes_lines}
 use Rattle.own_model.specs.Text.{hex_bytes}
-use Rattle.log_service.proofs.SessionLemmas.{left_then, lines_then, left_none, lines_none}
+use Rattle.own_model.proofs.LogLemmas.{bytes_of_digits}
+use Rattle.log_service.proofs.SessionLemmas.{writes_none, writes_then, partial_after, taken_next}
 use Rattle.log_service.proofs.session.LogSession.write.Goals as goal
 
-pub loop-byte-init : goal.loop-byte-init
-loop-byte-init c = record {
-  label = refl;
-  partial = subst (λ session. IsPartial session.partial) c.self.view_is c.self.invariant;
-  hex = c.requires.hex;
-  left = refl;
-  lines = refl;
-  text = refl;
-  room = omega (arith, c.requires.room, c.self.invariant.short, ap (λ session. length session.partial) c.self.view_is);
-}
+pub loop-done-init : goal.loop-done-init
+loop-done-init c =
+    let is = subst (λ session. IsPartial session.partial) c.self.view_is c.self.invariant in
+    record { partial = is; within = omega arith; written = writes_none c.args.self.now c.args.reply.now is }
 
-pub push-requires : goal.push-requires
-push-requires c = omega (arith, ap length c.in-Some.ensures.first, c.loop-byte.invariant.room)
-
-pub loop-byte-preserved : goal.loop-byte-preserved
-loop-byte-preserved c =
-    let before = c.loop-byte.invariant in
-    let partial = c.loop-byte.self.partial in
-    let first = c.in-Some.ensures.first in
-    let after = c.push.ensures in
+pub loop-done-preserved : goal.loop-done-preserved
+loop-done-preserved c =
+    let is = subst (λ session. IsPartial session.partial) c.self.view_is c.self.invariant in
+    let l = c.loop-done.invariant in
     record {
-      label = ap (λ session. session.label) after.session ∙ before.label;
-      partial = rw after.session (writes_lines partial (c.in-Some.byte ∷ []) before.partial).1;
-      hex = c.in-Some.ensures.rest;
-      left = rw after.session (left_then partial (hex_bytes c.loop-byte.rest.now) (hex_bytes c.in-Some.more.now) c.in-Some.byte before.partial first ∙ before.left);
-      lines = rw (after.session, after.reply, before.label)
-          (lines_then c.args.self.now.label c.loop-byte.reply.lines partial (hex_bytes c.loop-byte.rest.now) (hex_bytes c.in-Some.more.now) c.in-Some.byte before.partial first ∙ before.lines);
-      text = ap (λ reply. reply.text) after.reply ∙ before.text;
-      room = omega (arith, after.added, before.room, ap length first);
+      partial = partial_after _ l.partial c.write_bytes.ensures;
+      within = omega (arith, c.decode_hex_from.auto.bytes, c.min.ensures, length-take-le c.min.result c.loop-done.buffer);
+      written = rw (taken_next c.loop-done.done _ (hex_bytes c.args.hex.now) c.decode_hex_from.new.bytes c.decode_hex_from.ensures)
+          (writes_then _ _ _ _ _ _ _ _ is l.written c.write_bytes.ensures);
     }
 
-pub returns-clause-session : goal.returns-clause-session
-returns-clause-session c =
-    let before = c.loop-byte.invariant in
-    let left = sym (left_none c.loop-byte.self.partial (hex_bytes c.loop-byte.rest.now) before.partial c.in_default.ensures.none) ∙ before.left in
-    λ i. record { label = before.label i; partial = left i }
-
-pub returns-clause-reply : goal.returns-clause-reply
-returns-clause-reply c =
-    let before = c.loop-byte.invariant in
-    let lines = sym (lines_none c.args.self.now.label c.loop-byte.reply.lines c.loop-byte.self.partial (hex_bytes c.loop-byte.rest.now) before.partial c.in_default.ensures.none) ∙ before.lines in
-    λ i. record { lines = lines i; text = before.text i }
+pub returns : goal.returns
+returns c =
+    let total = hex_bytes c.args.hex.now in
+    let all : length total ≤ c.loop-done.done = omega (arith, bytes_of_digits c.args.hex.now total c.requires.hex) in
+    rw (take_all c.loop-done.done total all) at c.loop-done.invariant.written

@@ -29,7 +29,7 @@ write-requires-clause-range c =
     let paid = paid_in_part _ _ _ _ (found_has _ _ c.requires.sound c.args.address _ _ count some c.in_ok-space.ensures.found) in
     let fit = found_fits _ _ c.requires.sound c.args.address _ _ count some c.in_ok-space.ensures.found in
     let same = ap (λ m. length (space_at m c.in_ok-space.space.0).bytes) c.in_ok-space.ensures.memory in
-    omega (arith, fit, half_is c.args.hex.now c.requires.hex, ap length c.decode.ensures, ap length paid.bytes_are, same)
+    omega (arith, fit, half_is c.args.hex.now c.requires.hex, ap length c.decode_hex.ensures, ap length paid.bytes_are, same)
 
 pub returns : goal.returns
 returns c =
@@ -37,8 +37,8 @@ returns c =
     let bytes = bytes_in c.args.hex.now in
     let some = few _ _ _ _ _ c.requires.sound.own c.args.address count c.in_ok-space.ensures.refusal in
     let paid = paid_in_part _ _ _ _ (found_has _ _ c.requires.sound c.args.address _ _ count some c.in_ok-space.ensures.found) in
-    let written = subst (λ m. PartBecomes (space_at m c.in_ok-space.space.0).payer (part_with_bytes (part (space_at m c.in_ok-space.space.0).payer m) c.in_ok-space.space.0 c.in_ok-space.offset c.decode.new.bytes) m c.write.new.self) c.in_ok-space.ensures.memory c.write.ensures.part in
+    let written = subst (λ m. PartBecomes (space_at m c.in_ok-space.space.0).payer (part_with_bytes (part (space_at m c.in_ok-space.space.0).payer m) c.in_ok-space.space.0 c.in_ok-space.offset c.decode_hex.new.bytes) m c.write.new.self) c.in_ok-space.ensures.memory c.write.ensures.part in
     let becomes = for_payer (λ p. part_with_bytes p c.in_ok-space.space.0 c.in_ok-space.offset bytes) paid.payer
-    (subst (λ l. PartBecomes (space_at c.args.memory.now c.in_ok-space.space.0).payer (part_with_bytes (part (space_at c.args.memory.now c.in_ok-space.space.0).payer c.args.memory.now) c.in_ok-space.space.0 c.in_ok-space.offset l) c.args.memory.now c.write.new.self) c.decode.ensures written) in
+    (subst (λ l. PartBecomes (space_at c.args.memory.now c.in_ok-space.space.0).payer (part_with_bytes (part (space_at c.args.memory.now c.in_ok-space.space.0).payer c.args.memory.now) c.in_ok-space.space.0 c.in_ok-space.offset l) c.args.memory.now c.write.new.self) c.decode_hex.ensures written) in
     let done = poke_finishes _ _ c.requires.sound c.args.address _ _ count bytes (half_is c.args.hex.now c.requires.hex) some (bytes_small c.args.hex.now c.requires.hex) c.in_ok-space.ensures.found becomes in
     record { outcome = done.outcome; keeps = done.keeps }
