@@ -17,7 +17,7 @@ abbrev pub GrowAsks : {Rest : Type 0} → (ℕ → Type 0) → Plan → View Res
 GrowAsks IsNode plan w root a k = (t : Tree) × Stands plan w t root × IsNew plan w t a k × AreNodes IsNode t × IsNode a
 
 -- nodes with one more are nodes
-nodes_with : (IsNode : ℕ → Type 0) (a k : ℕ) (t u : Tree) → AreNodes IsNode t → IsNode a → ((x : ℕ) → tally (is_at x) u ≡ is_at x a k + tally (is_at x) t) → AreNodes IsNode u
+pub nodes_with : (IsNode : ℕ → Type 0) (a k : ℕ) (t u : Tree) → AreNodes IsNode t → IsNode a → ((x : ℕ) → tally (is_at x) u ≡ is_at x a k + tally (is_at x) t) → AreNodes IsNode u
 nodes_with IsNode a k t u nodes one sum x there =
     elim (x == a) as (λ v. (x == a) ≡ v → IsNode x) [
       | true ↦ λ is. let at : a ≡ x = grind (arith, nat_tests) in subst IsNode at one

@@ -1,9 +1,10 @@
 -- What the operations keep of a tree: the order of its ranks. And which node is found.
-use Rattle.std.proofs.Common.{◌≡◌, ◌≢◌, ◌&&◌, ℕ, ◌+◌, ◌<◌, ◌≤◌, true, false, refl, ap, ◌∙◌, arith}
-use Rattle.std.specs.Prelude.{nat_lt, nat_le, eqb, if◌then◌else◌, ◌==◌}
+use Rattle.std.proofs.Common.{◌≡◌, ◌≢◌, ◌&&◌, ℕ, ◌+◌, ◌<◌, ◌≤◌, true, false, refl, ap, sym, subst, inl, inr, ◌∙◌, arith}
+use Rattle.std.specs.Prelude.{nat_lt, nat_le, if◌then◌else◌, ◌==◌}
+use Rattle.std.proofs.lemmas.Bool.{cases_lt}
 use Rattle.std.proofs.lemmas.Bool.Decides.{nat_tests}
-use Rattle.avl_tree.specs.Tree.{Tree, Leaf, Node, high, tally, forked, raised_left, raised_inner_left, raised_right, raised_inner_right, turned_right, turned_left, balanced, inserted, first_of, rest_of, joined, removed, or_else, found, IsOrdered, same, ranked}
-use Rattle.avl_tree.proofs.TreeLemmas.{tally-balanced, tally-joined}
+use Rattle.avl_tree.specs.Tree.{Tree, Leaf, Node, high, tally, forked, raised_left, raised_inner_left, raised_right, raised_inner_right, turned_right, turned_left, balanced, inserted, first_of, rest_of, joined, removed, or_else, found, IsOrdered, same, ranked, is_at, at_least, between, IsFirst, nowhere, somewhere}
+use Rattle.avl_tree.proofs.TreeLemmas.{tally_le, tally-balanced, tally-joined}
 
 -- where the ranks differ that is 0
 differs-same : (a s b t : ℕ) → t ≢ s → same a s b t ≡ 0
@@ -159,30 +160,79 @@ module _ (f : ℕ → ℕ → ℕ) where
         ] refl
       ] refl
 
--- a node of the rank that is looked for is found
-pub found-there : (low a s : ℕ) (t : Tree) (up : ℕ) → IsOrdered low t up → 1 ≤ tally (same a s) t → a ≢ 0 → found s t ≡ a
+-- ---- the first node of at least a rank
+
+not_least : (k b t : ℕ) → t < k → at_least k b t ≡ 0
+not_least k b t lt = grind (arith, nat_tests)
+
+not_between : (k n b t : ℕ) → n ≤ t → between k n b t ≡ 0
+not_between k n b t ge = grind (arith, nat_tests)
+
+not_between_low : (k n b t : ℕ) → t < k → between k n b t ≡ 0
+not_between_low k n b t lt = grind (arith, nat_tests)
+
+between_least : (k n : ℕ) (a s : ℕ) → between k n a s ≤ at_least k a s
+between_least k n a s = grind (arith, nat_tests)
+
+-- nodes behind a rank aren't below it, and nodes before one aren't of at least it
+none_between : (k n low : ℕ) (t : Tree) (up : ℕ) → n ≤ low → IsOrdered low t up → tally (between k n) t ≡ 0
+none_between k n low Leaf up le o = refl
+none_between k n low (Node l a s h r) up le o =
+    let from = bounds low l s o.0 in
+    omega (arith, not_between k n a s (omega arith), none_between k n low l s le o.0, none_between k n (s + 1) r up (omega arith) o.1)
+
+none_least : (k low : ℕ) (t : Tree) (up : ℕ) → up ≤ k → IsOrdered low t up → tally (at_least k) t ≡ 0
+none_least k low Leaf up le o = refl
+none_least k low (Node l a s h r) up le o =
+    let to = bounds (s + 1) r up o.1 in
+    omega (arith, not_least k a s (omega arith), none_least k low l s (omega arith) o.0, none_least k (s + 1) r up le o.1)
+
+number_some : (a s : ℕ) → is_at 0 a s ≡ 0 → (a == 0) ≡ false
+number_some a s none = grind (arith, nat_tests)
+
+-- the number of a node that is there is none that isn't
+same_at : (a s b t : ℕ) → same a s b t ≤ is_at a b t
+same_at a s b t = grind (arith, nat_tests)
+
+pub found-first : (k low : ℕ) (t : Tree) (up : ℕ) → IsOrdered low t up → tally (is_at 0) t ≡ 0 → IsFirst k t (found k t)
 unfolding found
-found-there low a s Leaf up o there some = absurd (omega arith)
-found-there low a s (Node l b t h r) up o there some =
-    elim (nat_lt s t) as (λ v. nat_lt s t ≡ v → (if v then or_else (found s l) b else (if nat_lt t s then found s r else b)) ≡ a) [
-      | true ↦ λ is.
-          let lt : s < t = grind (arith, nat_tests) in
-          let right = none_below (t + 1) a s r up (omega arith) o.1 in
-          let here = differs-same a s b t (omega arith) in
-          let left = found-there low a s l t o.0 (omega arith) some in
-          let is_some : eqb (found s l) 0 ≡ false = grind (arith, nat_tests) in
-          rw is_some left
-      | false ↦ λ no. elim (nat_lt t s) as (λ v. nat_lt t s ≡ v → (if v then found s r else b) ≡ a) [
-        | true ↦ λ is.
-            let lt : t < s = grind (arith, nat_tests) in
-            let left = none_above low a s l t (omega arith) o.0 in
-            let here = differs-same a s b t (omega arith) in
-            found-there (t + 1) a s r up o.1 (omega arith) some
+found-first k low Leaf up o some = nowhere refl
+found-first k low (Node l b s h r) up o some =
+    elim (nat_lt k s) as (λ v. nat_lt k s ≡ v → IsFirst k (Node l b s h r) (if v then or_else (found k l) b else (if nat_lt s k then found k r else b))) [
+      | true ↦ λ is. left (grind (arith, nat_tests)) (found k l) (found-first k low l s o.0 (omega (arith, some)))
+      | false ↦ λ no. elim (nat_lt s k) as (λ v. nat_lt s k ≡ v → IsFirst k (Node l b s h r) (if v then found k r else b)) [
+        | true ↦ λ is. right (grind (arith, nat_tests)) (found k r) (found-first k (s + 1) r up o.1 (omega (arith, some)))
         | false ↦ λ is.
-            let ge : s ≤ t = grind (arith, nat_tests) in
-            let le : t ≤ s = grind (arith, nat_tests) in
-            let left = none_above low a s l t (omega arith) o.0 in
-            let right = none_below (t + 1) a s r up (omega arith) o.1 in
-            same-node a s b t (omega arith)
+            let le : k ≤ s = grind (arith, nat_tests) in
+            let ge : s ≤ k = grind (arith, nat_tests) in
+            here le (omega (arith, tally_le (between k s) (at_least k) (between_least k s) l, none_least k low l s ge o.0))
       ] refl
     ] refl
+  where
+    here : k ≤ s → tally (between k s) l ≡ 0 → IsFirst k (Node l b s h r) b
+    here le before =
+        somewhere b s le (omega (arith, same-same b s)) (omega (arith, before, not_between k s b s (omega arith), none_between k s (s + 1) r up (omega arith) o.1))
+
+    left : k < s → (place : ℕ) → IsFirst k l place → IsFirst k (Node l b s h r) (or_else place b)
+    left lt place (nowhere none) = here (omega arith) (omega (arith, tally_le (between k s) (at_least k) (between_least k s) l, none))
+    left lt place (somewhere a t fits there least) =
+        let low_rank : t < s = below a t there in
+        let is_some : (a == 0) ≡ false = elim (a == 0) as (λ v. (a == 0) ≡ v → v ≡ false) [
+          | true ↦ λ is. absurd (let none : a ≡ 0 = grind (arith, nat_tests) in omega (arith, tally_le (same a t) (is_at a) (same_at a t) l, subst (λ x. tally (is_at x) l ≡ 0) (sym none) (omega (arith, some))))
+          | false ↦ λ is. refl
+        ] refl in
+        subst (λ v. IsFirst k (Node l b s h r) (if v then b else a)) (sym is_some)
+        (somewhere a t fits (omega (arith, there)) (omega (arith, least, not_between k t b s (omega arith), none_between k t (s + 1) r up (omega arith) o.1)))
+      where
+        below : (a t : ℕ) → 1 ≤ tally (same a t) l → t < s
+        below a t there =
+            elim (cases_lt t s) [
+              | inl lt ↦ lt
+              | inr ge ↦ absurd (omega (arith, there, none_above low a t l s ge o.0))
+            ]
+
+    right : s < k → (place : ℕ) → IsFirst k r place → IsFirst k (Node l b s h r) place
+    right lt place (nowhere none) = nowhere (omega (arith, none, not_least k b s lt, none_least k low l s (omega arith) o.0))
+    right lt place (somewhere a t fits there least) =
+        somewhere a t fits (omega (arith, there))
+        (omega (arith, least, not_between_low k t b s lt, tally_le (between k t) (at_least k) (between_least k t) l, none_least k low l s (omega arith) o.0))

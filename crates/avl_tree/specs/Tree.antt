@@ -137,3 +137,16 @@ ranked s b t = if s == t then 1 else 0
 -- 1 for this node, else 0
 abbrev pub is_at : ℕ → ℕ → ℕ → ℕ
 is_at a b t = if a == b then 1 else 0
+
+-- 1 for a node of at least this rank, else 0
+abbrev pub at_least : ℕ → ℕ → ℕ → ℕ
+at_least k b t = if nat_le k t then 1 else 0
+
+-- 1 for a node of at least one rank and below another one, else 0
+abbrev pub between : ℕ → ℕ → ℕ → ℕ → ℕ
+between k n b t = if nat_le k t && nat_lt t n then 1 else 0
+
+-- the first node of at least a rank, or 0 where there is none
+pub data IsFirst (k : ℕ) (t : Tree) : ℕ → Type 0 where
+  nowhere : tally (at_least k) t ≡ 0 → IsFirst k t 0
+  somewhere : (a s : ℕ) → k ≤ s → 1 ≤ tally (same a s) t → tally (between k s) t ≡ 0 → IsFirst k t a

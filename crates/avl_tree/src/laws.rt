@@ -1,6 +1,6 @@
 //! Laws over the definitions alone. They do nothing at run time.
 ghost use Rattle.std.specs.Prelude.{◌≡◌, ℕ, ◌+◌, ◌*◌, ◌^◌, ◌<◌, ◌≤◌};
-ghost use Rattle.avl_tree.specs.Tree.{Tree, high, tally, found, inserted, removed, same, ranked, IsBalanced, IsOrdered};
+ghost use Rattle.avl_tree.specs.Tree.{Tree, high, tally, found, inserted, removed, same, ranked, is_at, IsFirst, IsBalanced, IsOrdered};
 
 /// A balanced tree with less than `2 ^ n` nodes is no higher than `2 * n + 1`.
 pub fn trees_are_low()
@@ -26,7 +26,7 @@ pub fn removal_takes_one()
         tally weight (removed s t) + weight a s ≡ tally weight t }
 {}
 
-/// A node of the rank that is looked for is found.
+/// What is found is the first node of at least the rank, where no node is number 0.
 pub fn found_node_is_first()
-    ensures { (a s up : ℕ) (t : Tree) → IsOrdered 0 t up → 1 ≤ tally (same a s) t → 0 < a → found s t ≡ a }
+    ensures { (s up : ℕ) (t : Tree) → IsOrdered 0 t up → tally (is_at 0) t ≡ 0 → IsFirst s t (found s t) }
 {}
