@@ -9,16 +9,17 @@ use Rattle.std.specs.List.{AllByRecursion}
 use Rattle.own_model.specs.Heap.{Block, Used, Hole, bytes_in, IsBlockSize, AreBlocks, Heap}
 use Rattle.own_model.specs.BestFit.{Spot, holes_of, best_hole, block_size, cut, taken, taken_at, taken_in, chunk_of, binary_digits}
 use Rattle.avl_alloc.specs.declared.best_fit.BestFit.{BestFit}
-use Rattle.avl_alloc.specs.Words.{Words, place_at, with_word, within}
-use Rattle.avl_alloc.specs.Tree.{Tree, Leaf, Node, high, found}
-use Rattle.avl_alloc.specs.Held.{Fits, Holds, heads, links}
+use Rattle.avl_alloc.specs.Words.{Words, place_at, with_word, within, IsNode}
+use Rattle.avl_tree.specs.Tree.{Tree, high, found}
+use Rattle.avl_tree.specs.View.{AreNodes}
+use Rattle.avl_alloc.specs.Holes.{Fits, key, by_key, heads, links}
 use Rattle.avl_alloc.specs.Fit.{IsPlaceOf}
 use Rattle.avl_alloc.specs.Found.{block_addr}
 use Rattle.avl_alloc.specs.Layout.{Laid, heap_of, sizes_of, bytes_of, hole_count, weigh_all, none, whole, IsChunk, AreChunks, IsLaidOut, IsSound, ChangesHoles}
 use Rattle.avl_alloc.specs.Site.{Site, heap_with, start_of, Stand, StandUsed, Turn}
-use Rattle.avl_alloc.proofs.TreeLemmas.{one, high_bound}
+use Rattle.avl_tree.proofs.TreeLemmas.{one, high_bound}
 use Rattle.avl_alloc.proofs.WeightLemmas.{all-left, all-right, IsLong, AreLong, TidyAll, tidy_all, chunks_kept, chunks_long, chunks_apart, weigh_all-append, weigh_all-parts, weigh-site}
-use Rattle.avl_alloc.proofs.HeldLemmas.{within_above, with_word_same, with_word_other, fits_node, holds_kept}
+use Rattle.avl_alloc.proofs.HoleLemmas.{within_above, with_word_same, with_word_other, fits_node, holds_kept, none_at_zero}
 use Rattle.avl_alloc.proofs.TurnLemmas.{outside}
 use Rattle.avl_alloc.proofs.FitLemmas.{found-best, holes_counted}
 use Rattle.avl_alloc.proofs.LayoutLemmas.{fits_one_more, heap_is, IsTold, laid_sound}
@@ -67,13 +68,13 @@ pub record IsBestAt (fit : BestFit) (w : Words) (size place : ℕ) : Type 0 wher
   pub there : place ≡ place_at hole.chunk hole.offset
   pub short : hole.offset < 2 ^ 32
 
-module _ (fit : BestFit) (w : Words) (size place : ℕ) (told : IsTold fit w) (read : place ≡ found size told.tree) where
+module _ (fit : BestFit) (w : Words) (size place : ℕ) (told : IsTold fit w) (read : place ≡ found (key 0 size) told.tree) where
   found_place : IsPlaceOf place (best_hole size (holes_of (heap_of fit w)))
   found_place =
       let laid = told.laid in
       let few = sizes_few fit laid.few laid.sized in
       subst (λ p. IsPlaceOf p (best_hole size (holes_of (heap_of fit w)))) (sym read)
-      (found-best size (heap_of fit w) told.tree laid.ordered.0 (short_from w 0 (sizes_of fit) (heap_of fit w) laid.chunks (omega arith)) laid.ordered.1 laid.same)
+      (found-best size (heap_of fit w) told.tree laid.ordered.0 (short_from w 0 (sizes_of fit) (heap_of fit w) laid.chunks (omega arith)) laid.ordered.1 (none_at_zero (bytes_of fit) told.tree laid.nodes) laid.same)
 
   pub found_none : place ≡ 0 → None ≡ best_hole size (holes_of (heap_of fit w))
   found_none none_there = go (best_hole size (holes_of (heap_of fit w))) found_place
@@ -164,13 +165,9 @@ chunks_more w number n size [] (b ∷ heap) c at chunk are = absurd are
 chunks_more w number n size (s ∷ sizes) [] c at chunk are = absurd are
 chunks_more w number n size (s ∷ sizes) (b ∷ heap) c at chunk are = (are.0, chunks_more w (number + 1) n size sizes heap c (omega arith) chunk are.1)
 
-holds_fits : (bytes real : ℕ → ℕ) (w : Words) (t : Tree) → Fits bytes real → Holds bytes w t → Holds real w t
-holds_fits bytes real w Leaf fits held = tt
-holds_fits bytes real w (Node l a s h r) fits held = (
-  record { node = fits_node bytes real a fits held.0.node; size = held.0.size; left = held.0.left; right = held.0.right; high = held.0.high },
-  holds_fits bytes real w l fits held.1,
-  holds_fits bytes real w r fits held.2,
-)
+-- holes of chunks that have the bytes are holes
+pub holes_fit : (bytes real : ℕ → ℕ) (t : Tree) → Fits bytes real → AreNodes (IsNode bytes) t → AreNodes (IsNode real) t
+holes_fit bytes real t fits nodes a there = fits_node bytes real a fits (nodes a there)
 
 -- sizes stay where one is put behind them
 kept_before : (sizes : List ℕ) (bytes chunk : ℕ) → slice_index sizes chunk ≤ slice_index (sizes ++ bytes ∷ []) chunk
@@ -266,16 +263,16 @@ module _ (fit : BestFit) (w x : Words) (place number bytes : ℕ) (is : IsChunkN
         is.told.laid.chunks));
     stands = record {
       at = is.told.laid.stands.at;
-      holds = holds_fits (bytes_of fit) (bytes_of (with_chunk fit number bytes)) x is.told.tree fits_more
-          (holds_kept (bytes_of fit) w x is.told.tree
+      holds = holds_kept w x is.told.tree
           (λ q in_tree. let tidy = tidy_told q in words_kept q (omega (arith, tidy.holes, is.told.laid.same (heads q), is.told.laid.same (links q))))
-          is.told.laid.stands.holds);
+          is.told.laid.stands.holds;
       balanced = is.told.laid.stands.balanced;
       low = is.told.laid.stands.low;
       apart = is.told.laid.stands.apart;
     };
+    nodes = holes_fit (bytes_of fit) (bytes_of (with_chunk fit number bytes)) is.told.tree fits_more is.told.laid.nodes;
     ordered = is.told.laid.ordered;
-    same = λ f. omega (arith, is.told.laid.same f, weigh_all-append none f 0 (heap_of fit w) ((Used bytes ∷ []) ∷ []));
+    same = λ f. omega (arith, is.told.laid.same f, weigh_all-append none (by_key f) 0 (heap_of fit w) ((Used bytes ∷ []) ∷ []));
   }
 
   pub more_asks : StandUsed (with_chunk fit number bytes) x (last_site (heap_of fit w)) place (Used bytes ∷ []) bytes

@@ -1,5 +1,5 @@
 -- The best hole: what the tree finds is what the definition says of the heap's holes.
-use Rattle.std.proofs.Common.{◌≡◌, ℕ, ◌+◌, ◌^◌, ◌<◌, ◌≤◌, true, false, refl, sym, ap, ◌∙◌, inl, inr, arith, List, [], ◌∷◌, ◌++◌, length, Option, Some, None}
+use Rattle.std.proofs.Common.{◌≡◌, ◌≢◌, ℕ, ◌+◌, ◌*◌, ◌^◌, ◌<◌, ◌≤◌, true, false, refl, sym, ap, ◌∙◌, inl, inr, arith, List, [], ◌∷◌, ◌++◌, length, Option, Some, None}
 use Rattle.std.specs.Prelude.{nat_lt, nat_le, if◌then◌else◌, ◌==◌, ◌&&◌, ◌||◌}
 use Rattle.std.proofs.lemmas.Bool.{cases_lt}
 use Rattle.std.proofs.lemmas.Bool.Decides.{nat_tests}
@@ -7,10 +7,12 @@ use Rattle.own_model.specs.Heap.{Block, Used, Hole, Heap}
 use Rattle.own_model.specs.BestFit.{Spot, holes_in, holes_from, holes_of, comes_before, earlier, best_hole}
 use Rattle.avl_alloc.specs.Fit.{AreShort, IsPlaceOf}
 use Rattle.avl_alloc.specs.Words.{place_at}
-use Rattle.avl_alloc.specs.Tree.{Tree, tally, key, found, IsOrdered}
+use Rattle.avl_tree.specs.Tree.{Tree, tally, found, same, is_at, at_least, between, IsFirst, nowhere, somewhere, IsOrdered}
+use Rattle.avl_alloc.specs.Holes.{key, by_key}
 use Rattle.avl_alloc.specs.Layout.{weigh, weigh_all, none, weigh_holes, hole_count}
-use Rattle.avl_alloc.proofs.TreeLemmas.{one, same, same-same}
-use Rattle.avl_alloc.proofs.BestLemmas.{better, enough, not_better, not_better_small, not_enough, IsFound, nowhere, somewhere, found-is}
+use Rattle.avl_tree.proofs.TreeLemmas.{one}
+use Rattle.avl_tree.proofs.OrderLemmas.{same-same, found-first}
+use Rattle.avl_alloc.proofs.HoleLemmas.{key_place}
 
 -- ---- weights over the list of holes
 
@@ -52,7 +54,32 @@ weigh_le : (f h : ℕ → ℕ → ℕ) → ((a s : ℕ) → f a s ≤ h a s) →
 weigh_le f h le [] = omega arith
 weigh_le f h le (x ∷ rest) = omega (arith, le (place_at x.chunk x.offset) x.size, weigh_le f h le rest)
 
+place_short : (chunk offset : ℕ) → offset < 2 ^ 32 → chunk < 2 ^ 31 → place_at chunk offset < 2 ^ 64
+place_short chunk offset so sc = omega arith
+
+-- the same, for holes whose places are below what parts two sizes
+weigh_le_short : (f h : ℕ → ℕ → ℕ) → ((a s : ℕ) → a < 2 ^ 64 → f a s ≤ h a s) → (xs : List Spot) → AreShort xs → weigh_spots f xs ≤ weigh_spots h xs
+weigh_le_short f h le [] short = omega arith
+weigh_le_short f h le (x ∷ rest) short = omega (arith, le (place_at x.chunk x.offset) x.size (place_short x.chunk x.offset short.0 short.1), weigh_le_short f h le rest short.2)
+
 -- ---- the best of a list
+
+-- 1 for a hole of at least so many bytes, else 0
+abbrev enough : ℕ → ℕ → ℕ → ℕ
+enough size a s = if nat_le size s then 1 else 0
+
+-- 1 for one of them that comes before a key, else 0
+abbrev better : ℕ → ℕ → ℕ → ℕ → ℕ
+better size k a s = if nat_le size s && nat_lt (key a s) k then 1 else 0
+
+not_enough : (size a s : ℕ) → s < size → enough size a s ≡ 0
+not_enough size a s lt = grind (arith, nat_tests)
+
+not_better : (size k a s : ℕ) → k ≤ key a s → better size k a s ≡ 0
+not_better size k a s le = grind (arith, nat_tests)
+
+not_better_small : (size k a s : ℕ) → s < size → better size k a s ≡ 0
+not_better_small size k a s lt = grind (arith, nat_tests)
 
 -- the key of a hole
 abbrev pub key_of : Spot → ℕ
@@ -119,33 +146,63 @@ best_hole-is size (x ∷ rest) short =
 
 -- ---- the tree's answer
 
-same_better : (size k a s : ℕ) → size ≤ s → key a s < k → (b t : ℕ) → same a s b t ≤ better size k b t
-same_better size k a s fits lt b t = grind (arith, nat_tests)
+-- the weights of the tree, by key, and those of the definition
+same_fits : (size k a s b t : ℕ) → size ≤ s → k ≤ key 0 size → same a s b t ≤ at_least k b (key b t)
+same_fits size k a s b t fits le = grind (arith, nat_tests)
 
-enough_same : (size a s : ℕ) → size ≤ s → (b t : ℕ) → same a s b t ≤ enough size b t
-enough_same size a s fits b t = grind (arith, nat_tests)
+same_between : (size n a s b t : ℕ) → size ≤ s → key a s < n → same a s b t ≤ between (key 0 size) n b (key b t)
+same_between size n a s b t fits lt = grind (arith, nat_tests)
 
-pub found-spot : (size : ℕ) (spots : List Spot) (t : Tree) (up : ℕ) → AreShort spots → IsOrdered 0 t up → ((f : ℕ → ℕ → ℕ) → tally f t ≡ weigh_spots f spots) →
-    IsPlaceOf (found size t) (best_hole size spots)
-found-spot size spots t up short ordered alike = meet (best_hole size spots) (found size t) (best_hole-is size spots short) (found-is size 0 t up ordered)
+key_enough : (size a n b t : ℕ) → b < 2 ^ 64 → key 0 size ≤ n → same a n b (key b t) ≤ enough size b t
+key_enough size a n b t low le = grind (arith, nat_tests)
+
+key_better : (size k a n b t : ℕ) → b < 2 ^ 64 → key 0 size ≤ n → n < k → same a n b (key b t) ≤ better size k b t
+key_better size k a n b t low le lt = grind (arith, nat_tests)
+
+-- a key tells the place
+key_elsewhere : (a n p s b t : ℕ) → b < 2 ^ 64 → p < 2 ^ 64 → n ≡ key p s → a ≢ p → same a n b (key b t) ≤ 0
+key_elsewhere a n p s b t low low' is differs =
+    elim (key b t == n) as (λ v. (key b t == n) ≡ v → same a n b (key b t) ≤ 0) [
+      | true ↦ λ same_key.
+          let at : b ≡ p = key_place b t p s low low' (let e : key b t ≡ n = grind (arith, nat_tests) in e ∙ is) in
+          grind (arith, nat_tests)
+      | false ↦ λ no. grind (arith, nat_tests)
+    ] refl
+
+sum_none : (xs : List Spot) → weigh_spots (λ _ _. 0) xs ≡ 0
+sum_none [] = refl
+sum_none (x ∷ rest) = omega (arith, sum_none rest)
+
+pub found-spot : (size : ℕ) (spots : List Spot) (t : Tree) (up : ℕ) → AreShort spots → IsOrdered 0 t up → tally (is_at 0) t ≡ 0 → ((f : ℕ → ℕ → ℕ) → tally f t ≡ weigh_spots (by_key f) spots) →
+    IsPlaceOf (found (key 0 size) t) (best_hole size spots)
+found-spot size spots t up short ordered some alike = meet (best_hole size spots) (found (key 0 size) t) (best_hole-is size spots short) (found-first (key 0 size) 0 t up ordered some)
   where
-    meet : (o : Option Spot) (place : ℕ) → IsBest size spots o → IsFound size t place → IsPlaceOf place o
+    meet : (o : Option Spot) (place : ℕ) → IsBest size spots o → IsFirst (key 0 size) t place → IsPlaceOf place o
     meet None place (no_best lacks) (nowhere lacking) = refl
-    meet None place (no_best lacks) (somewhere a s name fits there least) =
-        absurd (omega (arith, alike (same a s), weigh_le (same a s) (enough size) (enough_same size a s fits) spots))
+    meet None place (no_best lacks) (somewhere a n fits there least) =
+        absurd (omega (arith, there, lacks, alike (same a n), weigh_le_short (by_key (same a n)) (enough size) (λ b t low. key_enough size a n b t low fits) spots short))
     meet (Some y) place (best x so sc fits there least) (nowhere lacking) =
-        absurd (omega (arith, alike (enough size), weigh_le (same (place_at x.chunk x.offset) x.size) (enough size) (enough_same size (place_at x.chunk x.offset) x.size fits) spots))
-    meet (Some y) place (best x so sc fits there least) (somewhere a s name fits' there' least') =
-        elim (cases_lt (key_of x) (key a s)) [
-          | inl lt ↦ absurd (omega (arith, alike (better size (key a s)), weigh_le (same (place_at x.chunk x.offset) x.size) (better size (key a s)) (same_better size (key a s) (place_at x.chunk x.offset) x.size fits lt) spots))
-          | inr ge ↦ elim (cases_lt (key a s) (key_of x)) [
-            | inl lt ↦ absurd (omega (arith, alike (same a s), weigh_le (same a s) (better size (key_of x)) (same_better size (key_of x) a s fits' lt) spots))
-            | inr le ↦ let low = name.low in omega arith
+        absurd (omega (arith, there, lacking, alike (at_least (key 0 size)), weigh_le (same (place_at x.chunk x.offset) x.size) (by_key (at_least (key 0 size))) (λ b t. same_fits size (key 0 size) (place_at x.chunk x.offset) x.size b t fits (omega arith)) spots))
+    meet (Some y) place (best x so sc fits there least) (somewhere a n fits' there' least') =
+        elim (cases_lt (key_of x) n) [
+          | inl lt ↦ absurd (omega (arith, there, least', alike (between (key 0 size) n), weigh_le (same (place_at x.chunk x.offset) x.size) (by_key (between (key 0 size) n)) (λ b t. same_between size n (place_at x.chunk x.offset) x.size b t fits lt) spots))
+          | inr ge ↦ elim (cases_lt n (key_of x)) [
+            | inl lt ↦ absurd (omega (arith, there', least, alike (same a n), weigh_le_short (by_key (same a n)) (better size (key_of x)) (λ b t low. key_better size (key_of x) a n b t low fits' lt) spots short))
+            | inr le ↦ elim (a == place_at x.chunk x.offset) as (λ v. (a == place_at x.chunk x.offset) ≡ v → a ≡ place_at x.chunk x.offset) [
+              | true ↦ λ is. grind (arith, nat_tests)
+              | false ↦ λ no. absurd (omega (
+                arith,
+                there',
+                alike (same a n),
+                sum_none spots,
+                weigh_le_short (by_key (same a n)) (λ _ _. 0) (λ b t low. key_elsewhere a n (place_at x.chunk x.offset) x.size b t low (place_short x.chunk x.offset so sc) (omega arith) (λ e. grind (arith, nat_tests))) spots short,
+              ))
+            ] refl
           ]
         ]
 
 -- what a tree of a heap's holes finds is the best hole of the heap
-pub found-best : (size : ℕ) (heap : Heap) (t : Tree) (up : ℕ) → AreShort (holes_of heap) → IsOrdered 0 t up → ((f : ℕ → ℕ → ℕ) → tally f t ≡ weigh_holes f heap) →
-    IsPlaceOf (found size t) (best_hole size (holes_of heap))
-found-best size heap t up short ordered alike =
-    found-spot size (holes_of heap) t up short ordered (λ f. alike f ∙ sym (weigh-holes_from f 0 heap))
+pub found-best : (size : ℕ) (heap : Heap) (t : Tree) (up : ℕ) → AreShort (holes_of heap) → IsOrdered 0 t up → tally (is_at 0) t ≡ 0 → ((f : ℕ → ℕ → ℕ) → tally f t ≡ weigh_holes (by_key f) heap) →
+    IsPlaceOf (found (key 0 size) t) (best_hole size (holes_of heap))
+found-best size heap t up short ordered some alike =
+    found-spot size (holes_of heap) t up short ordered some (λ f. alike f ∙ sym (weigh-holes_from (by_key f) 0 heap))

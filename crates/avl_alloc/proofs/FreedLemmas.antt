@@ -9,7 +9,7 @@ use Rattle.own_model.specs.BestFit.{before, given_in, used_at, payload_at}
 use Rattle.avl_alloc.specs.declared.chunk.Block.{Block as BlockFound}
 use Rattle.avl_alloc.specs.Site.{gap, first_hole}
 use Rattle.avl_alloc.specs.Walk.{block_over, block_there}
-use Rattle.avl_alloc.proofs.HeldLemmas.{ltb-true, ltb-false}
+use Rattle.avl_alloc.proofs.HoleLemmas.{ltb-true, ltb-false}
 use Rattle.avl_alloc.proofs.WeightLemmas.{AreLong}
 use Rattle.avl_alloc.proofs.StandLemmas.{gap_some, gap_bytes}
 use Rattle.avl_alloc.proofs.LayoutLemmas.{payload_over, payload_past, payload_is}

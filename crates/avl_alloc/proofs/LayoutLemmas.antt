@@ -13,11 +13,11 @@ use Rattle.own_model.specs.BestFit.{chunk_of, payload_at}
 use Rattle.avl_alloc.specs.declared.best_fit.BestFit.{BestFit}
 use Rattle.avl_alloc.specs.declared.chunk.Block.{Block as BlockFound}
 use Rattle.avl_alloc.specs.Words.{Words, place_at}
-use Rattle.avl_alloc.specs.Tree.{Tree}
-use Rattle.avl_alloc.specs.Held.{heads, links, cover, Fits}
+use Rattle.avl_tree.specs.Tree.{Tree}
+use Rattle.avl_alloc.specs.Holes.{heads, links, cover, Fits}
 use Rattle.avl_alloc.specs.Layout.{Laid, IsHeader, block_from, blocks_from, weigh_all, whole, kept_at, chunks_from, heap_of, sizes_of, bytes_of, IsChunk, AreChunks, IsRoom, IsLaidOut, IsSound}
 use Rattle.avl_alloc.specs.Walk.{block_over}
-use Rattle.avl_alloc.proofs.HeldLemmas.{holds_kept, ltb-true, ltb-false}
+use Rattle.avl_alloc.proofs.HoleLemmas.{holds_kept, ltb-true, ltb-false}
 use Rattle.avl_alloc.proofs.WeightLemmas.{within_le, weigh_all-parts, tidy_all, chunks_kept, chunks_long, chunks_apart}
 
 -- ---- what is kept
@@ -30,11 +30,12 @@ laid_out_kept fit w v heap t same is = record {
   chunks = chunks_kept w v 0 (sizes_of fit) heap (λ q head. same q (headed q head)) is.chunks;
   stands = record {
     at = is.stands.at;
-    holds = holds_kept (bytes_of fit) w v t (λ q in_tree. same q (kept q in_tree)) is.stands.holds;
+    holds = holds_kept w v t (λ q in_tree. same q (kept q in_tree)) is.stands.holds;
     balanced = is.stands.balanced;
     low = is.stands.low;
     apart = is.stands.apart;
   };
+  nodes = is.nodes;
   ordered = is.ordered;
   same = is.same;
 }

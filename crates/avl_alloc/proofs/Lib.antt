@@ -1,8 +1,4 @@
-pub mod TreeLemmas
-pub mod BestLemmas
-pub mod HeldLemmas
-pub mod StepLemmas
-pub mod PartLemmas
+pub mod HoleLemmas
 pub mod WalkLemmas
 pub mod WeightLemmas
 pub mod LayoutLemmas

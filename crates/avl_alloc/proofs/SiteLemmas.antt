@@ -6,8 +6,8 @@ use Rattle.std.proofs.Math.Seq.{get_or-append_seam}
 use Rattle.own_model.specs.Heap.{Block, Used, Hole, bytes_in, Heap}
 use Rattle.avl_alloc.specs.declared.best_fit.BestFit.{BestFit}
 use Rattle.avl_alloc.specs.Words.{Words, place_at, within, IsNode}
-use Rattle.avl_alloc.specs.Tree.{Tree, IsName}
-use Rattle.avl_alloc.specs.Held.{heads, links}
+use Rattle.avl_tree.specs.Tree.{Tree}
+use Rattle.avl_alloc.specs.Holes.{heads, links}
 use Rattle.avl_alloc.specs.Layout.{Laid, weigh_all, none, whole, sizes_of, bytes_of, IsChunk, AreChunks, IsLaidOut}
 use Rattle.avl_alloc.specs.Site.{Site, heap_with, start_of, around}
 use Rattle.avl_alloc.proofs.LayoutLemmas.{chunk_there}
@@ -94,9 +94,6 @@ site_node fit w at xs k place is step room at_place =
       short = omega arith;
       within = subst (λ z. place % 2 ^ 32 + 48 ≤ bytes_of fit z) (sym number) (omega arith);
     }
-
-pub node_name : (bytes : ℕ → ℕ) (place : ℕ) → IsNode bytes place → IsName place
-node_name bytes place node = record { some = omega (arith, node.some); low = omega (arith, node.low) }
 
 -- what lies around a part, and that it lies around
 pub record IsClear (q : ℕ) (at : Site) (n : ℕ) : Type 0 where

@@ -7,12 +7,13 @@ use Rattle.own_model.specs.Heap.{Block, Used, Hole, bytes_in, IsBlockSize}
 use Rattle.own_model.specs.BestFit.{cut}
 use Rattle.avl_alloc.specs.declared.best_fit.BestFit.{BestFit}
 use Rattle.avl_alloc.specs.Words.{Words, with_word, within, IsNode, IsPlace}
-use Rattle.avl_alloc.specs.Tree.{Tree, high, inserted, removed}
-use Rattle.avl_alloc.specs.Held.{Fits, Becomes, Stands, IsNew}
+use Rattle.avl_tree.specs.Tree.{Tree, high, inserted, removed}
+use Rattle.avl_tree.specs.View.{AreNodes, Becomes, Stands, IsNew}
+use Rattle.avl_alloc.specs.Holes.{key, view_of, hole_plan, Fits}
 use Rattle.avl_alloc.specs.Layout.{Laid, weigh, none, bytes_of, hole_count}
 use Rattle.avl_alloc.specs.Site.{Site, heap_with, start_of, Stand, Turn, AreUsed, StandUsed, gap, filled, first_hole}
-use Rattle.avl_alloc.proofs.TreeLemmas.{one, high_bound}
-use Rattle.avl_alloc.proofs.HeldLemmas.{with_word_same, with_word_other, node_place, fits_node}
+use Rattle.avl_tree.proofs.TreeLemmas.{one, high_bound}
+use Rattle.avl_alloc.proofs.HoleLemmas.{with_word_same, with_word_other, node_place, fits_node}
 use Rattle.avl_alloc.proofs.FitLemmas.{holes_counted}
 use Rattle.avl_alloc.proofs.WeightLemmas.{weigh-append, weigh-site}
 use Rattle.avl_alloc.proofs.SiteLemmas.{laid_right, site_open, site_node}
@@ -40,7 +41,7 @@ stand_low fit w at place xs b stand few =
 -- ---- a hole taken out
 
 pub take_out_turn : (fit : BestFit) (w u v : Words) (at : Site) (place n root : ℕ) → Stand fit w at place (Hole n ∷ []) →
-    ((t : Tree) → Stands (bytes_of fit) w t fit.root → Becomes (bytes_of fit) w u (removed place n t) root) → v ≡ with_word u (place + 8) 1 →
+    ((t : Tree) → Stands hole_plan (view_of w) t fit.root → Becomes hole_plan (view_of w) (view_of u) (removed (key place n) t) root) → v ≡ with_word u (place + 8) 1 →
     Turn fit (record fit { root = root }) w v at place (Hole n ∷ []) (Used n ∷ [])
 take_out_turn fit w u v at place n root stand made is =
     let made' = rw (sym stand.start) at (made stand.tree stand.laid.stands) in
@@ -56,16 +57,16 @@ module _ (fit : BestFit) (w x : Words) (at : Site) (place : ℕ) (xs : List Bloc
   headed_is : x ≡ with_word (with_word w (start_of at) n) (start_of at + 8) 0
   headed_is = rw (sym stand.stand.start) at is
 
-  pub put_in_stands : Stands (bytes_of fit) x stand.stand.tree fit.root
+  pub put_in_stands : Stands hole_plan (view_of x) stand.stand.tree fit.root
   put_in_stands = rw headed_is (put-stands fit w at xs n stand.stand.tree stand.stand.laid stand.used stand.total stand.some)
 
-  pub put_in_new : IsNew (bytes_of fit) x stand.stand.tree place n
+  pub put_in_new : IsNew hole_plan (view_of x) stand.stand.tree place (key place n)
   put_in_new =
-      subst (λ p. IsNew (bytes_of fit) x stand.stand.tree p n) stand.stand.start
+      subst (λ p. IsNew hole_plan (view_of x) stand.stand.tree p (key p n)) stand.stand.start
       (rw headed_is (put-new fit w at xs n stand.stand.tree stand.stand.laid stand.used stand.total stand.some))
 
   pub put_in_turn : (v : Words) (root : ℕ) →
-      ((t : Tree) → Stands (bytes_of fit) x t fit.root → IsNew (bytes_of fit) x t place n → Becomes (bytes_of fit) x v (inserted place n t) root) →
+      ((t : Tree) → Stands hole_plan (view_of x) t fit.root → IsNew hole_plan (view_of x) t place (key place n) → Becomes hole_plan (view_of x) (view_of v) (inserted place (key place n) t) root) →
       Turn fit (record fit { root = root }) w v at place xs (Hole n ∷ [])
   put_in_turn v root made =
       let made' = rw (sym stand.stand.start, headed_is) at (made stand.stand.tree put_in_stands put_in_new) in

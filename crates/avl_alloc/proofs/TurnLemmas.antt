@@ -5,14 +5,18 @@ use Rattle.std.proofs.lemmas.List.{append_assoc}
 use Rattle.own_model.specs.Heap.{Block, Used, Hole, bytes_in}
 use Rattle.avl_alloc.specs.declared.best_fit.BestFit.{BestFit}
 use Rattle.avl_alloc.specs.Words.{Words, place_at, with_word, within, IsNode}
-use Rattle.avl_alloc.specs.Tree.{Tree, root_of, tally, key, inserted, removed, IsBalanced, IsOrdered}
-use Rattle.avl_alloc.specs.Held.{Holds, heads, links, cover, Becomes, Stands, IsNew}
+use Rattle.avl_tree.specs.Tree.{Tree, root_of, tally, is_at, inserted, removed, same, ranked, IsBalanced, IsOrdered}
+use Rattle.avl_tree.specs.View.{AreNodes, Holds, Becomes, Stands, IsNew}
+use Rattle.avl_alloc.specs.Holes.{key, by_key, view_of, hole_plan, heads, links, cover}
 use Rattle.avl_alloc.specs.Layout.{Laid, weigh, none, whole, sizes_of, bytes_of, weigh_holes, IsLaidOut}
 use Rattle.avl_alloc.specs.Site.{Site, heap_with, start_of, around, Stand, Turn, AreUsed}
-use Rattle.avl_alloc.proofs.TreeLemmas.{same, same-same, one, tally_le, tally-inserted, tally-removed, inserted-grows, removed-shrinks, inserted-ordered, removed-ordered, widened, high_bound}
-use Rattle.avl_alloc.proofs.HeldLemmas.{within_in, within_below, with_word_same, with_word_other, holds_kept}
+use Rattle.avl_tree.proofs.TreeLemmas.{one, tally-inserted, tally-removed_le, inserted-grows, removed-shrinks, high_bound}
+use Rattle.avl_tree.proofs.OrderLemmas.{same-same, tally-removed, inserted-ordered, removed-ordered, widened}
+use Rattle.avl_tree.proofs.ViewLemmas.{nodes_in}
+use Rattle.avl_tree.proofs.GrowLemmas.{nodes_with}
+use Rattle.avl_alloc.proofs.HoleLemmas.{within_in, within_below, with_word_same, with_word_other, holds_kept, cover_is, rank_there}
 use Rattle.avl_alloc.proofs.WeightLemmas.{weigh-append, weigh-parts, weigh-site, weigh-whole, around-parts, node_whole, tidy_in, laid_long, few_holes, within_mono}
-use Rattle.avl_alloc.proofs.SiteLemmas.{IsOpen, site_open, site_node, node_name, IsClear, site_clear, site_turned, sizes_few, laid_even}
+use Rattle.avl_alloc.proofs.SiteLemmas.{IsOpen, site_open, site_node, IsClear, site_clear, site_turned, sizes_few, laid_even}
 use Rattle.own_model.proofs.BlockLemmas.{bytes-append}
 
 -- used blocks have no holes
@@ -27,11 +31,6 @@ used_least w p [] laid some = absurd (omega arith)
 used_least w p (Used n ∷ xs) laid some = omega (arith, laid.0.sized.least)
 used_least w p (Hole n ∷ xs) laid some = omega (arith, laid.0.sized.least)
 
--- a hole at a place has its header there
-same_heads : (a n b s : ℕ) → same a n b s ≤ heads a b s
-unfolding within
-same_heads a n b s = grind (arith, nat_tests)
-
 -- a place outside a part is none of its own
 pub outside : (p n q k : ℕ) → k < n → within p (p + n) q ≡ 0 → q ≢ p + k
 outside p n q k lt none is = omega (arith, within_in p (p + n) q (omega arith) (omega arith))
@@ -43,17 +42,17 @@ module _ (fit : BestFit) (w : Words) (at : Site) (xs : List Block) (n : ℕ) (t 
   part-clear : (q : ℕ) → IsClear q at n
   part-clear q = site_clear w (sizes_of fit) at xs n total is.chunks q
 
-  part-holes : (f : ℕ → ℕ → ℕ) → tally f t ≡ around none f at n + weigh none f (start_of at) xs
-  part-holes f = omega (arith, is.same f, rw total at (weigh-site none f at xs))
+  part-holes : (f : ℕ → ℕ → ℕ) → tally f t ≡ around none (by_key f) at n + weigh none (by_key f) (start_of at) xs
+  part-holes f = omega (arith, is.same f, rw total at (weigh-site none (by_key f) at xs))
 
   -- other blocks are there, and a tree of the holes, while nothing but the part and the links of holes was written
   turned : (v : Words) (ys : List Block) (root : ℕ) (u : Tree) → bytes_in ys ≡ n → Laid v (start_of at) ys →
       ((q : ℕ) → within (start_of at) (start_of at + n) q ≡ 0 → around none (links q) at n ≡ 0 → v q ≡ w q) →
-      root_of u ≡ root → Holds (bytes_of fit) v u → IsBalanced u → (up : ℕ) × IsOrdered 0 u up →
-      ((f : ℕ → ℕ → ℕ) → tally f u ≡ around none f at n + weigh none f (start_of at) ys) →
+      root_of u ≡ root → Holds (view_of v) u → AreNodes (IsNode (bytes_of fit)) u → IsBalanced u → (up : ℕ) × IsOrdered 0 u up →
+      ((f : ℕ → ℕ → ℕ) → tally f u ≡ around none (by_key f) at n + weigh none (by_key f) (start_of at) ys) →
       Turn fit (record fit { root = root }) w v at (start_of at) xs ys
-  turned v ys root u total' laid words at_root holds even ordered same =
-      let all : (f : ℕ → ℕ → ℕ) → tally f u ≡ weigh_holes f (heap_with at ys) = λ f. omega (arith, same f, rw total' at (weigh-site none f at ys)) in
+  turned v ys root u total' laid words at_root holds nodes even ordered same =
+      let all : (f : ℕ → ℕ → ℕ) → tally f u ≡ weigh_holes (by_key f) (heap_with at ys) = λ f. omega (arith, same f, rw total' at (weigh-site none (by_key f) at ys)) in
       let chunks = site_turned w v (sizes_of fit) at xs ys (total' ∙ sym total) laid
       (subst (λ z. (q : ℕ) → 1 ≤ around (heads q) (heads q) at z → v q ≡ w q) (sym total)
       (λ q head.
@@ -76,7 +75,8 @@ module _ (fit : BestFit) (w : Words) (at : Site) (xs : List Block) (n : ℕ) (t 
             few = is.few;
             sized = is.sized;
             chunks = chunks;
-            stands = record { at = at_root; holds = holds; balanced = even; low = omega (arith, high_bound u even 33 (omega (arith, all one))); apart = apart };
+            stands = record { at = at_root; holds = holds; balanced = even; low = omega (arith, high_bound u even 33 (omega (arith, all one))); apart = λ q. omega (arith, apart q, cover_is q u) };
+            nodes = nodes;
             ordered = ordered;
             same = all;
           };
@@ -89,19 +89,18 @@ module _ (fit : BestFit) (w : Words) (at : Site) (xs : List Block) (n : ℕ) (t 
 -- ---- a hole taken out
 
 module _ (fit : BestFit) (w u : Words) (at : Site) (n root : ℕ) (t : Tree) (is : IsLaidOut fit w (heap_with at (Hole n ∷ [])) t)
-    (made : Becomes (bytes_of fit) w u (removed (start_of at) n t) root) where
+    (made : Becomes hole_plan (view_of w) (view_of u) (removed (key (start_of at) n) t) root) where
   taken-open : IsOpen fit w at (Hole n ∷ [])
   taken-open = site_open fit w at (Hole n ∷ []) t is
 
   taken-clear : (q : ℕ) → IsClear q at n
   taken-clear q = part-clear fit w at (Hole n ∷ []) n t is (omega arith) q
 
-  taken-rest : (f : ℕ → ℕ → ℕ) → tally f (removed (start_of at) n t) ≡ around none f at n
+  taken-rest : (f : ℕ → ℕ → ℕ) → tally f (removed (key (start_of at) n) t) ≡ around none (by_key f) at n
   taken-rest f =
-      let node = site_node fit w at (Hole n ∷ []) 0 (start_of at) taken-open (omega arith) (omega (arith, taken-open.laid.0.sized.least)) (omega arith) in
-      let holes : (g : ℕ → ℕ → ℕ) → tally g t ≡ around none g at n + (g (start_of at) n + 0) = part-holes fit w at (Hole n ∷ []) n t is (omega arith) in
-      let there : 1 ≤ tally (same (start_of at) n) t = omega (arith, holes (same (start_of at) n), same-same (start_of at) n) in
-      omega (arith, holes f, tally-removed f 0 (start_of at) n t is.ordered.0 (node_name (bytes_of fit) (start_of at) node) is.ordered.1 there)
+      let holes : (g : ℕ → ℕ → ℕ) → tally g t ≡ around none (by_key g) at n + (g (start_of at) (key (start_of at) n) + 0) = part-holes fit w at (Hole n ∷ []) n t is (omega arith) in
+      let there : 1 ≤ tally (same (start_of at) (key (start_of at) n)) t = omega (arith, holes (same (start_of at) (key (start_of at) n)), same-same (start_of at) (key (start_of at) n)) in
+      omega (arith, holes f, tally-removed f 0 (start_of at) (key (start_of at) n) t is.ordered.0 is.ordered.1 there)
 
   taken-laid : Laid (with_word u (start_of at + 8) 1) (start_of at) (Used n ∷ [])
   taken-laid =
@@ -111,7 +110,7 @@ module _ (fit : BestFit) (w u : Words) (at : Site) (n root : ℕ) (t : Tree) (is
       let inside = within_in a (a + n) a (omega arith) (omega arith) in (
         record {
           sized = taken-open.laid.0.sized;
-          size = with_word_other u (a + 8) 1 a (λ e. omega arith) ∙ made.same a (omega (arith, taken-rest (links a), clear.holes, clear.apart)) ∙ taken-open.laid.0.size;
+          size = with_word_other u (a + 8) 1 a (λ e. omega arith) ∙ made.changes.rest a (omega (arith, taken-rest (links a), clear.holes, clear.apart)) ∙ taken-open.laid.0.size;
           state = with_word_same u (a + 8) 1;
         },
         tt,
@@ -123,11 +122,12 @@ module _ (fit : BestFit) (w u : Words) (at : Site) (n root : ℕ) (t : Tree) (is
 
   pub taken_out : Turn fit (record fit { root = root }) w (with_word u (start_of at + 8) 1) at (start_of at) (Hole n ∷ []) (Used n ∷ [])
   taken_out =
-      turned fit w at (Hole n ∷ []) n t is (omega arith) (with_word u (start_of at + 8) 1) (Used n ∷ []) root (removed (start_of at) n t) (omega arith) taken-laid
-      (λ q clear free. state-other q clear ∙ made.same q (omega (arith, taken-rest (links q)))) made.root
-      (holds_kept (bytes_of fit) u (with_word u (start_of at + 8) 1) (removed (start_of at) n t)
+      turned fit w at (Hole n ∷ []) n t is (omega arith) (with_word u (start_of at + 8) 1) (Used n ∷ []) root (removed (key (start_of at) n) t) (omega arith) taken-laid
+      (λ q clear free. state-other q clear ∙ made.changes.rest q (omega (arith, taken-rest (links q)))) made.at
+      (holds_kept u (with_word u (start_of at + 8) 1) (removed (key (start_of at) n) t)
       (λ q in_tree. let clear = taken-clear q in state-other q (omega (arith, clear.holes, clear.apart, taken-rest (heads q), taken-rest (links q)))) made.holds)
-      (removed-shrinks (start_of at) n t is.stands.balanced).balanced (is.ordered.0, removed-ordered 0 (start_of at) n t is.ordered.0 is.ordered.1)
+      (nodes_in (IsNode (bytes_of fit)) (removed (key (start_of at) n) t) t (λ a. tally-removed_le (is_at a) (key (start_of at) n) t) is.nodes)
+      made.balanced (is.ordered.0, removed-ordered 0 (key (start_of at) n) t is.ordered.0 is.ordered.1)
       (λ f. omega (arith, taken-rest f))
 
 -- ---- used blocks made a hole
@@ -143,8 +143,8 @@ module _ (fit : BestFit) (w : Words) (at : Site) (xs : List Block) (n : ℕ) (t 
   put-clear : (q : ℕ) → IsClear q at n
   put-clear q = part-clear fit w at xs n t is total q
 
-  put-holes : (f : ℕ → ℕ → ℕ) → tally f t ≡ around none f at n
-  put-holes f = omega (arith, part-holes fit w at xs n t is total f, used_none f (start_of at) xs used)
+  put-holes : (f : ℕ → ℕ → ℕ) → tally f t ≡ around none (by_key f) at n
+  put-holes f = omega (arith, part-holes fit w at xs n t is total f, used_none (by_key f) (start_of at) xs used)
 
   pub put-node : IsNode (bytes_of fit) (start_of at)
   put-node = site_node fit w at xs 0 (start_of at) put-open (omega arith) (omega (arith, put-least)) (omega arith)
@@ -162,10 +162,10 @@ module _ (fit : BestFit) (w : Words) (at : Site) (xs : List Block) (n : ℕ) (t 
   headed-size : headed (start_of at) ≡ n
   headed-size = with_word_other (with_word w (start_of at) n) (start_of at + 8) 0 (start_of at) (λ e. omega arith) ∙ with_word_same w (start_of at) n
 
-  pub put-stands : Stands (bytes_of fit) headed t fit.root
+  pub put-stands : Stands hole_plan (view_of headed) t fit.root
   put-stands = record {
     at = is.stands.at;
-    holds = holds_kept (bytes_of fit) w headed t
+    holds = holds_kept w headed t
         (λ q in_tree. let clear = put-clear q in headed-words q (omega (arith, clear.holes, clear.apart, put-holes (heads q), put-holes (links q))))
         is.stands.holds;
     balanced = is.stands.balanced;
@@ -173,14 +173,24 @@ module _ (fit : BestFit) (w : Words) (at : Site) (xs : List Block) (n : ℕ) (t 
     apart = is.stands.apart;
   }
 
-  pub put-new : IsNew (bytes_of fit) headed t (start_of at) n
+  -- no hole has its rank
+  put-fresh : tally (ranked (key (start_of at) n)) t ≡ 0
+  put-fresh =
+      let a : ℕ = start_of at in
+      let clear = put-clear a in
+      let least = put-least in
+      let inside = within_in a (a + n) a (omega arith) (omega arith) in
+      omega (arith, rank_there (bytes_of fit) w a n (omega (arith, put-node.low)) t is.stands.holds is.nodes, put-holes (heads a), clear.holes, clear.apart)
+
+  pub put-new : IsNew hole_plan (view_of headed) t (start_of at) (key (start_of at) n)
   put-new = record {
-    node = put-node;
-    size = headed-size;
-    apart = λ q. let clear = put-clear q in omega (arith, clear.holes, clear.apart, put-holes (heads q), put-holes (links q), node_whole q (start_of at) n put-least);
+    some = omega (arith, put-node.some);
+    rank = λ i. key (start_of at) (headed-size i);
+    fresh = put-fresh;
+    apart = λ q. let clear = put-clear q in omega (arith, cover_is q t, clear.holes, clear.apart, put-holes (heads q), put-holes (links q), node_whole q (start_of at) n put-least);
   }
 
-  module _ (v : Words) (root : ℕ) (made : Becomes (bytes_of fit) headed v (inserted (start_of at) n t) root) where
+  module _ (v : Words) (root : ℕ) (made : Becomes hole_plan (view_of headed) (view_of v) (inserted (start_of at) (key (start_of at) n) t) root) where
     put-laid : Laid v (start_of at) (Hole n ∷ [])
     put-laid =
         let a : ℕ = start_of at in
@@ -190,7 +200,7 @@ module _ (fit : BestFit) (w : Words) (at : Site) (xs : List Block) (n : ℕ) (t 
         let q : ℕ = a + k in
         let clear = put-clear q in
         let inside = within_in a (a + n) q (omega arith) (omega arith) in
-        made.same q (omega (arith, tally-inserted (links q) a n t, put-holes (links q), clear.holes, clear.apart, within_below (a + 16) (a + 48) q (omega arith))) in
+        made.changes.rest q (omega (arith, tally-inserted (links q) a (key a n) t, put-holes (links q), clear.holes, clear.apart, within_below (a + 16) (a + 48) q (omega arith))) in
         let first : a + 0 ≡ a = omega arith in (
           record {
             sized = record { least = least; even = subst (λ z. z % 16 ≡ 0) total (laid_even w a xs put-open.laid) };
@@ -200,22 +210,20 @@ module _ (fit : BestFit) (w : Words) (at : Site) (xs : List Block) (n : ℕ) (t 
           tt,
         )
 
-    put-ordered : (up : ℕ) × IsOrdered 0 (inserted (start_of at) n t) up
+    put-ordered : (up : ℕ) × IsOrdered 0 (inserted (start_of at) (key (start_of at) n) t) up
     put-ordered =
         let a : ℕ = start_of at in
         let up : ℕ = is.ordered.0 + key a n + 1 in
-        let clear = put-clear a in
-        let least = put-least in
-        let inside = within_in a (a + n) a (omega arith) (omega arith) in
-        let alone : tally (same a n) t ≡ 0 = omega (arith, tally_le (same a n) (heads a) (same_heads a n) t, put-holes (heads a), clear.holes, clear.apart) in
-        (up, inserted-ordered 0 a n t up (node_name (bytes_of fit) a put-node) (omega arith) (omega arith) alone (widened 0 0 t is.ordered.0 up (omega arith) (omega arith) is.ordered.1))
+        (up, inserted-ordered 0 a (key a n) t up (omega arith) (omega arith) put-fresh (widened 0 0 t is.ordered.0 up (omega arith) (omega arith) is.ordered.1))
 
     pub put_in : Turn fit (record fit { root = root }) w v at (start_of at) xs (Hole n ∷ [])
     put_in =
-        turned fit w at xs n t is total v (Hole n ∷ []) root (inserted (start_of at) n t) (omega arith) put-laid
-        (λ q clear free. made.same q (omega (arith, tally-inserted (links q) (start_of at) n t, put-holes (links q), node_whole q (start_of at) n put-least)) ∙ headed-words q clear)
-        made.root made.holds (inserted-grows (start_of at) n t is.stands.balanced).balanced put-ordered
-        (λ f. omega (arith, tally-inserted f (start_of at) n t, put-holes f))
+        turned fit w at xs n t is total v (Hole n ∷ []) root (inserted (start_of at) (key (start_of at) n) t) (omega arith) put-laid
+        (λ q clear free. made.changes.rest q (omega (arith, tally-inserted (links q) (start_of at) (key (start_of at) n) t, put-holes (links q), node_whole q (start_of at) n put-least)) ∙ headed-words q clear)
+        made.at made.holds
+        (nodes_with (IsNode (bytes_of fit)) (start_of at) (key (start_of at) n) t (inserted (start_of at) (key (start_of at) n) t) is.nodes put-node (λ x. tally-inserted (is_at x) (start_of at) (key (start_of at) n) t))
+        made.balanced put-ordered
+        (λ f. omega (arith, tally-inserted f (start_of at) (key (start_of at) n) t, put-holes f))
 
 -- ---- a used block cut
 
@@ -224,10 +232,10 @@ pub rewritten : (fit : BestFit) (w v : Words) (at : Site) (xs ys : List Block) (
     bytes_in xs ≡ n → bytes_in ys ≡ n → Laid v (start_of at) ys → ((q : ℕ) → within (start_of at) (start_of at + n) q ≡ 0 → v q ≡ w q) →
     Turn fit fit w v at (start_of at) xs ys
 rewritten fit w v at xs ys n t is used used' total total' laid same =
-    let holes : (f : ℕ → ℕ → ℕ) → tally f t ≡ around none f at n = λ f. omega (arith, part-holes fit w at xs n t is total f, used_none f (start_of at) xs used) in
+    let holes : (f : ℕ → ℕ → ℕ) → tally f t ≡ around none (by_key f) at n = λ f. omega (arith, part-holes fit w at xs n t is total f, used_none (by_key f) (start_of at) xs used) in
     turned fit w at xs n t is total v ys fit.root t total' laid (λ q clear free. same q clear) is.stands.at
-    (holds_kept (bytes_of fit) w v t (λ q in_tree. let clear = part-clear fit w at xs n t is total q in same q (omega (arith, clear.holes, clear.apart, holes (heads q), holes (links q)))) is.stands.holds)
-    is.stands.balanced is.ordered (λ f. omega (arith, holes f, used_none f (start_of at) ys used'))
+    (holds_kept w v t (λ q in_tree. let clear = part-clear fit w at xs n t is total q in same q (omega (arith, clear.holes, clear.apart, holes (heads q), holes (links q)))) is.stands.holds)
+    is.nodes is.stands.balanced is.ordered (λ f. omega (arith, holes f, used_none (by_key f) (start_of at) ys used'))
 
 -- ---- put together
 

@@ -7,7 +7,7 @@ use Rattle.avl_alloc.specs.declared.chunk.Block.{Block}
 use Rattle.avl_alloc.specs.Words.{Words, IsPlace}
 use Rattle.avl_alloc.specs.Layout.{Laid, IsRoom}
 use Rattle.avl_alloc.specs.Walk.{block_over}
-use Rattle.avl_alloc.proofs.HeldLemmas.{ltb-true, ltb-false}
+use Rattle.avl_alloc.proofs.HoleLemmas.{ltb-true, ltb-false}
 
 -- the blocks that a walk has ahead of it, from an offset on
 pub record IsAhead (w : Words) (start from before target : ℕ) (blocks ahead : List heap.Block) (n k : ℕ) : Type 0 where

@@ -4,11 +4,11 @@ use Rattle.std.specs.List.{AllByRecursion}
 use Rattle.std.proofs.lemmas.Bool.Decides.{nat_tests}
 use Rattle.own_model.specs.Heap.{Block, Used, Hole, size_of, bytes_in, Heap}
 use Rattle.avl_alloc.specs.Words.{Words, place_at, within}
-use Rattle.avl_alloc.specs.Held.{heads, links}
+use Rattle.avl_alloc.specs.Holes.{heads, links}
 use Rattle.avl_alloc.specs.Layout.{Laid, weigh, weigh_all, none, whole, AreChunks}
 use Rattle.avl_alloc.specs.Site.{Site, heap_with, start_of, around}
-use Rattle.avl_alloc.proofs.TreeLemmas.{one}
-use Rattle.avl_alloc.proofs.HeldLemmas.{within_in}
+use Rattle.avl_tree.proofs.TreeLemmas.{one}
+use Rattle.avl_alloc.proofs.HoleLemmas.{within_in}
 
 -- ---- blocks put end to end
 

@@ -5,9 +5,10 @@ use Rattle.std.specs.List.{AllByRecursion}
 use Rattle.own_model.specs.Heap.{Block, Used, Hole, bytes_in, IsBlockSize, AreBlocks, Heap}
 use Rattle.own_model.specs.BestFit.{holes_of}
 use Rattle.avl_alloc.specs.declared.best_fit.BestFit.{BestFit}
-use Rattle.avl_alloc.specs.Words.{Words, place_at, within}
-use Rattle.avl_alloc.specs.Tree.{Tree, tally, IsOrdered}
-use Rattle.avl_alloc.specs.Held.{Stands, heads}
+use Rattle.avl_tree.specs.Tree.{Tree, tally, IsOrdered}
+use Rattle.avl_tree.specs.View.{AreNodes, Stands}
+use Rattle.avl_alloc.specs.Words.{Words, place_at, within, IsNode}
+use Rattle.avl_alloc.specs.Holes.{heads, by_key, view_of, hole_plan}
 
 -- ---- blocks
 
@@ -111,9 +112,10 @@ pub record IsLaidOut (fit : BestFit) (words : Words) (heap : Heap) (t : Tree) : 
   pub few : fit.count ≤ 64
   pub sized : length fit.sizes ≡ 64
   pub chunks : AreChunks words 0 (sizes_of fit) heap
-  pub stands : Stands (bytes_of fit) words t fit.root
+  pub stands : Stands hole_plan (view_of words) t fit.root
+  pub nodes : AreNodes (IsNode (bytes_of fit)) t
   pub ordered : (up : ℕ) × IsOrdered 0 t up
-  pub same : (f : ℕ → ℕ → ℕ) → tally f t ≡ weigh_holes f heap
+  pub same : (f : ℕ → ℕ → ℕ) → tally f t ≡ weigh_holes (by_key f) heap
 
 -- what a heap's calls ask of the words, and leave them in: no two holes of a chunk are neighbours, and the tree has all holes
 unfoldable pub IsSound : BestFit → Words → Type 0

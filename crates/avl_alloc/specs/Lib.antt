@@ -1,6 +1,5 @@
 pub mod Words
-pub mod Tree
-pub mod Held
+pub mod Holes
 pub mod Layout
 pub mod Site
 pub mod Walk

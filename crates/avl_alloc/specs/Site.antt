@@ -3,7 +3,7 @@ use Rattle.std.specs.Prelude.{◌≡◌, ℕ, ◌+◌, ◌<◌, ◌==◌, if◌t
 use Rattle.own_model.specs.Heap.{Block, Used, Hole, bytes_in, Heap}
 use Rattle.avl_alloc.specs.declared.best_fit.BestFit.{BestFit}
 use Rattle.avl_alloc.specs.Words.{Words, place_at, within}
-use Rattle.avl_alloc.specs.Tree.{Tree}
+use Rattle.avl_tree.specs.Tree.{Tree}
 use Rattle.avl_alloc.specs.Layout.{weigh, weigh_all, none, whole, sizes_of, IsLaidOut}
 
 -- the chunks before, the blocks before in the same chunk, the blocks behind, the chunks behind

@@ -3,15 +3,16 @@ ghost use Rattle.std.specs.Prelude.{◌≡◌, ℕ, ◌+◌, ◌-◌, ◌*◌, �
 ghost use Rattle.std.specs.Option.{option_map};
 ghost use Rattle.own_model.specs.Heap.{Block as ModelBlock, Used, Hole, bytes_in, IsBlockSize};
 ghost use Rattle.own_model.specs.BestFit.{block_size, best_hole, holes_of, chunk_of, cut, taken, used_at, given, payload_at, binary_digits};
-ghost use Rattle.avl_alloc.specs.Held.{Fits};
+ghost use Rattle.avl_alloc.specs.Holes.{Fits};
 ghost use Rattle.avl_alloc.specs.Layout.{heap_of, sizes_of, bytes_of, hole_count, IsSound, ChangesHoles};
 ghost use Rattle.avl_alloc.specs.Site.{Site, heap_with, Stand, Turn, gap, filled, first_hole, StandUsed};
 ghost use Rattle.avl_alloc.specs.Walk.{block_there};
 ghost use Rattle.avl_alloc.specs.Found.{used_block, block_addr};
 
 use super::chunk::{Block, HEADER, HOLE, LEAST, USED, hole_at, set_header, set_state, walk};
+use super::holes::{HoleKey, Holes};
 use super::memory::{SPAN, WordMemory, load, place_of};
-use super::tree::{find, insert, remove};
+use avl_tree::{find, insert, remove};
 
 /// The most chunks of a heap.
 pub const MOST_CHUNKS: usize = 64;
@@ -110,7 +111,12 @@ impl BestFit {
             M.loads memory.new ≤ M.loads memory.old + 256 * (binary_digits holes + 2) }
     {
         let size = block_bytes(bytes);
-        let place = find(memory, self.root, size);
+        let place = find(
+            &Holes::<M>::new(),
+            memory,
+            self.root,
+            HoleKey { size, place: 0 },
+        );
         if place == 0 {
             return None;
         }
@@ -213,7 +219,7 @@ impl BestFit {
             Turn self.old self.new (M.word memory.old) (M.word memory.new) at place (Hole n ∷ []) (cut size n) }
         ensures rest { M.rest memory.new ≡ M.rest memory.old }
         ensures loads { (at : Site) (n b : ℕ) → Stand self.old (M.word memory.old) at place (Hole n ∷ []) → size ≤ n →
-            hole_count (heap_with at (Hole n ∷ [])) < 2 ^ b → M.loads memory.new ≤ M.loads memory.old + 60 * b + 46 }
+            hole_count (heap_with at (Hole n ∷ [])) < 2 ^ b → M.loads memory.new ≤ M.loads memory.old + 120 * b + 61 }
     {
         let whole = load(memory, place);
         self.take_out(memory, place, whole);
@@ -242,7 +248,7 @@ impl BestFit {
         ensures rest { M.rest memory.new ≡ M.rest memory.old }
         ensures loads { (at : Site) (b : ℕ) → Stand self.old (M.word memory.old) at place (gap before ++ Used size ∷ gap behind) →
             hole_count (heap_with at (gap before ++ Used size ∷ gap behind)) < 2 ^ b →
-            M.loads memory.new ≤ M.loads memory.old + 90 * b + 75 }
+            M.loads memory.new ≤ M.loads memory.old + 180 * b + 90 }
     {
         self.clear(memory, place, before);
         self.clear(memory, place + before + size, behind);
@@ -257,7 +263,7 @@ impl BestFit {
             Turn self.old self.new (M.word memory.old) (M.word memory.new) at place (gap size) (filled size) }
         ensures rest { M.rest memory.new ≡ M.rest memory.old }
         ensures loads { (at : Site) (b : ℕ) → Stand self.old (M.word memory.old) at place (gap size) →
-            hole_count (heap_with at (gap size)) < 2 ^ b → M.loads memory.new ≤ M.loads memory.old + 30 * b + 30 }
+            hole_count (heap_with at (gap size)) < 2 ^ b → M.loads memory.new ≤ M.loads memory.old + 60 * b + 30 }
     {
         if size > 0 {
             self.take_out(memory, place, size);
@@ -272,9 +278,14 @@ impl BestFit {
             Turn self.old self.new (M.word memory.old) (M.word memory.new) at place (Hole size ∷ []) (Used size ∷ []) }
         ensures rest { M.rest memory.new ≡ M.rest memory.old }
         ensures loads { (at : Site) (b : ℕ) → Stand self.old (M.word memory.old) at place (Hole size ∷ []) →
-            hole_count (heap_with at (Hole size ∷ [])) < 2 ^ b → M.loads memory.new ≤ M.loads memory.old + 30 * b + 30 }
+            hole_count (heap_with at (Hole size ∷ [])) < 2 ^ b → M.loads memory.new ≤ M.loads memory.old + 60 * b + 30 }
     {
-        self.root = remove(memory, self.root, place, size);
+        self.root = remove(
+            &Holes::<M>::new(),
+            memory,
+            self.root,
+            HoleKey { size, place },
+        );
         set_state(memory, place, USED);
     }
 
@@ -304,10 +315,16 @@ impl BestFit {
         ensures rest { M.rest memory.new ≡ M.rest memory.old }
         ensures loads { (at : Site) (blocks : List ModelBlock) (b : ℕ) →
             StandUsed self.old (M.word memory.old) at place blocks size →
-            hole_count (heap_with at blocks) < 2 ^ b → M.loads memory.new ≤ M.loads memory.old + 30 * b + 15 }
+            hole_count (heap_with at blocks) < 2 ^ b → M.loads memory.new ≤ M.loads memory.old + 60 * b + 30 }
     {
         set_header(memory, place, size, HOLE);
-        self.root = insert(memory, self.root, place, size);
+        self.root = insert(
+            &Holes::<M>::new(),
+            memory,
+            self.root,
+            HoleKey { size, place },
+            place,
+        );
     }
 
     /// The size of the hole at a place, or 0 where a used block stands there or the chunk is at its end.

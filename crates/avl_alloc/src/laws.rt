@@ -1,5 +1,5 @@
 //! Laws over the definitions alone. They do nothing at run time.
-ghost use Rattle.std.specs.Prelude.{◌≡◌, ℕ, ◌+◌, ◌*◌, ◌^◌, ◌<◌, ◌≤◌, map, Some};
+ghost use Rattle.std.specs.Prelude.{◌≡◌, ℕ, ◌+◌, ◌<◌, ◌≤◌, map, Some};
 ghost use Rattle.std.specs.List.{AllByRecursion};
 ghost use Rattle.avl_alloc.specs.declared.best_fit.BestFit.{BestFit};
 ghost use Rattle.own_model.specs.Heap.{Heap, bytes_in, AreBlocks};
@@ -7,7 +7,8 @@ ghost use Rattle.own_model.specs.BestFit.{best_hole, holes_of, chunk_of, payload
 ghost use Rattle.avl_alloc.specs.Words.{place_at};
 ghost use Rattle.avl_alloc.specs.Fit.{AreShort, IsPlaceOf};
 ghost use Rattle.avl_alloc.specs.Layout.{heap_of, sizes_of, kept_at, weigh_all, weigh_holes, whole, IsSound};
-ghost use Rattle.avl_alloc.specs.Tree.{Tree, tally, found, high, IsBalanced, IsOrdered};
+ghost use Rattle.avl_alloc.specs.Holes.{key, by_key};
+ghost use Rattle.avl_tree.specs.Tree.{Tree, tally, found, is_at, IsOrdered};
 
 /// A heap stays as it is while the words of its headers and holes stay: a store into the payload
 /// of a used block keeps it, and so does one that lies in no chunk.
@@ -42,12 +43,7 @@ pub fn chunks_have_sizes()
 
 /// The hole that is found in a tree of a heap's holes is the best one by the definition.
 pub fn best_hole_is_found()
-    ensures { (size up : ℕ) (heap : Heap) (t : Tree) → AreShort (holes_of heap) → IsOrdered 0 t up →
-        ((weight : ℕ → ℕ → ℕ) → tally weight t ≡ weigh_holes weight heap) →
-        IsPlaceOf (found size t) (best_hole size (holes_of heap)) }
-{}
-
-/// A balanced tree with less than `2 ^ n` holes is no higher than `2 * n + 1`.
-pub fn trees_are_low()
-    ensures { (t : Tree) → IsBalanced t → (n : ℕ) → tally (λ _ _. 1) t < 2 ^ n → high t ≤ 2 * n + 1 }
+    ensures { (size up : ℕ) (heap : Heap) (t : Tree) → AreShort (holes_of heap) → IsOrdered 0 t up → tally (is_at 0) t ≡ 0 →
+        ((weight : ℕ → ℕ → ℕ) → tally weight t ≡ weigh_holes (by_key weight) heap) →
+        IsPlaceOf (found (key 0 size) t) (best_hole size (holes_of heap)) }
 {}

@@ -7,17 +7,15 @@
 
 mod best_fit;
 mod chunk;
+mod holes;
 mod laws;
 mod memory;
-mod node;
 #[cfg(test)]
 mod tests;
-mod tree;
-mod turns;
 
 pub use best_fit::{BestFit, BlockAddr, MOST_CHUNKS, UsedBlock, block_bytes};
 pub use laws::{
     best_hole_is_found, blocks_lie_apart, chunks_have_sizes, heap_stays, holes_are_joined,
-    payloads_are_free, trees_are_low,
+    payloads_are_free,
 };
 pub use memory::WordMemory;

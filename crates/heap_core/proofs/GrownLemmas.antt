@@ -27,7 +27,7 @@ use Rattle.avl_alloc.specs.declared.best_fit.BestFit.{BestFit}
 use Rattle.avl_alloc.specs.Layout as avl
 use Rattle.avl_alloc.specs.Layout.{heap_of, sizes_of, ChangesHoles, weigh_holes, whole}
 use Rattle.avl_alloc.specs.Words.{place_at}
-use Rattle.avl_alloc.proofs.HeldLemmas.{within_below}
+use Rattle.avl_alloc.proofs.HoleLemmas.{within_below}
 use Rattle.avl_alloc.proofs.LayoutLemmas.{sound_told}
 use Rattle.avl_alloc.proofs.WeightLemmas.{weigh_all-append}
 use Rattle.region_map.specs.Regions.{Regions, heap_attached}

@@ -6,7 +6,7 @@ use Rattle.own_model.specs.Heap.{Hole}
 use Rattle.avl_alloc.specs.declared.best_fit.BestFit.{BestFit}
 use Rattle.avl_alloc.specs.declared.best_fit.BlockAddr.{BlockAddr}
 use Rattle.avl_alloc.specs.Found.{block_addr}
-use Rattle.avl_alloc.specs.Held.{Fits}
+use Rattle.avl_alloc.specs.Holes.{Fits}
 use Rattle.avl_alloc.specs.Layout.{heap_of, sizes_of, bytes_of, IsSound, ChangesHoles}
 use Rattle.avl_alloc.specs.Words.{Words}
 

@@ -1,5 +1,5 @@
 use Rattle.std.proofs.Common.{[], refl, arith}
-use Rattle.avl_alloc.specs.Tree.{Leaf}
+use Rattle.avl_tree.specs.Tree.{Leaf}
 use Rattle.avl_alloc.specs.Layout.{heap_of, IsSound}
 use Rattle.avl_alloc.proofs.best_fit.BestFit.new.Goals as goal
 
@@ -18,6 +18,7 @@ returns-clause-sound c words = (
     sized = refl;
     chunks = tt;
     stands = record { at = refl; holds = tt; balanced = tt; low = omega arith; apart = λ q. omega arith };
+    nodes = λ a there. absurd (omega arith);
     ordered = (0, omega arith);
     same = λ f. refl;
   },

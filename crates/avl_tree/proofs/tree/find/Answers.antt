@@ -1,0 +1,39 @@
+use Rattle.std.proofs.Common.{◌∙◌, sym, subst, arith}
+use Rattle.avl_tree.proofs.StepLemmas.{Finding, find-left, find-right, find-here, find-end, find-node}
+use Rattle.avl_tree.proofs.tree.find.Goals as goal
+
+pub step-requires : goal.step-requires
+step-requires g c =
+    let q = c.requires in
+    let inv = c.loop-node.invariant in
+    subst (λ a. g.N.Nodes.IsNode a c.loop-node.node) (sym inv.1) (find-node _ _ _ c.args.root c.loop-node.node c.loop-node.best _ _ _ c.loop-node-test.true inv.2 _ q.0 q.1 q.2)
+
+pub loop-node-preserved-in-Left : goal.loop-node-preserved-in-Left
+loop-node-preserved-in-Left g c =
+    let inv = c.loop-node.invariant in (
+      c.step.ensures.view ∙ inv.0,
+      c.step.ensures.around ∙ inv.1,
+      find-left _ _ _ c.args.root c.loop-node.node c.loop-node.best _ _ _ c.loop-node-test.true inv.2 _ _ c.step.ensures.loads (rw inv.0 at c.in-Left.ensures.step),
+    )
+
+pub returns-in-Here-clause-found : goal.returns-in-Here-clause-found
+returns-in-Here-clause-found g c t stands =
+    let inv = c.loop-node.invariant in
+    (find-here _ _ _ c.args.root c.loop-node.node c.loop-node.best _ _ _ c.loop-node-test.true inv.2 _ c.step.ensures.loads (rw inv.0 at c.in-Here.ensures.step) t stands).0
+
+pub returns-in-Here-clause-loads : goal.returns-in-Here-clause-loads
+returns-in-Here-clause-loads g c t stands =
+    let inv = c.loop-node.invariant in
+    (find-here _ _ _ c.args.root c.loop-node.node c.loop-node.best _ _ _ c.loop-node-test.true inv.2 _ c.step.ensures.loads (rw inv.0 at c.in-Here.ensures.step) t stands).1
+
+pub loop-node-preserved : goal.loop-node-preserved
+loop-node-preserved g c =
+    let inv = c.loop-node.invariant in (
+      c.step.ensures.view ∙ inv.0,
+      c.step.ensures.around ∙ inv.1,
+      find-right _ _ _ c.args.root c.loop-node.node c.loop-node.best _ _ _ c.loop-node-test.true inv.2 _ _ c.step.ensures.loads (rw inv.0 at c.in-Right.ensures.step),
+    )
+
+pub returns-clause-found : goal.returns-clause-found
+returns-clause-found g c t stands =
+    (find-end _ _ _ c.args.root c.loop-node.best _ _ _ (rw c.loop-node-test.false at c.loop-node.invariant.2) t stands).0

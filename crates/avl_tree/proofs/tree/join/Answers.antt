@@ -1,0 +1,44 @@
+use Rattle.std.proofs.Common.{◌≡◌, ◌≢◌, refl, sym, ◌∙◌, subst, arith}
+use Rattle.avl_tree.specs.Tree.{Node, root_of}
+use Rattle.avl_tree.proofs.ViewLemmas.{root_node, nodes_in}
+use Rattle.avl_tree.proofs.PartLemmas.{Parts, join_left, join_right, join-left_none, join-right_none, join_rest_asks, join_rest_made}
+use Rattle.avl_tree.proofs.tree.join.Goals as goal
+
+-- one of them has no node
+pub returns-then-links-eq0-clause-made : goal.returns-then-links-eq0-clause-made
+returns-then-links-eq0-clause-made g c l s h r stands =
+    rw (c.limb_of.ensures.view, c.links-links.ensures.view)
+    (join-left_none _ _ l c.args.node s h r c.links-links.result stands c.links-links.ensures.links _ c.if-links-eq0.true
+    (c.limb_of.ensures.is r (rw c.links-links.ensures.view stands.holds.2) (join_right _ _ l c.args.node s h r c.links-links.result stands c.links-links.ensures.links)))
+
+pub returns-then-links-eq0-2-clause-made : goal.returns-then-links-eq0-2-clause-made
+returns-then-links-eq0-2-clause-made g c l s h r stands =
+    rw (c.limb_of-then-links-eq0-2.ensures.view, c.links-links.ensures.view)
+    (join-right_none _ _ l c.args.node s h r c.links-links.result stands c.links-links.ensures.links _ c.if-links-eq0.false c.if-links-eq0-2.true
+    (c.limb_of-then-links-eq0-2.ensures.is l (rw c.links-links.ensures.view stands.holds.1) (join_left _ _ l c.args.node s h r c.links-links.result stands c.links-links.ensures.links)))
+
+-- the right one's first node comes between them
+pub limb_now-right-requires : goal.limb_now-right-requires
+limb_now-right-requires g c some =
+    let q = c.requires in
+    rw (c.limb_of-left.ensures.around, c.part_first-parted.ensures.around, c.links-links.ensures.around)
+    (root_node _ q.3 _ (nodes_in _ q.3 (Node q.0 c.args.node q.1 q.2 q.3) (λ a. omega arith) q.5)
+    (join_right _ _ q.0 c.args.node q.1 q.2 q.3 c.links-links.result q.4 c.links-links.ensures.links) some)
+
+pub balance-requires : goal.balance-requires
+balance-requires g c =
+    let q = c.requires in
+    let parts = subst (λ w. Parts g.N.Nodes.plan w (g.N.Nodes.view c.args.nodes.now c.part_first-parted.new.memory) c.links-links.result.right c.part_first-parted.result.rest) c.links-links.ensures.view c.part_first-parted.ensures.made in
+    rw (c.limb_now-right.ensures.view, c.limb_of-left.ensures.view, c.limb_now-right.ensures.around, c.limb_of-left.ensures.around, c.part_first-parted.ensures.around, c.links-links.ensures.around)
+    (join_rest_asks _ _ c.args.node c.links-links.result c.links-links.ensures.links c.if-links-eq0-2.false _ (g.N.Nodes.view c.args.nodes.now c.part_first-parted.new.memory) _ _ _ _
+    (λ t stands. c.part_first-parted.ensures.first t (rw c.links-links.ensures.view stands)) parts c.limb_of-left.ensures.is
+    (λ old new told held at. c.limb_now-right.ensures.is old new told (rw c.limb_of-left.ensures.view held) at) q.0 q.1 q.2 q.3 q.4 q.5)
+
+pub returns-clause-made : goal.returns-clause-made
+returns-clause-made g c =
+    let kept = c.limb_now-right.ensures.view ∙ c.limb_of-left.ensures.view in
+    let parts = subst (λ w. Parts g.N.Nodes.plan w (g.N.Nodes.view c.args.nodes.now c.part_first-parted.new.memory) c.links-links.result.right c.part_first-parted.result.rest) c.links-links.ensures.view c.part_first-parted.ensures.made in
+    join_rest_made _ _ c.args.node c.links-links.result c.links-links.ensures.links c.if-links-eq0-2.false (g.N.Nodes.view c.args.nodes.now c.part_first-parted.new.memory) _ _ _ _ _ _ c.if-links-eq0.false
+    (λ t stands. c.part_first-parted.ensures.first t (rw c.links-links.ensures.view stands)) parts c.limb_of-left.ensures.is
+    (λ old new told held at. c.limb_now-right.ensures.is old new told (rw c.limb_of-left.ensures.view held) at)
+    (λ x y z slope. rw (sym kept) (c.balance.ensures.made x y z (rw kept slope)))
