@@ -74,7 +74,7 @@ module _ (ram caps : ℕ) where
       let chunk = chunk_charged growth files.shape in
       record { ram = omega (arith, h.ram, chunk.0); caps = omega (arith, h.caps, chunk.1) }
 
-  charges_kept : (files : Files) (account : Account) → Charged files account → KeptByRequests Charged files account
+  pub charges_kept : (files : Files) (account : Account) → Charged files account → KeptByRequests Charged files account
   charges_kept files account h = record {
     takes = λ name hole is free best. created_charged name hole files account h;
     grows = λ name is free accepted.
@@ -117,10 +117,10 @@ charges_stay ram caps files account text h = requests_keep (IsCharged ram caps) 
 
 module _ (account : Account) where
   -- an account with the same limits
-  abbrev SameLimits : Files → Account → Type 0
+  abbrev pub SameLimits : Files → Account → Type 0
   SameLimits files other = (other.ram_limit ≡ account.ram_limit) × (other.caps_limit ≡ account.caps_limit)
 
-  limits_kept : (files : Files) → KeptByRequests SameLimits files account
+  pub limits_kept : (files : Files) → KeptByRequests SameLimits files account
   limits_kept files = record {
     takes = λ name hole is free best. (refl, refl);
     grows = λ name is free accepted. (refl, refl);
@@ -138,7 +138,7 @@ limits_stay files account text = requests_keep (SameLimits account) files accoun
 abbrev Within : Files → Account → Type 0
 Within files account = WithinLimits account
 
-within_kept : (files : Files) (account : Account) → WithinLimits account → KeptByRequests Within files account
+pub within_kept : (files : Files) (account : Account) → WithinLimits account → KeptByRequests Within files account
 within_kept files account h = record {
   takes = λ name hole is free best. h;
   grows = λ name is free accepted.
