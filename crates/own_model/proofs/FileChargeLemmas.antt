@@ -65,7 +65,7 @@ module _ (ram caps : ℕ) where
   grown_charged : (growth : Growth) (files : Files) (account : Account) → Charged files account → Charged (grown growth files) (charged account growth.bytes 1)
   grown_charged growth files account h = omega (arith, chunk_charged growth files.shape)
 
-  charges_kept : (files : Files) (account : Account) → Charged files account → KeptByRequests Charged files account
+  pub charges_kept : (files : Files) (account : Account) → Charged files account → KeptByRequests Charged files account
   charges_kept files account h = record {
     takes = λ name hole is free best. created_charged name hole files account h;
     grows = λ name is free accepted.
@@ -108,10 +108,10 @@ charges_stay ram caps files account text h = requests_keep (IsCharged ram caps) 
 
 module _ (account : Account) where
   -- an account with the same limits
-  abbrev SameLimits : Files → Account → Type 0
+  abbrev pub SameLimits : Files → Account → Type 0
   SameLimits files other = (other.ram_limit ≡ account.ram_limit) × (other.caps_limit ≡ account.caps_limit)
 
-  limits_kept : (files : Files) → KeptByRequests SameLimits files account
+  pub limits_kept : (files : Files) → KeptByRequests SameLimits files account
   limits_kept files = search rules
 
 pub limits_stay : RequestsKeepLimits
@@ -122,7 +122,7 @@ limits_stay files account text = requests_keep (SameLimits account) files accoun
 abbrev Within : Files → Account → Type 0
 Within files account = WithinLimits account
 
-within_kept : (files : Files) (account : Account) → WithinLimits account → KeptByRequests Within files account
+pub within_kept : (files : Files) (account : Account) → WithinLimits account → KeptByRequests Within files account
 within_kept files account h = search (rules, covers, accepted_growth)
 
 pub within_stays : RequestsKeepWithinLimits

@@ -34,7 +34,7 @@ bytes_good (b ∷ bytes) = refl
 
 -- ---- the same tests, in the words of the table
 
-shortage_same : (r c : Bool) → option_map error_of (cond r (Some refusal.OutOfRam) (cond c (Some refusal.OutOfCaps) None)) ≡ cond r (Some OutOfRam) (cond c (Some OutOfCaps) None)
+pub shortage_same : (r c : Bool) → option_map error_of (cond r (Some refusal.OutOfRam) (cond c (Some refusal.OutOfCaps) None)) ≡ cond r (Some OutOfRam) (cond c (Some OutOfCaps) None)
 shortage_same true c = refl
 shortage_same false true = refl
 shortage_same false false = refl
@@ -68,7 +68,7 @@ read_tests false t = refl
 
 module _ (files : Files) (account : Account) where
   -- with the first error of a line, if there is one
-  abbrev Answers : Option FileError → FileServed → Type 0
+  abbrev pub Answers : Option FileError → FileServed → Type 0
   Answers (Some e) o = o ≡ told (Refused e) files account
   Answers None o = IsGood o.reply
 
@@ -83,7 +83,7 @@ module _ (files : Files) (account : Account) where
   created_good name (Some hole) = refl
   created_good name None = refl
 
-  written_answers : (offset : ℕ) (bytes : List ℕ) (found : Option File) → Answers (first_error (write_errors offset (length bytes) found account)) (written offset bytes found files account)
+  pub written_answers : (offset : ℕ) (bytes : List ℕ) (found : Option File) → Answers (first_error (write_errors offset (length bytes) found account)) (written offset bytes found files account)
   written_answers offset bytes None = refl
   written_answers offset bytes (Some file) = grind (arith, nat_tests, unless_answers, write_same)
 

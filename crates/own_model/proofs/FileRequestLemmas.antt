@@ -129,7 +129,7 @@ module _ (P : Files → Account → Type 0) (files : Files) (account : Account) 
   named_kept None = stays
   named_kept (Some file) = stays
 
-  request_kept : (request : Option FileRequest) → Kept (request_served request files account)
+  pub request_kept : (request : Option FileRequest) → Kept (request_served request files account)
   request_kept None = stays
   request_kept (Some (Create name)) = create_kept name
   request_kept (Some (Write name offset bytes)) = written_kept name offset bytes (file_named name files) refl

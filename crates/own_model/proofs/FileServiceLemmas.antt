@@ -164,7 +164,7 @@ no_files_are = search (rules, true≢false)
 abbrev Kept : Files → Account → Type 0
 Kept files account = AreFiles files
 
-files_kept : (files : Files) (account : Account) → AreFiles files → KeptByRequests Kept files account
+pub files_kept : (files : Files) (account : Account) → AreFiles files → KeptByRequests Kept files account
 files_kept files account h = record {
   takes = λ name hole name_is free best. let is = best_is files.shape hole h.heap best in files_created name hole files h name_is free is.0 is.1;
   grows = λ name name_is free accepted.

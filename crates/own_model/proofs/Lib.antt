@@ -44,7 +44,9 @@ pub mod FileShapeLemmas
 pub mod FileRequestLemmas
 pub mod FileChargeLemmas
 pub mod FileServiceLemmas
+pub mod BufferKeptLemmas
 pub mod FileErrorLemmas
+pub mod BufferErrorLemmas
 pub mod FilePlaceLemmas
 pub mod FileReadLemmas
 pub mod FileTextLemmas

@@ -143,7 +143,7 @@ pub growth_fits : (n : ℕ) (shape : Shape) (a : Account) (P : Growth → Type 0
 growth_fits n shape a P larger least = elim (is_none (shortage a (larger_growth n shape).bytes 1)) as (λ b. P (cond b (larger_growth n shape) (least_growth n shape))) [ true ↦ larger | false ↦ least ]
 
 -- where two tests have to pass and nothing is refused, the first one passes
-valid_parts : (a b : Bool) (o : Option Refusal) (x : Refusal) → cond (a && b) o (Some x) ≡ None → a ≡ true
+pub valid_parts : (a b : Bool) (o : Option Refusal) (x : Refusal) → cond (a && b) o (Some x) ≡ None → a ≡ true
 valid_parts true b o x accepted = refl
 valid_parts false b o x accepted = absurd (none-some x (sym accepted))
 

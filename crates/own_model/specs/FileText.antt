@@ -62,7 +62,7 @@ file_request text =
 
 -- why a request is refused
 pub data FileError : Type 0 where
-  BadRequest BadName Exists NotFound Gap TooLong End TooManyChunks OutOfRam OutOfCaps : FileError
+  BadRequest BadName Exists NotFound Gap TooLong End TooManyChunks OutOfRam OutOfCaps InvalidSize NoBuffer BadRange : FileError
 
 abbrev pub error_name : FileError → List ℕ
 error_name BadRequest = codes "BAD_REQUEST"
@@ -75,14 +75,19 @@ error_name End = codes "END"
 error_name TooManyChunks = codes "TOO_MANY_CHUNKS"
 error_name OutOfRam = codes "OUT_OF_RAM"
 error_name OutOfCaps = codes "OUT_OF_CAPS"
+error_name InvalidSize = codes "INVALID_SIZE"
+error_name NoBuffer = codes "NO_BUFFER"
+error_name BadRange = codes "BAD_RANGE"
 
--- a reply: done, a count, bytes that were read, a file's name, use and limits, or a refusal
+-- a reply: done, a count, bytes that were read, a file's name, use and limits, a buffer that was made, whose selector is still
+-- to follow, or a refusal
 pub data FileReply : Type 0 where
   Done : FileReply
   Count : ℕ → FileReply
   Bytes : List ℕ → FileReply
   Named : List ℕ → FileReply
   Quotas : Account → FileReply
+  Lent : FileReply
   Refused : FileError → FileReply
 
 -- the reply of bytes: no bytes are told without a space
@@ -97,4 +102,5 @@ file_reply (Count n) = codes "OK " ++ decimal n
 file_reply (Bytes bytes) = bytes_reply bytes
 file_reply (Named name) = codes "OK " ++ name
 file_reply (Quotas account) = codes "OK " ++ quota_text account
+file_reply Lent = codes "OK cap "
 file_reply (Refused e) = codes "ERR " ++ error_name e

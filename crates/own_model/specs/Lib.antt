@@ -13,6 +13,7 @@ pub mod Region
 pub mod HeapWindow
 pub mod Sliced
 pub mod OwnHeap
+pub mod Zeros
 pub mod OwnState
 pub mod HeapStep
 pub mod Place
@@ -34,11 +35,14 @@ pub mod LogText
 pub mod FileText
 pub mod LogService
 pub mod FileService
+pub mod BufferService
 pub mod FileRows
 pub mod Routes
 pub mod Session
+pub mod BufferRows
 pub mod Donated
 pub mod FileLaws
+pub mod BufferLaws
 pub mod SessionLaws
 pub mod CodedSession
 pub mod Listed

@@ -1,5 +1,5 @@
 -- What a component has: its own state.
-use Rattle.std.specs.Prelude.{◌≡◌, ℕ, ◌+◌, ◌/◌, ◌<◌, List, [], length, Bool, nat_le, if◌then◌else◌, Option, Some, None, IsSome, replicate}
+use Rattle.std.specs.Prelude.{◌≡◌, ℕ, ◌+◌, ◌/◌, ◌<◌, List, [], length, Bool, nat_le, if◌then◌else◌, Option, Some, None, IsSome}
 use Rattle.std.specs.Option.{unwrap_or}
 use Rattle.std.specs.FinMap.{get, keys}
 use Rattle.trade_base.specs.Bytes.{with_bytes}
@@ -9,6 +9,7 @@ use Rattle.own_model.specs.OwnHeap.{OwnHeap, ranges_of_heap}
 use Rattle.own_model.specs.Region.{Region}
 use Rattle.own_model.specs.Session.{Session}
 use Rattle.own_model.specs.Sliced.{ranges_of_blocks}
+unfoldable pub use Rattle.own_model.specs.Zeros.{zeros}
 
 -- what a selector names: a dataspace, by its bytes, an RPC object, which is a capability alone, a session, or the buffer that
 -- the client shares with the session under a selector, by the buffer's bytes
@@ -36,10 +37,6 @@ EachSession Q s = (selector : ℕ) (session : Session) → get s.selectors selec
 -- what stands in the heap window: sliced blocks, chunks and large blocks, as ranges of pages by their starts
 abbrev pub heap_ranges : OwnState → NatMap Region
 heap_ranges s = joined (ranges_of_blocks s.sliced) (ranges_of_heap s.heap)
-
--- so many zero bytes
-unfoldable pub zeros : ℕ → List ℕ
-zeros n = replicate n 0
 
 -- how many pages these bytes fill
 abbrev pub pages_in : List ℕ → ℕ

@@ -5,6 +5,7 @@
 
 mod accounts;
 mod answers;
+mod buffers;
 mod calls;
 mod exits;
 mod file_service;
@@ -25,6 +26,10 @@ pub use accounts::totals_are_the_machine;
 pub use answers::{
     equal_parts_equal_answers, equal_parts_equal_states, init_over_a_line, lines_stand_alone,
     states_are_own_runs, states_over_a_line, told_over_a_line, transcript_is_running,
+};
+pub use buffers::{
+    buffer_bytes_are_moved, buffer_errors_come_in_order, buffer_is_shared_with_its_session,
+    buffers_are_charged,
 };
 pub use calls::{
     addresses_are_read_back, calls_are_refused_in_order, hex_is_read_back,

@@ -17,7 +17,7 @@ use Rattle.own_model.proofs.SessionLemmas.{donation_covered, large_enough}
 use Rattle.own_model.proofs.Totals.{total-remove, total_le, total-picked, total-insert_same}
 use Rattle.cap_space.specs.Space.{without_cap, with_cap}
 use Rattle.cap_space.specs.declared.cap.Cap.{Cap}
-use Rattle.cap_space.specs.declared.cap.Cap.TheVariants.{Dataspace, RpcObject, Session}
+use Rattle.cap_space.specs.declared.cap.Cap.TheVariants.{Dataspace, RpcObject, Session, Buffer}
 use Rattle.dataspace_core.specs.Room.{IsOuter}
 use Rattle.dataspace_core.specs.Store.{Store, Part, part, root_in, account_in, account_of, accounts_in, parents_in, room_in, ram_limits_in, IsChildIn, IsOpenIn, PartBecomes, RaisesPart, ClosesPart}
 use Rattle.dataspace_core.proofs.LimitLaws.{accounts_after}
@@ -87,6 +87,7 @@ module _ {store : Store} {roles : Roles} {i s : ℕ} {script : Script} (two : Ar
     cost_covers : (k : ℕ) (cap : Cap) → get script.caps.caps k ≡ Some cap → session_weight cap ≤ cost cap
     cost_covers k (Dataspace ds) is = omega arith
     cost_covers k RpcObject is = omega arith
+    cost_covers k (Buffer space session) is = omega arith
     cost_covers k (Session at other) is =
         let one = named.its k at other (ap session_at is) in
         let least = row_covers at other.0 one.row one.there in

@@ -1,0 +1,57 @@
+//! Laws of the buffer that a client shares with its session of the file service, and worked inputs that compute.
+ghost use Rattle.std.specs.Prelude.{◌≡◌, [], ◌∷◌, codes};
+ghost use Rattle.own_model.specs.BufferLaws.{BufferErrorsComeInOrder, OtherBuffersAreServed, PutsAreWrites, GetsCopy, AllKeepFiles, AllKeepCharges, AllKeepLimits, AllKeepWithinLimits, AllFitBuffers};
+ghost use Rattle.own_model.specs.BufferRows.{turns_of};
+ghost use Rattle.own_model.specs.BufferRows.Turn.{Asks, Pokes, Peeks};
+ghost use Rattle.own_model.specs.BufferService.BufferRequest.{Make, GiveBack, Put, Get};
+ghost use Rattle.own_model.specs.BufferService.SessionRequest.{OfFiles, OfBuffer};
+ghost use Rattle.own_model.specs.FileText.FileRequest.{Create, Read, Write, Size, Stat};
+
+/// A request of the buffer is answered the first error on its line of the table of requests for which there is reason, and then
+/// leaves the buffer, the files and the account; where there is reason for none, it is answered none.
+pub fn buffer_errors_come_in_order()
+    ensures order { BufferErrorsComeInOrder }
+    ensures others { OtherBuffersAreServed }
+{}
+
+/// A put is a write of the buffer's bytes. A get puts so many bytes of the file into the buffer, and leaves every other byte
+/// of it.
+pub fn buffer_bytes_are_moved()
+    ensures put { PutsAreWrites }
+    ensures get { GetsCopy }
+{}
+
+/// Any request of a session leaves files as files are, changes no limit and overdraws no account, and the account then uses
+/// what the files and the buffer are charged, as it did. A new buffer is whole pages, and one that stays is as long as it was.
+pub fn buffers_are_charged()
+    ensures files { AllKeepFiles }
+    ensures charges { AllKeepCharges }
+    ensures limits { AllKeepLimits }
+    ensures within { AllKeepWithinLimits }
+    ensures long { AllFitBuffers }
+{}
+
+/// A buffer is made, filled by its client, put into a file and filled from one, given back and made again: then it is zero.
+/// What a file doesn't have of a range leaves the buffer there as it was.
+pub fn buffer_is_shared_with_its_session()
+    ensures shared { turns_of 40960 6 (Asks (OfBuffer (Make 0)) ∷ Asks (OfFiles (Create (codes "a"))) ∷ Asks (OfBuffer (Put (codes "a") 0 0 1))
+        ∷ Asks (OfBuffer (Make 5000)) ∷ Asks (OfBuffer (Make 1)) ∷ Asks (OfFiles Stat) ∷ Pokes 8190 (codes "hi")
+        ∷ Asks (OfBuffer (Put (codes "a") 0 8190 2)) ∷ Asks (OfBuffer (Put (codes "a") 2 8190 3)) ∷ Asks (OfFiles (Read (codes "a") 0 9))
+        ∷ Asks (OfBuffer (Get (codes "a") 1 0 9)) ∷ Peeks 0 2 ∷ Asks (OfBuffer GiveBack) ∷ Asks (OfBuffer GiveBack)
+        ∷ Asks (OfBuffer (Make 1)) ∷ Peeks 0 1 ∷ [])
+        ≡ codes "ERR INVALID_SIZE\nOK\nERR NO_BUFFER\nOK cap \nERR EXISTS\nOK ram 28672/40960 caps 4/6\nOK 2\nERR BAD_RANGE\nOK 6869\nOK 1\n6900\nOK\nERR NO_BUFFER\nOK cap \n00\n" }
+    ensures order { turns_of 24576 5 (Asks (OfBuffer (Make 0)) ∷ Asks (OfBuffer (Make 1)) ∷ Asks (OfBuffer (Make 0))
+        ∷ Asks (OfBuffer (Make 18446744073709547521)) ∷ Asks (OfBuffer (Make 18446744073709547520)) ∷ Asks (OfFiles (Create (codes "a")))
+        ∷ Asks (OfBuffer (Put (codes "b") 9 9 9999)) ∷ Asks (OfBuffer (Put (codes "a") 1 9 9999)) ∷ Asks (OfBuffer (Put (codes "a") 0 9 9999))
+        ∷ Asks (OfBuffer (Put (codes "a") 0 18446744073709551615 18446744073709551615)) ∷ Asks (OfBuffer (Put (codes "a") 0 0 1))
+        ∷ Asks (OfBuffer (Put (codes "a") 0 4096 0)) ∷ Asks (OfBuffer (Put (codes "a") 0 4097 0)) ∷ Asks (OfFiles (Size (codes "a")))
+        ∷ Asks (OfBuffer GiveBack) ∷ Asks (OfBuffer (Put (codes "a") 1 0 0)) ∷ Asks (OfBuffer (Put (codes "a") 0 0 0)) ∷ [])
+        ≡ codes "ERR INVALID_SIZE\nOK cap \nERR INVALID_SIZE\nERR INVALID_SIZE\nERR EXISTS\nOK\nERR NOT_FOUND\nERR GAP\nERR BAD_RANGE\nERR BAD_RANGE\nERR OUT_OF_RAM\nOK 0\nERR BAD_RANGE\nOK 0\nOK\nERR GAP\nERR NO_BUFFER\n" }
+    ensures kept { turns_of 28672 6 (Asks (OfFiles (Create (codes "a"))) ∷ Asks (OfFiles (Write (codes "a") 0 (codes "xyz"))) ∷ Asks (OfBuffer (Make 1))
+        ∷ Pokes 0 (codes "abcdef") ∷ Asks (OfBuffer (Get (codes "a") 1 1 4)) ∷ Peeks 0 6 ∷ Asks (OfBuffer (Get (codes "a") 3 0 4096)) ∷ Peeks 0 6
+        ∷ Asks (OfBuffer (Get (codes "a") 0 4093 4)) ∷ Asks (OfBuffer (Get (codes "a") 0 4094 2)) ∷ Peeks 4092 4 ∷ [])
+        ≡ codes "OK\nOK 3\nOK cap \nOK 2\n61797a646566\nOK 0\n61797a646566\nERR BAD_RANGE\nOK 2\n00007879\n" }
+    ensures bytes { turns_of 8192 3 (Asks (OfBuffer (Make 4097)) ∷ Asks (OfBuffer (Make 4096)) ∷ Asks (OfFiles Stat) ∷ [])
+        ≡ codes "ERR OUT_OF_RAM\nOK cap \nOK ram 8192/8192 caps 3/3\n" }
+    ensures capability { turns_of 8192 2 (Asks (OfBuffer (Make 1)) ∷ Asks (OfFiles Stat) ∷ []) ≡ codes "ERR OUT_OF_CAPS\nOK ram 4096/8192 caps 2/2\n" }
+{}
