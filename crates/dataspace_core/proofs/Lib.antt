@@ -15,5 +15,6 @@ pub mod PartLaws
 pub mod PokedLaws
 pub mod ShareLaws
 pub mod WindowLaws
+pub mod GoneLaws
 pub mod LimitLaws
 pub mod RoomLaws

@@ -54,3 +54,4 @@ pub mod SessionSoundLemmas
 pub mod RouteLemmas
 pub mod AloneLemmas
 pub mod ListedLemmas
+pub mod AccountLemmas

@@ -35,7 +35,7 @@ use Rattle.pd_core.specs.declared.component.Component.{Component}
 use Rattle.pd_core.specs.declared.component.Role.{Role}
 use Rattle.pd_core.specs.declared.component.Role.TheVariants.{Script as AScript, Log as ALog, Files as AFiles, Gone as AGone}
 use Rattle.pd_core.proofs.CoreLemmas.{payers_differ, entries_set, read_set}
-use Rattle.pd_core.proofs.ExitRoomLemmas.{room_after_exit}
+use Rattle.dataspace_core.proofs.RoomLaws.{room_after_exit}
 use Rattle.pd_core.proofs.RoleLemmas.{rows_stay, role_sound, own_stays}
 use Rattle.pd_core.proofs.ServerLemmas.{live_script, live_named}
 
