@@ -14,6 +14,7 @@ pub mod PartLaws
 pub mod PokedLaws
 pub mod ShareLaws
 pub mod WindowLaws
+pub mod GoneLaws
 pub mod LimitLaws
 pub mod RoomLaws
 pub mod SpacesLemmas

@@ -3,6 +3,7 @@ use Rattle.std.proofs.Common.{◌≡◌, ◌≢◌, ℕ, Bool, true, false, cond
 use Rattle.std.specs.Prelude.{Option, None}
 use Rattle.std.specs.Option.{option_and_then}
 use Rattle.std.specs.FinMap.{get}
+use Rattle.own_model.specs.Account.{Account, opened}
 use Rattle.own_model.proofs.NatMapLemmas.{get-picked, value_at}
 use Rattle.dataspace_core.specs.Store.{Store, Space, IsOpenIn, account_in, Exists, space_at, Part, part, bytes_paid_by, account_of, bytes_of, PartBecomes}
 use Rattle.dataspace_core.proofs.PartLemmas.{part-payer}
@@ -29,6 +30,10 @@ becomes_then first next = record {
 pub account_of-part : (account : ℕ) (store : Store) → account_of (part account store) ≡ account_in store account
 unfolding part
 account_of-part account store = refl
+
+-- so what the part has is what is read
+pub account_by : (account : ℕ) (store : Store) (x : Account) → (part account store).account ≡ Some x → account_in store account ≡ x
+account_by account store x is = sym (account_of-part account store) ∙ ap (λ (o : Option Account). unwrap_or o (opened 0 0)) is
 
 -- the part of an open account has it
 pub part_open : (account : ℕ) (store : Store) → IsOpenIn store account → IsSome (part account store).account

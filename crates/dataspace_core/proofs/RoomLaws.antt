@@ -11,7 +11,7 @@ use Rattle.own_model.specs.NatMap.{NatMap, total}
 use Rattle.own_model.proofs.NatMapLemmas.{same, value_at, apart_from_free, before_remove, get-insert_same, get-insert_other, get-remove_same, get-remove_other}
 use Rattle.own_model.proofs.Totals.{total-insert_new, total-insert_at, total-insert_same, total-remove, total-zero, total_same, total_parted}
 use Rattle.own_model.proofs.KeySums.{measured, measured_or, total-taken, total_keys_le}
-use Rattle.dataspace_core.specs.Store.{Store, Part, part, parted_part, raised_part, closed_part, accounts_in, parents_in, root_in, account_in, IsOpenIn, IsChildIn}
+use Rattle.dataspace_core.specs.Store.{Store, Part, part, parted_part, raised_part, closed_part, accounts_in, parents_in, root_in, account_in, IsOpenIn, IsChildIn, caps_limits_in, ClosesPart}
 use Rattle.dataspace_core.specs.Room.{inner_weight, inner_accounts, IsOuter, HasRoom, RoomAtFirst, RoomForOneMore, RoomStays, RoomIsTaken, RoomIsRaised, RoomIsGivenBack}
 use Rattle.dataspace_core.proofs.PartLaws.{account_of-part}
 use Rattle.dataspace_core.proofs.LimitLaws.{accounts_after}
@@ -238,6 +238,14 @@ room_is_raised parent child ram caps old new raises opens outer kin apart fits r
           ];
     }
 
+-- who is a child once an account has gone was one before, and is another
+module _ {account parent : ℕ} {old new : Store} (closes : ClosesPart account parent old new) (k p : ℕ) (is : IsChildIn new k p) where
+  child_was : IsChildIn old k p
+  child_was = before_remove (parents_in old) account k p (ap (λ (m : NatMap ℕ). get m k) (sym closes.parents) ∙ is)
+
+  child_left : k ≢ account
+  child_left e = none-some p (sym (ap (λ (m : NatMap ℕ). get m k) closes.parents ∙ get-remove_same (parents_in old) account k e) ∙ is)
+
 -- an account goes
 pub room_is_given_back : RoomIsGivenBack
 room_is_given_back account parent old new closes opens outer kin apart not_root room =
@@ -246,8 +254,6 @@ room_is_given_back account parent old new closes opens outer kin apart not_root 
     let more : (part parent new).account ≡ Some (raised (account_in old parent) (account_in old account).ram_limit (account_in old account).caps_limit) =
     account_raised parent _ _ old new closes.raised_one ∙ ap (λ (a : Account). Some (raised (account_in old parent) a.ram_limit a.caps_limit)) limits_of in
     let there_was = room.there account parent kin in
-    let was : (k p : ℕ) → IsChildIn new k p → IsChildIn old k p = λ k p is. before_remove (parents_in old) account k p (ap (λ (m : NatMap ℕ). get m k) (sym closes.parents) ∙ is) in
-    let not_it : (k p : ℕ) → IsChildIn new k p → k ≢ account = λ k p is e. none-some p (sym (ap (λ (m : NatMap ℕ). get m k) closes.parents ∙ get-remove_same (parents_in old) account k e) ∙ is) in
     record {
       counted =
           let less : inner_accounts new + 1 ≡ inner_accounts old =
@@ -260,12 +266,34 @@ room_is_given_back account parent old new closes opens outer kin apart not_root 
           omega (arith, less, limits, closes.room, room.counted);
       there = λ k p is. elim (cases_eq k parent) [
         | inl its ↦ subst (IsOpenIn new) (sym its) (open_on new parent _ more)
-        | inr other ↦ open_still old new k (closes.others k (not_it k p is) other) (room.there k p (was k p is))
+        | inr other ↦ open_still old new k (closes.others k (child_left closes k p is) other) (room.there k p (child_was closes k p is))
       ];
       paid = λ k p is inner.
-          let before = room.paid k p (was k p is) (λ e. inner (e ∙ sym closes.root)) in
+          let before = room.paid k p (child_was closes k p is) (λ e. inner (e ∙ sym closes.root)) in
           elim (cases_eq k parent) [
-            | inl its ↦ absurd (inner (outer p (subst (λ q. IsChildIn old q p) its (was k p is)) ∙ sym closes.root))
-            | inr other ↦ paid_still old new k (closes.others k (not_it k p is) other) before
+            | inl its ↦ absurd (inner (outer p (subst (λ q. IsChildIn old q p) its (child_was closes k p is)) ∙ sym closes.root))
+            | inr other ↦ paid_still old new k (closes.others k (child_left closes k p is) other) before
+          ];
+    }
+
+-- one goes that was opened under the root
+pub room_after_exit : {account : ℕ} {old new : Store} → ClosesPart account (root_in old) old new → caps_limits_in new ≡ caps_limits_in old → IsChildIn old account (root_in old) → HasRoom old → HasRoom new
+room_after_exit {account} {old} {new} closes caps kin room =
+    let more = account_raised (root_in old) _ _ old new closes.raised_one in
+    record {
+      counted =
+          let none = weighs_none (root_in old) (root_in old) refl in
+          let less = total-remove (inner_weight (root_in old)) (parents_in old) account (root_in old) kin in
+          let inner : inner_accounts new ≡ inner_accounts old = (λ j. total (inner_weight (closes.root j)) (closes.parents j)) ∙ omega (arith, less, none) in
+          omega (arith, inner, caps, closes.room, room.counted);
+      there = λ k p is. elim (cases_eq k (root_in old)) [
+        | inl its ↦ subst (IsOpenIn new) (sym its) (open_on new (root_in old) _ more)
+        | inr other ↦ open_still old new k (closes.others k (child_left closes k p is) other) (room.there k p (child_was closes k p is))
+      ];
+      paid = λ k p is inner.
+          let before = room.paid k p (child_was closes k p is) (λ e. inner (e ∙ sym closes.root)) in
+          elim (cases_eq k (root_in old)) [
+            | inl its ↦ subst (λ q. 2 ≤ (account_in new q).caps_limit) (sym its) (paid_on old new (root_in old) _ more (let at = subst (λ q. 2 ≤ (account_in old q).caps_limit) its before in omega arith))
+            | inr other ↦ paid_still old new k (closes.others k (child_left closes k p is) other) before
           ];
     }

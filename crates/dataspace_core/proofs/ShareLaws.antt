@@ -1,13 +1,14 @@
 -- Laws for callers: the shares of a memory and a heap window when a region is attached, or goes.
-use Rattle.std.proofs.Common.{◌≡◌, ◌≢◌, ℕ, true, cond, eqb, ◌||◌, List, Some, is_some, refl, sym, ap, ◌∙◌, ⊎_elim, arith}
+use Rattle.std.proofs.Common.{◌≡◌, ◌≢◌, ℕ, true, false, cond, eqb, ◌||◌, Bool, List, length, Some, IsSome, is_some, refl, sym, ap, subst, ◌∙◌, ⊎_elim, arith}
 use Rattle.std.proofs.lemmas.Bool.{cases_eq}
 use Rattle.std.proofs.lemmas.Bool.Decides.{nat_tests}
+use Rattle.std.proofs.lemmas.Option.{none-some, same_Some}
 use Rattle.std.specs.Prelude.{Option, None}
-use Rattle.std.specs.Option.{option_and_then}
+use Rattle.std.specs.Option.{option_map, option_and_then}
 use Rattle.std.specs.FinMap.{get, insert, remove, get-retain_keys, nat_cmp-IsAntisymmetric}
 use Rattle.own_model.specs.NatMap.{NatMap, picked}
 use Rattle.own_model.specs.Region.{Region}
-use Rattle.own_model.proofs.NatMapLemmas.{same, natmaps, get-picked, get-remove_other, picked-insert_hidden, picked-insert_some, picked-remove, picked-remove_hidden}
+use Rattle.own_model.proofs.NatMapLemmas.{same, natmaps, get-picked, and_then_from, and_then_alike, get-remove_other, picked-insert_hidden, picked-insert_some, picked-remove, picked-remove_hidden}
 use Rattle.dataspace_core.specs.Store.{Part}
 use Rattle.dataspace_core.specs.Share.{Share, shown, share_in, tags_of}
 
@@ -20,14 +21,16 @@ get-tags_of heap tags q = get-retain_keys tags (λ start. is_some (get heap star
 same_share : (part : Part) (heap kept : NatMap Region) (tags numbers : NatMap ℕ) → heap ≡ kept → tags ≡ numbers → ◌≡◌ {A = Share} (record { part = part; heap = heap; tags = tags }) (record { part = part; heap = kept; tags = numbers })
 same_share part heap kept tags numbers p q = λ i. record { part = part; heap = p i; tags = q i }
 
--- what two maps of dataspaces show of a region is the same where both have its dataspace or neither
-shown_same : (p q : NatMap (List ℕ)) (r : Region) → is_some (get q r.of) ≡ is_some (get p r.of) → shown q r ≡ shown p r
-shown_same p q r e = ap (λ b. cond b (Some r) None) e
+-- what two maps of dataspaces show of a region that may be there is the same where both have its dataspace or neither
+pub each_shown : (p q : NatMap (List ℕ)) (o : Option Region) → ((r : Region) → o ≡ Some r → is_some (get q r.of) ≡ is_some (get p r.of)) → option_and_then (shown q) o ≡ option_and_then (shown p) o
+each_shown p q o alike = and_then_alike (shown q) (shown p) o (λ r there. ap (λ b. cond b (Some r) None) (alike r there))
 
--- and of a region that may be there
-each_shown : (p q : NatMap (List ℕ)) (o : Option Region) → ((r : Region) → o ≡ Some r → is_some (get q r.of) ≡ is_some (get p r.of)) → option_and_then (shown q) o ≡ option_and_then (shown p) o
-each_shown p q None alike = refl
-each_shown p q (Some r) alike = shown_same p q r (alike r refl)
+-- options of the same length are both there or not
+pub some_alike : (o p : Option (List ℕ)) → option_map length o ≡ option_map length p → is_some o ≡ is_some p
+some_alike None None e = refl
+some_alike None (Some x) e = absurd (none-some (length x) e)
+some_alike (Some x) None e = absurd (none-some (length x) (sym e))
+some_alike (Some x) (Some y) e = refl
 
 -- the regions that parts with the same dataspaces show are the same
 pub shown_alike : (p q : NatMap (List ℕ)) (heap : NatMap Region) → ((k : ℕ) → is_some (get q k) ≡ is_some (get p k)) → picked (shown q) heap ≡ picked (shown p) heap
@@ -43,6 +46,24 @@ share_alike p q heap tags alike =
 -- what is shown at a place where nothing is
 pub nothing_shown : (spaces : NatMap (List ℕ)) (heap : NatMap Region) (start : ℕ) → get heap start ≡ None → get (picked (shown spaces) heap) start ≡ None
 nothing_shown spaces heap start free = get-picked (shown spaces) heap start ∙ ap (option_and_then (shown spaces)) free
+
+-- what a test lets through was there
+pub under_test : {X : Type 0} (b : Bool) (o : Option X) (x : X) → cond b o None ≡ Some x → (b ≡ true) × (o ≡ Some x)
+under_test true o x h = (refl, h)
+under_test false o x h = absurd (none-some x h)
+
+-- a region that a part shows is one of the map, of a dataspace of the part
+pub in_share : (part : Part) (heap : NatMap Region) (tags : NatMap ℕ) (start : ℕ) (r : Region) → get (share_in part heap tags).heap start ≡ Some r → (get heap start ≡ Some r) × IsSome (get part.spaces r.of)
+unfolding share_in
+in_share part heap tags start r h =
+    let from = and_then_from (shown part.spaces) (get heap start) r (sym (get-picked (shown part.spaces) heap start) ∙ h) in
+    let seen = under_test (is_some (get part.spaces from.0.of)) (Some from.0) r from.2 in
+    (from.1 ∙ seen.1, subst (λ (x : Region). IsSome (get part.spaces x.of)) (same_Some from.0 r seen.1) seen.0)
+
+-- the number that a share keeps with a region is the map's
+pub in_tags : (part : Part) (heap : NatMap Region) (tags : NatMap ℕ) (start k : ℕ) → get (share_in part heap tags).tags start ≡ Some k → get tags start ≡ Some k
+unfolding share_in
+in_tags part heap tags start k h = (under_test _ (get tags start) k (sym (get-tags_of (picked (shown part.spaces) heap) tags start) ∙ h)).1
 
 module _ (heap : NatMap Region) (tags : NatMap ℕ) (start : ℕ) (region : Region) (tag : ℕ) (free : get heap start ≡ None) where
   -- a part that hasn't the dataspace shows as much as before

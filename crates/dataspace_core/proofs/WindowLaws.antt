@@ -14,7 +14,7 @@ use Rattle.own_model.specs.OwnState.{zeros}
 use Rattle.own_model.specs.Region.{Region, IsPlace}
 use Rattle.own_model.proofs.ApartLemmas.{LieApart-insert}
 use Rattle.own_model.proofs.ByteLemmas.{length-zeros}
-use Rattle.own_model.proofs.NatMapLemmas.{value_at, get-insert_same, get-insert_other}
+use Rattle.own_model.proofs.NatMapLemmas.{none_if, value_at, get-insert_same, get-insert_other}
 use Rattle.own_model.proofs.Totals.{total-insert_new, len-insert_new}
 use Rattle.dataspace_core.specs.Store.{Store, Space, space_at, Part, part, account_in, IsOpenIn, PartBecomes, ram_limits_in, part_with_space, with_space}
 use Rattle.dataspace_core.specs.Share.{share, share_in, IsShown, IsWindowOf, KeepsShares}
@@ -45,23 +45,18 @@ in_part store ds space there =
 
 -- nobody else has it
 pub in_no_other : (account other ds : ℕ) (bytes : List ℕ) (store : Store) → get (part account store).spaces ds ≡ Some bytes → other ≢ account → get (part other store).spaces ds ≡ None
-in_no_other account other ds bytes store has apart =
-    elim (get (part other store).spaces ds) as (λ o. get (part other store).spaces ds ≡ o → o ≡ None) [
-      | None ↦ λ e. refl
-      | Some b ↦ λ e.
-          let mine = in_memory account ds bytes store has in
-          let its = in_memory other ds b store e in
-          let same = same_Some mine.0 its.0 (sym mine.1 ∙ its.1) in
-          absurd (apart (sym its.2 ∙ ap (λ (s : Space). s.payer) (sym same) ∙ mine.2))
-    ] refl
+in_no_other account other ds bytes store has apart = none_if _ (λ b there.
+    let mine = in_memory account ds bytes store has in
+    let its = in_memory other ds b store there in
+    apart (sym its.2 ∙ ap (λ (s : Space). s.payer) (same_Some its.0 mine.0 (sym its.1 ∙ mine.1)) ∙ mine.2))
 
 -- what isn't in the memory is in no part
 pub in_none : (account ds : ℕ) (store : Store) → get store.spaces ds ≡ None → get (part account store).spaces ds ≡ None
-in_none account ds store free =
-    elim (get (part account store).spaces ds) as (λ o. get (part account store).spaces ds ≡ o → o ≡ None) [
-      | None ↦ λ e. refl
-      | Some b ↦ λ e. let mine = in_memory account ds b store e in absurd (none-some mine.0 (sym free ∙ mine.1))
-    ] refl
+in_none account ds store free = none_if _ (λ b there. let mine = in_memory account ds b store there in none-some mine.0 (sym free ∙ mine.1))
+
+-- no region shows a dataspace that isn't there
+pub unshown_free : (store : Store) (heap : NatMap Region) (ds : ℕ) → ((s : ℕ) (r : Region) → get heap s ≡ Some r → IsShown store.spaces r) → get store.spaces ds ≡ None → (s : ℕ) (r : Region) → get heap s ≡ Some r → r.of ≢ ds
+unshown_free store heap ds shows fresh s r h e = let shown = shows s r h in none-some shown.space (sym fresh ∙ ap (get store.spaces) (sym e) ∙ shown.there)
 
 -- a region shows what a part has whole
 pub shown_of_part : (account : ℕ) (store : Store) (region : Region) (bytes : List ℕ) → get (part account store).spaces region.of ≡ Some bytes → 1 ≤ region.pages → length bytes ≡ region.pages * 4096 → IsShown store.spaces region
@@ -118,7 +113,7 @@ module _ (account ds size tag start : ℕ) (old new : Store) (pages most : ℕ) 
 
   -- no region shows it yet
   pub unshown : (s : ℕ) (r : Region) → get heap s ≡ Some r → r.of ≢ ds
-  unshown s r h e = let shown = window.shown_whole s r h in none-some shown.space (sym fresh ∙ ap (get old.spaces) (sym e) ∙ shown.there)
+  unshown = unshown_free old heap ds window.shown_whole fresh
 
   -- it is all zero
   pub new_there : get (part account new).spaces ds ≡ Some (zeros (page_of size))

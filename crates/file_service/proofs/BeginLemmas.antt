@@ -23,18 +23,19 @@ use Rattle.heap_core.specs.Heap.{payer_of as heap_payer, heap_in, large_tag, Has
 use Rattle.sliced_heap.specs.declared.heap.SlicedHeap.{SlicedHeap}
 use Rattle.sliced_heap.specs.Heap.{payer_of, share_at}
 use Rattle.sliced_heap.specs.Sliced.{sliced_tag, is_sliced_tag, sliced_of, block_regions, payload_of}
-use Rattle.sliced_heap.proofs.ShareLemmas.{get-sliced_regions, is_shared}
+use Rattle.heap_window.proofs.ShareLemmas.{get-sliced_regions}
+use Rattle.dataspace_core.proofs.ShareLaws.{in_share}
 use Rattle.server_frame.specs.Session.{IsSessionHeap, HasBlocksAlone, holding, holding_of}
 use Rattle.file_service.specs.Furnished.{IsShare, HoldsNodes, KeepsNodes, IsFurnished}
-use Rattle.file_service.proofs.BesideLemmas.{map_of}
+use Rattle.heap_window.proofs.BesideLemmas.{map_of}
 use Rattle.file_service.proofs.FurnishedLemmas.{laid_back}
 
 -- a session's share of a map is one that a map can have
 session_share : (sliced : SlicedHeap) (store : Store) (regions : Regions) → IsSessionHeap sliced store regions → IsShare (holding_of sliced store regions)
 unfolding share_in
 session_share sliced store regions session = record {
-  paid = λ s r there. (is_shared (payer_of sliced) store regions s r there).paid;
-  once = λ s t r q one two e. session.sound.maps.once s t r q (is_shared (payer_of sliced) store regions s r one).there (is_shared (payer_of sliced) store regions t q two).there e;
+  paid = λ s r there. (in_share (part (payer_of sliced) store) regions.heap regions.tags s r there).1;
+  once = λ s t r q one two e. session.sound.maps.once s t r q (in_share (part (payer_of sliced) store) regions.heap regions.tags s r one).0 (in_share (part (payer_of sliced) store) regions.heap regions.tags t q two).0 e;
 }
 
 -- both heaps are sound then

@@ -23,33 +23,35 @@ use Rattle.dataspace_core.proofs.ShareLaws.{get-tags_of}
 use Rattle.heap_core.specs.declared.heap.Heap.{Heap}
 use Rattle.heap_core.specs.Heap.{large_tag}
 use Rattle.heap_core.specs.Laws.{block_region}
-use Rattle.heap_core.proofs.ShareLemmas.{in_share}
-use Rattle.heap_core.proofs.StayLemmas.{told_region}
+use Rattle.dataspace_core.proofs.ShareLaws.{in_share}
+use Rattle.heap_window.proofs.ShareLemmas.{told_region}
 use Rattle.sliced_heap.specs.declared.heap.SlicedHeap.{SlicedHeap}
 use Rattle.sliced_heap.specs.Heap.{payer_of, share_at, blocks_at, IsNoBlock, IsSound as IsSoundSliced, KeepsOthers, TakesBlock, GivesBlock, HoldsRange}
 use Rattle.sliced_heap.specs.Laws.{Pokes}
 use Rattle.sliced_heap.specs.Sliced.{sliced_tag, block_regions, payload_of}
 use Rattle.sliced_heap.proofs.BlockLemmas.{payload_at, is_of}
 use Rattle.sliced_heap.proofs.HeapLaws.{payload_poked}
-use Rattle.sliced_heap.proofs.ShareLemmas.{shown_block}
+use Rattle.heap_window.proofs.ShareLemmas.{shown_block}
 use Rattle.file_service.specs.Furnished.{IsFurnished}
-use Rattle.file_service.proofs.BesideLemmas.{numbered, gap_is_free, lie_with, lie_without}
+use Rattle.heap_window.specs.Window.{low_region}
+use Rattle.heap_window.proofs.BesideLemmas.{gap_is_free, lie_with, lie_without}
 use Rattle.file_service.proofs.FurnishedLemmas.{ChangesContents}
-use Rattle.file_service.proofs.WindowLemmas.{IsPut, is_put, kept_tag}
+use Rattle.heap_window.proofs.WindowLemmas.{IsPut, is_put}
+use Rattle.heap_window.proofs.ShareLemmas.{kept_tag}
 
 -- ---- chunks of an account on a map that several accounts use
 
 -- the chunk or large block of a region with a number, where these dataspaces are shown
 abbrev numbered_in : NatMap (List ℕ) → Option ℕ → Option Region → Option (Region × ℕ)
-numbered_in spaces tag region = numbered tag (option_and_then (shown spaces) region)
+numbered_in spaces tag region = low_region tag (option_and_then (shown spaces) region)
 
--- nothing is numbered where no region is
-none_numbered : (tag : Option ℕ) → numbered tag None ≡ None
+-- nothing has a number where no region is
+none_numbered : (tag : Option ℕ) → low_region tag None ≡ None
 none_numbered None = refl
 none_numbered (Some k) = elim (nat_le k large_tag) as (λ b. ◌≡◌ {A = Option (Region × ℕ)} (cond b None None) None) [ true ↦ refl | false ↦ refl ]
 
 -- a number is kept with what is shown alone
-within_share : (tag : Option ℕ) (o : Option Region) → numbered (cond (is_some o) tag None) o ≡ numbered tag o
+within_share : (tag : Option ℕ) (o : Option Region) → low_region (cond (is_some o) tag None) o ≡ low_region tag o
 within_share tag None = sym (none_numbered tag)
 within_share tag (Some r) = refl
 
@@ -59,9 +61,9 @@ region_is : (account : ℕ) (store : Store) (regions : Regions) (s : ℕ) →
 unfolding share_in
 region_is account store regions s =
     let o = get-picked (shown (part account store).spaces) regions.heap s in
-    ap (λ t. numbered t (get (share_at account store regions).heap s)) (get-tags_of _ regions.tags s)
+    ap (λ t. low_region t (get (share_at account store regions).heap s)) (get-tags_of _ regions.tags s)
     ∙ within_share (get regions.tags s) (get (share_at account store regions).heap s)
-    ∙ ap (numbered (get regions.tags s)) o
+    ∙ ap (low_region (get regions.tags s)) o
 
 -- it is the same where its dataspace is there or not as before
 numbered_alike : (p q : NatMap (List ℕ)) (tag : Option ℕ) (o : Option Region) →

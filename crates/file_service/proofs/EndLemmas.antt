@@ -24,8 +24,12 @@ use Rattle.sliced_heap.specs.Sliced.{sliced_tag, is_sliced_tag, block_regions}
 use Rattle.server_frame.specs.Session.{HasBlocksAlone, holding_of}
 use Rattle.file_service.specs.Furnished.{IsFurnished, KeepsSession}
 use Rattle.file_service.proofs.FurnishedLemmas.{ChangesNodes, nodes_are, nodes_kept}
-use Rattle.file_service.proofs.NodeCallLemmas.{account_by}
-use Rattle.file_service.proofs.WindowLemmas.{IsNoHeapBlock, block_is, no_chunk, shown_alike, shown_block_at, shown_large}
+use Rattle.dataspace_core.proofs.PartLaws.{account_by}
+use Rattle.heap_window.specs.Window.{IsNoHeapBlock}
+use Rattle.heap_window.proofs.WindowLemmas.{block_is, shown_block_at}
+use Rattle.heap_core.proofs.BesideLemmas.{no_chunk}
+use Rattle.dataspace_core.proofs.ShareLaws.{each_shown}
+use Rattle.heap_window.proofs.ShareLemmas.{shown_large}
 
 -- what passes for a sliced block's number is that number
 sliced_number : (o : Option ℕ) → is_sliced_tag o ≡ true → o ≡ Some sliced_tag
@@ -46,7 +50,7 @@ module _ (account : ℕ) (old new : Store) (regions after : Regions) (kept : Kee
       let tag = sliced_number _ is in
       let stays = kept.stays s sliced_tag tag (omega arith) in
       (λ i. shown_block_at (part account new).spaces (stays.1 i) (stays.0 i))
-      ∙ ap (λ o. cond (is_sliced_tag (get regions.tags s)) o None) (shown_alike (part account old).spaces (part account new).spaces (get regions.heap s) (λ r there. alike s r there tag))
+      ∙ ap (λ o. cond (is_sliced_tag (get regions.tags s)) o None) (each_shown (part account old).spaces (part account new).spaces (get regions.heap s) (λ r there. alike s r there tag))
   shown_still s false other =
       ap (λ b. cond b (option_and_then (shown (part account new).spaces) (get after.heap s)) None) (not_sliced s other)
       ∙ sym (ap (λ b. cond b (option_and_then (shown (part account old).spaces) (get regions.heap s)) None) other)

@@ -20,11 +20,11 @@ use Rattle.sliced_heap.specs.Heap.{payer_of, share_at, blocks_at, IsSound as IsS
 use Rattle.sliced_heap.specs.Laws.{HeapStays}
 use Rattle.sliced_heap.specs.Sliced.{sliced_tag, sliced_of, block_regions}
 use Rattle.sliced_heap.proofs.HeapLaws.{heap_stays_among}
-use Rattle.sliced_heap.proofs.ShareLemmas.{shown_block}
+use Rattle.heap_window.proofs.ShareLemmas.{shown_block}
 use Rattle.server_frame.specs.Session.{holding, holding_of}
 use Rattle.file_service.specs.Furnished.{IsFurnished, KeepsSession, stock}
-use Rattle.file_service.proofs.BesideLemmas.{map_of, maps_memory}
-use Rattle.file_service.proofs.WindowLemmas.{IsNoHeapBlock}
+use Rattle.heap_window.proofs.BesideLemmas.{map_of, maps_memory}
+use Rattle.heap_window.specs.Window.{IsNoHeapBlock}
 
 -- ---- an account's limits and use are nothing to a heap
 

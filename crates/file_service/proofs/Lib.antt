@@ -13,8 +13,6 @@ pub mod DropLemmas
 pub mod WriteLemmas
 pub mod LengthenLemmas
 pub mod FrontLemmas
-pub mod WindowLemmas
-pub mod BesideLemmas
 pub mod FurnishedLemmas
 pub mod NodeLemmas
 pub mod ContentLemmas

@@ -18,36 +18,22 @@ use Rattle.own_model.proofs.Totals.{len-total, total-picked}
 use Rattle.region_map.specs.Regions.{Regions, heap_attached}
 use Rattle.dataspace_core.specs.Share.{share_in, KeepsShares}
 use Rattle.dataspace_core.specs.Store.{Store, Part, part, account_in}
-use Rattle.dataspace_core.proofs.PartLaws.{account_of-part}
+use Rattle.dataspace_core.proofs.PartLaws.{account_of-part, account_by}
+use Rattle.heap_core.proofs.BesideLemmas.{rest_in_place, count_in_place, rest_attached}
 use Rattle.dataspace_core.proofs.WindowLaws.{in_none}
 use Rattle.heap_core.specs.declared.heap.Heap.{Heap}
 use Rattle.heap_core.specs.Calls.{KeepsSpaces, AddsSpace, Attaches}
 use Rattle.heap_core.specs.Heap.{payer_of as heap_payer, heap_in, heap_at, shape_in, large_tag, IsSound as IsSoundHeap}
 use Rattle.sliced_heap.specs.Sliced.{sliced_tag}
-use Rattle.file_service.proofs.BesideLemmas.{gap_is_free}
+use Rattle.heap_window.proofs.BesideLemmas.{gap_is_free}
 use Rattle.file_service.proofs.FurnishedLemmas.{ChangesNodes}
-use Rattle.file_service.proofs.WindowLemmas.{some_alike, blocks_in_place, blocks_attached, no_chunk}
-
--- a length that is picked is a length that is there
-as_mapped : (o : Option (List ℕ)) → option_and_then (λ (b : List ℕ). Some (length b)) o ≡ option_map length o
-as_mapped None = refl
-as_mapped (Some b) = refl
-
--- maps whose dataspaces are as long have as many
-len_alike : (m n : NatMap (List ℕ)) → ((k : ℕ) → option_map length (get m k) ≡ option_map length (get n k)) → len m ≡ len n
-len_alike m n alike =
-    let long : List ℕ → Option ℕ = λ b. Some (length b) in
-    let one : picked long m ≡ picked long n = same _ _ (λ k. get-picked long m k ∙ as_mapped (get m k) ∙ alike k ∙ sym (as_mapped (get n k)) ∙ sym (get-picked long n k)) in
-    len-total m ∙ sym (total-picked (λ (k : ℕ). 1) long m) ∙ ap (total (λ (k : ℕ). 1)) one ∙ total-picked (λ (k : ℕ). 1) long n ∙ sym (len-total n)
+use Rattle.dataspace_core.proofs.ShareLaws.{some_alike}
+use Rattle.heap_window.proofs.WindowLemmas.{blocks_in_place, blocks_attached}
 
 -- the shape of a heap, as its account's part has it
 pub shape_is : (heap : Heap) (store : Store) (regions : Regions) → (heap_at heap store regions).shape ≡ shape_in heap (part (heap_payer heap) store)
 unfolding heap_in share_in
 shape_is heap store regions = refl
-
--- an account after a call, by its part
-pub account_by : (account : ℕ) (store : Store) (x : Account) → (part account store).account ≡ Some x → account_in store account ≡ x
-account_by account store x is = sym (account_of-part account store) ∙ ap (λ (y : Option Account). unwrap_or y (opened 0 0)) is
 
 module _ (heap later : Heap) (store new : Store) (regions : Regions) (sound : IsSoundHeap heap store regions) (payer : heap_payer later ≡ heap_payer heap) where
   -- the account, and its part before and after
@@ -69,69 +55,47 @@ module _ (heap later : Heap) (store new : Store) (regions : Regions) (sound : Is
     pub in_place : IsSoundHeap later new regions → KeepsShares (heap_payer heap) store new regions.heap regions.tags regions.heap regions.tags → KeepsSpaces heap store new →
         (heap_at later new regions).large ≡ (heap_at heap store regions).large → length (heap_at later new regions).shape.chunks ≡ length (heap_at heap store regions).shape.chunks →
         ChangesNodes (heap_payer heap) heap store regions later new regions
-    in_place sound' shares spaces no_large chunks = record {
-      sound = sound';
-      payer = payer;
-      shares = shares;
-      rest = refl;
-      stands = blocks_in_place (heap_payer heap) store new regions (λ s r there. some_alike _ _ (spaces.lengths r.of));
-      kept = λ k some none. spaces.others k (no_chunk heap store regions sound k none);
-      uses = omega (arith, ap (λ (x : Account). x.caps_used) account_stays, len_alike p'.spaces p.spaces spaces.lengths);
-      no_large = no_large;
-      count = omega (arith, chunks, len_alike p'.spaces p.spaces spaces.lengths);
-    }
+    in_place sound' shares spaces no_large chunks =
+        let left = rest_in_place heap store new regions sound spaces in
+        let count = count_in_place heap store new regions sound spaces in
+        record {
+          sound = sound';
+          payer = payer;
+          shares = shares;
+          rest = refl;
+          stands = left.stands;
+          kept = left.kept;
+          uses = omega (arith, ap (λ (x : Account). x.caps_used) account_stays, count);
+          no_large = no_large;
+          count = omega (arith, chunks, count);
+        }
 
   -- ---- a chunk more
 
   module _ (ds bytes tag start : ℕ) (low : tag ≤ large_tag) (sound' : IsSoundHeap later new (heap_attached regions ds (bytes / 4096) tag start))
       (shares : KeepsShares (heap_payer heap) store new regions.heap regions.tags (heap_attached regions ds (bytes / 4096) tag start).heap (heap_attached regions ds (bytes / 4096) tag start).tags)
       (attaches : Attaches heap ds bytes tag start store new regions (heap_attached regions ds (bytes / 4096) tag start)) (spaces : AddsSpace heap ds store new) where
-    abbrev region : Region
-    region = record { of = ds; pages = bytes / 4096 }
-
     abbrev after : Regions
     after = heap_attached regions ds (bytes / 4096) tag start
-
-    there_now : get after.heap start ≡ Some region
-    there_now = get-insert_same regions.heap start region start refl
-
-    -- nothing stood there before
-    free : get regions.heap start ≡ None
-    free = gap_is_free regions.pages regions.heap (bytes / 4096) start (sound'.window.lie.some start region there_now) sound.window.lie attaches.gap
-
-    -- the account hadn't its dataspace
-    fresh : get p.spaces ds ≡ None
-    fresh = in_none (heap_payer heap) ds store spaces.fresh
-
-    -- nor did another region show it
-    others : (s : ℕ) (r : Region) → get regions.heap s ≡ Some r → r.of ≢ ds
-    others s r there e =
-        let shown = sound.window.shown_whole s r there in
-        none-some shown.space (sym (ap (get store.spaces) e ∙ spaces.fresh) ∙ shown.there)
-
-    alike : (s : ℕ) (r : Region) → get regions.heap s ≡ Some r → is_some (get p'.spaces r.of) ≡ is_some (get p.spaces r.of)
-    alike s r there = some_alike _ _ (spaces.lengths r.of (others s r there))
-
-    -- the number is no sliced block's
-    no_sliced_tag : (tag == sliced_tag) ≡ false
-    no_sliced_tag = grind (arith, nat_tests)
 
     pub grown_account : account_in new (heap_payer heap) ≡ charged (account_in store (heap_payer heap)) bytes 1
     grown_account = account_by (heap_payer heap) new _ attaches.charge
 
     pub attached : (heap_at later new after).large ≡ (heap_at heap store regions).large → length (heap_at later new after).shape.chunks ≡ length (heap_at heap store regions).shape.chunks + 1 →
         ChangesNodes (heap_payer heap) heap store regions later new after
-    attached no_large chunks = record {
-      sound = sound';
-      payer = payer;
-      shares = shares;
-      rest = refl;
-      stands = blocks_attached (heap_payer heap) store new regions start ds (bytes / 4096) tag no_sliced_tag free alike;
-      kept = λ k some none. spaces.others k (apart_from_free p.spaces ds k fresh some) (no_chunk heap store regions sound k none);
-      uses = omega (arith, spaces.count, ap (λ (x : Account). x.caps_used) grown_account);
-      no_large = no_large;
-      count = omega (arith, spaces.count, chunks);
-    }
+    attached no_large chunks =
+        let left = rest_attached heap store new regions sound ds bytes tag start low sound'.window attaches.gap spaces in
+        record {
+          sound = sound';
+          payer = payer;
+          shares = shares;
+          rest = refl;
+          stands = left.stands;
+          kept = left.kept;
+          uses = omega (arith, spaces.count, ap (λ (x : Account). x.caps_used) grown_account);
+          no_large = no_large;
+          count = omega (arith, spaces.count, chunks);
+        }
 
 -- ---- how many chunks there are
 

@@ -24,9 +24,10 @@ use Rattle.heap_core.specs.Words.{are_bytes}
 use Rattle.heap_core.proofs.FoundLemmas.{IsSmall, IsLarge, payload_from, used_inside}
 use Rattle.heap_core.proofs.LookupLemmas.{payload_some}
 use Rattle.heap_core.proofs.RangeLemmas.{payload_poked}
-use Rattle.heap_core.proofs.ShareLemmas.{in_share}
+use Rattle.dataspace_core.proofs.ShareLaws.{in_share}
 use Rattle.file_service.proofs.FurnishedLemmas.{ChangesNodes}
-use Rattle.file_service.proofs.WindowLemmas.{IsPut, is_put, blocks_in_place, kept_tag, shown_large}
+use Rattle.heap_window.proofs.WindowLemmas.{IsPut, is_put, blocks_in_place}
+use Rattle.heap_window.proofs.ShareLemmas.{kept_tag, shown_large}
 
 -- bytes, each by its place, are bytes
 pub small_bytes : (bytes : List ℕ) → ((i : ℕ) → get_or bytes i 0 < 256) → are_bytes bytes ≡ true

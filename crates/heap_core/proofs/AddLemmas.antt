@@ -1,5 +1,5 @@
 -- A new dataspace becomes the last chunk: what best fit asks of it, and of the chunks before.
-use Rattle.std.proofs.Common.{◌≡◌, ◌≢◌, ℕ, zero, suc, ◌+◌, ◌-◌, ◌/◌, ◌^◌, ◌<◌, ◌≤◌, ◌==◌, ◌++◌, true, false, List, [], ◌∷◌, length, get_or, refl, sym, ap, subst, ◌∙◌, ⊎_elim, true≢false, unwrap_or, arith, is_some}
+use Rattle.std.proofs.Common.{rules, ◌≡◌, ◌≢◌, ℕ, zero, suc, ◌+◌, ◌-◌, ◌/◌, ◌^◌, ◌<◌, ◌≤◌, ◌==◌, ◌++◌, true, false, List, [], ◌∷◌, length, get_or, refl, sym, ap, subst, ◌∙◌, ⊎_elim, true≢false, unwrap_or, arith, is_some}
 use Rattle.std.proofs.Math.ListN.{get_or-append}
 use Rattle.std.proofs.Math.Seq.{get_or-append_seam}
 use Rattle.std.proofs.lemmas.Bool.{cases_lt}
@@ -42,13 +42,7 @@ keys_more (x ∷ xs) c = ap (λ ks. x.ds.0 ∷ ks) (keys_more xs c)
 
 -- which key a number has
 pub key_cases : (keys : List ℕ) (x : ℕ) (P : ℕ → ℕ → Type 0) → ((i : ℕ) → i < length keys → P i (get_or keys i 0)) → P (length keys) x → (i : ℕ) → i < length (keys ++ x ∷ []) → P i (get_or (keys ++ x ∷ []) i 0)
-key_cases keys x P low last i there = ⊎_elim
-    (λ (in_keys : i < length keys). subst (P i) (sym (get_or-append keys (x ∷ []) 0 i in_keys)) (low i in_keys))
-    (λ (out : length keys ≤ i).
-    let n = length_more keys x in
-    let here : length keys ≡ i = omega (arith, n, out, there) in
-    subst (λ j. P j (get_or (keys ++ x ∷ []) j 0)) here (subst (P (length keys)) (sym (get_or-append_seam keys x [] 0)) last))
-    (cases_lt i (length keys))
+key_cases keys x P low last i there = search (rules, get_or-append, length_more, get_or-append_seam, cases_lt)
 
 -- another key is among them as before
 pub among_more : (keys : List ℕ) (x k : ℕ) → k ≢ x → is_among (keys ++ x ∷ []) k ≡ is_among keys k
@@ -59,11 +53,7 @@ among_more (y ∷ ys) x k other = let rest = among_more ys x k other in grind (a
 pub word_low : (keys : List ℕ) (x : ℕ) (old new : ℕ → List ℕ) (q : ℕ) → q / 2 ^ 32 - 1 < length keys → new (get_or keys (q / 2 ^ 32 - 1) 0) ≡ old (get_or keys (q / 2 ^ 32 - 1) 0) →
     word_in (keys ++ x ∷ []) new q ≡ word_in keys old q
 unfolding word_in
-word_low keys x old new q there same =
-    let n = length_more keys x in
-    let t : nat_lt (q / 2 ^ 32 - 1) (length keys) ≡ true = grind (arith, nat_tests) in
-    let u : nat_lt (q / 2 ^ 32 - 1) (length (keys ++ x ∷ [])) ≡ true = grind (arith, nat_tests, n, there) in
-    rw (t, u, get_or-append keys (x ∷ []) 0 (q / 2 ^ 32 - 1) there, same) refl
+word_low keys x old new q there same = grind (arith, nat_tests, length_more, get_or-append)
 
 -- where there is no chunk all words are the same
 pub word_out : (keys : List ℕ) (old new : ℕ → List ℕ) (q : ℕ) → length keys ≤ q / 2 ^ 32 - 1 → word_in keys new q ≡ word_in keys old q
@@ -73,9 +63,7 @@ word_out keys old new q out = let t : nat_lt (q / 2 ^ 32 - 1) (length keys) ≡ 
 -- as many bytes of a chunk are words as its dataspace has
 pub around_bytes : (keys : List ℕ) (store : Store) (i : ℕ) → AreChunks keys (bytes_in_store store) → i < length keys → bytes_around (around keys store) i ≡ length (bytes_in_store store (get_or keys i 0))
 unfolding bytes_around spaces_but
-around_bytes keys store i are there =
-    let t : nat_lt i (length keys) ≡ true = grind (arith, nat_tests) in
-    rw (chunks_sound keys (bytes_in_store store) are, t) (size_blank (is_among keys (get_or keys i 0)) (get store.spaces (get_or keys i 0)))
+around_bytes keys store i are there = grind (arith, nat_tests, chunks_sound, size_blank)
 
 pub zeros_bytes : (n : ℕ) → are_bytes (zeros n) ≡ true
 unfolding zeros
@@ -143,37 +131,14 @@ module _ (heap : Heap) (old new : Store) (regions : Regions) (ds asked : ℕ) (s
 
   -- the heap's blocks stay
   pub blocks_then : avl.IsSound heap.fit (words_of keys new) × (heap_of heap.fit (words_of keys new) ≡ H)
-  blocks_then = sound_kept heap.fit (words_of (keys_in heap) old) (words_of keys new) (stand_in heap old regions sound).sound (λ q kept.
-      let at = kept_in_chunks heap.fit (words_of (keys_in heap) old) q (stand_in heap old regions sound).sound kept in
-      let low = at.0 in
-      let high = at.1 in
-      let n = H_count in
-      word_then q (omega (arith, low, high, n)))
+  blocks_then = grind (arith, nat_tests, sound_kept, stand_in, kept_in_chunks, H_count, word_then)
 
   fits_then : (chunk : ℕ) → avl.bytes_of heap.fit chunk ≤ bytes_around (around keys new) chunk
-  fits_then chunk = ⊎_elim
-      (λ (there : chunk < length (keys_in heap)).
-      let n = length_more (keys_in heap) ds in
-      let was = (stand_in heap old regions sound).fits chunk in
-      let before = around_bytes (keys_in heap) old chunk (are_sound heap old regions sound) there in
-      let now = around_bytes keys new chunk are_then (omega (arith, n, there)) in
-      let key = get_or-append (keys_in heap) (ds ∷ []) 0 chunk there in
-      let same = ap (λ k. length (bytes_in_store new k)) key ∙ ap length (other_bytes _ (key_other chunk there)) in
-      omega (arith, was, before, now, same))
-      (λ (out : length (keys_in heap) ≤ chunk).
-      let count = sound.laid.count in
-      let all = length_keys heap.chunks.items in
-      let none = get_or-out (sizes_of heap.fit) chunk 0 (omega (arith, out, count, all)) in
-      omega (arith, none))
-      (cases_lt chunk (length (keys_in heap)))
+  fits_then chunk = search (rules, length_more, stand_in, around_bytes, are_sound, are_then, get_or-append, other_bytes, key_other, length_keys, get_or-out, cases_lt)
 
   -- what best fit asks
   pub stand_then : StandIn heap.fit (words_of keys new) (bytes_around (around keys new))
   stand_then = record { sound = blocks_then.0; fits = fits_then }
 
   pub there_then : bytes_around (around keys new) (length (keys_in heap)) ≡ page_of asked
-  there_then =
-      let n = length_more (keys_in heap) ds in
-      around_bytes keys new (length (keys_in heap)) are_then (omega (arith, n))
-      ∙ ap (λ k. length (bytes_in_store new k)) (get_or-append_seam (keys_in heap) ds [] 0)
-      ∙ ap length new_bytes ∙ length-zeros (page_of asked)
+  there_then = grind (arith, nat_tests, length_more, around_bytes, are_then, get_or-append_seam, new_bytes, length-zeros)

@@ -1,5 +1,5 @@
 -- What a call leaves that changes words of chunks alone.
-use Rattle.std.proofs.Common.{◌≡◌, ◌≢◌, ℕ, suc, ◌<◌, ◌==◌, true, false, cond, List, [], ◌∷◌, length, get_or, refl, sym, ap, subst, ◌∙◌, ⊎_elim, true≢false, arith, Some, is_some}
+use Rattle.std.proofs.Common.{rules, ◌≡◌, ◌≢◌, ℕ, suc, ◌<◌, ◌==◌, true, false, cond, List, [], ◌∷◌, length, get_or, refl, sym, ap, subst, ◌∙◌, ⊎_elim, true≢false, arith, Some, is_some}
 use Rattle.std.proofs.lemmas.Bool.{cases_eq}
 use Rattle.std.proofs.lemmas.Bool.Decides.{nat_tests}
 use Rattle.std.specs.Prelude.{Option, None}
@@ -54,17 +54,12 @@ lengths_alike : (account : ℕ) (o p : Option Space) → option_map (λ (s : Spa
 lengths_alike account None None e f = refl
 lengths_alike account None (Some s) e f = cc
 lengths_alike account (Some s) None e f = cc
-lengths_alike account (Some s) (Some t) e f =
-    paid_length account s ∙ ap (λ (o : Option ℕ). paid_some account o (option_map (λ (s : Space). length s.bytes) (Some s))) e
-    ∙ ap (λ (o : Option ℕ). paid_some account (Some t.payer) o) f ∙ sym (paid_length account t)
+lengths_alike account (Some s) (Some t) e f = grind (arith, nat_tests, paid_length)
 
 -- what an account has something of it pays for
 paid_payer : (account : ℕ) (o : Option Space) → is_some (option_and_then (bytes_paid_by account) o) ≡ true → option_map (λ (s : Space). s.payer) o ≡ Some account
 paid_payer account None h = absurd (true≢false (sym h))
-paid_payer account (Some s) h = ⊎_elim
-    (λ (same : s.payer ≡ account). ap Some same)
-    (λ (other : s.payer ≢ account). let t : (s.payer == account) ≡ false = grind (arith, nat_tests) in absurd (true≢false (sym h ∙ rw t refl)))
-    (cases_eq s.payer account)
+paid_payer account (Some s) h = grind (arith, nat_tests, same, true≢false, cases_eq)
 
 -- nobody but the payer has anything of it
 other_payer : (account other : ℕ) (o : Option Space) → option_map (λ (s : Space). s.payer) o ≡ Some account → other ≢ account → option_and_then (bytes_paid_by other) o ≡ None
@@ -79,16 +74,10 @@ module _ (keys : List ℕ) (account : ℕ) (old new : Store) (kept : around keys
 
   -- of each dataspace the payer stays, and the length
   payer_kept : (k : ℕ) → option_map (λ (s : Space). s.payer) (get new.spaces k) ≡ option_map (λ (s : Space). s.payer) (get old.spaces k)
-  payer_kept k = elim (is_among keys k) as (λ b. option_map (blank_if b) (get new.spaces k) ≡ option_map (blank_if b) (get old.spaces k) → option_map (λ (s : Space). s.payer) (get new.spaces k) ≡ option_map (λ (s : Space). s.payer) (get old.spaces k)) [
-    | true ↦ λ e. sym (payer_blank (get new.spaces k)) ∙ ap (option_map (λ (s : Space). s.payer)) e ∙ payer_blank (get old.spaces k)
-    | false ↦ λ e. ap (option_map (λ (s : Space). s.payer)) (sym (same_blank (get new.spaces k)) ∙ e ∙ same_blank (get old.spaces k))
-  ] (space_kept k)
+  payer_kept k = search (rules, payer_blank, same_blank, space_kept)
 
   length_kept : (k : ℕ) → option_map (λ (s : Space). length s.bytes) (get new.spaces k) ≡ option_map (λ (s : Space). length s.bytes) (get old.spaces k)
-  length_kept k = elim (is_among keys k) as (λ b. option_map (blank_if b) (get new.spaces k) ≡ option_map (blank_if b) (get old.spaces k) → option_map (λ (s : Space). length s.bytes) (get new.spaces k) ≡ option_map (λ (s : Space). length s.bytes) (get old.spaces k)) [
-    | true ↦ λ e. sym (length_blank (get new.spaces k)) ∙ ap (option_map (λ (s : Space). length s.bytes)) e ∙ length_blank (get old.spaces k)
-    | false ↦ λ e. ap (option_map (λ (s : Space). length s.bytes)) (sym (same_blank (get new.spaces k)) ∙ e ∙ same_blank (get old.spaces k))
-  ] (space_kept k)
+  length_kept k = search (rules, length_blank, same_blank, space_kept)
 
   -- one that is no chunk's stays whole
   pub whole_kept : (k : ℕ) → is_among keys k ≡ false → get new.spaces k ≡ get old.spaces k
@@ -103,9 +92,7 @@ module _ (keys : List ℕ) (account : ℕ) (old new : Store) (kept : around keys
 
   -- a chunk's dataspace is the account's
   chunk_payer : (k : ℕ) → is_among keys k ≡ true → option_map (λ (s : Space). s.payer) (get old.spaces k) ≡ Some account
-  chunk_payer k among =
-      let at = among_found keys k among in
-      paid_payer account (get old.spaces k) (ap is_some (sym (get-part account old k)) ∙ subst (λ q. is_some (get (part account old).spaces q) ≡ true) at.2 (paid at.0 at.1))
+  chunk_payer k among = grind (arith, nat_tests, among_found, paid_payer, get-part)
 
   other_spaces : (other : ℕ) → other ≢ account → (k : ℕ) → get (part other new).spaces k ≡ get (part other old).spaces k
   other_spaces other apart k = elim (is_among keys k) as (λ b. is_among keys k ≡ b → get (part other new).spaces k ≡ get (part other old).spaces k) [
@@ -134,10 +121,7 @@ module _ (keys : List ℕ) (account : ℕ) (old new : Store) (kept : around keys
 
 -- the words of chunks that the account pays for are those of its part
 pub bytes_of-part : (account k : ℕ) (store : Store) → is_some (get (part account store).spaces k) ≡ true → bytes_of (part account store) k ≡ bytes_in_store store k
-bytes_of-part account k store there = elim (get (part account store).spaces k) as (λ o. get (part account store).spaces k ≡ o → is_some o ≡ true → bytes_of (part account store) k ≡ bytes_in_store store k) [
-  | None ↦ λ e h. absurd (true≢false (sym h))
-  | Some bytes ↦ λ e h. let paid = paid_in_part account k bytes store e in bytes_of-paid paid ∙ sym paid.bytes_are
-] refl there
+bytes_of-part account k store there = search (rules, true≢false, paid_in_part, bytes_of-paid)
 
 pub words_of-part : (keys : List ℕ) (account : ℕ) (store : Store) → ((i : ℕ) → i < length keys → is_some (get (part account store).spaces (get_or keys i 0)) ≡ true) → word_in keys (bytes_of (part account store)) ≡ words_of keys store
 words_of-part keys account store paid = words_same keys (bytes_in_store store) (bytes_of (part account store)) (λ i there. bytes_of-part account (get_or keys i 0) store (paid i there))

@@ -1,6 +1,5 @@
 -- The blocks in the words of chunks.
-use Rattle.std.proofs.Common.{◌≡◌, ℕ, ◌+◌, List, [], ◌∷◌, length, ap}
-use Rattle.std.proofs.Common.{refl, suc}
+use Rattle.std.proofs.Common.{◌≡◌, ℕ, ◌+◌, List, [], ◌∷◌, length, ap, refl, suc}
 use Rattle.avl_alloc.specs.declared.best_fit.BestFit.{BestFit}
 use Rattle.avl_alloc.specs.Layout.{heap_of, sizes_of, chunks_from}
 use Rattle.avl_alloc.specs.Words.{Words}

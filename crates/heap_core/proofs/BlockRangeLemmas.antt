@@ -1,5 +1,5 @@
 -- The ranges of a heap's chunks and large blocks are the regions that keep their numbers.
-use Rattle.std.proofs.Common.{◌≡◌, ◌≢◌, ℕ, zero, suc, ◌*◌, ◌<◌, ◌≤◌, false, eqb, List, [], ◌∷◌, map, length, get_or, refl, sym, ap, subst, ◌∙◌, ⊎_elim, arith, Some}
+use Rattle.std.proofs.Common.{rules, ◌≡◌, ◌≢◌, ℕ, zero, suc, ◌*◌, ◌<◌, ◌≤◌, false, eqb, List, [], ◌∷◌, map, length, get_or, refl, sym, ap, subst, ◌∙◌, ⊎_elim, arith, Some}
 use Rattle.std.proofs.lemmas.Bool.{cases_eq, cases_lt}
 use Rattle.std.proofs.lemmas.Bool.Decides.{nat_tests}
 use Rattle.std.proofs.lemmas.Option.{none-some, same_Some}
@@ -26,7 +26,7 @@ use Rattle.heap_core.specs.Heap.{IsLaid, heap_in, large_regions, large_tag, paye
 use Rattle.heap_core.specs.Laws.{block_region, BlocksAreRegions}
 use Rattle.heap_core.proofs.PayloadLemmas.{no_chunk}
 use Rattle.heap_core.proofs.StandLemmas.{count_blocks, chunk_total}
-use Rattle.heap_core.proofs.StayLemmas.{block_here, told_region, large_among, large_block}
+use Rattle.heap_window.proofs.ShareLemmas.{block_here, told_region, large_among, large_block}
 
 -- ---- the ranges of chunks
 
@@ -51,8 +51,7 @@ ranges_at : (chunks : List Chunk) (heap : model.Heap) (s k : ℕ) → k < length
     value_of s (chunk_ranges (map (λ chunk. chunk.start) chunks) heap) ≡ Some (range_of_bytes (bytes_in (chunk_of heap k)))
 ranges_at [] heap s k there also at first = absurd (omega (arith, there))
 ranges_at (x ∷ xs) [] s k there also at first = absurd (omega (arith, also))
-ranges_at (x ∷ xs) (y ∷ ys) s zero there also at first =
-    value_of_first s (x.start, range_of_bytes (bytes_in y)) (chunk_ranges (map (λ chunk. chunk.start) xs) ys) (grind (arith, nat_tests))
+ranges_at (x ∷ xs) (y ∷ ys) s zero there also at first = grind (arith, nat_tests, value_of_first, range_of_bytes)
 ranges_at (x ∷ xs) (y ∷ ys) s (suc k) there also at first = ⊎_elim
     (λ (same : s ≡ x.start). absurd (first 0 (omega arith) (sym same)))
     (λ (other : s ≢ x.start).
@@ -102,22 +101,11 @@ module _ (heap : Heap) (share : Share) (laid : IsLaid heap share) (s : ℕ) wher
       ∙ ap (λ n. Some (record { of = 0; pages = n })) (pages_of r.pages (omega (arith, least)))
 
   no_large_here : block_region share s ≡ None → get (ranges_of_large large) s ≡ None
-  no_large_here h =
-      get-picked_none (λ bytes. Some (range_of_bytes bytes)) large s
-      (get-picked_none (λ (r : Region). Some (r.pages * 4096)) (large_regions share) s (large_block share s ∙ ap large_among h))
+  no_large_here h = search (rules, get-picked_none, range_of_bytes, large_block, large_among)
 
   either_here : (o : Option (Region × ℕ)) → block_region share s ≡ o → option_or (value_of s (chunk_ranges (starts_in heap) H)) (get (ranges_of_large large) s) ≡ option_map (λ (e : Region × ℕ). record { of = 0; pages = e.0.pages }) o
-  either_here None h =
-      ap (λ p. option_or p (get (ranges_of_large large) s)) (no_chunk_here (λ k r e. absurd (none-some (r, k) (sym h ∙ e))))
-      ∙ no_large_here h
-  either_here (Some (r, k)) h = ⊎_elim
-      (λ (low : k < large_tag). ap (λ p. option_or p (get (ranges_of_large large) s)) (chunk_here k r h low))
-      (λ (high : large_tag ≤ k).
-      let few = (told_region share s k r h).few in
-      let is : k ≡ large_tag = omega (arith, high, few) in
-      ap (λ p. option_or p (get (ranges_of_large large) s)) (no_chunk_here (λ j q e. let number = ap (λ (e : Region × ℕ). e.1) (same_Some (r, k) (q, j) (sym h ∙ e)) in omega (arith, number, high)))
-      ∙ large_here r (h ∙ ap (λ n. Some (r, n)) is))
-      (cases_lt k large_tag)
+  either_here None h = grind (arith, nat_tests, no_chunk_here, none-some, no_large_here)
+  either_here (Some (r, k)) h = grind (arith, nat_tests, chunk_here, told_region, no_chunk_here, same_Some, large_here, cases_lt)
 
   ranges_are : get (ranges_of_heap (heap_in heap share)) s ≡ option_map (λ (e : Region × ℕ). record { of = 0; pages = e.0.pages }) (block_region share s)
   unfolding heap_in

@@ -1,5 +1,5 @@
 -- What stays of a heap while words of its chunks change, and nothing else.
-use Rattle.std.proofs.Common.{◌≡◌, ◌≢◌, ℕ, ◌<◌, ◌==◌, true, false, cond, List, [], length, get_or, refl, sym, ap, subst, ◌∙◌, ⊎_elim, unwrap_or, arith, Some, is_some}
+use Rattle.std.proofs.Common.{rules, ◌≡◌, ◌≢◌, ℕ, ◌<◌, ◌==◌, true, false, cond, List, [], length, get_or, refl, sym, ap, subst, ◌∙◌, ⊎_elim, unwrap_or, arith, Some, is_some}
 use Rattle.std.proofs.lemmas.Bool.{cases_eq}
 use Rattle.std.proofs.lemmas.Bool.Decides.{nat_tests}
 use Rattle.std.proofs.lemmas.Option.{none-some, same_Some}
@@ -14,7 +14,7 @@ use Rattle.region_map.specs.Regions.{Regions}
 use Rattle.dataspace_core.specs.Store.{Store, part, bytes_of, PartBecomes, IsOpenIn}
 use Rattle.dataspace_core.specs.Share.{Share, share_in, IsWindowOf, KeepsShares}
 use Rattle.dataspace_core.proofs.PartLaws.{open_in_part}
-use Rattle.dataspace_core.proofs.ShareLaws.{share_alike}
+use Rattle.dataspace_core.proofs.ShareLaws.{share_alike, some_alike, in_share}
 use Rattle.dataspace_core.proofs.WindowLaws.{length_some, window_after, own_account}
 use Rattle.heap_core.specs.declared.heap.Heap.{Heap}
 use Rattle.heap_core.specs.Heap.{IsLaid, IsSound, StandsChunk, StandsLarge, chunk_at, keys_in, payer_of, share_at, words_in, large_tag, is_large_tag, large_regions}
@@ -22,23 +22,8 @@ use Rattle.heap_core.specs.Calls.{KeepsSpaces}
 use Rattle.heap_core.specs.Words.{Around, is_among, are_bytes, around, bytes_in_store, words_of}
 use Rattle.heap_core.proofs.AroundLemmas.{among_found, bytes_of-part, words_of-part, part_lengths, part_others, account_kept, around_becomes}
 use Rattle.heap_core.proofs.ChunkLemmas.{key_is, in_chunks, chunk_paid, are_sound}
-use Rattle.heap_core.proofs.ShareLemmas.{in_share, get-large, large_there}
+use Rattle.heap_window.proofs.ShareLemmas.{large_there, large_kept}
 use Rattle.heap_core.proofs.WordsLemmas.{AreChunks, chunks_sound, sound_chunks, each_bytes, length_keys}
-
--- options of the same length are both there or not
-pub some_alike : (o p : Option (List ℕ)) → option_map length o ≡ option_map length p → is_some o ≡ is_some p
-some_alike None None e = refl
-some_alike None (Some x) e = absurd (none-some (length x) e)
-some_alike (Some x) None e = absurd (none-some (length x) (sym e))
-some_alike (Some x) (Some y) e = refl
-
--- the number of a large block's region
-pub large_number : (o : Option ℕ) (p : Option Region) (r : Region) → cond (is_large_tag o) p None ≡ Some r → o ≡ Some large_tag
-large_number None p r h = absurd (none-some r h)
-large_number (Some k) p r h = ⊎_elim
-    (λ (same : k ≡ large_tag). ap Some same)
-    (λ (other : k ≢ large_tag). let t : (k == large_tag) ≡ false = grind (arith, nat_tests) in absurd (none-some r (rw t at h)))
-    (cases_eq k large_tag)
 
 module _ (heap : Heap) (fit : BestFit) (old new : Store) (regions : Regions) (sound : IsSound heap old regions) (kept : around (keys_in heap) new ≡ around (keys_in heap) old) where
   abbrev account : ℕ
@@ -68,7 +53,7 @@ module _ (heap : Heap) (fit : BestFit) (old new : Store) (regions : Regions) (so
         let p = (in_share (part account old) regions.heap regions.tags (chunk_at heap at.0).start _ stands.region).0 in
         let q = (in_share (part account old) regions.heap regions.tags s r (large_there S s r h)).0 in
         let same = sound.window.once (chunk_at heap at.0).start s _ r p q (sym (key_is heap old regions sound at.0 at.1) ∙ at.2) in
-        let number = large_number (get S.tags s) (get S.heap s) r (sym (get-large S s) ∙ h) in
+        let number = large_kept S s r h in
         let e2 = same_Some at.0 large_tag (sym stands.tag ∙ ap (get S.tags) same ∙ number) in
         let few = sound.laid.few in
         let low = in_chunks heap old regions sound at.0 at.1 in
@@ -92,12 +77,7 @@ module _ (heap : Heap) (fit : BestFit) (old new : Store) (regions : Regions) (so
   share_now = share_alike (part account old) (part account new) regions.heap regions.tags (λ s r h. some_alike _ _ (lengths r.of))
 
   pub keeps_shares : KeepsShares account old new regions.heap regions.tags regions.heap regions.tags
-  keeps_shares = record {
-    shares = λ other apart. ap (λ p. share_in p regions.heap regions.tags) (becomes.others other apart);
-    root = becomes.root;
-    parents = becomes.parents;
-    room = becomes.room;
-  }
+  keeps_shares = search (rules, becomes)
 
   pub still_open : IsOpenIn new account
   still_open = open_in_part account new (ap is_some (same_account ∙ own_account account old sound.opens))
@@ -142,20 +122,7 @@ module _ (heap : Heap) (fit : BestFit) (old new : Store) (regions : Regions) (so
     sizes_at k = ap (λ xs. get_or xs k 0) sizes
 
     stands : (k : ℕ) → k < length heap.chunks.items → StandsChunk (record { part = part account new; heap = S.heap; tags = S.tags }) (chunk_at heap k) k (avl.bytes_of fit k)
-    stands k there =
-        let was = sound.laid.chunks k there in
-        let now = chunk_now k there in
-        record {
-          bytes = now.bytes;
-          pages = was.pages;
-          there = now.there;
-          numbers = now.numbers;
-          long = now.long ∙ sym (sizes_at k);
-          some = was.some;
-          whole = sizes_at k ∙ was.whole;
-          region = was.region;
-          tag = was.tag;
-        }
+    stands k there = grind (arith, nat_tests, sound.laid.chunks k there, chunk_now k there)
 
     large_stands : (s : ℕ) (r : Region) → get (large_regions S) s ≡ Some r → StandsLarge (record { part = part account new; heap = S.heap; tags = S.tags }) r
     large_stands s r h =

@@ -17,7 +17,7 @@ use Rattle.heap_core.specs.Heap.{IsLaid, IsSound, chunk_at, keys_in, payer_of, s
 use Rattle.heap_core.specs.Words.{is_among, are_distinct, are_bytes, around, bytes_around, bytes_in_store, words_of, spaces_but, size_in, blank_if}
 use Rattle.heap_core.proofs.AroundLemmas.{among_found, bytes_of-part, words_of-part}
 use Rattle.heap_core.proofs.PayloadLemmas.{no_chunk}
-use Rattle.heap_core.proofs.ShareLemmas.{in_share}
+use Rattle.dataspace_core.proofs.ShareLaws.{in_share}
 use Rattle.heap_core.proofs.StandLemmas.{get_or-out}
 use Rattle.heap_core.proofs.WordsLemmas.{AreChunks, chunks_sound, all_bytes, key_at, length_keys, size_blank}
 
@@ -60,9 +60,7 @@ module _ (heap : Heap) (store : Store) (regions : Regions) (sound : IsSound heap
   words_are = words_of-part (keys_in heap) account store chunk_paid
 
   chunk_bytes : (i : ℕ) (there : i < length (keys_in heap)) → bytes_in_store store (get_or (keys_in heap) i 0) ≡ (laid.chunks i (in_chunks i there)).bytes
-  chunk_bytes i there =
-      sym (bytes_of-part account (get_or (keys_in heap) i 0) store (chunk_paid i there))
-      ∙ ap (λ (o : Option (List ℕ)). unwrap_or o []) (chunk_there i there)
+  chunk_bytes i there = cc (bytes_of-part account (get_or (keys_in heap) i 0) store (chunk_paid i there), ap (λ (o : Option (List ℕ)). unwrap_or o []) (chunk_there i there))
 
   -- no two chunks are in one dataspace
   once : (i j : ℕ) → i < length (keys_in heap) → j < length (keys_in heap) → get_or (keys_in heap) i 0 ≡ get_or (keys_in heap) j 0 → i ≡ j

@@ -1,5 +1,6 @@
 -- Zeros put over a part of a dataspace, one piece after another.
-use Rattle.std.proofs.Common.{◌≡◌, ℕ, ◌+◌, ◌≤◌, List, [], ◌++◌, length, take, refl, sym, ap, ◌∙◌, unwrap_or, Some, arith}
+use Rattle.std.proofs.lemmas.Bool.Decides.{nat_tests}
+use Rattle.std.proofs.Common.{rules, ◌≡◌, ℕ, ◌+◌, ◌≤◌, List, [], ◌++◌, length, take, refl, sym, ap, ◌∙◌, unwrap_or, Some, arith}
 use Rattle.std.proofs.lemmas.List.{take-replicate, replicate-append-replicate}
 use Rattle.std.specs.FinMap.{insert}
 use Rattle.std.specs.Prelude.{Option, replicate}
@@ -27,12 +28,7 @@ put_again m k v w = same _ _ (λ q. grind (arith, natmaps))
 module _ (store : Store) (ds : ℕ) (exists : Exists store ds) where
   -- no bytes put
   pub put_nothing : (offset : ℕ) → with_bytes_at store ds offset [] ≡ store
-  put_nothing offset =
-      let was = value_at store.spaces ds exists in
-      let here : space_at store ds ≡ was.0 = ap (λ (o : Option Space). unwrap_or o (record { payer = 0; bytes = [] })) was.1 in
-      let put : with_bytes (space_at store ds).bytes offset [] ≡ (space_at store ds).bytes = with_bytes-nothing (space_at store ds).bytes offset in
-      ap (λ (bs : List ℕ). record store { spaces = insert store.spaces ds (record { payer = (space_at store ds).payer; bytes = bs }) }) put
-      ∙ ap (λ (m : NatMap Space). record store { spaces = m }) (insert_back store.spaces ds (space_at store ds) (was.1 ∙ ap Some (sym here)))
+  put_nothing offset = grind (arith, nat_tests, natmaps, value_at, with_bytes-nothing, insert_back)
 
   -- the dataspace with bytes put over it
   put_space : (offset : ℕ) (part : List ℕ) → space_at (with_bytes_at store ds offset part) ds ≡ record { payer = (space_at store ds).payer; bytes = with_bytes (space_at store ds).bytes offset part }
@@ -44,10 +40,7 @@ module _ (store : Store) (ds : ℕ) (exists : Exists store ds) where
   -- two pieces that follow one another are put as one
   pub put_more : (offset : ℕ) (part more : List ℕ) → offset + length part ≤ length (space_at store ds).bytes →
       with_bytes_at (with_bytes_at store ds offset part) ds (offset + length part) more ≡ with_bytes_at store ds offset (part ++ more)
-  put_more offset part more fits =
-      ap (λ (s : Space). record store { spaces = insert (with_bytes_at store ds offset part).spaces ds (record { payer = s.payer; bytes = with_bytes s.bytes (offset + length part) more }) }) (put_space offset part)
-      ∙ ap (λ (m : NatMap Space). record store { spaces = m }) (put_again store.spaces ds _ _)
-      ∙ ap (λ (bs : List ℕ). record store { spaces = insert store.spaces ds (record { payer = (space_at store ds).payer; bytes = bs }) }) (with_bytes-more (space_at store ds).bytes offset part more fits)
+  put_more offset part more fits = simp (put_space, put_again, with_bytes-more)
 
   pub zeros_none : (offset : ℕ) → with_bytes_at store ds offset (zeros 0) ≡ store
   unfolding zeros
@@ -68,14 +61,7 @@ module _ (store : Store) (ds : ℕ) (exists : Exists store ds) where
     taken = ap (take piece) are ∙ zeros_taken piece (length blank) less
 
     pub piece_fits : offset + done + length (take piece blank) ≤ length (space_at now ds).bytes
-    piece_fits =
-        let n = ap length taken ∙ length-zeros piece in
-        let d = length-zeros done in
-        let l = ap (λ (s : Store). length (space_at s ds).bytes) put ∙ put_length offset (zeros done) (omega (arith, d, fits)) in
-        omega (arith, n, l, fits)
+    piece_fits = grind (arith, nat_tests, natmaps, taken, length-zeros, put_length)
 
     pub piece_put : with_bytes_at now ds (offset + done) (take piece blank) ≡ with_bytes_at store ds offset (zeros (done + piece))
-    piece_put =
-        ap (λ (s : Store). with_bytes_at s ds (offset + done) (take piece blank)) put
-        ∙ ap (with_bytes_at (with_bytes_at store ds offset (zeros done)) ds (offset + done)) taken
-        ∙ zeros_more offset done piece (omega (arith, fits))
+    piece_put = search (rules, taken, zeros_more)

@@ -35,7 +35,7 @@ use Rattle.heap_core.proofs.FrameLemmas.{used_even}
 use Rattle.heap_core.proofs.HeapLaws as laws
 use Rattle.heap_core.proofs.PayloadLemmas.{no_chunk}
 use Rattle.heap_core.proofs.PokeLemmas as poke
-use Rattle.heap_core.proofs.ShareLemmas.{in_share}
+use Rattle.dataspace_core.proofs.ShareLaws.{in_share}
 use Rattle.heap_core.proofs.StandLemmas.{blocks, chunk_blocks, chunk_short, chunk_total}
 use Rattle.heap_core.proofs.WordsLemmas.{length_keys, word_at_place, word_there}
 
@@ -67,9 +67,7 @@ used_word w place off n (Hole m ∷ rest) laid at = ⊎_elim
 
 -- the heap window of a machine ends below 2^40
 window_low : (machine : ℕ) → machine ≤ 4096 → heap_high machine ≤ 2 ^ 40
-window_low machine few =
-    let more : machine + 2 ≤ 4098 = omega arith in
-    let m = mul-le-mul few more in omega (arith, m)
+window_low machine few = grind (arith, nat_tests, mul-le-mul)
 
 module _ (heap : Heap) (store : Store) (regions : Regions) (sound : IsSound heap store regions) (block : BlockAddr) (n : ℕ) (used : IsUsed heap store block n) where
   abbrev account : ℕ
@@ -202,6 +200,4 @@ module _ (heap : Heap) (store : Store) (regions : Regions) (sound : IsSound heap
 
   pub put_is : (cs : List Chunk) (size : ℕ) (new : Store) → cs ≡ heap.chunks.items → size ≡ word_of (slice_range (bytes_in_store store (get_or cs k no_chunk).ds.0) y (y + 8)) →
       new ≡ with_bytes_at store (get_or cs k no_chunk).ds.0 (y + 16) (zeros (size - 16)) → new ≡ with_bytes_at store ds (y + 16) blank
-  put_is cs size new same is put =
-      put ∙ ap (λ (xs : List Chunk). with_bytes_at store (get_or xs k no_chunk).ds.0 (y + 16) (zeros (size - 16))) same
-      ∙ ap (λ m. with_bytes_at store ds (y + 16) (zeros (m - 16))) (size_read cs size same is)
+  put_is cs size new same is put = grind (arith, nat_tests, no_chunk, size_read)

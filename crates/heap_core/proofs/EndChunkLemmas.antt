@@ -1,12 +1,14 @@
 -- A heap's chunks are given back, the last one first.
-use Rattle.std.proofs.Common.{◌≡◌, ◌≢◌, ℕ, suc, ◌+◌, ◌-◌, ◌*◌, ◌<◌, ◌≤◌, true, false, cond, [], ◌∷◌, length, sum_by, refl, sym, ap, subst, ◌∙◌, ⊎_elim, true≢false, unwrap_or, arith, Some, is_some}
+use Rattle.std.proofs.lemmas.Bool.Decides.{nat_tests}
+use Rattle.std.proofs.Common.{rules, ◌≡◌, ◌≢◌, ℕ, suc, ◌+◌, ◌-◌, ◌*◌, ◌<◌, ◌≤◌, true, false, cond, [], ◌∷◌, length, sum_by, refl, sym, ap, subst, ◌∙◌, ⊎_elim, true≢false, unwrap_or, arith, Some, is_some}
+use Rattle.own_model.proofs.AccountLemmas.{credit_nothing, credit_twice}
 use Rattle.std.proofs.lemmas.Bool.{cases_eq, cases_lt}
 use Rattle.std.proofs.lemmas.Option.{none-some, same_Some}
 use Rattle.std.specs.Prelude.{Option, None}
 use Rattle.std.specs.FinMap.{get, remove, len, empty, len-empty}
 use Rattle.own_model.specs.Account.{Account, credited, opened}
 use Rattle.own_model.specs.Region.{Region}
-use Rattle.own_model.proofs.NatMapLemmas.{before_remove, get-remove_same, get-remove_other}
+use Rattle.own_model.proofs.NatMapLemmas.{before_remove, get-remove_same, get-remove_other, none_if, same, get-empty, get-picked_none}
 use Rattle.avl_alloc.specs.Layout as avl
 use Rattle.region_map.specs.Regions.{Regions, heap_detached}
 use Rattle.dataspace_core.specs.Store.{Store, part, account_in, space_at, IsOpenIn, PartBecomes, part_without_space}
@@ -19,7 +21,8 @@ use Rattle.heap_core.specs.End.{EndsChunks, HasChunk, bytes_from}
 use Rattle.heap_core.specs.Calls.{GivesAll, KeepsElsewhere}
 use Rattle.heap_core.specs.declared.words.Chunk.{Chunk}
 use Rattle.heap_core.specs.Words.{is_among}
-use Rattle.heap_core.proofs.ShareLemmas.{get-large, in_tags}
+use Rattle.heap_window.proofs.ShareLemmas.{get-large}
+use Rattle.dataspace_core.proofs.ShareLaws.{in_tags}
 use Rattle.heap_core.proofs.StandLemmas.{blocks, chunk_total, count_blocks}
 use Rattle.own_model.specs.BestFit.{chunk_of}
 use Rattle.own_model.specs.Heap as model
@@ -27,36 +30,16 @@ use Rattle.own_model.specs.Heap.{bytes_in}
 use Rattle.own_model.specs.NatMap.{total}
 use Rattle.own_model.specs.OwnHeap.{no_heap}
 use Rattle.own_model.specs.Use.{heap_count, heap_size}
-use Rattle.own_model.proofs.NatMapLemmas.{same, get-empty, get-picked_none}
 use Rattle.own_model.proofs.Totals.{total-empty}
 use Rattle.std.specs.Ordering.{nat_cmp}
 use Rattle.std.proofs.lemmas.List.Sums.{sum_by-cons}
 use Rattle.heap_core.proofs.ChunkLemmas.{key_is}
-use Rattle.heap_core.proofs.GoneLemmas.{gone_charge, gone_count, gone_open, gone_others, gone_paid, gone_share, gone_shares, gone_window, in_map}
+use Rattle.dataspace_core.proofs.GoneLaws.{gone_charge, gone_count, gone_open, gone_others, gone_paid, gone_share, gone_shares, gone_window, in_map}
 use Rattle.heap_core.proofs.WordsLemmas.{among_there, length_keys}
-
--- a credit of nothing
-credit_nothing : (a : Account) → credited a 0 0 ≡ a
-credit_nothing a =
-    let ram : a.ram_used - 0 ≡ a.ram_used = omega arith in
-    let caps : a.caps_used - 0 ≡ a.caps_used = omega arith in
-    λ i. record a { ram_used = ram i; caps_used = caps i }
-
--- two credits are one
-pub credit_twice : (a : Account) (m n k l : ℕ) → credited (credited a m k) n l ≡ credited a (n + m) (l + k)
-credit_twice a m n k l =
-    let ram : a.ram_used - m - n ≡ a.ram_used - (n + m) = omega arith in
-    let caps : a.caps_used - k - l ≡ a.caps_used - (l + k) = omega arith in
-    λ i. record a { ram_used = ram i; caps_used = caps i }
 
 -- others stay over two calls
 pub keeps_then : (account : ℕ) (old mid new : Store) (regions between after : Regions) → KeepsShares account old mid regions.heap regions.tags between.heap between.tags → KeepsShares account mid new between.heap between.tags after.heap after.tags → KeepsShares account old new regions.heap regions.tags after.heap after.tags
-keeps_then account old mid new regions between after first next = record {
-  shares = λ other apart. next.shares other apart ∙ first.shares other apart;
-  root = next.root ∙ first.root;
-  parents = next.parents ∙ first.parents;
-  room = next.room ∙ first.room;
-}
+keeps_then account old mid new regions between after first next = search rules
 
 -- ---- regions with other numbers stay
 
@@ -74,21 +57,12 @@ elsewhere_then regions between after first next = record {
 
 -- where one with a heap's number goes, those with other numbers stay
 pub elsewhere_gone : (regions : Regions) (start number : ℕ) → get regions.tags start ≡ Some number → number ≤ large_tag → KeepsElsewhere regions (heap_detached regions start)
-elsewhere_gone regions start number tag low = record {
-  stays = λ s k other high.
-      let apart : s ≢ start = λ e. let same = same_Some k number (sym other ∙ ap (get regions.tags) e ∙ tag) in omega (arith, same, low, high) in
-      (get-remove_other regions.heap start s apart, get-remove_other regions.tags start s apart);
-  fewer = λ s k left. before_remove regions.tags start s k left;
-}
+elsewhere_gone regions start number tag low = search (rules, same, same_Some, get-remove_other, before_remove)
 
 -- no large block is left where the list of them is empty
 module _ (heap : Heap) (store : Store) (regions : Regions) (sound : IsSound heap store regions) (empty : heap.large.items ≡ []) where
   pub none_large : (s : ℕ) → get (large_regions (share_at (payer_of heap) store regions)) s ≡ None
-  none_large s = elim (get (large_regions (share_at (payer_of heap) store regions)) s) as (λ o. get (large_regions (share_at (payer_of heap) store regions)) s ≡ o → o ≡ None) [
-    | None ↦ λ e. refl
-    | Some r ↦ λ e.
-        let one : 0 ≡ 1 = sym (ap (λ xs. times_in xs s) empty) ∙ sound.laid.large s ∙ ap (λ (o : Option Region). cond (is_some o) 1 0) e in absurd (omega (arith, one))
-  ] refl
+  none_large s = search (rules, none_if)
 
   no_number : (start : ℕ) (region : Region) → get (share_at (payer_of heap) store regions).heap start ≡ Some region → get (share_at (payer_of heap) store regions).tags start ≡ Some large_tag → ⊥
   no_number start region there tag =
@@ -141,10 +115,7 @@ module _ (heap : Heap) (left : ℕ) (old mid new : Store) (regions between : Reg
 
   -- its number is one of the heap's
   chunk_kept : KeepsElsewhere between after
-  chunk_kept =
-      let sum = ends.sum in
-      let few = first.laid.few in
-      elsewhere_gone between start left (in_tags (part account mid) between.heap between.tags start left has.tag) (omega (arith, sum, few))
+  chunk_kept = elsewhere_gone between start left (in_tags (part account mid) between.heap between.tags start left has.tag) (omega (arith, ends.sum, first.laid.few))
 
   chunk_exists : is_some (get mid.spaces ds) ≡ true
   chunk_exists = (gone_paid account start ds has.pages mid new between.pages between.heap_most between.heap between.tags ends.opens ends.window has.region).exists
@@ -154,8 +125,7 @@ module _ (heap : Heap) (left : ℕ) (old mid new : Store) (regions between : Reg
     now = gone_share account start ds has.pages mid new between.pages between.heap_most between.heap between.tags ends.opens ends.window has.region freed
 
     apart : (k : ℕ) → k < left → (chunk_at heap k).start ≢ start
-    apart k low same =
-        let e = same_Some k left (sym (ends.each k (omega (arith, low))).tag ∙ ap (get S.tags) same ∙ has.tag) in omega (arith, e, low)
+    apart k low same = grind (arith, nat_tests, same_Some, same, has)
 
     each : (k : ℕ) → k < left → HasChunk (record { part = part account new; heap = remove S.heap start; tags = remove S.tags start }) heap k
     each k low =
@@ -227,10 +197,7 @@ module _ (heap : Heap) (left : ℕ) (old mid new : Store) (regions between : Reg
   round_exists = ap (λ (c : Chunk). is_some (get mid.spaces c.ds.0)) is ∙ chunk_exists heap (left - 1) old mid new regions between first still
 
   pub round : (after : Regions) → after ≡ heap_detached between x.start → PartBecomes (space_at mid x.ds.0).payer (part_without_space (part (space_at mid x.ds.0).payer mid) x.ds.0) mid new → EndsChunks heap (left - 1) old new regions after
-  round after gone freed =
-      subst (EndsChunks heap (left - 1) old new regions) (sym (gone ∙ ap (λ (c : Chunk). heap_detached between c.start) is))
-      (ends_more heap (left - 1) old mid new regions between first still
-      (subst (λ (c : Chunk). PartBecomes (space_at mid c.ds.0).payer (part_without_space (part (space_at mid c.ds.0).payer mid) c.ds.0) mid new) is freed))
+  round after gone freed = search (rules, ends_more, still)
 
 -- ---- all are given back
 
@@ -260,33 +227,14 @@ module _ (heap later : Heap) (old new : Store) (regions after : Regions) (sound 
 
   count_is : heap_count (heap_in heap O) ≡ ends.gone
   unfolding heap_in
-  count_is =
-      let n = count_blocks heap O sound.laid in
-      let m = ap len large_empty ∙ len-empty nat_cmp ℕ in
-      let g = gone_is in
-      omega (arith, n, m, g)
+  count_is = grind (arith, nat_tests, count_blocks, large_empty, len-empty, gone_is)
 
   size_is : heap_size (heap_in heap O) ≡ bytes_from heap 0 ends.gone
   unfolding heap_in
-  size_is =
-      let n = count_blocks heap O sound.laid in
-      let m = ap (total (λ (bytes : ℕ). bytes)) large_empty ∙ total-empty (λ (bytes : ℕ). bytes) in
-      let s = sum_bytes heap (blocks heap O sound.laid) 0 (λ k there. chunk_total heap O sound.laid k (subst (λ l. k < l) n there) ∙ ap (avl.bytes_of heap.fit) (let e : k ≡ 0 + k = omega arith in e))
-      ∙ ap (bytes_from heap 0) (n ∙ sym gone_is) in
-      omega (arith, s, m)
+  size_is = grind (arith, nat_tests, count_blocks, large_empty, total-empty, sum_bytes, blocks, chunk_total, gone_is)
 
   pub ends_all : ((share : Share) → HasNoBlocks share → heap_in later share ≡ no_heap) → GivesAll heap later old new regions after
-  ends_all value = record {
-    value = value (share_at (payer_of later) new after) (subst (λ a. HasNoBlocks (share_at a new after)) (sym payer) no_blocks_left);
-    none = no_blocks_left;
-    charge = ends.charge
-        ∙ ap (λ n. Some (credited (account_in old (payer_of heap)) n ends.gone)) (sym size_is)
-        ∙ ap (λ n. Some (credited (account_in old (payer_of heap)) (heap_size (heap_in heap O)) n)) (sym count_is);
-    spaces = λ k no. ends.spaces k no.0;
-    count = let c = ends.count in let n = count_is in omega (arith, c, n);
-    rest = ends.rest;
-    kept = ends.kept;
-  }
+  ends_all value = grind (arith, nat_tests, no_blocks_left, charge, size_is, count_is)
 
   pub end_sound : ((store : Store) (rs : Regions) → IsOpenIn store (payer_of heap) → IsWindowOf store rs.pages rs.heap_most rs.heap → HasNoBlocks (share_at (payer_of heap) store rs) → IsSound later store rs) → IsSound later new after
   end_sound make = make new after ends.opens ends.window no_blocks_left

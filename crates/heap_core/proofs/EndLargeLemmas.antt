@@ -1,5 +1,5 @@
 -- A heap's large blocks are given back, one after another.
-use Rattle.std.proofs.Common.{◌≡◌, ℕ, ◌+◌, ◌-◌, ◌*◌, ◌≤◌, ◌==◌, Bool, List, length, get_or, false, Some, refl, sym, ap, subst, ◌∙◌, unwrap_or, arith}
+use Rattle.std.proofs.Common.{rules, ◌≡◌, ℕ, ◌+◌, ◌-◌, ◌*◌, ◌≤◌, ◌==◌, Bool, List, length, get_or, false, Some, refl, sym, ap, subst, ◌∙◌, unwrap_or, arith}
 use Rattle.std.proofs.lemmas.Bool.Decides.{nat_tests}
 use Rattle.std.specs.Prelude.{Option}
 use Rattle.std.specs.Option.{option_and_then}
@@ -20,19 +20,15 @@ use Rattle.heap_core.specs.Calls.{GivesAll, GivesLarge, IsNoBlock, KeepsElsewher
 use Rattle.heap_core.specs.End.{EndsChunks, EndsLarge}
 use Rattle.heap_core.specs.Heap.{HasNoBlocks, IsSound, heap_at, heap_in, large_regions, large_tag, payer_of, share_at, times_in}
 use Rattle.heap_core.specs.Words.{is_among}
-use Rattle.heap_core.proofs.ChangeLemmas.{large_number}
-use Rattle.heap_core.proofs.ShareLemmas.{get-large, in_tags}
-use Rattle.heap_core.proofs.EndChunkLemmas.{credit_twice, keeps_then, elsewhere_gone, elsewhere_then}
+use Rattle.heap_window.proofs.ShareLemmas.{large_kept, get-large}
+use Rattle.dataspace_core.proofs.ShareLaws.{in_tags}
+use Rattle.own_model.proofs.AccountLemmas.{credit_twice}
+use Rattle.heap_core.proofs.EndChunkLemmas.{keeps_then, elsewhere_gone, elsewhere_then}
 use Rattle.heap_core.proofs.SiteLemmas.{times_there}
 
 -- none is given back yet
 pub ends_large_none : (heap : Heap) (store : Store) (regions : Regions) → IsSound heap store regions → EndsLarge heap heap store store regions regions
-ends_large_none heap store regions sound = record {
-  sound = sound;
-  payer = refl;
-  others = record { shares = λ other apart. refl; root = refl; parents = refl; room = refl };
-  rest = λ later new after same all. all;
-}
+ends_large_none heap store regions sound = search rules
 
 module _ (heap next later : Heap) (a : ℕ) (old mid new : Store) (regions between after : Regions) (one : GivesLarge heap next a old mid regions between) (payer : payer_of next ≡ payer_of heap)
     (left : large_regions (share_at (payer_of heap) mid between) ≡ remove (large_regions (share_at (payer_of heap) old regions)) a) (same : payer_of later ≡ payer_of heap) (rest : GivesAll next later mid new between after) where
@@ -51,9 +47,7 @@ module _ (heap next later : Heap) (a : ℕ) (old mid new : Store) (regions betwe
 
   -- its region keeps the number of a large block
   number_there : get regions.tags a ≡ Some large_tag
-  number_there =
-      in_tags (part account old) regions.heap regions.tags a large_tag
-      (large_number (get S.tags a) (get S.heap a) _ (sym (get-large S a) ∙ one.region))
+  number_there = search (rules, in_tags, large_kept)
 
   large_there : get H.large a ≡ Some (one.pages * 4096)
   unfolding heap_in
@@ -76,10 +70,7 @@ module _ (heap next later : Heap) (a : ℕ) (old mid new : Store) (regions betwe
 
   -- what isn't a block's of the heap before isn't one of the heap then
   still_none : (k : ℕ) → IsNoBlock heap S k → IsNoBlock next (share_at account mid between) k
-  still_none k none = (
-    ap (λ ks. is_among ks k) one.keys ∙ none.0,
-    λ s r h. none.1 s r (before_remove (large_regions S) a s r (ap (λ (m : NatMap Region). get m s) (sym left) ∙ h)),
-  )
+  still_none k none = search (rules, before_remove)
 
   pub gives_then : GivesAll heap later old new regions after
   gives_then = record {
@@ -118,10 +109,8 @@ some_left n m b test some is = let e = sym test ∙ some in grind (arith, nat_te
 
 -- the last number of a list that has some stands there
 pub listed_there : (xs ys : List ℕ) (n : ℕ) → ys ≡ xs → n ≡ length xs → 1 ≤ n → 1 ≤ times_in xs (get_or ys (n - 1) 0)
-listed_there xs ys n same long some =
-    subst (λ zs. 1 ≤ times_in xs (get_or zs (n - 1) 0)) (sym same) (times_there xs (n - 1) (omega (arith, long, some)))
+listed_there xs ys n same long some = search (rules, times_there)
 
 -- both walks leave all others
 pub ends_both : (heap now : Heap) (old mid new : Store) (regions between after : Regions) → EndsLarge heap now old mid regions between → EndsChunks now 0 mid new between after → KeepsShares (payer_of heap) old new regions.heap regions.tags after.heap after.tags
-ends_both heap now old mid new regions between after far ends =
-    keeps_then (payer_of heap) old mid new regions between after far.others (subst (λ p. KeepsShares p mid new between.heap between.tags after.heap after.tags) far.payer ends.others)
+ends_both heap now old mid new regions between after far ends = search (rules, keeps_then)

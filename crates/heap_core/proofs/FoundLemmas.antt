@@ -1,5 +1,5 @@
 -- Where a heap's payloads come from: each is a used block's of one chunk, or a large block's.
-use Rattle.std.proofs.Common.{◌≡◌, ◌≢◌, ℕ, suc, ◌+◌, ◌-◌, ◌*◌, ◌<◌, ◌≤◌, true, false, List, [], ◌∷◌, length, get_or, refl, sym, ap, subst, ◌∙◌, ⊎_elim, ◌⊎◌, inl, inr, arith, Some}
+use Rattle.std.proofs.Common.{rules, ◌≡◌, ◌≢◌, ℕ, suc, ◌+◌, ◌-◌, ◌*◌, ◌<◌, ◌≤◌, true, false, List, [], ◌∷◌, length, get_or, refl, sym, ap, subst, ◌∙◌, ⊎_elim, ◌⊎◌, inl, inr, arith, Some}
 use Rattle.std.proofs.lemmas.Bool.{cases_eq, cases_lt}
 use Rattle.std.proofs.lemmas.Bool.Decides.{nat_tests}
 use Rattle.std.proofs.lemmas.Option.{none-some, same_Some}
@@ -26,9 +26,9 @@ use Rattle.dataspace_core.specs.Share.{Share}
 use Rattle.heap_core.specs.declared.words.Chunk.{Chunk}
 use Rattle.heap_core.specs.declared.heap.Heap.{Heap}
 use Rattle.heap_core.specs.Heap.{IsSound, bytes_shown, chunk_at, heap_in, large_regions, large_tag, payer_of, payloads_of, share_at}
-use Rattle.heap_core.proofs.ChangeLemmas.{large_number}
+use Rattle.heap_window.proofs.ShareLemmas.{large_kept, get-large, large_there}
 use Rattle.heap_core.proofs.PayloadLemmas.{entries_of, no_chunk, payloads-at, payloads-none, told, value_of-payloads}
-use Rattle.heap_core.proofs.ShareLemmas.{in_share, get-large, large_there}
+use Rattle.dataspace_core.proofs.ShareLaws.{in_share}
 use Rattle.heap_core.proofs.StandLemmas.{blocks, chunk_blocks, chunk_total, count_blocks, no_blocks, not_in_chunk}
 use Rattle.heap_core.proofs.TakenLemmas.{in_other, other_chunk}
 
@@ -47,16 +47,7 @@ from_chunk part (x ∷ xs) (y ∷ ys) q w h = ⊎_elim
 -- a payload that a chunk tells is a used block's
 told_used : (start : ℕ) (bytes : List ℕ) (bs : List Block) (q : ℕ) (w : List ℕ) → told start 0 bytes bs q ≡ Some w →
     (y n : ℕ) × (used_at y bs ≡ Some n) × (q ≡ start + y + 16) × (w ≡ slice_range bytes (y + 16) (y + n))
-told_used start bytes bs q w h = ⊎_elim
-    (λ (low : q < start + 0 + 16). let a : nat_lt q (start + 0 + 16) ≡ true = grind (arith, nat_tests) in absurd (none-some w (rw a at h)))
-    (λ (high : start + 0 + 16 ≤ q).
-    let a : nat_lt q (start + 0 + 16) ≡ false = grind (arith, nat_tests) in
-    let from = told_from (λ n. slice_range bytes (q - start) (q - start - 16 + n)) (used_at (q - 16 - (start + 0)) bs) w (rw a at h) in
-    let y : ℕ = q - 16 - (start + 0) in
-    let low : q - start ≡ y + 16 = omega (arith, high) in
-    let last : q - start - 16 + from.0 ≡ y + from.0 = omega (arith, high) in
-    (y, from.0, from.1, omega (arith, high), sym from.2 ∙ (λ i. slice_range bytes (low i) (last i))))
-    (cases_lt q (start + 0 + 16))
+told_used start bytes bs q w h = search (rules, none-some, told_from, cases_lt)
 
 -- and a used block's payload is told
 used_told : (start y n : ℕ) (bytes : List ℕ) (bs : List Block) → used_at y bs ≡ Some n → told start 0 bytes bs (start + y + 16) ≡ Some (slice_range bytes (y + 16) (y + n))
@@ -109,16 +100,11 @@ module _ (heap : Heap) (store : Store) (regions : Regions) (sound : IsSound heap
       record { k = k; y = used.0; n = used.1; there = from.1; used = used.2; at = used.3; is = used.4 }
 
   large_from : (q : ℕ) (w : List ℕ) → get (bytes_shown S.part.spaces (large_regions S)) q ≡ Some w → IsLarge q w
-  large_from q w h =
-      let from = and_then_from (λ (r : Region). get S.part.spaces r.of) (get (large_regions S) q) w (sym (get-picked (λ (r : Region). get S.part.spaces r.of) (large_regions S) q) ∙ h) in
-      record { region = from.0; there = from.1; bytes = from.2 }
+  large_from q w h = grind (arith, nat_tests, and_then_from, get-picked)
 
   -- each payload is one of these
   pub payload_from : (q : ℕ) (w : List ℕ) → get (heap_in heap S).payloads q ≡ Some w → IsSmall q w ⊎ IsLarge q w
-  payload_from q w h = ⊎_elim
-      (λ (small : get small_map q ≡ Some w). inl (small_from q w small))
-      (λ (large : get (bytes_shown S.part.spaces (large_regions S)) q ≡ Some w). inr (large_from q w large))
-      (from_either (get small_map q) (get (bytes_shown S.part.spaces (large_regions S)) q) w (sym (value_at q) ∙ h))
+  payload_from q w h = search (rules, small_from, large_from, from_either, value_at)
 
   -- ---- an address of a chunk lies in no other, and in no large block
 
@@ -135,22 +121,11 @@ module _ (heap : Heap) (store : Store) (regions : Regions) (sound : IsSound heap
   pub one_chunk : (k c address : ℕ) → k < length heap.chunks.items → c < length heap.chunks.items →
       (chunk_at heap k).start ≤ address → address < (chunk_at heap k).start + avl.bytes_of heap.fit k →
       (chunk_at heap c).start ≤ address → address < (chunk_at heap c).start + avl.bytes_of heap.fit c → k ≡ c
-  one_chunk k c address in_k in_c low high from to = ⊎_elim
-      (λ (same : k ≡ c). same)
-      (λ (apart : k ≢ c). absurd (⊎_elim
-      (λ (before : address < (chunk_at heap k).start). omega (arith, before, low))
-      (λ (past : (chunk_at heap k).start + avl.bytes_of heap.fit k ≤ address). omega (arith, past, high))
-      (other_chunk heap store regions sound k c address in_k in_c apart from to)))
-      (cases_eq k c)
+  one_chunk k c address in_k in_c low high from to = search (rules, other_chunk, cases_eq)
 
   -- a chunk and a large block don't start at one address
   pub chunk_large : (k s : ℕ) (r : Region) → k < length heap.chunks.items → get (large_regions S) s ≡ Some r → (chunk_at heap k).start ≢ s
-  chunk_large k s r there h same =
-      let stands = sound.laid.chunks k there in
-      let number = large_number (get S.tags s) (get S.heap s) r (sym (get-large S s) ∙ h) in
-      let few = sound.laid.few in
-      let e = same_Some k large_tag (sym stands.tag ∙ ap (get S.tags) same ∙ number) in
-      omega (arith, e, few, there)
+  chunk_large k s r there h same = grind (arith, nat_tests, large_kept, same_Some)
 
   -- an address in a large block is in no chunk
   pub large_outside : (k s address : ℕ) (r : Region) → k < length heap.chunks.items → get (large_regions S) s ≡ Some r → s ≤ address → address < s + r.pages * 4096 →
@@ -194,10 +169,7 @@ module _ (heap : Heap) (store : Store) (regions : Regions) (sound : IsSound heap
   -- no other chunk has a payload at an address of a chunk
   pub none_else : (k c address : ℕ) → c < length heap.chunks.items → (chunk_at heap c).start ≤ address → address < (chunk_at heap c).start + avl.bytes_of heap.fit c → k ≢ c →
       value_of address (entries_of S.part (chunk_at heap k) (blocks_at k)) ≡ None
-  none_else k c address in_c low high apart = ⊎_elim
-      (λ (in_k : k < length heap.chunks.items). not_in_chunk heap S sound.laid k address in_k (other_chunk heap store regions sound k c address in_k in_c apart low high))
-      (λ (out : length heap.chunks.items ≤ k). ap (λ bs. value_of address (entries_of S.part (chunk_at heap k) bs)) (no_blocks heap S sound.laid k out))
-      (cases_lt k (length heap.chunks.items))
+  none_else k c address in_c low high apart = search (rules, not_in_chunk, other_chunk, entries_of, no_blocks, cases_lt)
 
   pub small_there : (k y n : ℕ) → k < length heap.chunks.items → used_at y (blocks_at k) ≡ Some n →
       get (heap_in heap S).payloads ((chunk_at heap k).start + y + 16) ≡ Some (slice_range (bytes_at k) (y + 16) (y + n))

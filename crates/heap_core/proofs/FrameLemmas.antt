@@ -1,5 +1,5 @@
 -- Payloads stay while only words of holes change.
-use Rattle.std.proofs.Common.{◌≡◌, ◌≢◌, ℕ, ◌+◌, ◌-◌, ◌%◌, ◌^◌, ◌<◌, ◌≤◌, ◌==◌, true, false, List, [], ◌∷◌, length, refl, sym, ap, subst, ◌∙◌, ⊎_elim, unwrap_or, arith, Some, is_some}
+use Rattle.std.proofs.Common.{rules, ◌≡◌, ◌≢◌, ℕ, ◌+◌, ◌-◌, ◌%◌, ◌^◌, ◌<◌, ◌≤◌, ◌==◌, true, false, List, [], ◌∷◌, length, refl, sym, ap, subst, ◌∙◌, ⊎_elim, unwrap_or, arith, Some, is_some}
 use Rattle.std.proofs.lemmas.Bool.{cases_eq, cases_lt}
 use Rattle.std.proofs.lemmas.Bool.Decides.{nat_tests}
 use Rattle.std.proofs.lemmas.Option.{none-some}
@@ -54,18 +54,7 @@ used_even off n (Hole m ∷ rest) sizes at = ⊎_elim
 -- a chunk tells the same payloads of bytes that agree in each of them
 told_same : (start : ℕ) (old new : List ℕ) (blocks : List Block) (q : ℕ) → ((y n : ℕ) → used_at y blocks ≡ Some n → slice_range new (y + 16) (y + n) ≡ slice_range old (y + 16) (y + n)) → AreBlocks blocks →
     told start 0 new blocks q ≡ told start 0 old blocks q
-told_same start old new blocks q alike sizes = ⊎_elim
-    (λ (low : q < start + 0 + 16). let a : nat_lt q (start + 0 + 16) ≡ true = grind (arith, nat_tests) in rw a refl)
-    (λ (high : start + 0 + 16 ≤ q).
-    let a : nat_lt q (start + 0 + 16) ≡ false = grind (arith, nat_tests) in
-    rw a (elim (used_at (q - 16 - (start + 0)) blocks) as (λ o. used_at (q - 16 - (start + 0)) blocks ≡ o → option_map (λ n. slice_range new (q - start) (q - start - 16 + n)) o ≡ option_map (λ n. slice_range old (q - start) (q - start - 16 + n)) o) [
-      | None ↦ λ e. refl
-      | Some n ↦ λ e.
-          let from : q - 16 - (start + 0) + 16 ≡ q - start = omega (arith, high) in
-          let to : q - 16 - (start + 0) + n ≡ q - start - 16 + n = omega (arith, high) in
-          ap Some (subst (λ t. slice_range new (q - start) t ≡ slice_range old (q - start) t) to (subst (λ f. slice_range new f (q - 16 - (start + 0) + n) ≡ slice_range old f (q - 16 - (start + 0) + n)) from (alike (q - 16 - (start + 0)) n e)))
-    ] refl))
-    (cases_lt q (start + 0 + 16))
+told_same start old new blocks q alike sizes = search (rules, cases_lt)
 
 module _ (heap : Heap) (fit : BestFit) (old new : Store) (regions : Regions) (sound : IsSound heap old regions) (kept : around (keys_in heap) new ≡ around (keys_in heap) old) (H : model.Heap)
     (no_hole : (k off n q : ℕ) → k < length heap.chunks.items → used_at off (chunk_of H k) ≡ Some n → place_at k off ≤ q → q < place_at k off + n → weigh_holes (whole q) H ≡ 0)
@@ -117,7 +106,4 @@ module _ (heap : Heap) (fit : BestFit) (old new : Store) (regions : Regions) (so
   -- so a chunk's payloads stay
   pub entries_same : (k : ℕ) (there : k < length heap.chunks.items) (q : ℕ) →
       value_of q (entries_of (part account new) (chunk_at heap k) (chunk_of H k)) ≡ value_of q (entries_of (part account old) (chunk_at heap k) (chunk_of H k))
-  entries_same k there q =
-      value_of-payloads (chunk_at heap k).start 0 (bytes_of (part account new) (chunk_at heap k).ds.0) (chunk_of H k) q (blocks k there)
-      ∙ told_same (chunk_at heap k).start (bytes_of (part account old) (chunk_at heap k).ds.0) (bytes_of (part account new) (chunk_at heap k).ds.0) (chunk_of H k) q (payload_same k there) (blocks k there)
-      ∙ sym (value_of-payloads (chunk_at heap k).start 0 (bytes_of (part account old) (chunk_at heap k).ds.0) (chunk_of H k) q (blocks k there))
+  entries_same k there q = search (rules, value_of-payloads, told_same, payload_same)

@@ -1,5 +1,6 @@
 -- A used block of a chunk is given back: its payload is gone, and all else stays.
-use Rattle.std.proofs.Common.{◌≡◌, ℕ, ◌+◌, ◌-◌, ◌*◌, ◌<◌, ◌≤◌, true, false, cond, eqb, eqb-true, List, [], length, get_or, refl, sym, ap, subst, ◌∙◌, true≢false, arith, Some}
+use Rattle.std.proofs.lemmas.Bool.Decides.{nat_tests}
+use Rattle.std.proofs.Common.{rules, ◌≡◌, ℕ, ◌+◌, ◌-◌, ◌*◌, ◌<◌, ◌≤◌, true, false, cond, eqb, eqb-true, List, [], length, get_or, refl, sym, ap, subst, ◌∙◌, true≢false, arith, Some}
 use Rattle.std.proofs.lemmas.Option.{none-some}
 use Rattle.std.proofs.lemmas.List.{get_or-map, length-map}
 use Rattle.std.specs.Prelude.{Option, None, IfNone, OnSome, is_some}
@@ -19,7 +20,7 @@ use Rattle.own_model.specs.Region.{Region}
 use Rattle.own_model.proofs.BlockLemmas.{AreBlocks-given}
 use Rattle.own_model.proofs.ChunkLemmas.{Lies, chunk_from_is}
 use Rattle.own_model.proofs.JoinedLemmas.{get-joined}
-use Rattle.own_model.proofs.NatMapLemmas.{same, get-picked, get-picked_none, get-remove}
+use Rattle.own_model.proofs.NatMapLemmas.{same, get-picked, get-picked_none, get-remove, picked_alike}
 use Rattle.avl_alloc.specs.declared.best_fit.BestFit.{BestFit}
 use Rattle.avl_alloc.specs.Layout as avl
 use Rattle.avl_alloc.specs.Layout.{heap_of, sizes_of, ChangesHoles, weigh_holes, whole}
@@ -50,13 +51,7 @@ use Rattle.heap_core.proofs.StandLemmas.{blocks, chunk_blocks, chunk_total, coun
 
 -- one less in the first of two maps, where the second has none there
 joined-remove_first : {X : Type 0} (m n : NatMap X) (k : ℕ) → get n k ≡ None → joined (remove m k) n ≡ remove (joined m n) k
-joined-remove_first m n k free = same _ _ (λ q.
-    get-joined (remove m k) n q ∙ ap (λ o. option_or o (get n q)) (get-remove m k q)
-    ∙ elim (eqb q k) as (λ b. eqb q k ≡ b → option_or (cond b None (get m q)) (get n q) ≡ cond b None (option_or (get m q) (get n q))) [
-      | true ↦ λ here. ap (get n) (eqb-true q k here) ∙ free
-      | false ↦ λ _. refl
-    ] refl
-    ∙ ap (cond (eqb q k) None) (sym (get-joined m n q)) ∙ sym (get-remove (joined m n) k q))
+joined-remove_first m n k free = search (rules, same, get-joined, get-remove, eqb-true)
 
 -- ---- where a block of a chunk stands, as the model has it
 
@@ -71,12 +66,7 @@ module _ (heap : Heap) (store : Store) (regions : Regions) (sound : IsSound heap
   start_is k in_heap = get_or-map (λ (x : Chunk). x.start) heap.chunks.items k no_chunk 0 in_heap
 
   lies_chunk : (k : ℕ) → k < length heap.chunks.items → Lies (starts_in heap) (blocks heap place sound.laid) k at_start → k ≡ c
-  lies_chunk k in_heap lies =
-      let low = lies.low in
-      let high = lies.high in
-      let start = start_is k in_heap in
-      let total = chunk_total heap place sound.laid k in_heap in
-      one_chunk heap store regions sound k c at_start in_heap there (omega (arith, low, start)) (omega (arith, high, start, total)) (omega arith) (omega (arith, inside))
+  lies_chunk k in_heap lies = grind (arith, nat_tests, start_is, chunk_total, one_chunk)
 
   is_in_chunk : chunk_with (heap_in heap place) at_start ≡ c
   unfolding heap_in
@@ -96,11 +86,7 @@ module _ (heap : Heap) (store : Store) (regions : Regions) (sound : IsSound heap
 
   -- a block is given back by its payload's address
   pub without_it : (hv : OwnHeap) → hv ≡ heap_in heap place → without_block (at_start + 16) hv ≡ record hv { shape = shape_given c offset hv.shape; payloads = remove hv.payloads (at_start + 16) }
-  without_it hv is =
-      let back : at_start + 16 - 16 ≡ at_start = omega arith in
-      let chunk = ap (λ a. chunk_with hv a) back ∙ ap (λ h. chunk_with h at_start) is ∙ is_in_chunk in
-      let into = ap (λ a. offset_of hv a) back ∙ ap (λ h. offset_of h at_start) is ∙ is_at_offset in
-      λ i. record hv { shape = shape_given (chunk i) (into i) hv.shape; payloads = remove hv.payloads (at_start + 16) }
+  without_it hv is = grind (arith, nat_tests, is_in_chunk, is_at_offset)
 
 -- ---- the block goes
 
@@ -146,13 +132,7 @@ module _ (heap : Heap) (fit : BestFit) (c offset n : ℕ) (old new : Store) (reg
   given_blocks = given_in offset (chunk_of B c)
 
   one_less : (q : ℕ) → value_of q (entries_of S.part (chunk_at heap c) given_blocks) ≡ cond (eqb q address) None (value_of q (entries_of S.part (chunk_at heap c) (chunk_of B c)))
-  one_less q =
-      let start = (chunk_at heap c).start in
-      let bytes = bytes_of S.part (chunk_at heap c).ds.0 in
-      let are = chunk_blocks heap S sound.laid c there in
-      value_of-payloads start 0 bytes given_blocks q (AreBlocks-given n offset (chunk_of B c) are used)
-      ∙ told-given start bytes n offset (chunk_of B c) q are used
-      ∙ ap (cond (eqb q address) None) (sym (value_of-payloads start 0 bytes (chunk_of B c) q are))
+  one_less q = grind (arith, nat_tests, chunk_blocks, value_of-payloads, AreBlocks-given, told-given)
 
   inside : address < (chunk_at heap c).start + avl.bytes_of heap.fit c
   inside = let u = used_inside heap old regions sound c offset n there used in let least = u.0 in let to = u.1 in omega (arith, least, to)
@@ -166,20 +146,10 @@ module _ (heap : Heap) (fit : BestFit) (c offset n : ℕ) (old new : Store) (reg
       (λ k apart. none_else heap old regions sound k c address there (omega arith) inside apart)
 
   small_now : from_entries {R = nat_cmp} (payloads_of (part account new) heap.chunks.items G) ≡ remove (from_entries {R = nat_cmp} (payloads_of S.part heap.chunks.items B)) address
-  small_now = same _ _ (λ q.
-      get-from_entries nat_cmp_total _ q
-      ∙ each_entry q
-      ∙ ap (cond (eqb q address) None) (sym (get-from_entries nat_cmp_total _ q))
-      ∙ sym (get-remove (from_entries {R = nat_cmp} (payloads_of S.part heap.chunks.items B)) address q))
-
-  each_same : (o : Option Region) → ((r : Region) → o ≡ Some r → get (part account new).spaces r.of ≡ get (part account old).spaces r.of) → option_and_then (λ (r : Region). get (part account new).spaces r.of) o ≡ option_and_then (λ (r : Region). get (part account old).spaces r.of) o
-  each_same None h = refl
-  each_same (Some r) h = h r refl
+  small_now = grind (arith, nat_tests, same, get-from_entries, each_entry, get-remove)
 
   shown_now : bytes_shown (part account new).spaces (large_regions S) ≡ bytes_shown (part account old).spaces (large_regions S)
-  shown_now = same _ _ (λ q. get-picked (λ (r : Region). get (part account new).spaces r.of) (large_regions S) q
-      ∙ each_same (get (large_regions S) q) (λ r h. (keeps_spaces heap fit old new regions sound kept).others r.of (large_apart heap fit old new regions sound kept q r h))
-      ∙ sym (get-picked (λ (r : Region). get (part account old).spaces r.of) (large_regions S) q))
+  shown_now = picked_alike (λ (r : Region). get (part account new).spaces r.of) (λ (r : Region). get (part account old).spaces r.of) (large_regions S) (λ q r h. (keeps_spaces heap fit old new regions sound kept).others r.of (large_apart heap fit old new regions sound kept q r h))
 
   chunks_now : heap_of fit (words_in (later heap fit old new regions sound kept) (part account new)) ≡ G
   chunks_now = ap (heap_of fit) (words_now heap fit old new regions sound kept)
@@ -189,30 +159,15 @@ module _ (heap : Heap) (fit : BestFit) (c offset n : ℕ) (old new : Store) (reg
 
   payloads : joined (from_entries {R = nat_cmp} (payloads_of (part account new) heap.chunks.items (heap_of fit (words_in (later heap fit old new regions sound kept) (part account new))))) (bytes_shown (part account new).spaces (large_regions S))
       ≡ remove (joined (from_entries {R = nat_cmp} (payloads_of S.part heap.chunks.items B)) (bytes_shown (part account old).spaces (large_regions S))) address
-  payloads =
-      ap (λ h. joined (from_entries {R = nat_cmp} (payloads_of (part account new) heap.chunks.items h)) (bytes_shown (part account new).spaces (large_regions S))) chunks_now
-      ∙ ap (λ m. joined m (bytes_shown (part account new).spaces (large_regions S))) small_now
-      ∙ ap (joined (remove (from_entries {R = nat_cmp} (payloads_of S.part heap.chunks.items B)) address)) shown_now
-      ∙ joined-remove_first _ _ address no_large
+  payloads = simp (chunks_now, small_now, shown_now, joined-remove_first, no_large)
 
   given_value : heap_in (later heap fit old new regions sound kept) (share_at account new regions)
       ≡ record (heap_in heap S) { shape = shape_given c offset (heap_in heap S).shape; payloads = remove (heap_in heap S).payloads address }
   unfolding heap_in share_in
-  given_value = ap (heap_in (later heap fit old new regions sound kept)) (share_now heap fit old new regions sound kept) ∙ (λ i. record {
-    shape = record { chunks = (chunks_now ∙ is) i; growth = heap.growth };
-    starts = starts_in heap;
-    large = picked (λ (r : Region). Some (r.pages * 4096)) (large_regions S);
-    payloads = payloads i;
-  })
+  given_value = search (rules, later, share_now, chunks_now, payloads)
 
   pub gives_small : GivesSmall heap (later heap fit old new regions sound kept) address old new regions regions
-  gives_small = record {
-    value = given_value ∙ sym (without_it heap old regions sound c offset there (let i = inside in omega (arith, i)) (heap_in heap S) refl);
-    map = refl;
-    keys = refl;
-    account = same_account heap fit old new regions sound kept;
-    spaces = keeps_spaces heap fit old new regions sound kept;
-  }
+  gives_small = search (rules, given_value, without_it, inside, same_account, keeps_spaces)
 
 -- ---- what best fit has done
 

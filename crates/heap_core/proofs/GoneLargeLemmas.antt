@@ -1,5 +1,5 @@
 -- A large block is given back: its dataspace is detached and goes, and so does its payload.
-use Rattle.std.proofs.Common.{◌≡◌, ◌≢◌, ℕ, zero, suc, ◌+◌, ◌*◌, ◌<◌, ◌≤◌, ◌==◌, true, false, cond, eqb, eqb-true, List, [], ◌∷◌, length, get_or, refl, sym, ap, subst, ◌∙◌, ⊎_elim, arith, Some, is_some}
+use Rattle.std.proofs.Common.{rules, ◌≡◌, ◌≢◌, ℕ, zero, suc, ◌+◌, ◌*◌, ◌<◌, ◌≤◌, ◌==◌, true, false, cond, eqb, eqb-true, List, [], ◌∷◌, length, get_or, refl, sym, ap, subst, ◌∙◌, ⊎_elim, arith, Some, is_some}
 use Rattle.std.proofs.lemmas.Bool.{cases_eq, cases_lt}
 use Rattle.std.proofs.lemmas.Bool.Decides.{nat_tests}
 use Rattle.std.proofs.lemmas.List.Sums.{sum_by-swap_remove}
@@ -16,7 +16,7 @@ use Rattle.own_model.specs.HeapStep.{without_large}
 use Rattle.own_model.specs.NatMap.{NatMap, picked, joined}
 use Rattle.own_model.specs.Region.{Region}
 use Rattle.own_model.proofs.JoinedLemmas.{get-joined}
-use Rattle.own_model.proofs.NatMapLemmas.{same, get-picked, get-remove, get-remove_same, get-remove_other, before_remove, picked-remove}
+use Rattle.own_model.proofs.NatMapLemmas.{same, get-picked, get-remove, get-remove_same, get-remove_other, before_remove, picked-remove, picked_alike}
 use Rattle.own_model.proofs.Totals.{len-remove_at}
 use Rattle.avl_alloc.specs.Layout as avl
 use Rattle.region_map.specs.Regions.{Regions, heap_detached}
@@ -27,21 +27,15 @@ use Rattle.heap_core.specs.Calls.{GivesLarge}
 use Rattle.heap_core.specs.Heap.{starts_in, is_large_tag, large_regions, bytes_shown, heap_in, IsLaid, IsSound, StandsLarge, chunk_at, payer_of, payloads_of, share_at, times_in}
 use Rattle.heap_core.specs.Lookup.{LiesInLarge}
 use Rattle.heap_core.proofs.FoundLemmas.{chunk_large, large_outside}
-use Rattle.heap_core.proofs.GoneLemmas.{gone_charge, gone_count, gone_open, gone_others, gone_paid, gone_share, gone_shares, gone_window, in_map, once_shown}
-use Rattle.heap_core.proofs.LargeLemmas.{cond_none}
+use Rattle.dataspace_core.proofs.GoneLaws.{gone_charge, gone_count, gone_open, gone_others, gone_paid, gone_share, gone_shares, gone_window, in_map, once_shown}
 use Rattle.heap_core.proofs.PayloadLemmas.{payloads-none, entries_of}
-use Rattle.heap_core.proofs.ShareLemmas.{in_share, get-large, large_there}
+use Rattle.heap_window.proofs.ShareLemmas.{get-large, large_there, numbered-remove}
+use Rattle.dataspace_core.proofs.ShareLaws.{in_share}
 use Rattle.heap_core.proofs.StandLemmas.{blocks, no_blocks, not_in_chunk, SameChunks, words_kept, stands_kept, payloads_kept}
 
 -- one less in the second of two maps, where the first has none there
 joined-remove_second : {X : Type 0} (m n : NatMap X) (k : ℕ) → get m k ≡ None → joined m (remove n k) ≡ remove (joined m n) k
-joined-remove_second m n k free = same _ _ (λ q.
-    get-joined m (remove n k) q ∙ ap (option_or (get m q)) (get-remove n k q)
-    ∙ elim (eqb q k) as (λ b. eqb q k ≡ b → option_or (get m q) (cond b None (get n q)) ≡ cond b None (option_or (get m q) (get n q))) [
-      | true ↦ λ here. ap (λ o. option_or o None) (ap (get m) (eqb-true q k here) ∙ free)
-      | false ↦ λ _. refl
-    ] refl
-    ∙ ap (cond (eqb q k) None) (sym (get-joined m n q)) ∙ sym (get-remove (joined m n) k q))
+joined-remove_second m n k free = search (rules, same, get-joined, get-remove, eqb-true)
 
 -- an element of a list is the same whatever stands for those that aren't there
 get_or_any : (xs : List ℕ) (i d e : ℕ) → i < length xs → get_or xs i d ≡ get_or xs i e
@@ -52,10 +46,6 @@ get_or_any (x ∷ xs) (suc i) d e there = get_or_any xs i d e (omega (arith, the
 -- the element at an index, as a removal tells it
 pub item_is : (xs : List ℕ) (i d x start : ℕ) → i < length xs → x ≡ get_or xs i d → get_or xs i 0 ≡ start → x ≡ start
 item_is xs i d x start there is at = is ∙ get_or_any xs i d 0 there ∙ at
-
--- the test of a large block's number
-number_left : (share : Share) (start q : ℕ) → q ≢ start → is_large_tag (get (remove share.tags start) q) ≡ is_large_tag (get share.tags q)
-number_left share start q other = ap is_large_tag (get-remove_other share.tags start q other)
 
 module _ (heap : Heap) (start ds : ℕ) (old new : Store) (regions : Regions) (sound : IsSound heap old regions) (block : LiesInLarge (share_at (payer_of heap) old regions) start start ds) where
   abbrev account : ℕ
@@ -116,23 +106,13 @@ module _ (heap : Heap) (start ds : ℕ) (old new : Store) (regions : Regions) (s
 
     -- its region is one of a large block less
     less : large_regions smaller ≡ remove (large_regions S) start
-    less = same _ _ (λ q. get-large smaller q ∙ ⊎_elim
-        (λ (here : q ≡ start).
-        ap (λ (o : Option Region). cond (is_large_tag (get smaller.tags q)) o None) (get-remove_same S.heap start q here)
-        ∙ cond_none (is_large_tag (get smaller.tags q)) ∙ sym (get-remove_same (large_regions S) start q here))
-        (λ (other : q ≢ start).
-        ap (λ b. cond b (get smaller.heap q) None) (number_left S start q other)
-        ∙ ap (λ (o : Option Region). cond (is_large_tag (get S.tags q)) o None) (get-remove_other S.heap start q other)
-        ∙ sym (get-large S q) ∙ sym (get-remove_other (large_regions S) start q other))
-        (cases_eq q start))
+    less = numbered-remove is_large_tag S.heap S.tags start
 
     pub gone_left : large_regions (share_at account new after) ≡ remove (large_regions S) start
     gone_left = ap large_regions now ∙ less
 
     was_large : (s : ℕ) (r : Region) → get (large_regions smaller) s ≡ Some r → (get (large_regions S) s ≡ Some r) × (s ≢ start)
-    was_large s r h =
-        let left = ap (λ (m : NatMap Region). get m s) (sym less) ∙ h in
-        (before_remove (large_regions S) start s r left, λ e. none-some r (sym (get-remove_same (large_regions S) start s e) ∙ left))
+    was_large s r h = grind (arith, nat_tests, less, before_remove, none-some, get-remove_same)
 
     stands : (s : ℕ) (r : Region) → get (large_regions smaller) s ≡ Some r → StandsLarge smaller r
     stands s r h =
@@ -141,24 +121,7 @@ module _ (heap : Heap) (start ds : ℕ) (old new : Store) (regions : Regions) (s
         record { bytes = stood.bytes; there = kept s r (large_there S s r was.0) was.1 ∙ stood.there; whole = stood.whole; least = stood.least }
 
     times : (s : ℕ) → times_in vec.items s ≡ cond (is_some (get (large_regions smaller) s)) 1 0
-    times s =
-        let was = sound.laid.large s in
-        let one = sum_by-swap_remove (λ x. cond (x == s) 1 0) heap.large.items index d there in
-        let item = get_or_any heap.large.items index d 0 there ∙ at in
-        ap (λ xs. times_in xs s) is
-        ∙ ⊎_elim
-        (λ (here : s ≡ start).
-        let t : (get_or heap.large.items index d == s) ≡ true = grind (arith, nat_tests) in
-        let n = ap (λ (m : NatMap Region). get m s) less ∙ get-remove_same (large_regions S) start s here in
-        let w = was ∙ ap (λ (o : Option Region). cond (is_some o) 1 0) (ap (get (large_regions S)) here ∙ block.region) in
-        let o = ap (λ b. times_in (swap_remove heap.large.items index d) s + cond b 1 0) (sym t) ∙ one in
-        rw n (omega (arith, w, o)))
-        (λ (other : s ≢ start).
-        let t : (get_or heap.large.items index d == s) ≡ false = grind (arith, nat_tests) in
-        let n = ap (λ (m : NatMap Region). get m s) less ∙ get-remove_other (large_regions S) start s other in
-        let o = ap (λ b. times_in (swap_remove heap.large.items index d) s + cond b 1 0) (sym t) ∙ one in
-        rw n (omega (arith, was, o)))
-        (cases_eq s start)
+    times s = grind (arith, nat_tests, sum_by-swap_remove, get_or_any, less, get-remove_same, get-remove_other, cases_eq)
 
     gone_laid : (count : length vec.items + 1 ≡ length heap.large.items) → IsLaid later smaller
     gone_laid count = record {
@@ -179,11 +142,7 @@ module _ (heap : Heap) (start ds : ℕ) (old new : Store) (regions : Regions) (s
     }
 
     pub gone_sound : (count : length vec.items + 1 ≡ length heap.large.items) → IsSound later new after
-    gone_sound count = record {
-      opens = gone_open account start ds block.pages old new regions.pages regions.heap_most regions.heap regions.tags sound.opens sound.window shown_there freed;
-      window = gone_window account start ds block.pages old new regions.pages regions.heap_most regions.heap regions.tags sound.opens sound.window shown_there freed;
-      laid = subst (IsLaid later) (sym now) (gone_laid count);
-    }
+    gone_sound count = search (rules, gone_open, shown_there, gone_window, now, gone_laid)
 
     pub gone_keeps : KeepsShares account old new regions.heap regions.tags after.heap after.tags
     gone_keeps = gone_shares account start ds block.pages old new regions.pages regions.heap_most regions.heap regions.tags sound.opens sound.window shown_there freed
@@ -195,15 +154,9 @@ module _ (heap : Heap) (start ds : ℕ) (old new : Store) (regions : Regions) (s
         (λ (out : length heap.chunks.items ≤ k). ap (λ bs. value_of start (entries_of S.part (chunk_at heap k) bs)) (no_blocks heap S sound.laid k out))
         (cases_lt k (length heap.chunks.items)))
 
-    each_same : (o : Option Region) → ((r : Region) → o ≡ Some r → get (part account new).spaces r.of ≡ get S.part.spaces r.of) → option_and_then (λ (r : Region). get (part account new).spaces r.of) o ≡ option_and_then (λ (r : Region). get S.part.spaces r.of) o
-    each_same None h = refl
-    each_same (Some r) h = h r refl
-
     shown_less : bytes_shown (part account new).spaces (large_regions smaller) ≡ remove (bytes_shown S.part.spaces (large_regions S)) start
     shown_less =
-        same _ _ (λ q. get-picked (λ (r : Region). get (part account new).spaces r.of) (large_regions smaller) q
-        ∙ each_same (get (large_regions smaller) q) (λ r h. let was = was_large q r h in kept q r (large_there S q r was.0) was.1)
-        ∙ sym (get-picked (λ (r : Region). get S.part.spaces r.of) (large_regions smaller) q))
+        picked_alike (λ (r : Region). get (part account new).spaces r.of) (λ (r : Region). get S.part.spaces r.of) (large_regions smaller) (λ q r h. let was = was_large q r h in kept q r (large_there S q r was.0) was.1)
         ∙ ap (bytes_shown S.part.spaces) less
         ∙ picked-remove (λ (r : Region). get S.part.spaces r.of) (large_regions S) start
 
@@ -217,22 +170,7 @@ module _ (heap : Heap) (start ds : ℕ) (old new : Store) (regions : Regions) (s
 
     value : heap_in later smaller ≡ without_large start (heap_in heap S)
     unfolding heap_in
-    value = λ i. record {
-      shape = record { chunks = avl.heap_of heap.fit (words_kept heap S smaller sound.laid alike i); growth = heap.growth };
-      starts = starts_in heap;
-      large = (ap (picked (λ (r : Region). Some (r.pages * 4096))) less ∙ picked-remove (λ (r : Region). Some (r.pages * 4096)) (large_regions S) start) i;
-      payloads = payloads i;
-    }
+    value = search (rules, words_kept, alike, less, picked-remove, payloads)
 
     pub gives_large : GivesLarge heap later start old new regions after
-    gives_large = record {
-      ds = ds;
-      pages = block.pages;
-      region = block.region;
-      detached = refl;
-      charge = gone_charge account start ds block.pages old new regions.pages regions.heap_most regions.heap regions.tags sound.opens sound.window shown_there freed;
-      value = ap (heap_in later) now ∙ value;
-      keys = refl;
-      others = others;
-      count = gone_count account start ds block.pages old new regions.pages regions.heap_most regions.heap regions.tags sound.opens sound.window shown_there freed;
-    }
+    gives_large = search (rules, gone_charge, shown_there, value, now, others, gone_count)

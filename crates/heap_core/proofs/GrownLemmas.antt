@@ -1,5 +1,5 @@
 -- A heap has grown by a chunk: it is sound, and else as it was.
-use Rattle.std.proofs.Common.{◌≡◌, ◌≢◌, ℕ, ◌+◌, ◌-◌, ◌*◌, ◌/◌, ◌^◌, ◌<◌, ◌≤◌, ◌==◌, ◌++◌, Bool, true, false, cond, List, [], ◌∷◌, length, get_or, map, refl, sym, ap, subst, ◌∙◌, ⊎_elim, unwrap_or, arith, Some, is_some}
+use Rattle.std.proofs.Common.{rules, ◌≡◌, ◌≢◌, ℕ, ◌+◌, ◌-◌, ◌*◌, ◌/◌, ◌^◌, ◌<◌, ◌≤◌, ◌==◌, ◌++◌, Bool, true, false, cond, List, [], ◌∷◌, length, get_or, map, refl, sym, ap, subst, ◌∙◌, ⊎_elim, unwrap_or, arith, Some, is_some}
 use Rattle.std.proofs.Math.ListN.{get_or-append}
 use Rattle.std.proofs.Math.Seq.{get_or-append_seam}
 use Rattle.std.proofs.lemmas.Bool.{cases_eq, cases_lt}
@@ -34,7 +34,7 @@ use Rattle.region_map.specs.Regions.{Regions, heap_attached}
 use Rattle.dataspace_core.specs.Store.{Store, Space, part, bytes_of, bytes_paid_by, PartBecomes, part_with_space, with_space}
 use Rattle.dataspace_core.specs.Share.{Share, KeepsShares, share_in}
 use Rattle.dataspace_core.proofs.PartLaws.{open_in_part}
-use Rattle.dataspace_core.proofs.ShareLaws.{nothing_shown, share_alike}
+use Rattle.dataspace_core.proofs.ShareLaws.{nothing_shown, share_alike, some_alike, in_share}
 use Rattle.dataspace_core.proofs.WindowLaws.{length_some, share_then, shares_then, window_then, window_after, open_then, unshown, others_there, new_in_part, count_then, charge_then}
 use Rattle.heap_core.specs.declared.heap.Heap.{Heap}
 use Rattle.heap_core.specs.declared.words.Chunk.{Chunk}
@@ -45,21 +45,16 @@ use Rattle.heap_core.specs.Words.{Around, is_among, are_bytes, around, bytes_in_
 use Rattle.heap_core.proofs.AddLemmas.{among_more, are_then, blocks_then, key_other, keys_more, other_space, paid_then, word_then, word_low, word_out}
 use Rattle.heap_core.proofs.AroundLemmas.{get-part, bytes_of-part, part_lengths, account_kept, around_becomes, words_of-part}
 use Rattle.heap_core.proofs.BlockLemmas.{length-heap_of}
-use Rattle.heap_core.proofs.ChangeLemmas.{some_alike, chunk_now, keeps_spaces, large_apart}
+use Rattle.heap_core.proofs.ChangeLemmas.{chunk_now, keeps_spaces, large_apart}
 use Rattle.heap_core.proofs.ChunkLemmas.{are_sound, key_is, stand_in, words_are}
 use Rattle.heap_core.proofs.FrameLemmas.{entries_same}
 use Rattle.heap_core.proofs.HoleLemmas.{used_no_hole}
 use Rattle.heap_core.proofs.PayloadLemmas.{no_chunk, payloads-hole, payloads-same}
 use Rattle.heap_core.proofs.RoomLemmas.{len_alike}
-use Rattle.heap_core.proofs.ShareLemmas.{get-large, in_share, large_there}
+use Rattle.heap_window.proofs.ShareLemmas.{get-large, large_there, numbered-insert_other}
 use Rattle.heap_core.proofs.StandLemmas.{chunk_total, each_at, payloads_alike}
 use Rattle.heap_core.proofs.TakeLargeLemmas.{gap_place}
 use Rattle.heap_core.proofs.WordsLemmas.{AreChunks, all_bytes, chunks_sound, sound_chunks, each_bytes, length_keys}
-
--- an option that no test lets through is none
-cond_none : (b : Bool) → ◌≡◌ {A = Option Region} (cond b None None) None
-cond_none true = refl
-cond_none false = refl
 
 module _ (heap : Heap) (vec : ArrayVec Chunk) (fit : BestFit) (next ds asked start : ℕ) (old mid new : Store) (regions : Regions) (sound : IsSound heap old regions) (fresh : get old.spaces ds ≡ None)
     (ok : mid ≡ with_space old ds (payer_of heap) asked) (becomes : PartBecomes (payer_of heap) (part_with_space (part (payer_of heap) old) ds asked) old mid) (room : length heap.chunks.items < 64)
@@ -127,10 +122,7 @@ module _ (heap : Heap) (vec : ArrayVec Chunk) (fit : BestFit) (next ds asked sta
       ∙ each_bytes ks (bytes_in_store new) i new_chunks.each (let l = length_ks in omega (arith, l, there))
 
   back_sound : (around (keys_in heap) back).sound ≡ (around (keys_in heap) old).sound
-  back_sound =
-      let was = are_sound heap old regions sound in
-      let are : AreChunks (keys_in heap) (bytes_in_store back) = record { once = was.once; each = all_bytes (keys_in heap) (bytes_in_store back) back_each; few = was.few } in
-      chunks_sound (keys_in heap) (bytes_in_store back) are ∙ sym (chunks_sound (keys_in heap) (bytes_in_store old) was)
+  back_sound = grind (arith, nat_tests, are_sound, AreChunks, all_bytes, back_each, chunks_sound)
 
   back_spaces : (k : ℕ) → spaces_but (keys_in heap) back k ≡ spaces_but (keys_in heap) old k
   unfolding spaces_but
@@ -254,13 +246,7 @@ module _ (heap : Heap) (vec : ArrayVec Chunk) (fit : BestFit) (next ds asked sta
       }
 
   stands : (k : ℕ) → k < length vec.items → StandsChunk larger (chunk_at later k) k (avl.bytes_of fit k)
-  stands k there = ⊎_elim
-      (λ (low : k < n). subst (λ c. StandsChunk larger c k (avl.bytes_of fit k)) (sym (low_chunk k low)) (subst (StandsChunk larger (chunk_at heap k) k) (sym (low_size k low)) (low_stands k low)))
-      (λ (out : n ≤ k).
-      let here : n ≡ k = let l = length_now in omega (arith, l, out, there) in
-      subst (λ m. StandsChunk larger (chunk_at later m) m (avl.bytes_of fit m)) here
-      (subst (λ c. StandsChunk larger c n (avl.bytes_of fit n)) (sym last_chunk) (subst (StandsChunk larger (record { ds = record { 0 = ds }; start = start }) n) (sym last_size) last_stands)))
-      (cases_lt k n)
+  stands k there = search (rules, low_chunk, low_size, low_stands, length_now, last_chunk, last_size, last_stands, cases_lt)
 
   all : (s k : ℕ) (r : Region) → get larger.heap s ≡ Some r → get larger.tags s ≡ Some k → k < 64 → (k < length vec.items) × ((chunk_at later k).start ≡ s)
   all s k r h tag low = ⊎_elim
@@ -279,17 +265,7 @@ module _ (heap : Heap) (vec : ArrayVec Chunk) (fit : BestFit) (next ds asked sta
   -- ---- its large blocks
 
   large_same : large_regions larger ≡ large_regions S
-  large_same = same _ _ (λ q. get-large larger q ∙ ⊎_elim
-      (λ (here : q ≡ start).
-      let few : (n == 64) ≡ false = let e = n_is in grind (arith, nat_tests, e, room) in
-      ap (λ (o : Option ℕ). cond (is_large_tag o) (get larger.heap q) None) (get-insert_same S.tags start n q here)
-      ∙ ap (λ b. cond b (get larger.heap q) None) few
-      ∙ sym (get-large S q ∙ ap (λ (o : Option Region). cond (is_large_tag (get S.tags q)) o None) (ap (get S.heap) here ∙ free_here) ∙ cond_none (is_large_tag (get S.tags q))))
-      (λ (other : q ≢ start).
-      ap (λ (o : Option ℕ). cond (is_large_tag o) (get larger.heap q) None) (get-insert_other S.tags start n q other)
-      ∙ ap (λ (o : Option Region). cond (is_large_tag (get S.tags q)) o None) (get-insert_other S.heap start region q other)
-      ∙ sym (get-large S q))
-      (cases_eq q start))
+  large_same = numbered-insert_other is_large_tag S.heap S.tags start n region (let few : (n == 64) ≡ false = let e = n_is in grind (arith, nat_tests, e, room) in few) free_here
 
   large_space : (s : ℕ) (r : Region) → get (large_regions S) s ≡ Some r → get (part account new).spaces r.of ≡ get (part account old).spaces r.of
   large_space s r h =
@@ -390,23 +366,14 @@ module _ (heap : Heap) (vec : ArrayVec Chunk) (fit : BestFit) (next ds asked sta
 
   payloads_now : joined (from_entries {R = nat_cmp} (payloads_of (part account new) vec.items (heap_of fit (words_in later (part account new))))) (bytes_shown (part account new).spaces (large_regions larger))
       ≡ joined (from_entries {R = nat_cmp} (payloads_of (part account old) heap.chunks.items (heap_of heap.fit (words_in heap (part account old))))) (bytes_shown (part account old).spaces (large_regions S))
-  payloads_now =
-      ap (λ h. joined (from_entries {R = nat_cmp} (payloads_of (part account new) vec.items h)) (bytes_shown (part account new).spaces (large_regions larger))) chunks_now
-      ∙ ap (λ m. joined m (bytes_shown (part account new).spaces (large_regions larger))) small_same
-      ∙ ap (joined (from_entries {R = nat_cmp} (payloads_of (part account old) heap.chunks.items H))) shown_same
-      ∙ ap (λ h. joined (from_entries {R = nat_cmp} (payloads_of (part account old) heap.chunks.items h)) (bytes_shown (part account old).spaces (large_regions S))) (sym H_is)
+  payloads_now = simp (chunks_now, small_same, shown_same, H_is)
 
   starts_now : starts_in later ≡ starts_in heap ++ start ∷ []
   starts_now = ap (map (λ (c : Chunk). c.start)) items ∙ map-append (λ (c : Chunk). c.start) heap.chunks.items _
 
   grown_value : heap_in later (share_at account new after) ≡ with_chunk (record { bytes = size; next = next }) start (heap_in heap S)
   unfolding heap_in share_in
-  grown_value = ap (heap_in later) now ∙ (λ i. record {
-    shape = record { chunks = (chunks_now ∙ ap (λ h. h ++ (Hole size ∷ []) ∷ []) (sym H_is)) i; growth = next };
-    starts = starts_now i;
-    large = picked (λ (r : Region). Some (r.pages * 4096)) (large_same i);
-    payloads = payloads_now i;
-  })
+  grown_value = search (rules, now, chunks_now, H_is, starts_now, large_same, payloads_now)
 
   pub grows : Grows heap later (record { bytes = size; next = next }) old new regions after
   grows = record {

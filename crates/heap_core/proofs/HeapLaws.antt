@@ -1,5 +1,5 @@
 -- Laws for callers: what a poke of a payload leaves of a heap.
-use Rattle.std.proofs.Common.{◌≡◌, ◌≢◌, ℕ, ◌+◌, ◌-◌, ◌*◌, ◌<◌, ◌≤◌, true, cond, eqb, List, [], length, get_or, refl, sym, ap, subst, ◌∙◌, ◌⊎◌, unwrap_or, arith, Some, is_some}
+use Rattle.std.proofs.Common.{rules, ◌≡◌, ◌≢◌, ℕ, ◌+◌, ◌-◌, ◌*◌, ◌<◌, ◌≤◌, true, cond, eqb, List, [], length, get_or, refl, sym, ap, subst, ◌∙◌, ◌⊎◌, unwrap_or, arith, Some, is_some}
 use Rattle.std.specs.Prelude.{Option, None, slice_range}
 use Rattle.std.specs.Option.{option_and_then}
 use Rattle.std.specs.Cmp.{nat_cmp_total}
@@ -15,7 +15,7 @@ use Rattle.own_model.specs.OwnState.{with_part}
 use Rattle.own_model.specs.Region.{Region}
 use Rattle.own_model.proofs.BlockLemmas.{used_within}
 use Rattle.own_model.proofs.JoinedLemmas.{joined-insert_first}
-use Rattle.own_model.proofs.NatMapLemmas.{same, get-picked, get-insert}
+use Rattle.own_model.proofs.NatMapLemmas.{same, get-picked, get-insert, picked_alike}
 use Rattle.avl_alloc.specs.Layout as avl
 use Rattle.avl_alloc.specs.Layout.{heap_of}
 use Rattle.region_map.specs.Regions.{Regions}
@@ -93,10 +93,7 @@ module _ (heap : Heap) (store : Store) (regions : Regions) (sound : IsSound heap
 
   -- the bytes of its chunk, and of the others
   own_bytes : bytes_of (part account later) (chunk_at heap k).ds.0 ≡ with_bytes (bytes_of (part account store) (chunk_at heap k).ds.0) offset bytes
-  own_bytes =
-      bytes_new k there
-      ∙ put_at (keys_in heap) store k offset bytes (are_sound heap store regions sound) (in_keys heap store regions sound k y n offset bytes there at behind within are) (exists heap store regions sound k y n offset bytes there at behind within are) (room heap store regions sound k y n offset bytes there at behind within are) are (get_or (keys_in heap) k 0) refl
-      ∙ ap (λ b. with_bytes b offset bytes) (sym (bytes_old k there))
+  own_bytes = search (rules, bytes_new, put_at, are_sound, in_keys, exists, room, bytes_old)
 
   other_bytes : (j : ℕ) → j < length heap.chunks.items → j ≢ k → bytes_of (part account later) (chunk_at heap j).ds.0 ≡ bytes_of (part account store) (chunk_at heap j).ds.0
   other_bytes j in_heap other =
@@ -144,33 +141,17 @@ module _ (heap : Heap) (store : Store) (regions : Regions) (sound : IsSound heap
       ∙ ap (cond (eqb q address) (Some written)) (sym (get-from_entries nat_cmp_total _ q))
       ∙ sym (get-insert (from_entries {R = nat_cmp} (payloads_of (part account store) heap.chunks.items H)) address written q))
 
-  each_same : (o : Option Region) → ((r : Region) → o ≡ Some r → get (part account later).spaces r.of ≡ get (part account store).spaces r.of) → option_and_then (λ (r : Region). get (part account later).spaces r.of) o ≡ option_and_then (λ (r : Region). get (part account store).spaces r.of) o
-  each_same None h = refl
-  each_same (Some r) h = h r refl
-
   shown_now : bytes_shown (part account later).spaces (large_regions S) ≡ bytes_shown (part account store).spaces (large_regions S)
-  shown_now = same _ _ (λ q. get-picked (λ (r : Region). get (part account later).spaces r.of) (large_regions S) q
-      ∙ each_same (get (large_regions S) q) (λ r h. (keeps_spaces heap heap.fit store later regions sound kept).others r.of (large_apart heap heap.fit store later regions sound kept q r h))
-      ∙ sym (get-picked (λ (r : Region). get (part account store).spaces r.of) (large_regions S) q))
+  shown_now = picked_alike (λ (r : Region). get (part account later).spaces r.of) (λ (r : Region). get (part account store).spaces r.of) (large_regions S) (λ q r h. (keeps_spaces heap heap.fit store later regions sound kept).others r.of (large_apart heap heap.fit store later regions sound kept q r h))
 
   chunks_now : heap_of heap.fit (words_in heap (part account later)) ≡ H
   chunks_now = ap (heap_of heap.fit) (words_now heap heap.fit store later regions sound kept) ∙ (poked_blocks heap store regions sound k y n offset bytes there at behind within are).1
 
   payloads_now : joined (from_entries {R = nat_cmp} (payloads_of (part account later) heap.chunks.items (heap_of heap.fit (words_in heap (part account later))))) (bytes_shown (part account later).spaces (large_regions S))
       ≡ insert (joined (from_entries {R = nat_cmp} (payloads_of (part account store) heap.chunks.items (heap_of heap.fit (words_in heap (part account store))))) (bytes_shown (part account store).spaces (large_regions S))) address written
-  payloads_now =
-      ap (λ h. joined (from_entries {R = nat_cmp} (payloads_of (part account later) heap.chunks.items h)) (bytes_shown (part account later).spaces (large_regions S))) chunks_now
-      ∙ ap (λ m. joined m (bytes_shown (part account later).spaces (large_regions S))) small_now
-      ∙ ap (joined (insert (from_entries {R = nat_cmp} (payloads_of (part account store) heap.chunks.items H)) address written)) shown_now
-      ∙ joined-insert_first _ _ address written
-      ∙ ap (λ h. insert (joined (from_entries {R = nat_cmp} (payloads_of (part account store) heap.chunks.items h)) (bytes_shown (part account store).spaces (large_regions S))) address written) (sym H_is)
+  payloads_now = simp (chunks_now, small_now, shown_now, joined-insert_first, H_is)
 
   -- and has other bytes in this payload alone
   pub poke_value : heap_in heap (share_at account later regions) ≡ record (heap_in heap S) { payloads = insert (heap_in heap S).payloads address written }
   unfolding heap_in share_in
-  poke_value = ap (heap_in heap) (share_now heap heap.fit store later regions sound kept) ∙ (λ i. record {
-    shape = record { chunks = (chunks_now ∙ sym H_is) i; growth = heap.growth };
-    starts = starts_in heap;
-    large = picked (λ (r : Region). Some (r.pages * 4096)) (large_regions S);
-    payloads = payloads_now i;
-  })
+  poke_value = search (rules, share_now, kept, chunks_now, H_is, payloads_now)

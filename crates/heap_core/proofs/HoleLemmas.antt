@@ -56,14 +56,8 @@ used_weighs p off n q (Hole m ∷ rest) at low high = ⊎_elim
 -- a chunk weighs no more than all do
 one_of_all : (u h : ℕ → ℕ → ℕ) (number k : ℕ) (heap : model.Heap) → k < length heap → weigh u h (place_at (number + k) 0) (get_or heap k []) ≤ weigh_all u h number heap
 one_of_all u h number k [] there = absurd (omega (arith, there))
-one_of_all u h number zero (x ∷ xs) there =
-    let e : number ≡ number + 0 = omega arith in
-    let less : weigh u h (place_at number 0) x ≤ weigh u h (place_at number 0) x + weigh_all u h (number + 1) xs = omega arith in
-    subst (λ m. weigh u h (place_at m 0) x ≤ weigh u h (place_at number 0) x + weigh_all u h (number + 1) xs) e less
-one_of_all u h number (suc k) (x ∷ xs) there =
-    let less = one_of_all u h (number + 1) k xs (omega (arith, there)) in
-    let e : number + 1 + k ≡ number + suc k = omega arith in
-    let moved = subst (λ m. weigh u h (place_at m 0) (get_or xs k []) ≤ weigh_all u h (number + 1) xs) e less in omega (arith, moved)
+one_of_all u h number zero (x ∷ xs) there = grind (arith, nat_tests)
+one_of_all u h number (suc k) (x ∷ xs) there = grind (arith, nat_tests, one_of_all u h (number + 1) k xs (omega (arith, there)))
 
 -- a place in a used block lies in no hole
 pub used_no_hole : (fit : BestFit) (w : ℕ → ℕ) (k off n q : ℕ) → IsSound fit w → k < length (heap_of fit w) → used_at off (chunk_of (heap_of fit w) k) ≡ Some n →
@@ -111,20 +105,12 @@ slices_same bs cs from to long b c first last fits words = same_lists _ _ (searc
 
 within_past : (a b q : ℕ) → b ≤ q → within a b q ≡ 0
 unfolding within
-within_past a b q past =
-    let t : nat_lt q b ≡ false = grind (arith, nat_tests) in
-    ⊎_elim
-    (λ (low : q < a). let s : nat_lt q a ≡ true = grind (arith, nat_tests) in rw s refl)
-    (λ (high : a ≤ q). let s : nat_lt q a ≡ false = grind (arith, nat_tests) in rw (s, t) refl)
-    (cases_lt q a)
+within_past a b q past = grind (arith, nat_tests, cases_lt)
 
 -- headers weigh no more than their blocks
 heads_in : (q p : ℕ) (blocks : List Block) → AreBlocks blocks → weigh (heads q) none p blocks ≤ weigh (whole q) none p blocks
 heads_in q p [] sizes = omega arith
-heads_in q p (Used m ∷ rest) sizes =
-    let least = sizes.0.least in
-    let here = within_mono p (p + 16) p (p + m) q (omega arith) (omega (arith, least)) in
-    let less = heads_in q (p + m) rest sizes.1 in omega (arith, here, less)
+heads_in q p (Used m ∷ rest) sizes = grind (arith, nat_tests, within_mono, heads_in q (p + m) rest sizes.1)
 heads_in q p (Hole m ∷ rest) sizes = let less = heads_in q (p + m) rest (tail_blocks (Hole m) rest sizes).1 in omega (arith, less)
 
 -- of a used block's payload only its bytes weigh, not its header
@@ -164,10 +150,7 @@ heads_all q number (x ∷ xs) all = let here = heads_in q (place_at number 0) x 
 payload_all : (q number k : ℕ) (heap : model.Heap) → AllByRecursion AreBlocks heap → k < length heap →
     weigh (heads q) none (place_at (number + k) 0) (get_or heap k []) + 1 ≤ weigh (whole q) none (place_at (number + k) 0) (get_or heap k []) → weigh_all (heads q) none number heap + 1 ≤ weigh_all (whole q) none number heap
 payload_all q number k [] all there less = absurd (omega (arith, there))
-payload_all q number zero (x ∷ xs) all there less =
-    let e : number + 0 ≡ number = omega arith in
-    let here = subst (λ m. weigh (heads q) none (place_at m 0) x + 1 ≤ weigh (whole q) none (place_at m 0) x) e less in
-    let rest = heads_all q (number + 1) xs all.1 in omega (arith, here, rest)
+payload_all q number zero (x ∷ xs) all there less = grind (arith, nat_tests, heads_all)
 payload_all q number (suc k) (x ∷ xs) all there less =
     let e : number + suc k ≡ number + 1 + k = omega arith in
     let later = subst (λ m. weigh (heads q) none (place_at m 0) (get_or xs k []) + 1 ≤ weigh (whole q) none (place_at m 0) (get_or xs k [])) e less in
@@ -193,13 +176,7 @@ payload_unkept fit w k off n q sound there at low high =
 
 within_some : (a b q : ℕ) → 1 ≤ within a b q → (a ≤ q) × (q < b)
 unfolding within
-within_some a b q some = ⊎_elim
-    (λ (low : q < a). let s : nat_lt q a ≡ true = grind (arith, nat_tests) in absurd (let z : within a b q ≡ 0 = rw s refl in omega (arith, z, some)))
-    (λ (high : a ≤ q). ⊎_elim
-    (λ (up : q < b). (high, up))
-    (λ (past : b ≤ q). let z = within_past a b q past in absurd (omega (arith, z, some)))
-    (cases_lt q b))
-    (cases_lt q a)
+within_some a b q some = search (rules, within_past, cases_lt)
 
 -- what a heap keeps for itself lies in its chunks
 pub kept_in_chunks : (fit : BestFit) (w : ℕ → ℕ) (q : ℕ) → IsSound fit w → 1 ≤ kept_at q (heap_of fit w) → (place_at 0 0 ≤ q) × (q < place_at (length (heap_of fit w)) 0)

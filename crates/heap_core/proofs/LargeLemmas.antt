@@ -1,5 +1,5 @@
 -- A large block comes, and goes.
-use Rattle.std.proofs.Common.{◌≡◌, ◌≢◌, ℕ, ◌+◌, ◌*◌, ◌<◌, ◌≤◌, ◌==◌, ◌++◌, Bool, true, false, cond, List, [], ◌∷◌, length, refl, sym, ap, subst, ◌∙◌, ⊎_elim, ◌⊎◌, arith, Some, is_some}
+use Rattle.std.proofs.Common.{rules, ◌≡◌, ◌≢◌, ℕ, ◌+◌, ◌*◌, ◌<◌, ◌≤◌, ◌==◌, ◌++◌, Bool, true, false, cond, List, [], ◌∷◌, length, refl, sym, ap, subst, ◌∙◌, ⊎_elim, ◌⊎◌, arith, Some, is_some}
 use Rattle.std.proofs.lemmas.Bool.{cases_eq, cases_lt}
 use Rattle.std.proofs.lemmas.Bool.Decides.{nat_tests}
 use Rattle.std.proofs.lemmas.List.{length-append}
@@ -16,7 +16,7 @@ use Rattle.own_model.specs.Entries.{value_of}
 use Rattle.own_model.specs.OwnState.{zeros}
 use Rattle.own_model.specs.Region.{Region}
 use Rattle.own_model.proofs.JoinedLemmas.{joined-insert_second}
-use Rattle.own_model.proofs.NatMapLemmas.{same, get-picked, get-insert_same, get-insert_other, picked-insert_some}
+use Rattle.own_model.proofs.NatMapLemmas.{same, get-picked, get-insert_same, get-insert_other, picked-insert_some, picked_alike}
 use Rattle.own_model.proofs.Totals.{len-insert_new}
 use Rattle.avl_alloc.specs.Layout as avl
 use Rattle.dataspace_core.specs.Store.{Part}
@@ -24,13 +24,8 @@ use Rattle.dataspace_core.specs.Share.{Share}
 use Rattle.heap_core.specs.declared.heap.Heap.{Heap}
 use Rattle.heap_core.specs.Heap.{starts_in, large_tag, is_large_tag, large_regions, bytes_shown, heap_in, IsLaid, StandsLarge, chunk_at, payloads_of, times_in}
 use Rattle.heap_core.proofs.PayloadLemmas.{payloads-none, entries_of}
-use Rattle.heap_core.proofs.ShareLemmas.{get-large, large_there}
+use Rattle.heap_window.proofs.ShareLemmas.{get-large, large_there, numbered-insert, numbered_free}
 use Rattle.heap_core.proofs.StandLemmas.{blocks, no_blocks, not_in_chunk, SameChunks, words_kept, stands_kept, payloads_kept}
-
--- nothing is nothing, whatever is tested
-pub cond_none : (b : Bool) → ◌≡◌ {A = Option Region} (cond b None None) None
-cond_none true = refl
-cond_none false = refl
 
 -- what keeps the parts of a heap where a region comes or goes that is no chunk's
 module _ (heap : Heap) (share : Share) (part : Part) (start : ℕ) (region : Region) (bytes : List ℕ) (vec : ArrayVec ℕ)
@@ -56,24 +51,12 @@ module _ (heap : Heap) (share : Share) (part : Part) (start : ℕ) (region : Reg
     bytes_same = λ k in_chunks. keeps _ _ (laid.chunks k in_chunks).region;
   }
 
-  each_same : (o : Option Region) → ((r : Region) → o ≡ Some r → get part.spaces r.of ≡ get share.part.spaces r.of) → option_and_then (λ (r : Region). get part.spaces r.of) o ≡ option_and_then (λ (r : Region). get share.part.spaces r.of) o
-  each_same None h = refl
-  each_same (Some r) h = h r refl
-
   -- its region is one of a large block more
   more : large_regions larger ≡ insert (large_regions share) start region
-  more = same _ _ (λ q. get-large larger q ∙ ⊎_elim
-      (λ (here : q ≡ start).
-      ap (λ (o : Option ℕ). cond (is_large_tag o) (get larger.heap q) None) (get-insert_same share.tags start large_tag q here)
-      ∙ get-insert_same share.heap start region q here ∙ sym (get-insert_same (large_regions share) start region q here))
-      (λ (other : q ≢ start).
-      ap (λ (o : Option ℕ). cond (is_large_tag o) (get larger.heap q) None) (get-insert_other share.tags start large_tag q other)
-      ∙ ap (λ (o : Option Region). cond (is_large_tag (get share.tags q)) o None) (get-insert_other share.heap start region q other)
-      ∙ sym (get-large share q) ∙ sym (get-insert_other (large_regions share) start region q other))
-      (cases_eq q start))
+  more = numbered-insert is_large_tag share.heap share.tags start large_tag region refl
 
   large_free : get (large_regions share) start ≡ None
-  large_free = get-large share start ∙ ap (λ (o : Option Region). cond (is_large_tag (get share.tags start)) o None) free ∙ cond_none (is_large_tag (get share.tags start))
+  large_free = numbered_free is_large_tag share.heap share.tags start free
 
   -- a region of a large block is one of the share
   is_region : (s : ℕ) (r : Region) → get (large_regions share) s ≡ Some r → get share.heap s ≡ Some r
@@ -91,21 +74,7 @@ module _ (heap : Heap) (share : Share) (part : Part) (start : ℕ) (region : Reg
       (cases_eq s start)
 
   times : (s : ℕ) → times_in vec.items s ≡ cond (is_some (get (large_regions larger) s)) 1 0
-  times s =
-      ap (λ xs. times_in xs s) is
-      ∙ sum_by-append (λ x. cond (x == s) 1 0) heap.large.items (start ∷ [])
-      ∙ ⊎_elim
-      (λ (here : s ≡ start).
-      let t : (start == s) ≡ true = grind (arith, nat_tests) in
-      let was = laid.large s ∙ ap (λ (o : Option Region). cond (is_some o) 1 0) (ap (get (large_regions share)) here ∙ large_free) in
-      let now = ap (λ (m : NatMap Region). get m s) more ∙ get-insert_same (large_regions share) start region s here in
-      rw (now, t) (omega (arith, was)))
-      (λ (other : s ≢ start).
-      let t : (start == s) ≡ false = grind (arith, nat_tests) in
-      let was = laid.large s in
-      let now = ap (λ (m : NatMap Region). get m s) more ∙ get-insert_other (large_regions share) start region s other in
-      rw (now, t) (omega (arith, was)))
-      (cases_eq s start)
+  times s = search (rules, sum_by-append, large_free, more, get-insert_same, get-insert_other, cases_eq)
 
   pub large_laid : IsLaid with_it larger
   large_laid = record {
@@ -126,33 +95,19 @@ module _ (heap : Heap) (share : Share) (part : Part) (start : ℕ) (region : Reg
 
   -- none of the chunks' payloads starts there
   none_there : get (from_entries {R = nat_cmp} (payloads_of share.part heap.chunks.items (blocks heap share laid))) start ≡ None
-  none_there = get-from_entries nat_cmp_total _ start ∙ payloads-none share.part start heap.chunks.items (blocks heap share laid) (λ k. ⊎_elim
-      (λ (in_chunks : k < length heap.chunks.items). not_in_chunk heap share laid k start in_chunks (apart k in_chunks))
-      (λ (out : length heap.chunks.items ≤ k). ap (λ bs. value_of start (entries_of share.part (chunk_at heap k) bs)) (no_blocks heap share laid k out))
-      (cases_lt k (length heap.chunks.items)))
+  none_there = search (rules, get-from_entries, payloads-none, blocks, not_in_chunk, entries_of, no_blocks, cases_lt)
 
   -- what its region shows is one payload more
   shown_more : bytes_shown part.spaces (large_regions larger) ≡ insert (bytes_shown share.part.spaces (large_regions share)) start bytes
   shown_more =
       ap (bytes_shown part.spaces) more
       ∙ picked-insert_some (λ (r : Region). get part.spaces r.of) (large_regions share) start region bytes there
-      ∙ ap (λ m. insert m start bytes) (same _ _ (λ q. get-picked (λ (r : Region). get part.spaces r.of) (large_regions share) q
-      ∙ each_same (get (large_regions share) q) (λ r h. keeps q r (is_region q r h))
-      ∙ sym (get-picked (λ (r : Region). get share.part.spaces r.of) (large_regions share) q)))
+      ∙ ap (λ m. insert m start bytes) (picked_alike (λ (r : Region). get part.spaces r.of) (λ (r : Region). get share.part.spaces r.of) (large_regions share) (λ q r h. keeps q r (is_region q r h)))
 
   payloads : (heap_in with_it larger).payloads ≡ insert (heap_in heap share).payloads start bytes
   unfolding heap_in
-  payloads =
-      ap (λ (w : ℕ → ℕ). joined (from_entries {R = nat_cmp} (payloads_of part heap.chunks.items (avl.heap_of heap.fit w))) (bytes_shown part.spaces (large_regions larger))) (words_kept heap share larger laid alike)
-      ∙ ap (λ es. joined (from_entries {R = nat_cmp} es) (bytes_shown part.spaces (large_regions larger))) (payloads_kept heap share larger laid alike (blocks heap share laid))
-      ∙ ap (joined (from_entries {R = nat_cmp} (payloads_of share.part heap.chunks.items (blocks heap share laid)))) shown_more
-      ∙ joined-insert_second _ _ start bytes none_there
+  payloads = simp (words_kept, alike, payloads_kept, blocks, shown_more, joined-insert_second, none_there)
 
   pub large_value : (n : ℕ) → region.pages * 4096 ≡ n → bytes ≡ zeros n → heap_in with_it larger ≡ record (heap_in heap share) { large = insert (heap_in heap share).large start n; payloads = insert (heap_in heap share).payloads start (zeros n) }
   unfolding heap_in
-  large_value n size zero = λ i. record {
-    shape = record { chunks = avl.heap_of heap.fit (words_kept heap share larger laid alike i); growth = heap.growth };
-    starts = starts_in heap;
-    large = (ap (picked (λ (r : Region). Some (r.pages * 4096))) more ∙ picked-insert_some (λ (r : Region). Some (r.pages * 4096)) (large_regions share) start region n (ap Some size)) i;
-    payloads = (payloads ∙ ap (insert (heap_in heap share).payloads start) zero) i;
-  }
+  large_value n size zero = search (rules, words_kept, alike, more, picked-insert_some, payloads)

@@ -2,7 +2,6 @@ pub mod WordsLemmas
 pub mod ClearLemmas
 pub mod BlockLemmas
 pub mod PayloadLemmas
-pub mod ShareLemmas
 pub mod NewLemmas
 pub mod StandLemmas
 pub mod LargeLemmas
@@ -25,6 +24,7 @@ pub mod StayLemmas
 pub mod RangeLemmas
 pub mod BlockRangeLemmas
 pub mod ClearedLemmas
+pub mod BesideLemmas
 pub mod UnchangedLemmas
 pub mod SmallLemmas
 pub mod TakesGrownLemmas
@@ -34,7 +34,6 @@ pub mod MemoryLemmas
 pub mod LookupLemmas
 pub mod StartLemmas
 pub mod GiveLemmas
-pub mod GoneLemmas
 pub mod GoneLargeLemmas
 pub mod TestLemmas
 pub mod EndChunkLemmas

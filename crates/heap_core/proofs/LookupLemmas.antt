@@ -1,5 +1,6 @@
 -- Which payload holds an address: it is the one of the block in which the address lies.
-use Rattle.std.proofs.Common.{◌≡◌, ◌≢◌, ℕ, ◌+◌, ◌-◌, ◌*◌, ◌<◌, ◌≤◌, cond, List, length, refl, sym, ap, subst, ◌∙◌, ⊎_elim, arith, Some, is_some}
+use Rattle.std.proofs.lemmas.Bool.Decides.{nat_tests}
+use Rattle.std.proofs.Common.{rules, ◌≡◌, ◌≢◌, ℕ, ◌+◌, ◌-◌, ◌*◌, ◌<◌, ◌≤◌, cond, List, length, refl, sym, ap, subst, ◌∙◌, ⊎_elim, arith, Some, is_some}
 use Rattle.std.proofs.lemmas.Bool.{false_from_ne_true}
 use Rattle.std.proofs.lemmas.Option.{none-some, same_Some}
 use Rattle.std.specs.Prelude.{Option, None, slice_range}
@@ -28,7 +29,7 @@ use Rattle.heap_core.specs.Heap.{IsSound, chunk_at, heap_in, large_regions, paye
 use Rattle.heap_core.specs.Lookup.{LiesInChunk, LiesInLarge, LiesOutside}
 use Rattle.heap_core.proofs.FoundLemmas.{IsLarge, IsSmall, blocks_at, bytes_at, large_outside, large_payload, no_large_at, one_chunk, one_large, payload_from, small_there, used_inside}
 use Rattle.heap_core.proofs.MemoryLemmas.{whole_slice}
-use Rattle.heap_core.proofs.ShareLemmas.{large_there}
+use Rattle.heap_window.proofs.ShareLemmas.{large_there}
 use Rattle.heap_core.proofs.StandLemmas.{chunk_blocks, chunk_bytes}
 
 module _ (heap : Heap) (store : Store) (regions : Regions) (sound : IsSound heap store regions) where
@@ -48,9 +49,7 @@ module _ (heap : Heap) (store : Store) (regions : Regions) (sound : IsSound heap
 
   -- a large block's is as long as its region
   pub large_length : (q : ℕ) (w : List ℕ) (l : IsLarge heap store regions sound q w) → length w ≡ l.region.pages * 4096
-  large_length q w l =
-      let stands = sound.laid.large_stands q l.region l.there in
-      ap length (same_Some w stands.bytes (sym l.bytes ∙ stands.there)) ∙ stands.whole
+  large_length q w l = grind (arith, nat_tests, sound.laid.large_stands q l.region l.there)
 
   -- where a payload stands that holds an address
   pub record Holds (address q : ℕ) (w : List ℕ) : Type 0 where
@@ -175,16 +174,11 @@ module _ (heap : Heap) (store : Store) (regions : Regions) (sound : IsSound heap
 
     module _ (x n : ℕ) (told : payload_at 0 o (blocks_at heap store regions sound c) ≡ Some (x, n)) where
       pub told_has : HasOffset (blocks_at heap store regions sound c) o x n
-      told_has =
-          let from = payload_has 0 o (blocks_at heap store regions sound c) (x, n) (chunk_blocks heap S sound.laid c lies.there) told in
-          let same : from.0 ≡ x = let e = from.1 in omega (arith, e) in
-          subst (λ y. HasOffset (blocks_at heap store regions sound c) o y n) same from.2
+      told_has = grind (arith, nat_tests, payload_has, blocks_at, chunk_blocks, HasOffset)
 
       -- it is the only one
       told_only : (y m : ℕ) → HasOffset (blocks_at heap store regions sound c) o y m → (y ≡ x) × (m ≡ n)
-      told_only y m has =
-          let e = same_Some (0 + y, m) (x, n) (sym (payload_told 0 o y m (blocks_at heap store regions sound c) (chunk_blocks heap S sound.laid c lies.there) has) ∙ told) in
-          ((let f = ap (λ (p : ℕ × ℕ). p.0) e in omega (arith, f)), ap (λ (p : ℕ × ℕ). p.1) e)
+      told_only y m has = grind (arith, nat_tests, same_Some, payload_told, blocks_at, chunk_blocks)
 
       pub none_past : (count : ℕ) → 1 ≤ count → x + n < o + count → block_found (heap_in heap S).payloads address count ≡ None
       none_past count some past = none_in_chunk count some (λ y m has. let only = told_only y m has in let a = only.0 in let b = only.1 in omega (arith, a, b, past))
@@ -287,14 +281,7 @@ module _ (heap : Heap) (store : Store) (regions : Regions) (sound : IsSound heap
     is_large same = get-picked (λ (r : Region). Some (r.pages * 4096)) (large_regions S) address ∙ ap (option_and_then (λ (r : Region). Some (r.pages * 4096))) (ap (get (large_regions S)) (sym same) ∙ lies.region)
 
     pub large_none_past : (count : ℕ) → 1 ≤ count → lies.pages * 4096 < address - s + count → block_found (heap_in heap S).payloads address count ≡ None
-    large_none_past count some past =
-        ap (option_map (λ b. (b.0, address - b.0))) (finds_none_in_map (holds_in_payload address count) (heap_in heap S).payloads (λ q w h. false_from_ne_true _ (λ holds.
-        let tests = payload_tests address count q (length w) holds in
-        let from = tests.0 in
-        let to = tests.1 in
-        let same = held_large q w h (record { from = from; to = omega (arith, to, some) }) in
-        let long = ap length (same_Some w large_bytes.0 (sym h ∙ ap (get (heap_in heap S).payloads) same ∙ large_bytes.3)) ∙ large_bytes.2 in
-        absurd (omega (arith, past, to, same, long, from)))))
+    large_none_past count some past = search (rules, finds_none_in_map, false_from_ne_true, payload_tests, held_large, same_Some, large_bytes)
 
     pub large_held : (count : ℕ) → 1 ≤ count → address - s + count ≤ lies.pages * 4096 → HoldsRange heap store regions ds (address - s) address count
     unfolding share_in
@@ -360,11 +347,7 @@ module _ (heap : Heap) (store : Store) (regions : Regions) (sound : IsSound heap
   ] refl
 
   pub outside_none : (address count : ℕ) → LiesOutside heap S address → 1 ≤ count → block_found (heap_in heap S).payloads address count ≡ None
-  outside_none address count lies some =
-      ap (option_map (λ b. (b.0, address - b.0))) (finds_none_in_map (holds_in_payload address count) (heap_in heap S).payloads (λ q w h. false_from_ne_true _ (λ holds.
-      let tests = payload_tests address count q (length w) holds in
-      let to = tests.1 in
-      absurd (nothing_there address lies q w h (record { from = tests.0; to = omega (arith, to, some) })))))
+  outside_none address count lies some = search (rules, finds_none_in_map, false_from_ne_true, payload_tests, nothing_there)
 
 -- ---- what best fit tells of an address
 
@@ -374,11 +357,7 @@ no_block f (Some x) h = absurd (none-some (f x) h)
 
 a_block : (c : ℕ) (o : Option (ℕ × ℕ)) (block : UsedBlock) → Some block ≡ option_map (used_block c) o → o ≡ Some (block.offset, block.size)
 a_block c None block h = absurd (none-some block (sym h))
-a_block c (Some p) block h =
-    let is = same_Some block (used_block c p) h in
-    let offset = ap (λ (b : UsedBlock). b.offset) (sym is) in
-    let size = ap (λ (b : UsedBlock). b.size) (sym is) in
-    λ i. Some (offset i, size i)
+a_block c (Some p) block h = grind (arith, nat_tests, same_Some)
 
 pub told_none : (c o : ℕ) (told blocks : List Block) → None ≡ option_map (used_block c) (payload_at 0 o told) → told ≡ blocks → payload_at 0 o blocks ≡ None
 told_none c o told blocks h is = ap (payload_at 0 o) (sym is) ∙ no_block (used_block c) (payload_at 0 o told) h

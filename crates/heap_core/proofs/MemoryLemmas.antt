@@ -1,4 +1,5 @@
 -- A memory is told by the words of chunks and what lies around them.
+use Rattle.std.proofs.lemmas.Bool.Decides.{nat_tests}
 use Rattle.std.proofs.Common.{◌≡◌, ℕ, ◌-◌, ◌^◌, ◌<◌, true, false, List, [], length, get_or, refl, sym, ap, subst, ◌∙◌, unwrap_or, arith, Some, is_some}
 use Rattle.std.proofs.lemmas.Option.{none-some, same_Some}
 use Rattle.std.proofs.lemmas.List.{take_all}
@@ -29,9 +30,7 @@ same_space : (o p : Option Space) → option_map (blank_if true) o ≡ option_ma
 same_space None None e f = refl
 same_space None (Some t) e f = absurd (none-some (blank_if true t) e)
 same_space (Some s) None e f = absurd (none-some (blank_if true s) (sym e))
-same_space (Some s) (Some t) e f =
-    let payer = ap (λ (x : Space). x.payer) (same_Some (blank_if true s) (blank_if true t) e) in
-    λ i. Some (record { payer = payer i; bytes = f i })
+same_space (Some s) (Some t) e f = grind (arith, nat_tests, same_Some)
 
 module _ (heap : Heap) (old new : Store) (regions : Regions) (sound : IsSound heap old regions) (kept : around (keys_in heap) new ≡ around (keys_in heap) old) (words : words_of (keys_in heap) new ≡ words_of (keys_in heap) old) where
   abbrev account : ℕ
@@ -83,6 +82,4 @@ module _ (heap : Heap) (old new : Store) (regions : Regions) (sound : IsSound he
 
   -- so the memory is the same
   pub memory_same : new ≡ old
-  memory_same =
-      let spaces : new.spaces ≡ old.spaces = same new.spaces old.spaces each_kept in
-      λ i. record { books = (ap (λ (a : Around). a.store.books) kept) i; spaces = spaces i; places = (ap (λ (a : Around). a.store.places) kept) i }
+  memory_same = let spaces : new.spaces ≡ old.spaces = same new.spaces old.spaces each_kept in grind (arith, nat_tests, spaces)

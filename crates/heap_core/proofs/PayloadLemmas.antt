@@ -1,5 +1,5 @@
 -- The payloads of chunks by their addresses, and what taking a hole and giving a block back do to them.
-use Rattle.std.proofs.Common.{◌≡◌, ◌≢◌, ℕ, zero, suc, ◌+◌, ◌-◌, ◌<◌, ◌≤◌, ◌==◌, ◌++◌, Bool, true, false, cond, eqb, List, [], ◌∷◌, length, get_or, set, refl, sym, ap, ◌∙◌, ⊎_elim, arith}
+use Rattle.std.proofs.Common.{rules, ◌≡◌, ◌≢◌, ℕ, zero, suc, ◌+◌, ◌-◌, ◌<◌, ◌≤◌, ◌==◌, ◌++◌, Bool, true, false, cond, eqb, List, [], ◌∷◌, length, get_or, set, refl, sym, ap, ◌∙◌, ⊎_elim, arith}
 use Rattle.std.proofs.lemmas.Bool.{cases_eq, cases_lt}
 use Rattle.std.proofs.lemmas.Bool.Decides.{nat_tests}
 use Rattle.std.specs.Prelude.{Option, Some, None, nat_lt, slice_range}
@@ -9,8 +9,7 @@ use Rattle.own_model.specs.Entries.{value_of}
 use Rattle.own_model.specs.Heap.{Block, Used, Hole, AreBlocks, Heap}
 use Rattle.own_model.specs.HeapStep.{size_taken}
 use Rattle.own_model.proofs.BlockLemmas.{tail_blocks, used-taken, used-given, hole_at}
-use Rattle.own_model.proofs.EntryLemmas.{value_of-cons}
-use Rattle.own_model.proofs.EntryLemmas.{value_of-append}
+use Rattle.own_model.proofs.EntryLemmas.{value_of-cons, value_of-append}
 use Rattle.dataspace_core.specs.Store.{Part, bytes_of}
 use Rattle.heap_core.specs.declared.words.Chunk.{Chunk}
 use Rattle.heap_core.specs.Heap.{payloads_from, payloads_of}
@@ -26,67 +25,17 @@ told start offset bytes blocks q =
 told-past : (start offset n : ℕ) (bytes : List ℕ) (rest : List Block) (q : ℕ) → 0 < n → q ≢ start + offset + 16 →
     told start (offset + n) bytes rest q
     ≡ cond (nat_lt q (start + offset + 16)) None (option_map (λ m. slice_range bytes (q - start) (q - start - 16 + m)) (cond (q - 16 - (start + offset) == 0) (Some n) (cond (nat_lt (q - 16 - (start + offset)) n) None (used_at (q - 16 - (start + offset) - n) rest))))
-told-past start offset n bytes rest q some other = ⊎_elim
-    (λ (low : q < start + offset + 16).
-    let a : nat_lt q (start + offset + 16) ≡ true = grind (arith, nat_tests) in
-    let b : nat_lt q (start + (offset + n) + 16) ≡ true = grind (arith, nat_tests) in rw (a, b) refl)
-    (λ (high : start + offset + 16 ≤ q).
-    let a : nat_lt q (start + offset + 16) ≡ false = grind (arith, nat_tests) in
-    let c : (q - 16 - (start + offset) == 0) ≡ false = grind (arith, nat_tests) in
-    ⊎_elim
-    (λ (within : q - 16 - (start + offset) < n).
-    let b : nat_lt q (start + (offset + n) + 16) ≡ true = grind (arith, nat_tests) in
-    let d : nat_lt (q - 16 - (start + offset)) n ≡ true = grind (arith, nat_tests) in rw (a, b, c, d) refl)
-    (λ (past : n ≤ q - 16 - (start + offset)).
-    let b : nat_lt q (start + (offset + n) + 16) ≡ false = grind (arith, nat_tests) in
-    let d : nat_lt (q - 16 - (start + offset)) n ≡ false = grind (arith, nat_tests) in
-    let e : q - 16 - (start + (offset + n)) ≡ q - 16 - (start + offset) - n = omega (arith, high, past) in
-    rw (a, b, c, d, e) refl)
-    (cases_lt (q - 16 - (start + offset)) n))
-    (cases_lt q (start + offset + 16))
+told-past start offset n bytes rest q some other = search (rules, cases_lt)
 
 -- nor does a hole
 told-hole : (start offset n : ℕ) (bytes : List ℕ) (rest : List Block) (q : ℕ) → 0 < n →
     told start (offset + n) bytes rest q ≡ told start offset bytes (Hole n ∷ rest) q
-told-hole start offset n bytes rest q some = ⊎_elim
-    (λ (low : q < start + offset + 16).
-    let a : nat_lt q (start + offset + 16) ≡ true = grind (arith, nat_tests) in
-    let b : nat_lt q (start + (offset + n) + 16) ≡ true = grind (arith, nat_tests) in rw (a, b) refl)
-    (λ (high : start + offset + 16 ≤ q).
-    let a : nat_lt q (start + offset + 16) ≡ false = grind (arith, nat_tests) in
-    ⊎_elim
-    (λ (within : q - 16 - (start + offset) < n).
-    let b : nat_lt q (start + (offset + n) + 16) ≡ true = grind (arith, nat_tests) in
-    let d : nat_lt (q - 16 - (start + offset)) n ≡ true = grind (arith, nat_tests) in rw (a, b, d) refl)
-    (λ (past : n ≤ q - 16 - (start + offset)).
-    let b : nat_lt q (start + (offset + n) + 16) ≡ false = grind (arith, nat_tests) in
-    let d : nat_lt (q - 16 - (start + offset)) n ≡ false = grind (arith, nat_tests) in
-    let e : q - 16 - (start + (offset + n)) ≡ q - 16 - (start + offset) - n = omega (arith, high, past) in
-    rw (a, b, d, e) refl)
-    (cases_lt (q - 16 - (start + offset)) n))
-    (cases_lt q (start + offset + 16))
+told-hole start offset n bytes rest q some = search (rules, cases_lt)
 
 -- what the entries of a chunk's payloads tell of an address
 pub value_of-payloads : (start offset : ℕ) (bytes : List ℕ) (blocks : List Block) (q : ℕ) → AreBlocks blocks → value_of q (payloads_from start offset bytes blocks) ≡ told start offset bytes blocks q
-value_of-payloads start offset bytes [] q sizes = ⊎_elim
-    (λ (low : q < start + offset + 16). let a : nat_lt q (start + offset + 16) ≡ true = grind (arith, nat_tests) in rw a refl)
-    (λ (high : start + offset + 16 ≤ q). let a : nat_lt q (start + offset + 16) ≡ false = grind (arith, nat_tests) in rw a refl)
-    (cases_lt q (start + offset + 16))
-value_of-payloads start offset bytes (Used n ∷ rest) q sizes =
-    let least = sizes.0.least in
-    value_of-cons q (start + offset + 16, slice_range bytes (offset + 16) (offset + n)) (payloads_from start (offset + n) bytes rest)
-    ∙ ⊎_elim
-    (λ (same : q ≡ start + offset + 16).
-    let t : eqb q (start + offset + 16) ≡ true = grind (arith, nat_tests) in
-    let a : nat_lt q (start + offset + 16) ≡ false = grind (arith, nat_tests) in
-    let z : (q - 16 - (start + offset) == 0) ≡ true = grind (arith, nat_tests) in
-    let from : q - start ≡ offset + 16 = omega (arith, same) in
-    let to : offset + 16 - 16 + n ≡ offset + n = omega arith in
-    rw (t, a, z, from, to) refl)
-    (λ (other : q ≢ start + offset + 16).
-    let t : eqb q (start + offset + 16) ≡ false = grind (arith, nat_tests) in
-    rw t (value_of-payloads start (offset + n) bytes rest q sizes.1 ∙ told-past start offset n bytes rest q (omega (arith, least)) other))
-    (cases_eq q (start + offset + 16))
+value_of-payloads start offset bytes [] q sizes = grind (arith, nat_tests, cases_lt)
+value_of-payloads start offset bytes (Used n ∷ rest) q sizes = grind (arith, nat_tests, value_of-cons, told-past, cases_eq, value_of-payloads start (offset + n) bytes rest q sizes.1)
 value_of-payloads start offset bytes (Hole n ∷ rest) q sizes =
     let parts = tail_blocks (Hole n) rest sizes in
     let least = parts.0.least in
@@ -120,23 +69,7 @@ told-taken start bytes size h offset blocks q sizes at = ⊎_elim
 -- after a block is given back, its payload is gone
 pub told-given : (start : ℕ) (bytes : List ℕ) (n offset : ℕ) (blocks : List Block) (q : ℕ) → AreBlocks blocks → used_at offset blocks ≡ Some n →
     told start 0 bytes (given_in offset blocks) q ≡ cond (eqb q (start + offset + 16)) None (told start 0 bytes blocks q)
-told-given start bytes n offset blocks q sizes at = ⊎_elim
-    (λ (low : q < start + 0 + 16).
-    let a : nat_lt q (start + 0 + 16) ≡ true = grind (arith, nat_tests) in
-    let t : eqb q (start + offset + 16) ≡ false = grind (arith, nat_tests) in rw (a, t) refl)
-    (λ (high : start + 0 + 16 ≤ q).
-    let a : nat_lt q (start + 0 + 16) ≡ false = grind (arith, nat_tests) in
-    rw (a, used-given n (q - 16 - (start + 0)) offset blocks sizes at) (⊎_elim
-    (λ (same : q ≡ start + offset + 16).
-    let t : eqb q (start + offset + 16) ≡ true = grind (arith, nat_tests) in
-    let u : eqb (q - 16 - (start + 0)) offset ≡ true = grind (arith, nat_tests) in
-    rw (t, u) refl)
-    (λ (other : q ≢ start + offset + 16).
-    let t : eqb q (start + offset + 16) ≡ false = grind (arith, nat_tests) in
-    let u : eqb (q - 16 - (start + 0)) offset ≡ false = grind (arith, nat_tests) in
-    rw (t, u) refl)
-    (cases_eq q (start + offset + 16))))
-    (cases_lt q (start + 0 + 16))
+told-given start bytes n offset blocks q sizes at = search (rules, used-given, cases_eq, cases_lt)
 
 -- ---- all chunks
 
@@ -177,11 +110,7 @@ module _ (part : Part) (address : ℕ) where
       value_of q (payloads_of part chunks (set heap c blocks)) ≡ cond (eqb q address) (Some payload) (value_of q (payloads_of part chunks heap))
   payloads-more payload [] heap c blocks q in_chunks in_heap more none = absurd (omega (arith, in_chunks))
   payloads-more payload (x ∷ xs) [] c blocks q in_chunks in_heap more none = absurd (omega (arith, in_heap))
-  payloads-more payload (x ∷ xs) (y ∷ ys) zero blocks q in_chunks in_heap more none =
-      value_of-append q (entries_of part x blocks) (payloads_of part xs ys)
-      ∙ ap (λ o. option_or o (value_of q (payloads_of part xs ys))) more
-      ∙ or_cond (eqb q address) _ _ payload
-      ∙ ap (cond (eqb q address) (Some payload)) (sym (value_of-append q (entries_of part x y) (payloads_of part xs ys)))
+  payloads-more payload (x ∷ xs) (y ∷ ys) zero blocks q in_chunks in_heap more none = grind (arith, nat_tests, value_of-append, or_cond)
   payloads-more payload (x ∷ xs) (y ∷ ys) (suc c) blocks q in_chunks in_heap more none =
       value_of-append q (entries_of part x y) (payloads_of part xs (set ys c blocks))
       ∙ ap (option_or (value_of q (entries_of part x y))) (payloads-more payload xs ys c blocks q (omega (arith, in_chunks)) (omega (arith, in_heap)) more (λ k below. none (suc k) (omega (arith, below))))

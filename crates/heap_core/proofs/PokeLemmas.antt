@@ -1,5 +1,5 @@
 -- Bytes are put over those of a used block's payload: the heap stays but for these bytes.
-use Rattle.std.proofs.Common.{◌≡◌, ◌≢◌, ℕ, ◌+◌, ◌-◌, ◌/◌, ◌%◌, ◌^◌, ◌<◌, ◌≤◌, ◌==◌, ◌&&◌, Bool, true, false, cond, List, [], length, get_or, refl, sym, ap, subst, ◌∙◌, ⊎_elim, ◌⊎◌, inl, inr, unwrap_or, arith, Some}
+use Rattle.std.proofs.Common.{rules, ◌≡◌, ◌≢◌, ℕ, ◌+◌, ◌-◌, ◌/◌, ◌%◌, ◌^◌, ◌<◌, ◌≤◌, ◌==◌, ◌&&◌, Bool, true, false, cond, List, [], length, get_or, refl, sym, ap, subst, ◌∙◌, ⊎_elim, ◌⊎◌, inl, inr, unwrap_or, arith, Some}
 use Rattle.std.proofs.lemmas.Bool.{cases_eq, cases_lt}
 use Rattle.std.proofs.lemmas.Bool.Decides.{nat_tests}
 use Rattle.std.specs.Prelude.{Option, nat_lt, nat_le, slice_range}
@@ -38,15 +38,7 @@ same_if false x y h = refl
 
 -- a word that the bytes put don't reach stays
 pub word_past : (bytes : List ℕ) (offset : ℕ) (part : List ℕ) (o : ℕ) → offset + length part ≤ length bytes → (o % 8 ≡ 0 → (o + 8 ≤ offset) ⊎ (offset + length part ≤ o)) → word_from (with_bytes bytes offset part) o ≡ word_from bytes o
-word_past bytes offset part o fits apart =
-    ap (λ n. cond (o % 8 == 0 && nat_le (o + 8) n) (word_of (slice_range (with_bytes bytes offset part) o (o + 8))) 0) (length-with_bytes bytes offset part fits)
-    ∙ same_if (o % 8 == 0 && nat_le (o + 8) (length bytes)) _ _ (λ h.
-    let t = both_true (o % 8 == 0) _ h in
-    let even : o % 8 ≡ 0 = let e = t.0 in grind (arith, nat_tests, e) in
-    ap word_of (⊎_elim
-    (λ (before : o + 8 ≤ offset). range_before bytes offset part o (o + 8) before fits)
-    (λ (behind : offset + length part ≤ o). range_after bytes offset part o (o + 8) behind fits)
-    (apart even)))
+word_past bytes offset part o fits apart = search (rules, length-with_bytes, same_if, both_true, range_before, range_after)
 
 module _ (heap : Heap) (store : Store) (regions : Regions) (sound : IsSound heap store regions) (k y n offset : ℕ) (bytes : List ℕ) (there : k < length heap.chunks.items)
     (at : used_at y (chunk_of (heap_of heap.fit (words_of (keys_in heap) store)) k) ≡ Some n) (behind : y + 16 ≤ offset) (within : offset + length bytes ≤ y + n) (are : are_bytes bytes ≡ true) where
@@ -101,44 +93,12 @@ module _ (heap : Heap) (store : Store) (regions : Regions) (sound : IsSound heap
 
   -- a word that the bytes reach is one of the payload, which the heap doesn't keep
   apart_from : (q : ℕ) → q / 2 ^ 32 - 1 ≡ k → 2 ^ 32 ≤ q → 1 ≤ kept_at q H → q % 2 ^ 32 % 8 ≡ 0 → (q % 2 ^ 32 + 8 ≤ offset) ⊎ (offset + length bytes ≤ q % 2 ^ 32)
-  apart_from q same high kept even = ⊎_elim
-      (λ (reached : offset < q % 2 ^ 32 + 8). ⊎_elim
-      (λ (inside : q % 2 ^ 32 < offset + length bytes).
-      let first = used_even y n (chunk_of H k) chunk_blocks at in
-      let low : place_at k y + 16 ≤ q = omega (arith, same, high, reached, behind, first, even) in
-      let up : q < place_at k y + n = omega (arith, same, high, inside, within) in
-      let gone = payload_unkept heap.fit W k y n q H_sound in_H at low up in absurd (omega (arith, kept, gone)))
-      (λ (past : offset + length bytes ≤ q % 2 ^ 32). inr past)
-      (cases_lt (q % 2 ^ 32) (offset + length bytes)))
-      (λ (before : q % 2 ^ 32 + 8 ≤ offset). inl before)
-      (cases_lt offset (q % 2 ^ 32 + 8))
+  apart_from q same high kept even = search (rules, used_even, chunk_blocks, payload_unkept, H_sound, in_H, cases_lt)
 
   -- a word that the heap keeps for itself stays
   word_kept : (q : ℕ) → 1 ≤ kept_at q H → words_of (keys_in heap) poked q ≡ W q
   unfolding word_in
-  word_kept q kept = ⊎_elim
-      (λ (low : q < 2 ^ 32). let e : nat_lt q (2 ^ 32) ≡ true = grind (arith, nat_tests) in rw e refl)
-      (λ (high : 2 ^ 32 ≤ q).
-      let e : nat_lt q (2 ^ 32) ≡ false = grind (arith, nat_tests) in
-      ⊎_elim
-      (λ (same : q / 2 ^ 32 - 1 ≡ k).
-      let t : nat_lt (q / 2 ^ 32 - 1) (length (keys_in heap)) ≡ true = let i = in_keys in grind (arith, nat_tests, i) in
-      let here : get_or (keys_in heap) (q / 2 ^ 32 - 1) 0 ≡ key = ap (λ c. get_or (keys_in heap) c 0) same in
-      rw (e, t, here, put_at (keys_in heap) store k offset bytes (are_sound heap store regions sound) in_keys exists room are key refl)
-      (word_past (bytes_in_store store key) offset bytes (q % 2 ^ 32) room (λ even. apart_from q same high kept even)))
-      (λ (other : q / 2 ^ 32 - 1 ≢ k). ⊎_elim
-      (λ (in_list : q / 2 ^ 32 - 1 < length (keys_in heap)).
-      let t : nat_lt (q / 2 ^ 32 - 1) (length (keys_in heap)) ≡ true = grind (arith, nat_tests) in
-      rw (
-        e,
-        t,
-        put_other (keys_in heap) store k offset bytes (are_sound heap store regions sound) in_keys exists room are (get_or (keys_in heap) (q / 2 ^ 32 - 1) 0)
-            (λ s. other (distinct_apart (keys_in heap) (q / 2 ^ 32 - 1) k (are_sound heap store regions sound).once in_list in_keys s)),
-      ) refl)
-      (λ (out : length (keys_in heap) ≤ q / 2 ^ 32 - 1). let t : nat_lt (q / 2 ^ 32 - 1) (length (keys_in heap)) ≡ false = grind (arith, nat_tests) in rw (e, t) refl)
-      (cases_lt (q / 2 ^ 32 - 1) (length (keys_in heap))))
-      (cases_eq (q / 2 ^ 32 - 1) k))
-      (cases_lt q (2 ^ 32))
+  word_kept q kept = search (rules, in_keys, put_at, are_sound, exists, room, word_past, apart_from, put_other, distinct_apart, cases_lt, cases_eq)
 
   -- so the heap's blocks stay
   pub poked_blocks : avl.IsSound heap.fit (words_of (keys_in heap) poked) × (heap_of heap.fit (words_of (keys_in heap) poked) ≡ H)

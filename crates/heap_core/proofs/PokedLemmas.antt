@@ -75,8 +75,7 @@ unfolding with_part
 put_part payload offset part fits = let t : nat_le (offset + length part) (length payload) ≡ true = grind (arith, nat_tests) in rw t refl
 
 fits_in : (bytes : List ℕ) (y n offset : ℕ) (part : List ℕ) → y + 16 ≤ offset → offset + length part ≤ y + n → y + n ≤ length bytes → offset - (y + 16) + length part ≤ length (slice_range bytes (y + 16) (y + n))
-fits_in bytes y n offset part behind within fits =
-    let long : length (slice_range bytes (y + 16) (y + n)) ≡ y + n - (y + 16) = search (rules, places) in omega (arith, long, behind, within)
+fits_in bytes y n offset part behind within fits = grind (arith, nat_tests, places)
 
 -- one chunk tells other bytes of the one payload
 pub told-poked : (start : ℕ) (bytes : List ℕ) (blocks : List Block) (y n offset : ℕ) (part : List ℕ) (q : ℕ) → AreBlocks blocks → used_at y blocks ≡ Some n → y + 16 ≤ offset → offset + length part ≤ y + n → bytes_in blocks ≤ length bytes →

@@ -31,7 +31,7 @@ use Rattle.dataspace_core.specs.Share.{Share, share_in, IsWindowOf}
 use Rattle.dataspace_core.proofs.PartLaws.{becomes_paid, open_after, paid_in_part, part_open}
 use Rattle.dataspace_core.proofs.PartLemmas.{becomes-with_bytes_at}
 use Rattle.dataspace_core.proofs.PokedLaws.{poked_there, poked_other, poked_length}
-use Rattle.dataspace_core.proofs.ShareLaws.{share_alike}
+use Rattle.dataspace_core.proofs.ShareLaws.{share_alike, some_alike, in_share}
 use Rattle.dataspace_core.proofs.WindowLaws.{in_memory, window_after}
 use Rattle.heap_core.specs.declared.words.Chunk.{Chunk}
 use Rattle.heap_core.specs.declared.heap.Heap.{Heap}
@@ -39,14 +39,13 @@ use Rattle.heap_core.specs.Calls.{HoldsRange}
 use Rattle.heap_core.specs.Heap.{IsLaid, IsSound, chunk_at, heap_at, heap_in, keys_in, large_regions, large_tag, payer_of, payloads_of, share_at, words_in, bytes_shown}
 use Rattle.heap_core.specs.Laws.{Pokes, PayloadsArePoked, PayloadsAreRead, block_region}
 use Rattle.heap_core.specs.Words.{are_bytes, words_of}
-use Rattle.heap_core.proofs.ChangeLemmas.{some_alike}
 use Rattle.heap_core.proofs.ChunkLemmas.{key_is, words_are}
 use Rattle.heap_core.proofs.HeapLaws.{poke_sound, poke_value}
 use Rattle.heap_core.proofs.PayloadLemmas.{told, value_of-payloads, no_chunk, entries_of}
 use Rattle.heap_core.proofs.PokedLemmas.{put_part}
-use Rattle.heap_core.proofs.ShareLemmas.{in_share, large_there}
+use Rattle.heap_window.proofs.ShareLemmas.{large_there, told_region, large_region}
 use Rattle.heap_core.proofs.StandLemmas.{chunk_blocks, chunk_bytes, chunk_total}
-use Rattle.heap_core.proofs.StayLemmas.{laid_stays, small, value_then, told_region, large_region}
+use Rattle.heap_core.proofs.StayLemmas.{laid_stays, small, value_then}
 use Rattle.heap_core.proofs.WordsLemmas.{length_keys}
 
 -- ---- reads
@@ -57,12 +56,7 @@ range_in : (bytes : List ℕ) (before size from count : ℕ) → before + size �
 range_in bytes before size from count fits within = same_lists _ _ (search (rules, places)) (λ k d h. grind (arith, places))
 
 pub payload_read : PayloadsAreRead
-payload_read heap store regions ds offset address count held =
-    let low = held.low in
-    let high = held.high in
-    ap (λ n. slice_range held.bytes n (n + count)) held.into
-    ∙ range_in held.bytes held.before (length held.payload) (address - held.at) count held.within (omega (arith, low, high))
-    ∙ ap (λ b. slice_range b (address - held.at) (address - held.at + count)) (sym held.is)
+payload_read heap store regions ds offset address count held = grind (arith, nat_tests, range_in)
 
 -- ---- where a payload stands
 
@@ -82,16 +76,7 @@ told_by_one part (x ∷ xs) (y ∷ ys) q v h = ⊎_elim
 -- and one that a chunk tells is that of a used block
 told_block : (start : ℕ) (bytes : List ℕ) (blocks : List Block) (q : ℕ) (v : List ℕ) → told start 0 bytes blocks q ≡ Some v →
     (n : ℕ) × (start + 16 ≤ q) × (used_at (q - 16 - start) blocks ≡ Some n) × (v ≡ slice_range bytes (q - start) (q - start - 16 + n))
-told_block start bytes blocks q v h = ⊎_elim
-    (λ (low : q < start + 0 + 16). let t : nat_lt q (start + 0 + 16) ≡ true = grind (arith, nat_tests) in absurd (none-some v (rw t at h)))
-    (λ (high : start + 0 + 16 ≤ q).
-    let t : nat_lt q (start + 0 + 16) ≡ false = grind (arith, nat_tests) in
-    elim (used_at (q - 16 - (start + 0)) blocks) as (λ o. used_at (q - 16 - (start + 0)) blocks ≡ o → option_map (λ n. slice_range bytes (q - start) (q - start - 16 + n)) o ≡ Some v →
-    (n : ℕ) × (start + 16 ≤ q) × (used_at (q - 16 - start) blocks ≡ Some n) × (v ≡ slice_range bytes (q - start) (q - start - 16 + n))) [
-      | None ↦ λ e f. absurd (none-some v f)
-      | Some n ↦ λ e f. (n, omega (arith, high), ap (λ m. used_at m blocks) (let s : q - 16 - start ≡ q - 16 - (start + 0) = omega arith in s) ∙ e, same_Some v _ (sym f))
-    ] refl (rw t at h))
-    (cases_lt q (start + 0 + 16))
+told_block start bytes blocks q v h = search (rules, none-some, same_Some, cases_lt)
 
 module _ (heap : Heap) (share : Share) (laid : IsLaid heap share) (q : ℕ) (v : List ℕ) where
   abbrev H : model.Heap
@@ -228,11 +213,7 @@ module _ (heap : Heap) (ds offset address : ℕ) (bytes : List ℕ) (old new : S
 
   -- what is poked is sound where it is laid, and has the value
   pokes_by : IsLaid heap T → heap_at heap new regions ≡ with_poked held.at held.payload (address - held.at) bytes (heap_at heap old regions) → Pokes heap held.at held.payload (address - held.at) bytes old new regions
-  pokes_by laid value = record {
-    sound = record { opens = open_after becomes (part_open account old sound.opens); window = window; laid = laid };
-    value = value;
-    stands = stand;
-  }
+  pokes_by laid value = search (rules, open_after, part_open, window, stand)
 
   -- in a chunk
   module _ (c : InChunk heap S sound.laid held.at held.payload) where
@@ -267,12 +248,7 @@ module _ (heap : Heap) (ds offset address : ℕ) (bytes : List ℕ) (old new : S
     later = with_bytes_at old (get_or (keys_in heap) c.k 0) offset bytes
 
     same_part : part account later ≡ part account new
-    same_part =
-        let paid = paid_in_part account ds held.bytes old held.there in
-        let there = value_at old.spaces ds paid.exists in
-        ap (λ k. part account (with_bytes_at old k offset bytes)) key
-        ∙ (becomes_paid (λ p. part_with_bytes p ds offset bytes) paid (becomes-with_bytes_at old ds there.0 there.1 offset bytes)).own
-        ∙ sym becomes.own
+    same_part = grind (arith, nat_tests, paid_in_part, value_at, key, becomes_paid, becomes-with_bytes_at)
 
     same_share : T ≡ share_at account later regions
     same_share = ap (λ p. share_in p regions.heap regions.tags) (sym same_part)
@@ -313,13 +289,7 @@ module _ (heap : Heap) (ds offset address : ℕ) (bytes : List ℕ) (old new : S
     -- its dataspace has the bytes, and no other has changed
     own : (k : ℕ) → k ≡ ds → get T.part.spaces k ≡ Some written
     unfolding share_in
-    own k same =
-        let high = held.high in
-        let low = held.low in
-        ap (λ (p : Part). get p.spaces k) becomes.own ∙ ap (get (part_with_bytes (part account old) ds offset bytes).spaces) same
-        ∙ poked_there (part account old) ds offset bytes held.bytes held.there fits
-        ∙ ap (λ b. Some (with_bytes b offset bytes)) same_payload ∙ ap (λ n. Some (with_bytes held.payload n bytes)) offset_is
-        ∙ ap Some (put_part held.payload (address - held.at) bytes (omega (arith, high, low)))
+    own k same = grind (arith, nat_tests, same, poked_there, fits, same_payload, offset_is, put_part)
 
     others : (k : ℕ) → k ≢ ds → get T.part.spaces k ≡ get S.part.spaces k
     unfolding share_in
@@ -330,11 +300,7 @@ module _ (heap : Heap) (ds offset address : ℕ) (bytes : List ℕ) (old new : S
     once s r h e = sound.window.once s held.at r l.r (mapped heap old regions sound ds offset address (length bytes) held s r h) (mapped heap old regions sound ds offset address (length bytes) held held.at l.r (large_there S held.at l.r l.region)) (e ∙ sym at_region.1)
 
     chunks : (s k : ℕ) (r : Region) → block_region S s ≡ Some (r, k) → k < large_tag → get T.part.spaces r.of ≡ get S.part.spaces r.of
-    chunks s k r h low =
-        let block = told_region S s k r h in
-        others r.of (λ e.
-        let number = same_Some k large_tag (sym block.tag ∙ ap (get S.tags) (once s r block.there e) ∙ (told_region S held.at large_tag l.r (large_region S held.at l.r l.region)).tag) in
-        omega (arith, low, number))
+    chunks s k r h low = grind (arith, nat_tests, told_region, others, same_Some, once, large_region, region)
 
     large_lengths : (s : ℕ) (r : Region) → get (large_regions S) s ≡ Some r → option_map length (get T.part.spaces r.of) ≡ option_map length (get S.part.spaces r.of)
     unfolding share_in

@@ -1,5 +1,5 @@
 -- Which block an address lies in, by the heap region that holds it.
-use Rattle.std.proofs.Common.{◌≡◌, ◌≢◌, ◌+◌, ◌-◌, ◌*◌, ◌<◌, ◌≤◌, ◌==◌, ℕ, true, false, cond, zero, suc, List, [], ◌∷◌, get_or, length, Some, is_some, refl, sym, ap, ◌∙◌, ⊎_elim, ◌⊎◌, inl, inr, true≢false, arith}
+use Rattle.std.proofs.Common.{rules, ◌≡◌, ◌≢◌, ◌+◌, ◌-◌, ◌*◌, ◌<◌, ◌≤◌, ◌==◌, ℕ, true, false, cond, zero, suc, List, [], ◌∷◌, get_or, length, Some, is_some, refl, sym, ap, ◌∙◌, ⊎_elim, ◌⊎◌, inl, inr, true≢false, arith}
 use Rattle.std.proofs.lemmas.Bool.{cases_lt}
 use Rattle.std.proofs.lemmas.Bool.Decides.{nat_tests}
 use Rattle.std.proofs.lemmas.Option.{none-some, same_Some}
@@ -14,22 +14,15 @@ use Rattle.region_map.proofs.FoundLaws.{found_parts, found_none, held_once}
 use Rattle.dataspace_core.specs.Store.{Store, part, Exists, space_at}
 use Rattle.dataspace_core.specs.Share.{Share, share_in, shown}
 use Rattle.dataspace_core.proofs.PartLaws.{part_of_payer, paid_in_part}
-use Rattle.dataspace_core.proofs.ShareLaws.{get-tags_of}
+use Rattle.dataspace_core.proofs.ShareLaws.{get-tags_of, in_share}
 use Rattle.heap_core.specs.declared.heap.Heap.{Heap}
 use Rattle.heap_core.specs.Heap.{IsSound, chunk_at, large_tag, is_large_tag, payer_of, share_at, times_in, large_regions}
 use Rattle.heap_core.specs.Lookup.{LiesInChunk, LiesInLarge, LiesOutside}
-use Rattle.heap_core.proofs.ChangeLemmas.{large_number}
-use Rattle.heap_core.proofs.ShareLemmas.{in_share, get-large, large_there}
+use Rattle.heap_window.proofs.ShareLemmas.{large_kept, get-large, large_there}
 
 -- a region that doesn't hold an address ends before it, or starts behind it
 not_held : (address s : ℕ) (r : Region) → holds address 1 (s, r) ≡ false → (address < s) ⊎ (s + r.pages * 4096 ≤ address)
-not_held address s r h = ⊎_elim
-    (λ (low : address < s). inl low)
-    (λ (high : s ≤ address). ⊎_elim
-    (λ (within : address < s + r.pages * 4096). absurd (true≢false (sym (grind (arith, nat_tests)) ∙ h)))
-    (λ (past : s + r.pages * 4096 ≤ address). inr past)
-    (cases_lt address (s + r.pages * 4096)))
-    (cases_lt address s)
+not_held address s r h = search (rules, true≢false, cases_lt)
 
 held_parts : (address s : ℕ) (r : Region) → holds address 1 (s, r) ≡ true → (s ≤ address) × (address < s + r.pages * 4096)
 held_parts address s r h = (grind (arith, nat_tests), grind (arith, nat_tests))
@@ -80,7 +73,7 @@ module _ (heap : Heap) (store : Store) (regions : Regions) (sound : IsSound heap
         (λ (past : (chunk_at heap k).start + stands.pages * 4096 ≤ address). inr (omega (arith, past, whole)))
         (not_held address (chunk_at heap k).start (record { of = (chunk_at heap k).ds.0; pages = stands.pages }) (none (chunk_at heap k).start k _ stands.region stands.tag (omega (arith, there, few))));
     large = λ s r h.
-        let number = large_number (get S.tags s) (get S.heap s) r (sym (get-large S s) ∙ h) in
+        let number = large_kept S s r h in
         not_held address s r (none s large_tag r (large_there S s r h) number (omega arith));
   }
 
@@ -100,10 +93,7 @@ module _ (heap : Heap) (store : Store) (regions : Regions) (sound : IsSound heap
 
     -- it is the only one that holds it
     pub only : (s : ℕ) (r : Region) → get regions.heap s ≡ Some r → holds address 1 (s, r) ≡ true → (s ≡ start) × (r.of ≡ of)
-    only s r there h =
-        let parts = found_parts regions address start of tag found in
-        let same = held_once regions map address s start r parts.0 there parts.1 h parts.4 in
-        (same, ap (λ (x : Region). x.of) (same_Some r parts.0 (sym there ∙ ap (get regions.heap) same ∙ parts.1)) ∙ parts.2)
+    only s r there h = grind (arith, nat_tests, found_parts, held_once, same_Some)
 
     -- it lies outside where that is no block of the account's
     pub not_found : ((space_at store of).payer ≢ account) ⊎ (large_tag < tag) → LiesOutside heap S address
@@ -158,22 +148,15 @@ module _ (heap : Heap) (store : Store) (regions : Regions) (sound : IsSound heap
 -- a number that stands in a list comes there
 pub times_there : (xs : List ℕ) (i : ℕ) → i < length xs → 1 ≤ times_in xs (get_or xs i 0)
 times_there [] i there = absurd (omega (arith, there))
-times_there (x ∷ xs) zero there =
-    let t : (x == x) ≡ true = grind (arith, nat_tests) in
-    let e = sum_by-cons (λ y. cond (y == x) 1 0) x xs ∙ ap (λ b. cond b 1 0 + times_in xs x) t in omega (arith, e)
-times_there (x ∷ xs) (suc i) there =
-    let rest = times_there xs i (omega (arith, there)) in
-    let e = sum_by-cons (λ y. cond (y == get_or xs i 0) 1 0) x xs in omega (arith, e, rest)
+times_there (x ∷ xs) zero there = let t : (x == x) ≡ true = grind (arith, nat_tests) in omega (arith, sum_by-cons (λ y. cond (y == x) 1 0) x xs ∙ ap (λ b. cond b 1 0 + times_in xs x) t)
+times_there (x ∷ xs) (suc i) there = omega (arith, sum_by-cons (λ y. cond (y == get_or xs i 0) 1 0) x xs, times_there xs i (omega (arith, there)))
 
 module _ (heap : Heap) (store : Store) (regions : Regions) (sound : IsSound heap store regions) (map : AreSound regions) (start : ℕ) (listed : 1 ≤ times_in heap.large.items start) where
   abbrev T : Share
   T = share_at (payer_of heap) store regions
 
   at_region : (r : Region) × (get (large_regions T) start ≡ Some r)
-  at_region = elim (get (large_regions T) start) as (λ o. get (large_regions T) start ≡ o → (r : Region) × (o ≡ Some r)) [
-    | None ↦ λ e. let n = sound.laid.large start ∙ ap (λ (o : Option Region). cond (is_some o) 1 0) e in absurd (omega (arith, n, listed))
-    | Some r ↦ λ e. (r, refl)
-  ] refl
+  at_region = search rules
 
   -- the map finds its region
   pub large_found : heap_found regions start ≡ None → ⊥

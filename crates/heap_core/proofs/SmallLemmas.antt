@@ -1,5 +1,5 @@
 -- The best hole is taken, and its payload cleared.
-use Rattle.std.proofs.Common.{◌≡◌, ℕ, ◌+◌, ◌-◌, ◌<◌, true, eqb, List, [], length, get_or, set, refl, sym, ap, subst, ◌∙◌, arith, Some}
+use Rattle.std.proofs.Common.{rules, ◌≡◌, ℕ, ◌+◌, ◌-◌, ◌<◌, true, eqb, List, [], length, get_or, set, refl, sym, ap, subst, ◌∙◌, arith, Some}
 use Rattle.std.proofs.lemmas.Bool.Decides.{nat_tests}
 use Rattle.std.proofs.lemmas.List.{get_or-map, get_or-set_same}
 use Rattle.std.specs.Prelude.{Option, None, slice_range}
@@ -88,26 +88,10 @@ module _ (heap later : Heap) (n : ℕ) (hole : Spot) (old mid : Store) (regions 
 
     start_is : address ≡ payload_start (heap_at heap old regions) hole
     unfolding heap_in share_in
-    start_is =
-        at
-        ∙ ap (λ s. s + hole.offset + 16) (sym (get_or-map (λ (c : Chunk). c.start) later.chunks.items hole.chunk no_chunk 0 in_later)
-        ∙ ap (λ ss. get_or ss hole.chunk 0) starts_then)
+    start_is = search (rules, get_or-map, no_chunk, in_later, starts_then)
 
     pub takes_small : TakesSmall heap later n hole address old new regions regions
-    takes_small = record {
-      at = start_is;
-      value = clears.value
-          ∙ ap (λ (h : OwnHeap). record h { payloads = insert h.payloads address (zeros (size - 16)) }) takes.value
-          ∙ ap (λ a. record (heap_at heap old regions) {
-            shape = shape_taken n hole (heap_at heap old regions).shape;
-            payloads = insert (insert (heap_at heap old regions).payloads (payload_start (heap_at heap old regions) hole) before) a (zeros (size - 16));
-          }) start_is
-          ∙ ap (λ p. record (heap_at heap old regions) { shape = shape_taken n hole (heap_at heap old regions).shape; payloads = p }) (put_again (heap_at heap old regions).payloads (payload_start (heap_at heap old regions) hole) before (zeros (size - 16)));
-      map = refl;
-      keys = takes.keys;
-      account = same_account heap heap.fit old new regions sound all_kept;
-      spaces = keeps_spaces heap heap.fit old new regions sound all_kept;
-    }
+    takes_small = search (rules, start_is, put_again, same_account, all_kept, keeps_spaces)
 
     pub small_others : KeepsShares (payer_of heap) old new regions.heap regions.tags regions.heap regions.tags
     small_others = keeps_shares heap heap.fit old new regions sound all_kept

@@ -1,5 +1,5 @@
 -- What is known of a heap that is laid in a share: its chunks, and what another share has of them.
-use Rattle.std.proofs.Common.{◌≡◌, ℕ, zero, suc, ◌+◌, ◌-◌, ◌/◌, ◌%◌, ◌^◌, ◌<◌, ◌≤◌, ◌++◌, true, false, cond, List, [], ◌∷◌, length, get_or, refl, sym, ap, subst, ◌∙◌, ⊎_elim, ◌⊎◌, arith, Some, unwrap_or}
+use Rattle.std.proofs.Common.{rules, ◌≡◌, ℕ, zero, suc, ◌+◌, ◌-◌, ◌/◌, ◌%◌, ◌^◌, ◌<◌, ◌≤◌, ◌++◌, true, false, cond, List, [], ◌∷◌, length, get_or, refl, sym, ap, subst, ◌∙◌, ⊎_elim, ◌⊎◌, arith, Some, unwrap_or}
 use Rattle.std.proofs.lemmas.Bool.{cases_lt}
 use Rattle.std.proofs.lemmas.Bool.Decides.{nat_tests}
 use Rattle.std.specs.List.{AllByRecursion}
@@ -52,10 +52,7 @@ each_at P (x ∷ xs) (suc i) d all there = each_at P xs i d all.1 (omega (arith,
 
 -- look-ups that agree on the chunks' dataspaces read the same words
 same_chunk : (keys : List ℕ) (old new : ℕ → List ℕ) (c : ℕ) → ((i : ℕ) → i < length keys → new (get_or keys i 0) ≡ old (get_or keys i 0)) → bytes_of_chunk keys new c ≡ bytes_of_chunk keys old c
-same_chunk keys old new c alike = ⊎_elim
-    (λ (there : c < length keys). let t : nat_lt c (length keys) ≡ true = grind (arith, nat_tests) in rw t (alike c there))
-    (λ (out : length keys ≤ c). let t : nat_lt c (length keys) ≡ false = grind (arith, nat_tests) in rw t refl)
-    (cases_lt c (length keys))
+same_chunk keys old new c alike = search (rules, cases_lt)
 
 pub words_same : (keys : List ℕ) (old new : ℕ → List ℕ) → ((i : ℕ) → i < length keys → new (get_or keys i 0) ≡ old (get_or keys i 0)) → word_in keys new ≡ word_in keys old
 unfolding word_in
@@ -94,10 +91,7 @@ module _ (heap : Heap) (share : Share) (laid : IsLaid heap share) where
   -- an address outside of a chunk isn't that of one of its payloads
   pub not_in_chunk : (k : ℕ) (address : ℕ) → k < length heap.chunks.items → (address < (chunk_at heap k).start) ⊎ ((chunk_at heap k).start + avl.bytes_of heap.fit k ≤ address) →
       value_of address (entries_of share.part (chunk_at heap k) (chunk_of blocks k)) ≡ None
-  not_in_chunk k address there outside =
-      value_of-payloads (chunk_at heap k).start 0 (bytes_of share.part (chunk_at heap k).ds.0) (chunk_of blocks k) address (chunk_blocks k there)
-      ∙ told_outside (chunk_at heap k).start (bytes_of share.part (chunk_at heap k).ds.0) (chunk_of blocks k) address (chunk_blocks k there)
-      (subst (λ n. (address < (chunk_at heap k).start) ⊎ ((chunk_at heap k).start + n ≤ address)) (sym (chunk_total k there)) outside)
+  not_in_chunk k address there outside = search (rules, value_of-payloads, chunk_blocks, told_outside, chunk_total)
 
 -- parts that have the same bytes in each chunk have the same payloads
 pub payloads_alike : (old new : Part) (chunks : List Chunk) (heap : model.Heap) → ((k : ℕ) → k < length chunks → bytes_of new (get_or chunks k no_chunk).ds.0 ≡ bytes_of old (get_or chunks k no_chunk).ds.0) →
@@ -124,19 +118,7 @@ module _ (heap : Heap) (share after : Share) (laid : IsLaid heap share) (alike :
       ap (bytes_of after.part) key ∙ same_bytes i in_chunks ∙ ap (bytes_of share.part) (sym key))
 
   pub stands_kept : (k : ℕ) → k < length heap.chunks.items → StandsChunk after (chunk_at heap k) k (avl.bytes_of heap.fit k)
-  stands_kept k there =
-      let stands = laid.chunks k there in
-      record {
-        bytes = stands.bytes;
-        pages = stands.pages;
-        there = alike.bytes_same k there ∙ stands.there;
-        numbers = stands.numbers;
-        long = stands.long;
-        some = stands.some;
-        whole = stands.whole;
-        region = alike.heap_same k there ∙ stands.region;
-        tag = alike.tags_same k there ∙ stands.tag;
-      }
+  stands_kept k there = grind (arith, nat_tests)
 
   pub payloads_kept : (hs : model.Heap) → payloads_of after.part heap.chunks.items hs ≡ payloads_of share.part heap.chunks.items hs
   payloads_kept hs = payloads_alike share.part after.part heap.chunks.items hs same_bytes

@@ -16,7 +16,8 @@ use Rattle.heap_core.specs.Heap.{IsSound, chunk_at, heap_at, payer_of, share_at}
 use Rattle.heap_core.specs.Lookup.{LiesInChunk, LiesInLarge}
 use Rattle.heap_core.proofs.FoundLemmas.{IsLarge, IsSmall, blocks_at, payload_from, used_inside}
 use Rattle.heap_core.proofs.LookupLemmas.{large_held, large_length, outside_free, range_held, small_length}
-use Rattle.heap_core.proofs.ShareLemmas.{in_share, large_there}
+use Rattle.heap_window.proofs.ShareLemmas.{large_there}
+use Rattle.dataspace_core.proofs.ShareLaws.{in_share}
 use Rattle.heap_core.proofs.SiteLemmas.{none_found, only}
 use Rattle.heap_core.proofs.StandLemmas.{chunk_blocks}
 
@@ -26,9 +27,7 @@ module _ (heap : Heap) (store : Store) (regions : Regions) (sound : IsSound heap
 
   -- where a payload starts, the map finds a region
   pub start_found : IsSome (get (heap_at heap store regions).payloads address) → heap_found regions address ≡ None → ⊥
-  start_found there none =
-      let payload = some_of (get (heap_at heap store regions).payloads address) there in
-      none-some payload.0 (sym (outside_free heap store regions sound address (none_found heap store regions sound map address none)) ∙ payload.1)
+  start_found there none = grind (arith, nat_tests, some_of, none-some, outside_free, none_found)
 
   module _ (start of tag : ℕ) (found : heap_found regions address ≡ Some (start, of, tag)) (payload : List ℕ) (count : ℕ) (some : 1 ≤ count) (few : count ≤ length payload) where
     -- a used block of a chunk

@@ -1,5 +1,5 @@
 -- What a heap has where its chunks and large blocks stand where they stood, and hold what they held.
-use Rattle.std.proofs.Common.{◌≡◌, ◌≢◌, ℕ, ◌<◌, ◌≤◌, ◌==◌, true, false, cond, List, length, refl, sym, ap, subst, ◌∙◌, ⊎_elim, arith, Some, IsSome, is_some}
+use Rattle.std.proofs.Common.{rules, ◌≡◌, ◌≢◌, ℕ, ◌<◌, ◌≤◌, ◌==◌, true, false, cond, List, length, refl, sym, ap, subst, ◌∙◌, ⊎_elim, arith, Some, IsSome, is_some}
 use Rattle.std.proofs.lemmas.Bool.{cases_eq, cases_lt}
 use Rattle.std.proofs.lemmas.Bool.Decides.{nat_tests}
 use Rattle.std.proofs.lemmas.Option.{none-some, same_Some}
@@ -21,71 +21,9 @@ use Rattle.dataspace_core.proofs.WindowLaws.{length_some}
 use Rattle.heap_core.specs.declared.heap.Heap.{Heap}
 use Rattle.heap_core.specs.Heap.{IsLaid, StandsLarge, chunk_at, large_tag, is_large_tag, large_regions, bytes_shown, heap_in, payer_of, payloads_of, share_at, starts_in, words_in}
 use Rattle.heap_core.specs.Laws.{block_region, EmptyMapsHaveNoBlocks, HeapsStay, HeapsStayBeside}
-use Rattle.heap_core.proofs.ShareLemmas.{get-large, in_share}
+use Rattle.heap_window.proofs.ShareLemmas.{get-large, IsBlockRegion, told_region, block_here, large_among, large_block, large_region}
+use Rattle.dataspace_core.proofs.ShareLaws.{in_share}
 use Rattle.heap_core.proofs.StandLemmas.{SameChunks, words_kept, stands_kept, payloads_kept}
-
--- ---- the regions of a heap
-
--- a region with a number of a heap
-pub block_here : (share : Share) (s k : ℕ) (r : Region) → get share.heap s ≡ Some r → get share.tags s ≡ Some k → k ≤ large_tag → block_region share s ≡ Some (r, k)
-block_here share s k r there tag few = let t : nat_le k large_tag ≡ true = grind (arith, nat_tests) in rw (tag, t, there) refl
-
--- a region with its number
-abbrev with_number : ℕ → Region → Region × ℕ
-with_number n r = (r, n)
-
--- is one of the share
-pub record IsBlockRegion (share : Share) (s k : ℕ) (r : Region) : Type 0 where
-  pub there : get share.heap s ≡ Some r
-  pub tag : get share.tags s ≡ Some k
-  pub few : k ≤ large_tag
-
-under_number : (n k : ℕ) (p : Option Region) (r : Region) → cond (nat_le n large_tag) (option_map (with_number n) p) None ≡ Some (r, k) → (p ≡ Some r) × (n ≡ k) × (k ≤ large_tag)
-under_number n k None r h = ⊎_elim
-    (λ (high : large_tag < n). let t : nat_le n large_tag ≡ false = grind (arith, nat_tests) in absurd (none-some (r, k) (rw t at h)))
-    (λ (low : n ≤ large_tag). let t : nat_le n large_tag ≡ true = grind (arith, nat_tests) in absurd (none-some (r, k) (rw t at h)))
-    (cases_lt large_tag n)
-under_number n k (Some q) r h = ⊎_elim
-    (λ (high : large_tag < n). let t : nat_le n large_tag ≡ false = grind (arith, nat_tests) in absurd (none-some (r, k) (rw t at h)))
-    (λ (low : n ≤ large_tag).
-    let t : nat_le n large_tag ≡ true = grind (arith, nat_tests) in
-    let e = same_Some (q, n) (r, k) (rw t at h) in
-    let number = ap (λ (e : Region × ℕ). e.1) e in
-    (ap (λ (e : Region × ℕ). Some e.0) e, number, omega (arith, low, number)))
-    (cases_lt large_tag n)
-
-pub told_region : (share : Share) (s k : ℕ) (r : Region) → block_region share s ≡ Some (r, k) → IsBlockRegion share s k r
-told_region share s k r h = elim (get share.tags s) as (λ o. get share.tags s ≡ o → option_and_then (λ tag. cond (nat_le tag large_tag) (option_map (with_number tag) (get share.heap s)) None) o ≡ Some (r, k) → IsBlockRegion share s k r) [
-  | None ↦ λ e w. cc
-  | Some n ↦ λ e w. let at = under_number n k (get share.heap s) r w in record { there = at.0; tag = e ∙ ap Some at.1; few = at.2 }
-] refl h
-
--- the large blocks among them
-abbrev pub large_among : Option (Region × ℕ) → Option Region
-large_among None = None
-large_among (Some e) = cond (e.1 == large_tag) (Some e.0) None
-
-large_test : (o : Option ℕ) (p : Option Region) → cond (is_large_tag o) p None ≡ large_among (option_and_then (λ tag. cond (nat_le tag large_tag) (option_map (with_number tag) p) None) o)
-large_test None p = refl
-large_test (Some n) None = grind (arith, nat_tests)
-large_test (Some n) (Some r) = grind (arith, nat_tests)
-
-pub large_block : (share : Share) (s : ℕ) → get (large_regions share) s ≡ large_among (block_region share s)
-large_block share s = get-large share s ∙ large_test (get share.tags s) (get share.heap s)
-
-large_one : (o : Option (Region × ℕ)) (r : Region) → large_among o ≡ Some r → o ≡ Some (r, large_tag)
-large_one None r h = cc
-large_one (Some e) r h = ⊎_elim
-    (λ (same : e.1 ≡ large_tag).
-    let t : (e.1 == large_tag) ≡ true = grind (arith, nat_tests) in
-    let region = same_Some e.0 r (rw t at h) in
-    λ i. Some (region i, same i))
-    (λ (other : e.1 ≢ large_tag). let t : (e.1 == large_tag) ≡ false = grind (arith, nat_tests) in absurd (none-some r (rw t at h)))
-    (cases_eq e.1 large_tag)
-
--- a large block is such a region
-pub large_region : (share : Share) (s : ℕ) (r : Region) → get (large_regions share) s ≡ Some r → block_region share s ≡ Some (r, large_tag)
-large_region share s r h = large_one (block_region share s) r (sym (large_block share s) ∙ h)
 
 -- ---- another share with the same regions, whose chunks hold the same
 
@@ -100,17 +38,10 @@ module _ (heap : Heap) (S T : Share) (laid : IsLaid heap S) (stand : (s : ℕ) �
   low_number k there = let few = laid.few in omega (arith, there, few)
 
   chunk_region : (k : ℕ) (there : k < length heap.chunks.items) → block_region S (chunk_at heap k).start ≡ Some (record { of = (chunk_at heap k).ds.0; pages = (laid.chunks k there).pages }, k)
-  chunk_region k there =
-      let stands = laid.chunks k there in
-      let few = low_number k there in
-      block_here S (chunk_at heap k).start k _ stands.region stands.tag (omega (arith, few))
+  chunk_region k there = grind (arith, nat_tests, low_number, block_here)
 
   pub same_chunks : SameChunks heap S T
-  same_chunks = record {
-    heap_same = λ k there. (stays_there _ k _ (chunk_region k there)).there ∙ sym (laid.chunks k there).region;
-    tags_same = λ k there. (stays_there _ k _ (chunk_region k there)).tag ∙ sym (laid.chunks k there).tag;
-    bytes_same = λ k there. chunks _ k _ (chunk_region k there) (low_number k there);
-  }
+  same_chunks = search (rules, stays_there, chunk_region, low_number)
 
   same_large : large_regions T ≡ large_regions S
   same_large = same _ _ (λ s. large_block T s ∙ ap large_among (stand s) ∙ sym (large_block S s))
@@ -147,21 +78,12 @@ module _ (heap : Heap) (S T : Share) (laid : IsLaid heap S) (stand : (s : ℕ) �
 
   module _ (shown : NatMap (List ℕ)) (now : bytes_shown T.part.spaces (large_regions S) ≡ shown) where
     payloads_then : joined (from_entries {R = nat_cmp} (payloads_of T.part heap.chunks.items (heap_of heap.fit (words_in heap T.part)))) (bytes_shown T.part.spaces (large_regions T)) ≡ joined small shown
-    payloads_then =
-        ap (λ h. joined (from_entries {R = nat_cmp} (payloads_of T.part heap.chunks.items h)) (bytes_shown T.part.spaces (large_regions T))) (ap (heap_of heap.fit) (words_kept heap S T laid same_chunks))
-        ∙ ap (λ es. joined (from_entries {R = nat_cmp} es) (bytes_shown T.part.spaces (large_regions T))) (payloads_kept heap S T laid same_chunks (heap_of heap.fit (words_in heap S.part)))
-        ∙ ap (λ m. joined small (bytes_shown T.part.spaces m)) same_large
-        ∙ ap (joined small) now
+    payloads_then = search (rules, words_kept, same_chunks, payloads_kept, same_large)
 
     -- and the same value but for what its large blocks hold
     pub value_then : heap_in heap T ≡ record (heap_in heap S) { payloads = joined small shown }
     unfolding heap_in
-    value_then = λ i. record {
-      shape = record { chunks = heap_of heap.fit (words_kept heap S T laid same_chunks i); growth = heap.growth };
-      starts = starts_in heap;
-      large = picked (λ (r : Region). Some (r.pages * 4096)) (same_large i);
-      payloads = payloads_then i;
-    }
+    value_then = search (rules, words_kept, same_chunks, same_large, payloads_then)
 
 -- where large blocks hold the same too, the value is the same
 module _ (heap : Heap) (S T : Share) (laid : IsLaid heap S) (stand : (s : ℕ) → block_region T s ≡ block_region S s)
@@ -193,12 +115,7 @@ heap_stays heap old new regions after sound maps opens stand bytes =
 
 pub heap_stays_beside : HeapsStayBeside
 unfolding share_in
-heap_stays_beside heap other old new regions after sound apart keeps maps =
-    let same_one : share_at (payer_of heap) new after ≡ share_at (payer_of heap) old regions = keeps.shares (payer_of heap) (λ e. apart (sym e)) in
-    heap_stays heap old new regions after sound maps
-    (open_in_part (payer_of heap) new (subst (λ (S : Share). IsSome S.part.account) (sym same_one) (part_open (payer_of heap) old sound.opens)))
-    (λ s. ap (λ (S : Share). block_region S s) same_one)
-    (λ s k r h. ap (λ (S : Share). get S.part.spaces r.of) same_one)
+heap_stays_beside heap other old new regions after sound apart keeps maps = grind (arith, nat_tests, heap_stays, open_in_part, part_open)
 
 -- ---- a map without a region
 

@@ -1,5 +1,5 @@
 -- A large block is taken: a new dataspace is attached, and entered.
-use Rattle.std.proofs.Common.{◌≡◌, ◌≢◌, ℕ, ◌+◌, ◌*◌, ◌/◌, ◌<◌, ◌≤◌, ◌&&◌, ◌++◌, true, false, [], ◌∷◌, length, refl, sym, ap, subst, ◌∙◌, ⊎_elim, true≢false, ◌⊎◌, inl, inr, arith, Some}
+use Rattle.std.proofs.Common.{rules, ◌≡◌, ◌≢◌, ℕ, ◌+◌, ◌*◌, ◌/◌, ◌<◌, ◌≤◌, ◌&&◌, ◌++◌, true, false, [], ◌∷◌, length, refl, sym, ap, subst, ◌∙◌, ⊎_elim, true≢false, ◌⊎◌, inl, inr, arith, Some}
 use Rattle.std.proofs.lemmas.Bool.{cases_lt}
 use Rattle.std.proofs.lemmas.Bool.Decides.{nat_tests}
 use Rattle.std.specs.Prelude.{None, nat_lt}
@@ -15,35 +15,23 @@ use Rattle.own_model.proofs.RegionLemmas.{first_gap_least}
 use Rattle.avl_alloc.specs.Layout as avl
 use Rattle.region_map.specs.Regions.{Regions, heap_attached}
 use Rattle.dataspace_core.specs.Store.{Store, part, PartBecomes, part_with_space}
-use Rattle.dataspace_core.specs.Share.{Share, KeepsShares}
-use Rattle.dataspace_core.proofs.ShareLaws.{nothing_shown}
+use Rattle.dataspace_core.specs.Share.{Share, KeepsShares, share_in}
+use Rattle.dataspace_core.proofs.ShareLaws.{nothing_shown, in_share}
 use Rattle.dataspace_core.proofs.WindowLaws.{share_then, shares_then, window_then, open_then, unshown, others_there, new_there, count_then, charge_then}
 use Rattle.heap_core.specs.declared.heap.Heap.{Heap}
 use Rattle.heap_core.specs.Heap.{payer_of, share_at, large_tag, large_regions, heap_in, chunk_at, IsLaid, IsSound}
 use Rattle.heap_core.specs.Calls.{TakesLarge}
 use Rattle.heap_core.proofs.LargeLemmas.{large_laid, large_value}
 use Rattle.heap_core.proofs.RoomLemmas.{few_large}
-use Rattle.heap_core.proofs.ShareLemmas.{in_share, large_there}
-use Rattle.dataspace_core.specs.Share.{share_in}
+use Rattle.heap_window.proofs.ShareLemmas.{large_there}
 
 -- two ranges of pages that don't overlap
 pub parted_ranges : (a p b q : ℕ) → overlap a p b q ≡ false → 1 ≤ q → (b < a) ⊎ (a + p * 4096 ≤ b)
-parted_ranges a p b q h some = ⊎_elim
-    (λ (low : a < b + q * 4096). ⊎_elim
-    (λ (high : b < a + p * 4096).
-    let s : nat_lt a (b + q * 4096) ≡ true = grind (arith, nat_tests) in
-    let t : nat_lt b (a + p * 4096) ≡ true = grind (arith, nat_tests) in
-    absurd (let both : (nat_lt a (b + q * 4096) && nat_lt b (a + p * 4096)) ≡ true = rw (s, t) refl in true≢false (sym both ∙ h)))
-    (λ (past : a + p * 4096 ≤ b). inr past)
-    (cases_lt b (a + p * 4096)))
-    (λ (before : b + q * 4096 ≤ a). inl (omega (arith, before, some)))
-    (cases_lt a (b + q * 4096))
+parted_ranges a p b q h some = search (rules, true≢false, cases_lt)
 
 -- a gap is a place
 pub gap_place : (regions : Regions) (pages start : ℕ) → heap_gap regions.pages regions.heap pages ≡ Some start → IsPlace heap_low (heap_high regions.pages) regions.heap pages start
-gap_place regions pages start gap =
-    let least : IsFirstGap heap_low (heap_high regions.pages) regions.heap pages (Some start) = subst (IsFirstGap heap_low (heap_high regions.pages) regions.heap pages) gap (first_gap_least heap_low (heap_high regions.pages) regions.heap pages) in
-    least.0
+gap_place regions pages start gap = grind (arith, nat_tests, first_gap_least)
 
 -- a place at which pages find a gap lies outside of a heap's chunks
 pub outside_chunks : (heap : Heap) (store : Store) (regions : Regions) (pages start : ℕ) → IsLaid heap (share_at (payer_of heap) store regions) → heap_gap regions.pages regions.heap pages ≡ Some start → 1 ≤ pages →
@@ -117,21 +105,4 @@ module _ (heap : Heap) (vec : ArrayVec ℕ) (n ds pages start : ℕ) (old new : 
   takes_others = shares_then account ds n large_tag start old new regions.pages regions.heap_most regions.heap regions.tags sound.opens sound.window fresh becomes free
 
   pub takes_large : TakesLarge heap later n start old new regions after
-  takes_large = record {
-    ds = ds;
-    attaches = record {
-      gap = subst (λ p. heap_gap regions.pages regions.heap p ≡ Some start) of_pages gap;
-      lowest = subst (λ p. heap_gap largest_machine regions.heap p ≡ Some start) of_pages lowest;
-      attached = refl;
-      charge = charge_then account ds n large_tag start old new regions.pages regions.heap_most regions.heap regions.tags sound.opens sound.window fresh becomes free;
-    };
-    value = ap (heap_in later) now
-        ∙ large_value heap S (part account new) start (record { of = ds; pages = page_of n / 4096 }) (zeros (page_of n)) vec sound.laid free_here is there whole least keeps apart (page_of n) (omega arith) refl;
-    keys = refl;
-    spaces = record {
-      fresh = fresh;
-      others = λ k other none. others k other;
-      lengths = λ k other. ap (option_map length) (others k other);
-      count = count_then account ds n large_tag start old new regions.pages regions.heap_most regions.heap regions.tags sound.opens sound.window fresh becomes free;
-    };
-  }
+  takes_large = grind (arith, nat_tests, charge_then, now, large_value, free_here, there, whole, least, keeps, apart, others, count_then)

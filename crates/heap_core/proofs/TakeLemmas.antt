@@ -1,5 +1,5 @@
 -- The best hole is taken: its payload is one more, of whatever bytes it has, and all else stays.
-use Rattle.std.proofs.Common.{◌≡◌, ℕ, ◌+◌, ◌*◌, ◌<◌, ◌≤◌, cond, eqb, List, [], length, refl, sym, ap, subst, ◌∙◌, ◌⊎◌, arith, Some}
+use Rattle.std.proofs.Common.{rules, ◌≡◌, ℕ, ◌+◌, ◌*◌, ◌<◌, ◌≤◌, cond, eqb, List, [], length, refl, sym, ap, subst, ◌∙◌, ◌⊎◌, arith, Some}
 use Rattle.std.proofs.lemmas.List.{get_or-map}
 use Rattle.std.specs.Prelude.{Option, None, slice_range}
 use Rattle.std.specs.Option.{option_and_then}
@@ -18,7 +18,7 @@ use Rattle.own_model.specs.Region.{Region}
 use Rattle.own_model.proofs.BlockLemmas.{AreBlocks-taken, block_size-fits, hole_within}
 use Rattle.own_model.proofs.BestFitLemmas.{best_is_hole, IsHoleOf}
 use Rattle.own_model.proofs.JoinedLemmas.{joined-insert_first}
-use Rattle.own_model.proofs.NatMapLemmas.{same, get-picked, get-insert}
+use Rattle.own_model.proofs.NatMapLemmas.{same, get-picked, get-insert, picked_alike}
 use Rattle.avl_alloc.specs.declared.best_fit.BestFit.{BestFit}
 use Rattle.avl_alloc.specs.Layout as avl
 use Rattle.avl_alloc.specs.Layout.{heap_of, sizes_of, ChangesHoles, weigh_holes, whole}
@@ -123,15 +123,9 @@ module _ (heap : Heap) (fit : BestFit) (n : ℕ) (hole : Spot) (old new : Store)
       ∙ sym (get-from_entries nat_cmp_total _ q))
       ∙ sym (get-insert (from_entries {R = nat_cmp} (payloads_of (part account old) heap.chunks.items H)) address payload q))
 
-  each_same : (o : Option Region) → ((r : Region) → o ≡ Some r → get (part account new).spaces r.of ≡ get (part account old).spaces r.of) → option_and_then (λ (r : Region). get (part account new).spaces r.of) o ≡ option_and_then (λ (r : Region). get (part account old).spaces r.of) o
-  each_same None h = refl
-  each_same (Some r) h = h r refl
-
   -- what large blocks show stays
   shown_now : bytes_shown (part account new).spaces (large_regions S) ≡ bytes_shown (part account old).spaces (large_regions S)
-  shown_now = same _ _ (λ q. get-picked (λ (r : Region). get (part account new).spaces r.of) (large_regions S) q
-      ∙ each_same (get (large_regions S) q) (λ r h. (keeps_spaces heap fit old new regions sound kept).others r.of (large_apart heap fit old new regions sound kept q r h))
-      ∙ sym (get-picked (λ (r : Region). get (part account old).spaces r.of) (large_regions S) q))
+  shown_now = picked_alike (λ (r : Region). get (part account new).spaces r.of) (λ (r : Region). get (part account old).spaces r.of) (large_regions S) (λ q r h. (keeps_spaces heap fit old new regions sound kept).others r.of (large_apart heap fit old new regions sound kept q r h))
 
   chunks_then : heap_of fit (words_of (keys_in heap) new) ≡ taken n H → heap_of fit (words_in (later heap fit old new regions sound kept) (part account new)) ≡ taken n H
   chunks_then is = ap (heap_of fit) (words_now heap fit old new regions sound kept) ∙ is
@@ -142,12 +136,7 @@ module _ (heap : Heap) (fit : BestFit) (n : ℕ) (hole : Spot) (old new : Store)
   payloads : heap_of fit (words_of (keys_in heap) new) ≡ taken n H →
       joined (from_entries {R = nat_cmp} (payloads_of (part account new) heap.chunks.items (heap_of fit (words_in (later heap fit old new regions sound kept) (part account new))))) (bytes_shown (part account new).spaces (large_regions S))
       ≡ insert (joined (from_entries {R = nat_cmp} (payloads_of (part account old) heap.chunks.items (heap_of heap.fit (words_in heap (part account old))))) (bytes_shown (part account old).spaces (large_regions S))) address payload
-  payloads is =
-      ap (λ h. joined (from_entries {R = nat_cmp} (payloads_of (part account new) heap.chunks.items h)) (bytes_shown (part account new).spaces (large_regions S))) (chunks_then is)
-      ∙ ap (λ m. joined m (bytes_shown (part account new).spaces (large_regions S))) small_now
-      ∙ ap (joined (insert (from_entries {R = nat_cmp} (payloads_of (part account old) heap.chunks.items H)) address payload)) shown_now
-      ∙ joined-insert_first _ _ address payload
-      ∙ ap (λ h. insert (joined (from_entries {R = nat_cmp} (payloads_of (part account old) heap.chunks.items h)) (bytes_shown (part account old).spaces (large_regions S))) address payload) (sym H_is)
+  payloads is = search (rules, chunks, chunks_then, small_now, shown_now, joined-insert_first, H_is)
 
   -- the heap then
   pub taken_value : heap_of fit (words_of (keys_in heap) new) ≡ taken n H →
@@ -157,12 +146,7 @@ module _ (heap : Heap) (fit : BestFit) (n : ℕ) (hole : Spot) (old new : Store)
         payloads = insert (heap_in heap S).payloads address payload;
       }
   unfolding heap_in share_in
-  taken_value is = ap (heap_in (later heap fit old new regions sound kept)) (share_now heap fit old new regions sound kept) ∙ (λ i. record {
-    shape = record { chunks = chunks is i; growth = heap.growth };
-    starts = starts_in heap;
-    large = picked (λ (r : Region). Some (r.pages * 4096)) (large_regions S);
-    payloads = payloads is i;
-  })
+  taken_value is = search (rules, later, share_now, chunks, payloads)
 
   -- where the payload starts, as the model has it
   start_is : payload_start (heap_in heap S) hole ≡ address
@@ -179,10 +163,4 @@ module _ (heap : Heap) (fit : BestFit) (n : ℕ) (hole : Spot) (old new : Store)
   value_at is = taken_value is ∙ ap (λ a. record (heap_in heap S) { shape = shape_taken n hole (heap_in heap S).shape; payloads = insert (heap_in heap S).payloads a payload }) (sym start_is)
 
   pub takes_hole : heap_of fit (words_of (keys_in heap) new) ≡ taken n H → TakesHole heap (later heap fit old new regions sound kept) n hole old new regions
-  takes_hole is = record {
-    chunk_there = subst (λ m. hole.chunk < m) (sym (length_keys heap.chunks.items)) in_heap;
-    value = value_at is;
-    keys = refl;
-    account = same_account heap fit old new regions sound kept;
-    spaces = keeps_spaces heap fit old new regions sound kept;
-  }
+  takes_hole is = search (rules, length_keys, chunks, in_heap, value_at, same_account, keeps_spaces)

@@ -1,5 +1,5 @@
 -- The best hole is taken: its payload is one more, of whatever bytes it has, and all else stays.
-use Rattle.std.proofs.Common.{◌≡◌, ◌≢◌, ℕ, ◌+◌, ◌*◌, ◌<◌, ◌≤◌, ◌&&◌, true≢false, true, false, length, refl, sym, ap, subst, ◌∙◌, ⊎_elim, ◌⊎◌, inl, inr, arith}
+use Rattle.std.proofs.Common.{rules, ◌≡◌, ◌≢◌, ℕ, ◌+◌, ◌*◌, ◌<◌, ◌≤◌, ◌&&◌, true≢false, true, false, length, refl, sym, ap, subst, ◌∙◌, ⊎_elim, ◌⊎◌, inl, inr, arith}
 use Rattle.std.proofs.lemmas.Bool.{cases_lt}
 use Rattle.std.proofs.lemmas.Bool.Decides.{nat_tests}
 use Rattle.std.proofs.lemmas.Option.{same_Some}
@@ -11,27 +11,15 @@ use Rattle.avl_alloc.specs.Layout as avl
 use Rattle.dataspace_core.specs.Store.{Store, part}
 use Rattle.heap_core.specs.declared.heap.Heap.{Heap}
 use Rattle.heap_core.specs.Heap.{IsSound, chunk_at, payer_of, share_at}
-use Rattle.heap_core.proofs.ShareLemmas.{in_share}
+use Rattle.dataspace_core.proofs.ShareLaws.{in_share}
 
 -- ranges of pages that don't overlap lie one after the other
 whole_ranges : (a p b q : ℕ) → overlap a p b q ≡ false → (b + q * 4096 ≤ a) ⊎ (a + p * 4096 ≤ b)
-whole_ranges a p b q h = ⊎_elim
-    (λ (low : a < b + q * 4096). ⊎_elim
-    (λ (high : b < a + p * 4096).
-    let s : nat_lt a (b + q * 4096) ≡ true = grind (arith, nat_tests) in
-    let t : nat_lt b (a + p * 4096) ≡ true = grind (arith, nat_tests) in
-    absurd (true≢false (sym (let both : (nat_lt a (b + q * 4096) && nat_lt b (a + p * 4096)) ≡ true = rw (s, t) refl in both) ∙ h)))
-    (λ (past : a + p * 4096 ≤ b). inr past)
-    (cases_lt b (a + p * 4096)))
-    (λ (before : b + q * 4096 ≤ a). inl before)
-    (cases_lt a (b + q * 4096))
+whole_ranges a p b q h = search (rules, true≢false, cases_lt)
 
 -- an address in a range of pages lies outside of one that doesn't overlap it
 pub in_other : (a p b q address : ℕ) → overlap a p b q ≡ false → b ≤ address → address < b + q * 4096 → (address < a) ⊎ (a + p * 4096 ≤ address)
-in_other a p b q address h low high = ⊎_elim
-    (λ (before : b + q * 4096 ≤ a). inl (omega (arith, before, high)))
-    (λ (past : a + p * 4096 ≤ b). inr (omega (arith, past, low)))
-    (whole_ranges a p b q h)
+in_other a p b q address h low high = search (rules, whole_ranges)
 
 module _ (heap : Heap) (store : Store) (regions : Regions) (sound : IsSound heap store regions) where
   -- an address in one chunk lies outside of every other one

@@ -1,5 +1,5 @@
 -- A block is taken in the chunk by which a heap has grown for it.
-use Rattle.std.proofs.Common.{◌≡◌, ◌≢◌, ℕ, ◌+◌, ◌*◌, ◌≤◌, ◌++◌, Bool, true, false, cond, [], ◌∷◌, length, get_or, sym, ap, subst, ◌∙◌, arith, Some}
+use Rattle.std.proofs.Common.{rules, ◌≡◌, ◌≢◌, ℕ, ◌+◌, ◌*◌, ◌≤◌, ◌++◌, Bool, true, false, cond, [], ◌∷◌, length, get_or, sym, ap, subst, ◌∙◌, arith, Some}
 use Rattle.std.proofs.Math.Seq.{get_or-append_seam}
 use Rattle.std.proofs.lemmas.List.{length-map}
 use Rattle.std.specs.Prelude.{None, max, is_none}
@@ -51,12 +51,7 @@ module _ (heap mid : Heap) (n : ℕ) (old now : Store) (regions after : Regions)
   module _ (later : Heap) (address : ℕ) (new : Store) (takes : TakesSmall mid later n (new_hole growth shape) address now new after after) where
     start_is : address ≡ grows.start + 16
     unfolding heap_in share_in
-    start_is =
-        takes.at
-        ∙ ap (λ (h : OwnHeap). payload_start h (new_hole growth shape)) grows.value
-        ∙ ap (λ k. get_or (starts_in heap ++ grows.start ∷ []) k 0 + 0 + 16) (chunk_count heap old regions sound ∙ sym (length-map heap.chunks.items (λ (c : Chunk). c.start)))
-        ∙ ap (λ s. s + 0 + 16) (get_or-append_seam (starts_in heap) grows.start [] 0)
-        ∙ omega arith
+    start_is = search (rules, chunk_count, length-map, get_or-append_seam)
 
     same_account : (part_at heap new).account ≡ (part_at heap now).account
     same_account = subst (λ p. (part p new).account ≡ (part p now).account) payer takes.account
@@ -65,9 +60,7 @@ module _ (heap mid : Heap) (n : ℕ) (old now : Store) (regions after : Regions)
     same_length k = subst (λ p. option_map length (get (part p new).spaces k) ≡ option_map length (get (part p now).spaces k)) payer (takes.spaces.lengths k)
 
     same_space : (k : ℕ) → k ≢ grows.ds → is_among (keys_in heap) k ≡ false → get (part_at heap new).spaces k ≡ get (part_at heap now).spaces k
-    same_space k other none_among =
-        subst (λ p. get (part p new).spaces k ≡ get (part p now).spaces k) payer
-        (takes.spaces.others k (ap (λ ks. is_among ks k) grows.keys ∙ among_more (keys_in heap) grows.ds k other ∙ none_among))
+    same_space k other none_among = search (rules, among_more)
 
     pub takes_grown : TakesGrown heap later n address old new regions after
     unfolding heap_in share_in

@@ -1,5 +1,6 @@
 -- Two heaps on one map: both stay sound over each other's calls, and a write into a payload of the one.
-use Rattle.std.proofs.Common.{◌≡◌, ◌+◌, ◌*◌, ◌≤◌, ℕ, length, is_some, refl, sym, ap, subst, ◌∙◌, arith}
+use Rattle.std.proofs.lemmas.Bool.Decides.{nat_tests}
+use Rattle.std.proofs.Common.{rules, ◌≡◌, ◌+◌, ◌*◌, ◌≤◌, ℕ, length, is_some, refl, sym, ap, subst, ◌∙◌, arith}
 use Rattle.std.specs.Prelude.{None}
 use Rattle.std.specs.FinMap.{get}
 use Rattle.trade_base.specs.Word.{word_bytes}
@@ -37,20 +38,13 @@ module _ (heap other : Heap) (store now : Store) (regions : Regions) (same : now
   held_exists = subst (λ (s : Store). Exists s ds) (sym same) held_paid.exists
 
   pub held_fits : offset + count ≤ length (space_at now ds).bytes
-  held_fits =
-      let into = held.into in
-      let low = held.low in
-      let high = held.high in
-      let within = held.within in
-      let long = ap (λ (s : Store). length (space_at s ds).bytes) same ∙ ap length held_paid.bytes_are in
-      omega (arith, into, low, high, within, long)
+  held_fits = grind (arith, nat_tests, held_paid)
 
   -- and a word that is written there leaves both heaps sound
   module _ (new : Store) (word : ℕ) (count_is : count ≡ 8)
       (wrote : PartBecomes (space_at now ds).payer (part_with_bytes (part (space_at now ds).payer now) ds offset (word_bytes word)) now new) where
     becomes : PartBecomes (payer_of heap) (part_with_bytes (part (payer_of heap) store) ds offset (word_bytes word)) store new
-    becomes = becomes_paid (λ p. part_with_bytes p ds offset (word_bytes word)) held_paid
-        (subst (λ (s : Store). PartBecomes (space_at s ds).payer (part_with_bytes (part (space_at s ds).payer s) ds offset (word_bytes word)) s new) same wrote)
+    becomes = search (rules, becomes_paid, held_paid)
 
     pub beside_poked : AreBeside heap other new regions
     beside_poked = beside_after heap other heap store new regions regions both

@@ -1,4 +1,5 @@
 -- A memory is as it was where the words of chunks are, and all around them.
+use Rattle.std.proofs.lemmas.Bool.Decides.{nat_tests}
 use Rattle.std.proofs.Common.{◌≡◌, ℕ, ◌-◌, ◌^◌, ◌<◌, true, false, List, [], length, get_or, refl, sym, ap, subst, ◌∙◌, unwrap_or, arith, Some}
 use Rattle.std.proofs.lemmas.List.{take_all}
 use Rattle.std.proofs.lemmas.Option.{same_Some}
@@ -24,9 +25,7 @@ blank_back : (o p : Option Space) → option_map (blank_if true) o ≡ option_ma
 blank_back None None e f = refl
 blank_back None (Some t) e f = cc
 blank_back (Some s) None e f = cc
-blank_back (Some s) (Some t) e f =
-    let payer = same_Some s.payer t.payer (ap (option_map (λ (x : Space). x.payer)) e) in
-    ap Some (λ i. record { payer = payer i; bytes = f i })
+blank_back (Some s) (Some t) e f = grind (arith, nat_tests, same_Some)
 
 whole_slice : (bytes : List ℕ) (n : ℕ) → length bytes ≡ n → slice_range bytes 0 n ≡ bytes
 whole_slice bytes n long = take_all (n - 0) bytes (omega (arith, long))
@@ -75,7 +74,4 @@ module _ (heap : Heap) (old new : Store) (regions : Regions) (sound : IsSound he
   ] refl
 
   pub store_same : new ≡ old
-  store_same =
-      let rest = ap (λ (a : Around). a.store) kept in
-      let spaces = same new.spaces old.spaces space_same in
-      λ i. record (rest i) { spaces = spaces i }
+  store_same = grind (arith, nat_tests, ap (λ (a : Around). a.store) kept, same new.spaces old.spaces space_same)

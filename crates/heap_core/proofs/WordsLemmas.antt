@@ -1,5 +1,5 @@
 -- Words of chunks: a load reads one, a store changes one and nothing around.
-use Rattle.std.proofs.Common.{◌≡◌, ◌≢◌, ℕ, zero, suc, ◌+◌, ◌-◌, ◌/◌, ◌%◌, ◌^◌, ◌<◌, ◌≤◌, ◌==◌, ◌&&◌, Bool, true, false, cond, List, [], ◌∷◌, ◌++◌, length, take, drop, get_or, refl, sym, ap, subst, ◌∙◌, ⊎_elim, ◌⊎◌, inl, inr, arith}
+use Rattle.std.proofs.Common.{rules, ◌≡◌, ◌≢◌, ℕ, zero, suc, ◌+◌, ◌-◌, ◌/◌, ◌%◌, ◌^◌, ◌<◌, ◌≤◌, ◌==◌, ◌&&◌, Bool, true, false, cond, List, [], ◌∷◌, ◌++◌, length, take, drop, get_or, refl, sym, ap, subst, ◌∙◌, ⊎_elim, ◌⊎◌, inl, inr, arith}
 use Rattle.std.proofs.lemmas.Bool.{cases_eq, cases_lt}
 use Rattle.std.proofs.lemmas.Bool.Decides.{nat_tests}
 use Rattle.std.proofs.lemmas.List.{get_or-map, length-map}
@@ -27,12 +27,9 @@ use Rattle.heap_core.specs.Words.{keys_of, is_among, are_distinct, are_bytes, ar
 pub distinct_apart : (keys : List ℕ) (i j : ℕ) → are_distinct keys ≡ true → i < length keys → j < length keys → get_or keys i 0 ≡ get_or keys j 0 → i ≡ j
 distinct_apart [] i j once a b e = absurd (omega (arith, a))
 distinct_apart (x ∷ xs) zero zero once a b e = refl
-distinct_apart (x ∷ xs) zero (suc j) once a b e =
-    let there = list_any_at (λ y. y == x) xs j 0 (omega (arith, b)) (grind (arith, nat_tests, e)) in grind (arith, nat_tests, there)
-distinct_apart (x ∷ xs) (suc i) zero once a b e =
-    let there = list_any_at (λ y. y == x) xs i 0 (omega (arith, a)) (grind (arith, nat_tests, e)) in grind (arith, nat_tests, there)
-distinct_apart (x ∷ xs) (suc i) (suc j) once a b e =
-    ap suc (distinct_apart xs i j (grind (arith, nat_tests)) (omega (arith, a)) (omega (arith, b)) e)
+distinct_apart (x ∷ xs) zero (suc j) once a b e = grind (arith, nat_tests, list_any_at)
+distinct_apart (x ∷ xs) (suc i) zero once a b e = grind (arith, nat_tests, list_any_at)
+distinct_apart (x ∷ xs) (suc i) (suc j) once a b e = grind (arith, nat_tests, distinct_apart xs i j (grind (arith, nat_tests)) (omega (arith, a)) (omega (arith, b)) e)
 
 -- a key of these is among them
 pub among_there : (keys : List ℕ) (i : ℕ) → i < length keys → is_among keys (get_or keys i 0) ≡ true
@@ -97,15 +94,10 @@ pub record AreChunks (keys : List ℕ) (bytes : ℕ → List ℕ) : Type 0 where
   pub few : length keys ≤ 64
 
 pub sound_chunks : (keys : List ℕ) (bytes : ℕ → List ℕ) → are_chunks keys bytes ≡ true → AreChunks keys bytes
-sound_chunks keys bytes h =
-    let t = both_true (are_distinct keys) _ h in
-    let u = both_true (list_all (λ ds. are_bytes (bytes ds)) keys) _ t.1 in
-    record { once = t.0; each = u.0; few = let e = u.1 in grind (arith, nat_tests, e) }
+sound_chunks keys bytes h = grind (arith, nat_tests, both_true)
 
 pub chunks_sound : (keys : List ℕ) (bytes : ℕ → List ℕ) → AreChunks keys bytes → are_chunks keys bytes ≡ true
-chunks_sound keys bytes h =
-    let few : nat_le (length keys) 64 ≡ true = let l = h.few in grind (arith, nat_tests, l) in
-    rw (h.once, h.each, few) refl
+chunks_sound keys bytes h = grind (arith, nat_tests)
 
 -- where a word is
 pub record IsReached (keys : List ℕ) (store : Store) (chunk offset : ℕ) : Type 0 where
@@ -123,30 +115,18 @@ around_test false there n offset h = absurd (omega (arith, h))
 
 pub is_reached : (keys : List ℕ) (store : Store) (chunk offset : ℕ) → IsWord (bytes_around (around keys store)) chunk offset → IsReached keys store chunk offset
 unfolding bytes_around spaces_but
-is_reached keys store chunk offset h =
-    let ds = get_or keys chunk 0 in
-    let t = around_test (are_chunks keys (bytes_in_store store)) (nat_lt chunk (length keys)) (size_in (option_map (blank_if (is_among keys ds)) (get store.spaces ds))) offset h.within in
-    let long : offset + 8 ≤ size_in (get store.spaces ds) = subst (λ (n : ℕ). offset + 8 ≤ n) (size_blank (is_among keys ds) (get store.spaces ds)) t.2 in
-    record { sound = sound_chunks keys (bytes_in_store store) t.0; there = let e = t.1 in grind (arith, nat_tests, e); aligned = h.aligned; short = h.short; long = long; exists = size_some (get store.spaces ds) offset long }
+is_reached keys store chunk offset h = grind (arith, nat_tests, around_test, size_blank, sound_chunks, size_some)
 
 -- ---- the word at a place
 
 -- the word at an offset of a chunk
 pub word_at_place : (keys : List ℕ) (bytes : ℕ → List ℕ) (chunk offset : ℕ) → chunk < length keys → offset < 2 ^ 32 → word_in keys bytes (place_at chunk offset) ≡ word_from (bytes (get_or keys chunk 0)) offset
 unfolding word_in
-word_at_place keys bytes chunk offset there short =
-    let low : nat_lt (place_at chunk offset) (2 ^ 32) ≡ false = grind (arith, nat_tests) in
-    let number : place_at chunk offset / 2 ^ 32 - 1 ≡ chunk = omega (arith, short) in
-    let rest : place_at chunk offset % 2 ^ 32 ≡ offset = omega (arith, short) in
-    let within : nat_lt chunk (length keys) ≡ true = grind (arith, nat_tests) in
-    rw (low, number, rest, within) refl
+word_at_place keys bytes chunk offset there short = grind (arith, nat_tests)
 
 -- a word that is there
 pub word_there : (bytes : List ℕ) (offset : ℕ) → offset % 8 ≡ 0 → offset + 8 ≤ length bytes → word_from bytes offset ≡ word_of (slice_range bytes offset (offset + 8))
-word_there bytes offset aligned long =
-    let a : (offset % 8 == 0) ≡ true = grind (arith, nat_tests) in
-    let b : nat_le (offset + 8) (length bytes) ≡ true = grind (arith, nat_tests) in
-    rw (a, b) refl
+word_there bytes offset aligned long = grind (arith, nat_tests)
 
 -- ---- a store
 
@@ -170,33 +150,16 @@ module _ (bytes : List ℕ) (offset value : ℕ) (aligned : offset % 8 ≡ 0) (l
 
   -- the word reads back
   pub word_back : value < 2 ^ 64 → word_from after offset ≡ value
-  word_back small =
-      word_there after offset aligned (rw length_after long)
-      ∙ ap (λ n. word_of (slice_range after offset (offset + n))) (sym (length-word_bytes value))
-      ∙ ap word_of (slice_range-with_bytes bytes offset (word_bytes value) fits)
-      ∙ word_of-word_bytes value small
+  word_back small = search (rules, word_there, length_after, length-word_bytes, slice_range-with_bytes, fits, word_of-word_bytes)
 
   -- every other word stays
   pub word_elsewhere : (other : ℕ) → other ≢ offset → word_from after other ≡ word_from bytes other
-  word_elsewhere other apart =
-      ap (λ n. cond (other % 8 == 0 && nat_le (other + 8) n) (word_of (slice_range after other (other + 8))) 0) length_after
-      ∙ same_if (other % 8 == 0 && nat_le (other + 8) (length bytes)) _ _ (λ h.
-      let t = both_true (other % 8 == 0) _ h in
-      let even : other % 8 ≡ 0 = let e = t.0 in grind (arith, nat_tests, e) in
-      ap word_of (⊎_elim
-      (λ (before : other + 8 ≤ offset). range_before bytes offset (word_bytes value) other (other + 8) before fits)
-      (λ (behind : offset + 8 ≤ other). let l = length-word_bytes value in range_after bytes offset (word_bytes value) other (other + 8) (omega (arith, behind, l)) fits)
-      (parted other offset even aligned apart)))
+  word_elsewhere other apart = search (rules, length_after, same_if, both_true, range_before, fits, length-word_bytes, range_after, parted)
 
 -- bytes put over bytes leave bytes
 pub bytes_put : (bytes : List ℕ) (offset : ℕ) (part : List ℕ) → are_bytes bytes ≡ true → are_bytes part ≡ true → are_bytes (with_bytes bytes offset part) ≡ true
 unfolding with_bytes
-bytes_put bytes offset part h g =
-    let front = list_all-append (λ b. nat_lt b 256) (take offset bytes) part in
-    let all = list_all-append (λ b. nat_lt b 256) (take offset bytes ++ part) (drop (offset + length part) bytes) in
-    let a = bytes_taken bytes offset h in
-    let c = bytes_dropped bytes (offset + length part) h in
-    grind (arith, nat_tests, front, all, a, c, g)
+bytes_put bytes offset part h g = grind (arith, nat_tests, list_all-append, bytes_taken, bytes_dropped)
 
 -- a dataspace with its bytes left out is the same for bytes of one length
 blank_same : (o : Option Space) (bytes : List ℕ) → IsSome o → length bytes ≡ size_in o → option_map (blank_if true) (Some (record { payer = (unwrap_or o (record { payer = 0; bytes = [] })).payer; bytes = bytes })) ≡ option_map (blank_if true) o
@@ -224,9 +187,7 @@ module _ (keys : List ℕ) (store : Store) (chunk offset : ℕ) (bytes : List �
       (cases_eq (get_or keys i 0) (get_or keys chunk 0))
 
   put_sound : are_chunks keys (bytes_in_store put) ≡ are_chunks keys (bytes_in_store store)
-  put_sound =
-      let after : AreChunks keys (bytes_in_store put) = record { once = sound.once; each = all_bytes keys (bytes_in_store put) put_bytes; few = sound.few } in
-      chunks_sound keys (bytes_in_store put) after ∙ sym (chunks_sound keys (bytes_in_store store) sound)
+  put_sound = grind (arith, nat_tests, all_bytes, put_bytes, chunks_sound)
 
   put_spaces : (k : ℕ) → spaces_but keys put k ≡ spaces_but keys store k
   unfolding spaces_but
@@ -261,42 +222,15 @@ module _ (keys : List ℕ) (store : Store) (chunk offset value : ℕ) (at : IsRe
 
   -- a word of a chunk at another place than this one
   in_chunk : (c o : ℕ) → c < length keys → ((c ≡ chunk) → o ≢ offset) → word_from (bytes_in_store stored (get_or keys c 0)) o ≡ word_from (now (get_or keys c 0)) o
-  in_chunk c o there apart = ⊎_elim
-      (λ (same : c ≡ chunk).
-      ap (λ b. word_from b o) (bytes_at (get_or keys c 0) (ap (λ n. get_or keys n 0) same))
-      ∙ word_elsewhere (now ds) offset value at.aligned at.long o (apart same)
-      ∙ ap (λ n. word_from (now (get_or keys n 0)) o) (sym same))
-      (λ (other : c ≢ chunk). ap (λ b. word_from b o) (bytes_other (get_or keys c 0) (λ e.
-      other (distinct_apart keys c chunk at.sound.once there at.there e))))
-      (cases_eq c chunk)
+  in_chunk c o there apart = search (rules, bytes_at, word_elsewhere, bytes_other, distinct_apart, cases_eq)
 
   elsewhere : (q : ℕ) → q ≢ place_at chunk offset → word_in keys (bytes_in_store stored) q ≡ word_in keys now q
   unfolding word_in
-  elsewhere q other = ⊎_elim
-      (λ (low : q < 2 ^ 32). let e : nat_lt q (2 ^ 32) ≡ true = grind (arith, nat_tests) in rw e refl)
-      (λ (high : 2 ^ 32 ≤ q).
-      let e : nat_lt q (2 ^ 32) ≡ false = grind (arith, nat_tests) in
-      let c = q / 2 ^ 32 - 1 in
-      ⊎_elim
-      (λ (there : c < length keys).
-      let t : nat_lt c (length keys) ≡ true = grind (arith, nat_tests) in
-      rw (e, t) (in_chunk c (q % 2 ^ 32) there (λ same also. other (omega (arith, high, same, also)))))
-      (λ (out : length keys ≤ c). let t : nat_lt c (length keys) ≡ false = grind (arith, nat_tests) in rw (e, t) refl)
-      (cases_lt c (length keys)))
-      (cases_lt q (2 ^ 32))
+  elsewhere q other = search (rules, in_chunk, cases_lt)
 
   each : (q : ℕ) → word_in keys (bytes_in_store stored) q ≡ with_word (word_in keys now) (place_at chunk offset) value q
   unfolding with_word
-  each q = ⊎_elim
-      (λ (same : q ≡ place_at chunk offset).
-      let e : (q == place_at chunk offset) ≡ true = grind (arith, nat_tests) in
-      rw e (ap (word_in keys (bytes_in_store stored)) same
-      ∙ word_at_place keys (bytes_in_store stored) chunk offset at.there at.short
-      ∙ ap (λ b. word_from b offset) (bytes_at ds refl)
-      ∙ word_back (now ds) offset value at.aligned at.long small))
-      (λ (other : q ≢ place_at chunk offset).
-      let e : (q == place_at chunk offset) ≡ false = grind (arith, nat_tests) in rw e (elsewhere q other))
-      (cases_eq q (place_at chunk offset))
+  each q = search (rules, word_at_place, bytes_at, word_back, elsewhere, cases_eq)
 
   -- that word is another one
   pub words_stored : word_in keys (bytes_in_store stored) ≡ with_word (word_in keys now) (place_at chunk offset) value
@@ -304,8 +238,7 @@ module _ (keys : List ℕ) (store : Store) (chunk offset value : ℕ) (at : IsRe
 
   -- and nothing around changes
   pub around_kept : around keys stored ≡ around keys store
-  around_kept = let l = length-word_bytes value in let long = at.long in
-      put_around keys store chunk offset (word_bytes value) at.sound at.there at.exists (omega (arith, l, long)) (below_bytes (word_bytes value) (word_bytes-lt value))
+  around_kept = grind (arith, nat_tests, length-word_bytes, put_around, below_bytes, word_bytes-lt)
 
 -- ---- chunks by their numbers
 

@@ -12,6 +12,7 @@ use Rattle.avl_alloc.specs.Layout.{heap_of, sizes_of}
 use Rattle.region_map.specs.Regions.{Regions}
 use Rattle.dataspace_core.specs.Store.{Store, Part, bytes_of, IsOpenIn}
 use Rattle.dataspace_core.specs.Share.{Share, share, IsWindowOf}
+pub use Rattle.heap_window.specs.Window.{share_at, large_tag, is_large_tag, large_regions}
 use Rattle.heap_core.specs.declared.words.Chunk.{Chunk}
 use Rattle.heap_core.specs.declared.heap.Heap.{Heap}
 use Rattle.heap_core.specs.Words.{keys_of, are_bytes, word_in}
@@ -19,10 +20,6 @@ use Rattle.heap_core.specs.Words.{keys_of, are_bytes, word_in}
 -- the key of the account that pays for a heap
 abbrev pub payer_of : Heap → ℕ
 payer_of heap = heap.account.0
-
--- the share of an account in a memory and a map
-abbrev pub share_at : ℕ → Store → Regions → Share
-share_at account store regions = share account store regions.heap regions.tags
 
 -- ---- the blocks of chunks
 
@@ -57,19 +54,6 @@ payloads_of part (chunk ∷ chunks) (blocks ∷ heap) =
     payloads_from chunk.start 0 (bytes_of part chunk.ds.0) blocks ++ payloads_of part chunks heap
 
 -- ---- large blocks
-
--- the number that the region of a large block keeps. That of a chunk keeps the chunk's number, which is lower
-abbrev pub large_tag : ℕ
-large_tag = 64
-
--- whether this is the number that a large block's region keeps
-abbrev pub is_large_tag : Option ℕ → Bool
-is_large_tag None = false
-is_large_tag (Some tag) = tag == large_tag
-
--- the heap regions of large blocks
-abbrev pub large_regions : Share → NatMap Region
-large_regions share = retain_keys share.heap (λ start. is_large_tag (get share.tags start))
 
 -- the bytes of the dataspaces that regions show
 abbrev pub bytes_shown : NatMap (List ℕ) → NatMap Region → NatMap (List ℕ)

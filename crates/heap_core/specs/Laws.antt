@@ -9,14 +9,11 @@ use Rattle.own_model.specs.Region.{Region}
 use Rattle.region_map.specs.Regions.{Regions}
 use Rattle.dataspace_core.specs.Store.{Store, part, IsOpenIn, PartBecomes, part_with_bytes, ram_limits_in}
 use Rattle.dataspace_core.specs.Share.{Share, IsWindowOf, KeepsShares}
+pub use Rattle.heap_window.specs.Window.{IsMapOf, block_region}
 use Rattle.heap_core.specs.declared.heap.Heap.{Heap}
 use Rattle.heap_core.specs.Calls.{HoldsRange}
 use Rattle.heap_core.specs.Heap.{HasNoBlocks, IsSound, heap_at, large_tag, payer_of, share_at}
 use Rattle.heap_core.specs.Words.{are_bytes}
-
--- a map is as large as the memory, and each heap region in it shows the whole of a dataspace of its own, and they lie apart
-abbrev pub IsMapOf : Store → Regions → Type 0
-IsMapOf store regions = IsWindowOf store regions.pages regions.heap_most regions.heap
 
 -- a map without a heap region is one of each memory of its size, and holds no block
 abbrev pub EmptyMapsHaveNoBlocks : Type 0
@@ -26,11 +23,6 @@ EmptyMapsHaveNoBlocks =
     IsMapOf store regions × ((account : ℕ) → HasNoBlocks (share_at account store regions))
 
 -- ---- other calls
-
--- the region of a chunk or of a large block that starts at an address, and the number that it keeps
-abbrev pub block_region : Share → ℕ → Option (Region × ℕ)
-block_region share start =
-    option_and_then (λ tag. if nat_le tag large_tag then option_map (λ region. (region, tag)) (get share.heap start) else None) (get share.tags start)
 
 -- a heap is as it was: sound, its blocks and what they hold the same, and where they were
 pub record HeapStays (heap : Heap) (old new : Store) (regions after : Regions) : Type 0 where

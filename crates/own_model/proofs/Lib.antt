@@ -57,3 +57,4 @@ pub mod RouteLemmas
 pub mod AloneLemmas
 pub mod ListedLemmas
 pub mod SaidByLemmas
+pub mod AccountLemmas

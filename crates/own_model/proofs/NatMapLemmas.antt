@@ -58,6 +58,11 @@ pub none_of : {X : Type 0} (o : Option X) → is_some o ≡ false → o ≡ None
 none_of None h = refl
 none_of (Some v) h = absurd (true≢false h)
 
+-- what can't be there is none
+pub none_if : {X : Type 0} (o : Option X) → ((v : X) → o ≡ Some v → ⊥) → o ≡ None
+none_if None h = refl
+none_if (Some v) h = absurd (h v refl)
+
 -- what an option that is there has
 pub some_of : {X : Type 0} (o : Option X) → IsSome o → (v : X) × (o ≡ Some v)
 some_of None h = absurd (true≢false (sym h))

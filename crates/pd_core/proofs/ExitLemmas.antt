@@ -34,7 +34,7 @@ use Rattle.pd_core.specs.declared.component.Role.{Role}
 use Rattle.pd_core.specs.declared.component.Role.TheVariants.{Script as AScript, Log as ALog, Files as AFiles, Gone as AGone}
 use Rattle.pd_core.proofs.ChangeLemmas.{ChangesCore, Follows, core_after}
 use Rattle.pd_core.proofs.ComponentLemmas.{pays_is, pays_script}
-use Rattle.pd_core.proofs.ExitRoomLemmas.{room_after_exit}
+use Rattle.dataspace_core.proofs.RoomLaws.{room_after_exit}
 use Rattle.pd_core.proofs.HeldLemmas.{same_place, not_place, not_session, no_place, pays_alone, held_by}
 use Rattle.pd_core.proofs.RoleLemmas.{Leaves, role_left, rows_left}
 use Rattle.pd_core.proofs.WorldLemmas.{same_leads, Face, face_of, SameFaces, face_set, world_changed, role_at, role_set, role_kept}

@@ -28,15 +28,16 @@ use Rattle.heap_core.specs.Calls.{HoldsRange}
 use Rattle.heap_core.specs.Heap.{payer_of as heap_payer, heap_at, large_tag}
 use Rattle.heap_core.specs.Laws.{Pokes, block_region}
 use Rattle.heap_core.specs.Words.{are_bytes}
-use Rattle.heap_core.proofs.ShareLemmas.{in_share}
+use Rattle.dataspace_core.proofs.ShareLaws.{in_share}
 use Rattle.pd_core.specs.Own.{Sessions, selector_of, own_of}
-use Rattle.file_service.proofs.BesideLemmas.{region_of_block}
+use Rattle.heap_window.proofs.ShareLemmas.{region_of_block}
 use Rattle.pd_core.proofs.BytesLemmas.{renamed_is}
 use Rattle.pd_core.proofs.HeapCallLemmas.{Owns, Ends, Alone, own_in}
 use Rattle.pd_core.proofs.OwnLemmas.{all_sessions}
 use Rattle.heap_core.proofs.RangeLemmas.{payload_poked, payload_read}
 use Rattle.heap_core.proofs.BlockRangeLemmas.{blocks_are_regions as heap_blocks_are_regions}
-use Rattle.file_service.proofs.WindowLemmas.{IsPut, is_put, blocks_in_place, kept_tag, low_tag, tagged}
+use Rattle.heap_window.proofs.WindowLemmas.{IsPut, is_put, blocks_in_place, tagged}
+use Rattle.heap_window.proofs.ShareLemmas.{kept_tag, low_tag}
 
 -- what is made of something comes from something
 mapped_from : {X Y : Type 0} (f : X → Y) (o : Option X) (y : Y) → option_map f o ≡ Some y → (x : X) × (o ≡ Some x) × (f x ≡ y)

@@ -36,6 +36,5 @@ pub mod HeapPlaceLemmas
 pub mod ReleaseLemmas
 pub mod EndLemmas
 pub mod ExitWorldLemmas
-pub mod ExitRoomLemmas
 pub mod ExitLemmas
 pub mod ExitCallLemmas

@@ -30,7 +30,7 @@ use Rattle.sliced_heap.proofs.HeapLaws.{payload_poked, payload_read}
 use Rattle.pd_core.specs.Own.{Sessions, own_at, own_of, part_at, own_heap_at, sliced_at, selector_of, IsFound, IsFoundInSliced, IsFoundInBlock}
 use Rattle.pd_core.specs.Sound.{IsSoundScript}
 use Rattle.pd_core.specs.declared.script.Script.{Script}
-use Rattle.file_service.proofs.BesideLemmas.{map_of, sliced_no_block}
+use Rattle.heap_window.proofs.BesideLemmas.{map_of, sliced_no_block}
 use Rattle.pd_core.proofs.BytesLemmas.{renamed_is, has, fits, peek_is, poke_settles}
 use Rattle.pd_core.proofs.HeapCallLemmas.{own_in, parts, finishes_parts}
 use Rattle.heap_core.proofs.StayLemmas.{heap_stays}
@@ -38,7 +38,7 @@ use Rattle.pd_core.proofs.HeapPlaceLemmas.{block_fits, block_peeked, block_poked
 use Rattle.pd_core.proofs.OwnLemmas.{settled}
 use Rattle.pd_core.proofs.ScriptLemmas.{Finishes, finishes, at_heap, block_there, is_region}
 use Rattle.pd_core.proofs.SlicedLemmas.{ChangesHeaps, no_block, finishes_heaps}
-use Rattle.file_service.proofs.WindowLemmas.{IsPut, is_put}
+use Rattle.heap_window.proofs.WindowLemmas.{IsPut, is_put}
 
 module _ (store : Store) (script : Script) (sound : IsSoundScript store script) (address ds offset : ℕ) where
   -- ---- in a sliced block's payload

@@ -10,8 +10,8 @@ use Rattle.own_model.specs.NatMap.{NatMap}
 use Rattle.own_model.specs.OwnHeap.{no_heap}
 use Rattle.own_model.specs.Session.{Labelled}
 use Rattle.own_model.proofs.NatMapLemmas.{same}
-use Rattle.quota_core.specs.SlabMap.{map_of}
-use Rattle.quota_core.proofs.SlabMap.{get-map_of, get-map_of_at}
+use Rattle.slab_map.specs.SlabMap.{map_of}
+use Rattle.slab_map.proofs.SlabMap.{get-map_of, get-map_of_at}
 use Rattle.region_map.specs.Regions.{Regions}
 use Rattle.dataspace_core.specs.Share.{Share}
 use Rattle.dataspace_core.specs.Store.{Store, Part, part, ram_limits_in, caps_limits_in}

@@ -20,12 +20,13 @@ use Rattle.heap_core.specs.Laws.{block_region, IsMapOf, HeapStays as HeapStaysAs
 use Rattle.sliced_heap.specs.Heap.{payer_of as sliced_payer, share_at, blocks_at, MapsMemory}
 use Rattle.sliced_heap.specs.Sliced.{block_regions}
 use Rattle.sliced_heap.specs.Laws.{HeapStays}
-use Rattle.sliced_heap.proofs.ShareLemmas.{shown_block}
+use Rattle.heap_window.proofs.ShareLemmas.{shown_block}
 use Rattle.sliced_heap.proofs.HeapLaws.{map_stays_for_payer, heap_stays, heap_stays_elsewhere}
 use Rattle.pd_core.specs.Own.{Sessions, HasSessions, own_of, own_at, part_at, own_heap_at, sliced_at}
 use Rattle.pd_core.specs.Sound.{IsScript, IsSoundScript, Keeps}
 use Rattle.pd_core.specs.declared.script.Script.{Script}
-use Rattle.file_service.proofs.BesideLemmas.{map_of, whole_share, whole_tags, region_of_block, stands_alike}
+use Rattle.heap_window.proofs.BesideLemmas.{map_of, whole_share, whole_tags, stands_alike}
+use Rattle.heap_window.proofs.ShareLemmas.{region_of_block}
 use Rattle.heap_core.proofs.StayLemmas as heap_laws
 use Rattle.pd_core.proofs.OwnLemmas.{Settles}
 

@@ -1,3 +1,2 @@
-pub mod SlabMap
 pub mod BooksLemmas
 pub mod BooksLaws

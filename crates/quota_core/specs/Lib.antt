@@ -1,3 +1,2 @@
 pub mod Books
 pub mod Kept
-pub mod SlabMap

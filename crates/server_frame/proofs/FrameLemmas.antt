@@ -10,14 +10,15 @@ use Rattle.slab.specs.Slab as slab
 use Rattle.own_model.specs.Account.{Account}
 use Rattle.own_model.specs.Region.{Region}
 use Rattle.own_model.proofs.NatMapLemmas.{same, value_at, get-empty, get-picked, get-insert_same, get-insert_other, get-remove_same, get-remove_other}
-use Rattle.quota_core.specs.SlabMap.{map_of}
-use Rattle.quota_core.proofs.SlabMap.{get-map_of}
+use Rattle.slab_map.specs.SlabMap.{map_of}
+use Rattle.slab_map.proofs.SlabMap.{get-map_of}
 use Rattle.region_map.specs.Regions.{Regions}
 use Rattle.dataspace_core.specs.Store.{Store, Part, part, account_of, account_in, space_at, parents_in, IsOpenIn, IsLeafIn}
 use Rattle.dataspace_core.specs.Share.{Share, share_in, shown}
 use Rattle.dataspace_core.proofs.PartLaws.{account_of-part, open_in_part, part_open, part_of_payer, paid_in_part}
 use Rattle.sliced_heap.specs.Heap.{payer_of, share_at, MapsMemory}
-use Rattle.sliced_heap.proofs.ShareLemmas.{is_shared}
+use Rattle.dataspace_core.proofs.ShareLaws.{in_share}
+use Rattle.heap_window.proofs.ShareLemmas.{share_has}
 use Rattle.server_frame.specs.Session.{holding}
 use Rattle.server_frame.specs.Frame.{row_of, Holds, IsSessions, IsServer}
 use Rattle.server_frame.specs.declared.server.Session.{Session}
@@ -89,12 +90,6 @@ module _ (old new : Store) (regions after : Regions) where
 
 -- ---- the regions of a map
 
--- a region that shows a dataspace of an account is in its share
-in_share : (account : ℕ) (store : Store) (regions : Regions) (start : ℕ) (r : Region) → get regions.heap start ≡ Some r → IsSome (get (part account store).spaces r.of) → get (share_at account store regions).heap start ≡ Some r
-unfolding share_in
-in_share account store regions start r there paid =
-    get-picked (shown (part account store).spaces) regions.heap start ∙ ap (option_and_then (shown (part account store).spaces)) there ∙ ap (λ b. cond b (Some r) None) paid
-
 -- the dataspace that a region shows is its payer's
 shows_payer : (store : Store) (regions : Regions) → MapsMemory store regions → (start : ℕ) (r : Region) → get regions.heap start ≡ Some r → IsSome (get (part (space_at store r.of).payer store).spaces r.of)
 shows_payer store regions maps start r there =
@@ -105,11 +100,11 @@ shows_payer store regions maps start r there =
 region_was : (account : ℕ) (old new : Store) (regions after : Regions) → MapsMemory new after → (start : ℕ) (r : Region) → get after.heap start ≡ Some r → (space_at new r.of).payer ≡ account →
     holding (share_at account new after) ≡ holding (share_at account old regions) → (get regions.heap start ≡ Some r) × ((space_at old r.of).payer ≡ account)
 region_was account old new regions after maps start r there pays held =
-    let now = in_share account new after start r there (subst (λ k. IsSome (get (part k new).spaces r.of)) pays (shows_payer new after maps start r there)) in
+    let now = share_has account new after start r there (subst (λ k. IsSome (get (part k new).spaces r.of)) pays (shows_payer new after maps start r there)) in
     let was = ap (λ (s : Share). get s.heap start) (sym held) ∙ now in
-    let shared = is_shared account old regions start r was in
-    let has = value_at (part account old).spaces r.of shared.paid in
-    (shared.there, (paid_in_part account r.of has.0 old has.1).payer)
+    let shared = in_share (part account old) regions.heap regions.tags start r was in
+    let has = value_at (part account old).spaces r.of shared.1 in
+    (shared.0, (paid_in_part account r.of has.0 old has.1).payer)
 
 -- ---- all sessions
 

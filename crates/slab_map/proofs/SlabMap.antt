@@ -11,7 +11,7 @@ use Rattle.slab.specs.Slab as slab
 use Rattle.slab.proofs.SlabLemmas.{ContainsKey-within, Updates-with_value}
 use Rattle.own_model.proofs.NatMapLemmas.{same, get-empty, get-insert_same, get-insert_other, get-remove_same, get-remove_other}
 use Rattle.own_model.proofs.SlotLemmas.{get-held_from, len-held_from}
-use Rattle.quota_core.specs.SlabMap.{map_of}
+use Rattle.slab_map.specs.SlabMap.{map_of}
 
 module _ {T X : Type 0} (f : T → X) where
   -- what is read of a slot

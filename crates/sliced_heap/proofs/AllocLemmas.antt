@@ -19,10 +19,11 @@ use Rattle.dataspace_core.specs.Store.{Store, Space, Part, part, bytes_of, PartB
 use Rattle.dataspace_core.proofs.LimitLaws.{pages_held, regions_within_pages}
 use Rattle.dataspace_core.proofs.PartLaws.{account_of-part}
 use Rattle.dataspace_core.proofs.PartLemmas.{part-fresh}
+use Rattle.dataspace_core.proofs.WindowLaws.{unshown_free}
 use Rattle.sliced_heap.specs.declared.heap.SlicedHeap.{SlicedHeap}
 use Rattle.sliced_heap.specs.Heap.{payer_of, blocks_at, MapsMemory, IsSound, CanEnter, Enters, TakesBlock}
 use Rattle.sliced_heap.specs.Laws.{HeapStays}
-use Rattle.sliced_heap.proofs.ShareLemmas.{shown_block}
+use Rattle.heap_window.proofs.ShareLemmas.{shown_block}
 use Rattle.sliced_heap.proofs.HeapLaws.{map_stays_for_payer, heap_stays}
 
 -- so many fewer zeros are left
@@ -41,7 +42,7 @@ module _ (heap : SlicedHeap) (ds size : ℕ) (old new : Store) (regions : Region
 
   -- no region shows the new dataspace yet
   unshown : (s : ℕ) (r : Region) → get regions.heap s ≡ Some r → r.of ≢ ds
-  unshown s r h e = let shown = sound.maps.shown s r h in none-some shown.space (sym fresh ∙ ap (get old.spaces) (sym e) ∙ shown.there)
+  unshown = unshown_free old regions.heap ds sound.maps.shown fresh
 
   -- the new one is all zero
   pub new_there : get (part account new).spaces ds ≡ Some (zeros (page_of size))

@@ -15,13 +15,13 @@ use Rattle.own_model.proofs.RegionLemmas.{first_gap_least}
 use Rattle.region_map.specs.Regions.{Regions, heap_attached}
 use Rattle.dataspace_core.specs.Store.{Store, part, account_in, IsOpenIn, PartBecomes}
 use Rattle.dataspace_core.specs.Share.{Share, IsShown, share_in}
-use Rattle.dataspace_core.proofs.ShareLaws.{share_attached, share_attached_other, nothing_shown}
+use Rattle.dataspace_core.proofs.ShareLaws.{share_attached, share_attached_other, nothing_shown, some_alike}
 use Rattle.dataspace_core.proofs.PartLaws.{open_in_part}
 use Rattle.sliced_heap.specs.declared.heap.SlicedHeap.{SlicedHeap}
 use Rattle.sliced_heap.specs.Chain.{link_to, is_listed}
-use Rattle.sliced_heap.specs.Sliced.{sliced_tag, block_regions, HasHeader, IsLinked, HeadersChange, PutFirst}
+use Rattle.sliced_heap.specs.Sliced.{sliced_tag, is_sliced_tag, block_regions, HasHeader, IsLinked, HeadersChange, PutFirst}
 use Rattle.sliced_heap.specs.Heap.{payer_of, share_at, blocks_at, MapsMemory, IsSound, KeepsOthers, CanEnter, Enters}
-use Rattle.sliced_heap.proofs.ShareLemmas.{shown_block, no_sliced, sliced-insert}
+use Rattle.heap_window.proofs.ShareLemmas.{shown_block, numbered_free, numbered-insert}
 use Rattle.sliced_heap.proofs.LinkedLemmas.{no_block_unlisted, first_is_listed, stands_header, put_linked, put_payloads}
 use Rattle.dataspace_core.proofs.WindowLaws.{in_no_other, shown_of_part, own_account, length_some}
 use Rattle.sliced_heap.proofs.HeapLaws.{map_stays_for_payer}
@@ -32,13 +32,6 @@ gap_small regions pages start gap =
     let least : IsFirstGap heap_low (heap_high largest_machine) regions pages (Some start) = subst (IsFirstGap heap_low (heap_high largest_machine) regions pages) gap (first_gap_least heap_low (heap_high largest_machine) regions pages) in
     let high = least.0.to_high in
     omega (arith, high)
-
--- options of the same length are both there or not
-pub some_alike : (o p : Option (List ℕ)) → option_map length o ≡ option_map length p → is_some o ≡ is_some p
-some_alike None None e = refl
-some_alike None (Some x) e = absurd (none-some (length x) e)
-some_alike (Some x) None e = absurd (none-some (length x) (sym e))
-some_alike (Some x) (Some y) e = refl
 
 module _ (heap : SlicedHeap) (ds pages : ℕ) (old : Store) (regions : Regions) (sound : IsSound heap old regions) (can : CanEnter (payer_of heap) ds pages old regions) where
   -- the account, its first block, and its share
@@ -106,10 +99,10 @@ module _ (heap : SlicedHeap) (ds pages : ℕ) (old : Store) (regions : Regions) 
 
     -- its blocks' regions are one more
     blocks_then : block_regions (share_at account new after) ≡ insert (block_regions (share_at account old regions)) start region
-    blocks_then = ap block_regions share_then ∙ sliced-insert _ _ start region
+    blocks_then = ap block_regions share_then ∙ numbered-insert is_sliced_tag _ _ start sliced_tag region refl
 
     block_free : get (block_regions (share_at account old regions)) start ≡ None
-    block_free = no_sliced _ _ start free_in_share
+    block_free = numbered_free is_sliced_tag _ _ start free_in_share
 
     -- the shares of others stay
     pub enter_others : KeepsOthers account old new regions after

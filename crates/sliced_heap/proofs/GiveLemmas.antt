@@ -17,13 +17,13 @@ use Rattle.dataspace_core.proofs.PartLaws.{IsPaidBy, paid_in_part, becomes_then,
 use Rattle.dataspace_core.proofs.ShareLaws.{share_detached, share_detached_other}
 use Rattle.sliced_heap.specs.declared.heap.SlicedHeap.{SlicedHeap}
 use Rattle.sliced_heap.specs.Chain.{link_to, is_listed}
-use Rattle.sliced_heap.specs.Sliced.{block_regions, next_in, previous_in, start_in, HasHeader, HeadersChange, TakenOut}
+use Rattle.sliced_heap.specs.Sliced.{is_sliced_tag, block_regions, next_in, previous_in, start_in, HasHeader, HeadersChange, TakenOut}
 use Rattle.sliced_heap.specs.Heap.{payer_of, share_at, MapsMemory, IsSound, KeepsOthers, IsBlockAt, GivesBlock}
 use Rattle.sliced_heap.proofs.ChainLemmas.{ahead_apart, back_apart}
 use Rattle.sliced_heap.proofs.LinkedLemmas.{no_block_unlisted, stands_header, out_linked, out_payloads}
 use Rattle.sliced_heap.proofs.BlockLemmas.{IsWhole, is_whole, payload_there, whole_pages}
-use Rattle.sliced_heap.proofs.ShareLemmas.{shown_block, sliced-remove}
-use Rattle.sliced_heap.proofs.EnterLemmas.{some_alike}
+use Rattle.heap_window.proofs.ShareLemmas.{shown_block, numbered-remove}
+use Rattle.dataspace_core.proofs.ShareLaws.{some_alike}
 use Rattle.dataspace_core.proofs.WindowLaws.{in_no_other, shown_after, account_after, own_account, length_some}
 
 module _ (heap : SlicedHeap) (old : Store) (regions : Regions) (start ds : ℕ) (sound : IsSound heap old regions) (block : IsBlockAt (share_at (payer_of heap) old regions) start ds) where
@@ -117,7 +117,7 @@ module _ (heap : SlicedHeap) (old : Store) (regions : Regions) (start ds : ℕ) 
           (λ s r h e. sound.maps.once s start r region h in_map e)
 
       left : block_regions T ≡ remove (block_regions S) start
-      left = ap block_regions share_then ∙ sliced-remove _ _ start
+      left = ap block_regions share_then ∙ numbered-remove is_sliced_tag _ _ start
 
       pub give_others : KeepsOthers account old new regions after
       give_others = record {

@@ -1,6 +1,5 @@
 pub mod ChainLemmas
 pub mod HeaderLemmas
-pub mod ShareLemmas
 pub mod LinkedLemmas
 pub mod EnterLemmas
 pub mod AllocLemmas

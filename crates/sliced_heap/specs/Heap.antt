@@ -12,6 +12,7 @@ use Rattle.own_model.specs.Sliced.{sliced_header as header, sliced_size, block_s
 use Rattle.region_map.specs.Regions.{Regions, heap_attached, heap_detached}
 use Rattle.dataspace_core.specs.Store.{Store, part, bytes_of, account_in, root_in, parents_in, room_in, IsOpenIn, ram_limits_in}
 use Rattle.dataspace_core.specs.Share.{Share, share, IsShown}
+pub use Rattle.heap_window.specs.Window.{share_at, MapsMemory}
 use Rattle.sliced_heap.specs.declared.heap.SlicedHeap.{SlicedHeap}
 use Rattle.sliced_heap.specs.Sliced.{sliced_tag, block_regions, sliced_of, IsLinked}
 
@@ -19,20 +20,9 @@ use Rattle.sliced_heap.specs.Sliced.{sliced_tag, block_regions, sliced_of, IsLin
 abbrev pub payer_of : SlicedHeap → ℕ
 payer_of heap = heap.account.0
 
--- the share of an account in a memory and a map
-abbrev pub share_at : ℕ → Store → Regions → Share
-share_at account store regions = share account store regions.heap regions.tags
-
 -- the blocks of an account: their payloads by the addresses where these start
 abbrev pub blocks_at : ℕ → Store → Regions → NatMap (List ℕ)
 blocks_at account store regions = sliced_of (share_at account store regions)
-
--- the map is as large as the machine, and each heap region in it shows the whole of a dataspace of its own
-pub record MapsMemory (store : Store) (regions : Regions) : Type 0 where
-  pub pages : regions.pages * 4096 ≡ ram_limits_in store
-  pub most : regions.heap_most ≡ regions.pages
-  pub shown : (s : ℕ) (r : Region) → get regions.heap s ≡ Some r → IsShown store.spaces r
-  pub once : (s t : ℕ) (r q : Region) → get regions.heap s ≡ Some r → get regions.heap t ≡ Some q → r.of ≡ q.of → s ≡ t
 
 -- what is true of a heap between calls: its account is open, the map is one of the memory, and its blocks are linked
 pub record IsSound (heap : SlicedHeap) (store : Store) (regions : Regions) : Type 0 where

@@ -9,24 +9,8 @@ use Rattle.own_model.specs.Region.{Region}
 use Rattle.own_model.specs.Sliced.{sliced_header as header}
 use Rattle.dataspace_core.specs.Store.{Part, bytes_of}
 use Rattle.dataspace_core.specs.Share.{Share}
+pub use Rattle.heap_window.specs.Window.{sliced_tag, is_sliced_tag, sliced_regions, block_regions}
 use Rattle.sliced_heap.specs.Chain.{link_to, is_listed, IsChain}
-
--- the number that the region of a sliced block keeps
-abbrev pub sliced_tag : ℕ
-sliced_tag = 0xffffffffffffffff
-
--- whether this is the number that a sliced block's region keeps
-abbrev pub is_sliced_tag : Option ℕ → Bool
-is_sliced_tag None = false
-is_sliced_tag (Some tag) = tag == sliced_tag
-
--- the heap regions of sliced blocks
-abbrev pub sliced_regions : NatMap Region → NatMap ℕ → NatMap Region
-sliced_regions heap tags = retain_keys heap (λ start. is_sliced_tag (get tags start))
-
--- the regions in a share that are blocks
-abbrev pub block_regions : Share → NatMap Region
-block_regions share = sliced_regions share.heap share.tags
 
 -- what a region's dataspace holds behind the header
 abbrev pub payload_of : NatMap (List ℕ) → Region → Option (List ℕ)

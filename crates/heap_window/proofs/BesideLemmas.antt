@@ -18,11 +18,8 @@ use Rattle.region_map.specs.Regions.{Regions}
 use Rattle.dataspace_core.specs.Store.{Store, Part}
 use Rattle.dataspace_core.specs.Share.{Share, share_in, shown, tags_of}
 use Rattle.dataspace_core.proofs.ShareLaws.{get-tags_of}
-use Rattle.heap_core.specs.Heap.{large_tag}
-use Rattle.heap_core.specs.Laws.{block_region, IsMapOf}
-use Rattle.sliced_heap.specs.Heap.{MapsMemory}
-use Rattle.sliced_heap.specs.Sliced.{sliced_tag, is_sliced_tag, block_regions}
-use Rattle.sliced_heap.proofs.ShareLemmas.{get-sliced_regions}
+use Rattle.heap_window.specs.Window.{MapsMemory, IsMapOf, sliced_tag, is_sliced_tag, block_regions, low_region, block_region}
+use Rattle.heap_window.proofs.ShareLemmas.{get-sliced_regions}
 
 -- ---- a map
 
@@ -53,33 +50,15 @@ whole_tags p heap tags held = ap (λ m. tags_of m tags) (whole_share p heap tags
 
 -- ---- chunks and large blocks
 
--- the region of a chunk or of a large block, by the number kept with it
-abbrev pub numbered : Option ℕ → Option Region → Option (Region × ℕ)
-numbered tag region = option_and_then (λ tag. if nat_le tag large_tag then option_map (λ region. (region, tag)) region else None) tag
-
--- it is the region
-numbered_below : (k : ℕ) (below : Bool) (o : Option Region) (e : Region × ℕ) → cond below (option_map (λ region. (region, k)) o) None ≡ Some e → (o ≡ Some e.0) × (Some k ≡ Some e.1)
-numbered_below k false o e h = cc
-numbered_below k true None e h = cc
-numbered_below k true (Some r) e h = let same : (r, k) ≡ e = same_Some (r, k) e h in (ap (λ (x : Region × ℕ). Some x.0) same, ap (λ (x : Region × ℕ). Some x.1) same)
-
-numbered_is : (tag : Option ℕ) (o : Option Region) (e : Region × ℕ) → numbered tag o ≡ Some e → (o ≡ Some e.0) × (tag ≡ Some e.1)
-numbered_is None o e h = cc
-numbered_is (Some k) o e h = numbered_below k (nat_le k large_tag) o e h
-
--- so it is a region of the share
-pub region_of_block : (share : Share) (s : ℕ) (e : Region × ℕ) → block_region share s ≡ Some e → (get share.heap s ≡ Some e.0) × (get share.tags s ≡ Some e.1)
-region_of_block share s e h = numbered_is (get share.tags s) (get share.heap s) e h
-
 -- chunks and large blocks of shares with equal regions and numbers stand where they stood
 pub stands_alike : (share share' : Share) → share'.heap ≡ share.heap → share'.tags ≡ share.tags → (s : ℕ) → block_region share' s ≡ block_region share s
-stands_alike share share' heap tags s = λ i. numbered (get (tags i) s) (get (heap i) s)
+stands_alike share share' heap tags s = λ i. low_region (get (tags i) s) (get (heap i) s)
 
 -- a sliced block's number is none of theirs
-pub no_number : (tag : Option ℕ) (o : Option Region) (r : Region) → cond (is_sliced_tag tag) o None ≡ Some r → numbered tag o ≡ None
+pub no_number : (tag : Option ℕ) (o : Option Region) (r : Region) → cond (is_sliced_tag tag) o None ≡ Some r → low_region tag o ≡ None
 no_number None o r h = refl
-no_number (Some k) o r h = elim (k == sliced_tag) as (λ b. (k == sliced_tag) ≡ b → cond b o None ≡ Some r → numbered (Some k) o ≡ None) [
-  | true ↦ λ e _. ap (λ n. numbered (Some n) o) (eqb-true k sliced_tag e)
+no_number (Some k) o r h = elim (k == sliced_tag) as (λ b. (k == sliced_tag) ≡ b → cond b o None ≡ Some r → low_region (Some k) o ≡ None) [
+  | true ↦ λ e _. ap (λ n. low_region (Some n) o) (eqb-true k sliced_tag e)
   | false ↦ λ e none. absurd (none-some r none)
 ] refl h
 
@@ -91,27 +70,27 @@ sliced_no_block share s r h = no_number (get share.tags s) (get share.heap s) r 
 
 -- the chunk or large block that a map of regions with their numbers has at a place
 abbrev pub standing : NatMap Region → NatMap ℕ → ℕ → Option (Region × ℕ)
-standing heap tags s = numbered (get (tags_of heap tags) s) (get heap s)
+standing heap tags s = low_region (get (tags_of heap tags) s) (get heap s)
 
 -- a share that shows the whole map has them all
 pub whole_standing : (p : Part) (heap : NatMap Region) (tags : NatMap ℕ) → ((s : ℕ) (r : Region) → get heap s ≡ Some r → IsSome (get p.spaces r.of)) → (s : ℕ) →
     block_region (share_in p heap tags) s ≡ standing heap tags s
-whole_standing p heap tags held s = λ i. numbered (get (whole_tags p heap tags held i) s) (get (whole_share p heap tags held i) s)
+whole_standing p heap tags held s = λ i. low_region (get (whole_tags p heap tags held i) s) (get (whole_share p heap tags held i) s)
 
 -- where no region is, none stands
 pub none_standing : (heap : NatMap Region) (tags : NatMap ℕ) (s : ℕ) → get heap s ≡ None → standing heap tags s ≡ None
-none_standing heap tags s free = ap (λ o. numbered o (get heap s)) (get-tags_of heap tags s ∙ ap (λ o. cond (is_some o) (get tags s) None) free)
+none_standing heap tags s free = ap (λ o. low_region o (get heap s)) (get-tags_of heap tags s ∙ ap (λ o. cond (is_some o) (get tags s) None) free)
 
 -- nor does one where a region keeps a sliced block's number
 pub sliced_standing : (heap : NatMap Region) (tags : NatMap ℕ) (s : ℕ) (r : Region) → get heap s ≡ Some r → get tags s ≡ Some sliced_tag → standing heap tags s ≡ None
-sliced_standing heap tags s r there tag = ap (λ o. numbered o (get heap s)) (get-tags_of heap tags s ∙ ap (λ o. cond (is_some o) (get tags s) None) there ∙ tag)
+sliced_standing heap tags s r there tag = ap (λ o. low_region o (get heap s)) (get-tags_of heap tags s ∙ ap (λ o. cond (is_some o) (get tags s) None) there ∙ tag)
 
 -- what stands elsewhere depends on what is there alone
 pub elsewhere_standing : (heap heap' : NatMap Region) (tags tags' : NatMap ℕ) (s : ℕ) → get heap' s ≡ get heap s → get tags' s ≡ get tags s → standing heap' tags' s ≡ standing heap tags s
 elsewhere_standing heap heap' tags tags' s there tag =
-    ap (λ o. numbered o (get heap' s)) (get-tags_of heap' tags' s)
-    ∙ (λ i. numbered (cond (is_some (there i)) (tag i) None) (there i))
-    ∙ sym (ap (λ o. numbered o (get heap s)) (get-tags_of heap tags s))
+    ap (λ o. low_region o (get heap' s)) (get-tags_of heap' tags' s)
+    ∙ (λ i. low_region (cond (is_some (there i)) (tag i) None) (there i))
+    ∙ sym (ap (λ o. low_region o (get heap s)) (get-tags_of heap tags s))
 
 module _ (heap : NatMap Region) (tags : NatMap ℕ) (start : ℕ) (region : Region) where
   -- a sliced block more leaves what stands

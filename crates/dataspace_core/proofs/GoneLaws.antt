@@ -1,4 +1,4 @@
--- A dataspace of an account is detached, and goes: what is left of its account's share, and that all others stay.
+-- Laws for callers: a dataspace of an account is detached, and goes: what is left of its account's share, and that all others stay.
 use Rattle.std.proofs.Common.{◌≡◌, ◌≢◌, ℕ, ◌+◌, ◌*◌, List, [], length, Some, is_some, refl, sym, ap, ◌∙◌, unwrap_or}
 use Rattle.std.proofs.lemmas.Option.{none-some, same_Some}
 use Rattle.std.specs.Prelude.{Option}
@@ -16,7 +16,7 @@ use Rattle.dataspace_core.specs.Share.{Share, share, share_in, IsWindowOf, Keeps
 use Rattle.dataspace_core.proofs.PartLaws.{IsPaidBy, paid_in_part, becomes_paid, account_of-part}
 use Rattle.dataspace_core.proofs.ShareLaws.{share_detached, share_detached_other}
 use Rattle.dataspace_core.proofs.WindowLaws.{in_memory, in_no_other, shown_after, account_after}
-use Rattle.heap_core.proofs.ShareLemmas.{in_share}
+use Rattle.dataspace_core.proofs.ShareLaws.{in_share}
 
 module _ (account start ds size : ℕ) (old new : Store) (pages most : ℕ) (heap : NatMap Region) (tags : NatMap ℕ) (opens : IsOpenIn old account) (window : IsWindowOf old pages most heap)
     (shown_there : get (share account old heap tags).heap start ≡ Some (record { of = ds; pages = size })) where
