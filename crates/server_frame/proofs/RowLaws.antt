@@ -1,5 +1,5 @@
 -- Laws for callers: sessions that a client can still open, after each call of its server.
-use Rattle.std.proofs.Common.{count_by, ◌≡◌, ◌≢◌, ℕ, ◌+◌, ◌≤◌, [], get_or, inl, inr, Some, is_some, refl, sym, ap, subst, ◌∙◌, arith}
+use Rattle.std.proofs.Common.{◌≡◌, ◌≢◌, ℕ, ◌+◌, ◌≤◌, [], get_or, inl, inr, Some, is_some, refl, sym, ap, subst, ◌∙◌, arith}
 use Rattle.std.proofs.lemmas.Bool.{cases_eq}
 use Rattle.std.proofs.lemmas.Option.{none-some, same_Some}
 use Rattle.std.specs.Prelude.{Option, None, ⊤, Result, Ok, Err, OnOk, OnErr, IfSome}
@@ -66,7 +66,7 @@ module _ {V : Type 0} (rows : NatMap (Row V)) (account : ℕ) (none : IsNoRows r
   no_rows_remove : (id : ℕ) → IsNoRows (remove rows id) account
   no_rows_remove id q row there = none q row (before_remove rows id q row there)
 
-module _ {T V : Type 0} (kept : T → Share → Type 0) (value : T → Share → V) (sessions now : Slab (Session T)) (client more : ℕ) (old new : Store) (regions after : Regions) (admits : Admits kept sessions client more old regions)
+module _ {T V : Type 0} (kept : T → Share → Type 0) (value : T → Share → V) (sessions now : Slab (Session T)) (client most : ℕ) (old new : Store) (regions after : Regions) (admits : Admits kept sessions client most old regions)
     (server : IsServer kept now new after) (capacity : now.capacity ≡ sessions.capacity) where
   -- the rows before and after
   abbrev rows : NatMap (Row V)
@@ -75,15 +75,14 @@ module _ {T V : Type 0} (kept : T → Share → Type 0) (value : T → Share →
   abbrev rows' : NatMap (Row V)
   rows' = sessions_of value now new after
 
-  -- a client whose account is still open, and no row's, can open so many sessions more where the places that were taken are
-  -- no more than it could open before
-  admits_by : (left : ℕ) → IsOpenIn new client → IsNoRows rows' client → room_in new + len rows' ≡ room_in old + len rows → len rows' + left ≤ len rows + more → Admits kept now client left new after
-  admits_by left opens none places taken = record {
+  -- a client whose account is still open, and no row's, can open as many sessions where as many places are free
+  admits_by : IsOpenIn new client → IsNoRows rows' client → room_in new + len rows' ≡ room_in old + len rows → Admits kept now client most new after
+  admits_by opens none places = record {
     server = server;
     is_open = opens;
     no_session = no_session_by_rows value now new after client none;
-    places = omega (arith, admits.places, taken, capacity, len-map_of (row_of value new after) now, len-map_of (row_of value old regions) sessions);
-    room = omega (arith, admits.room, places, taken);
+    places = omega (arith, admits.places, capacity);
+    room = omega (arith, admits.room, places, len-map_of (row_of value new after) now, len-map_of (row_of value old regions) sessions);
   }
 
   -- none of the rows before is on the client's account
@@ -91,14 +90,13 @@ module _ {T V : Type 0} (kept : T → Share → Type 0) (value : T → Share →
   none_before = no_rows value sessions old regions client admits.no_session
 
   -- a session of the client is opened
-  pub admits_opened : {ram caps id : ℕ} {first : V} (left : ℕ) → left + 1 ≡ more → OpensSession client ram caps id first old new rows rows' → Admits kept now client left new after
-  admits_opened {ram} {caps} {id} {first} left one opens =
+  pub admits_opened : {ram caps id : ℕ} {first : V} → OpensSession client ram caps id first old new rows rows' → Admits kept now client most new after
+  admits_opened {ram} {caps} {id} {first} opens =
       let apart = apart_from_free (accounts_in old) opens.key client opens.fresh admits.is_open in
       let row : Row V = record { client = client; key = opens.key; account = session_account ram caps; value = first } in
-      let longer = ap len opens.sessions ∙ len-insert_new rows id row opens.free in
-      admits_by left (open_in_part client new (ap (λ (p : Part). is_some p.account) opens.parted))
+      admits_by (open_in_part client new (ap (λ (p : Part). is_some p.account) opens.parted))
       (subst (λ r. IsNoRows r client) (sym opens.sessions) (no_rows_insert rows client none_before id row (λ e. apart (sym e))))
-      (omega (arith, opens.room, longer)) (omega (arith, longer, one))
+      (omega (arith, opens.room, ap len opens.sessions, len-insert_new rows id row opens.free))
 
   module _ (id : ℕ) (row : Row V) (there : get rows id ≡ Some row) where
     -- the client's account isn't the session's
@@ -110,20 +108,19 @@ module _ {T V : Type 0} (kept : T → Share → Type 0) (value : T → Share →
     open_stays same = open_in_part client new (ap (λ (p : Part). is_some p.account) same ∙ part_open client old admits.is_open)
 
     -- another row is written under the session's key, on the same account
-    admits_written : (next : Row V) → next.key ≡ row.key → rows' ≡ insert rows id next → IsOpenIn new client → room_in new ≡ room_in old → Admits kept now client more new after
+    admits_written : (next : Row V) → next.key ≡ row.key → rows' ≡ insert rows id next → IsOpenIn new client → room_in new ≡ room_in old → Admits kept now client most new after
     admits_written next same is opens room =
-        let long = ap len is ∙ len-insert_at rows id next row there in
-        admits_by more opens
+        admits_by opens
         (subst (λ r. IsNoRows r client) (sym is) (no_rows_insert rows client none_before id next (λ e. none_before id row there (sym same ∙ e))))
-        (omega (arith, room, long)) (omega (arith, long))
+        (omega (arith, room, ap len is, len-insert_at rows id next row there))
 
     -- a request of a session is answered
-    pub admits_served : (served : Served V) → ServesSession row id served old new rows rows' → Admits kept now client more new after
+    pub admits_served : (served : Served V) → ServesSession row id served old new rows rows' → Admits kept now client most new after
     admits_served served serves =
         admits_written (record row { account = served.account; value = served.value }) refl serves.sessions (open_stays (serves.others client apart)) serves.room
 
     -- limits come to a session, of the client or of another
-    pub admits_raised : {ram caps : ℕ} → RaisesPart row.client row.key ram caps old new → rows' ≡ insert rows id (record row { account = raised row.account ram caps }) → Admits kept now client more new after
+    pub admits_raised : {ram caps : ℕ} → RaisesPart row.client row.key ram caps old new → rows' ≡ insert rows id (record row { account = raised row.account ram caps }) → Admits kept now client most new after
     admits_raised {ram} {caps} raises is =
         admits_written (record row { account = raised row.account ram caps }) refl is
         (elim (cases_eq client row.client) [
@@ -133,32 +130,32 @@ module _ {T V : Type 0} (kept : T → Share → Type 0) (value : T → Share →
 
     -- or are refused, and then nothing has changed
     pub admits_upgraded : (ram caps : ℕ) (r : Result ⊤ Refusal) → now ≡ sessions → OnOk r (RaisesPart row.client row.key ram caps old new) → OnOk r (rows' ≡ insert rows id (record row { account = raised row.account ram caps })) →
-        OnErr r (new ≡ old) → Admits kept now client more new after
+        OnErr r (new ≡ old) → Admits kept now client most new after
     admits_upgraded ram caps (Ok done) same raises is stays = admits_raised {ram = ram} {caps = caps} raises is
     admits_upgraded ram caps (Err e) same raises is stays = record {
       server = server;
       is_open = subst (λ s. IsOpenIn s client) (sym stays) admits.is_open;
       no_session = subst (λ s. IsNoSession s client) (sym same) admits.no_session;
-      places = omega (arith, admits.places, capacity, ap slab_len same);
-      room = omega (arith, admits.room, ap room_in stays);
+      places = omega (arith, admits.places, capacity);
+      room = omega (arith, admits.room, ap room_in stays, ap slab_len same);
     }
 
     -- a session is closed, of the client or of another
-    pub admits_closed : ClosesPart row.key row.client old new → rows' ≡ remove rows id → Admits kept now client more new after
+    pub admits_closed : ClosesPart row.key row.client old new → rows' ≡ remove rows id → Admits kept now client most new after
     admits_closed closes is =
-        admits_by more (elim (cases_eq client row.client) [
+        admits_by (elim (cases_eq client row.client) [
           | inl own ↦ open_in_part client new (ap (λ k. is_some (part k new).account) own ∙ ap (λ (p : Part). is_some p.account) closes.raised_one)
           | inr other ↦ open_stays (closes.others client apart other)
         ]) (subst (λ r. IsNoRows r client) (sym is) (no_rows_remove rows client none_before id))
-        (omega (arith, closes.room, ap len is, len-remove_at rows id row there)) (omega (arith, ap len is, len-remove_at rows id row there))
+        (omega (arith, closes.room, ap len is, len-remove_at rows id row there))
 
 -- a server that has just booted admits as many sessions as it has places for, of a client that is open
-pub admits_at_first : {T : Type 0} (kept : T → Share → Type 0) (sessions : Slab (Session T)) (client more : ℕ) (store : Store) (regions : Regions) → sessions.slots ≡ [] → more ≤ sessions.capacity →
-    IsServer kept sessions store regions → IsOpenIn store client → more ≤ room_in store → Admits kept sessions client more store regions
-admits_at_first kept sessions client more store regions none places server opens room = record {
+pub admits_at_first : {T : Type 0} (kept : T → Share → Type 0) (sessions : Slab (Session T)) (client most : ℕ) (store : Store) (regions : Regions) → sessions.slots ≡ [] → most ≤ sessions.capacity →
+    IsServer kept sessions store regions → IsOpenIn store client → most ≤ room_in store → Admits kept sessions client most store regions
+admits_at_first kept sessions client most store regions none places server opens room = record {
   server = server;
   is_open = opens;
   no_session = λ id s there. absurd (none-some s (sym (ap (λ slots. get_or slots id None) none) ∙ there));
-  places = subst (λ slots. count_by is_some slots + more ≤ sessions.capacity) (sym none) (omega (arith, places));
-  room = room;
+  places = places;
+  room = omega (arith, room);
 }

@@ -65,14 +65,14 @@ pub record IsServer {T : Type 0} (kept : T → Share → Type 0) (sessions : Sla
 abbrev pub IsNoSession : {T : Type 0} → Slab (Session T) → ℕ → Type 0
 IsNoSession {T} sessions account = (id : ℕ) (session : Session T) → slab.get sessions id ≡ Some session → session.account.0 ≢ account
 
--- so many more sessions of a client can be opened: its account is open and no session's, and there are places for as many
--- sessions and accounts
-pub record Admits {T : Type 0} (kept : T → Share → Type 0) (sessions : Slab (Session T)) (client more : ℕ) (store : Store) (regions : Regions) : Type 0 where
+-- so many sessions of a client can be open in all, those that are open among them: the client's account is open and no
+-- session's, and there are places for as many sessions and accounts
+pub record Admits {T : Type 0} (kept : T → Share → Type 0) (sessions : Slab (Session T)) (client most : ℕ) (store : Store) (regions : Regions) : Type 0 where
   pub server : IsServer kept sessions store regions
   pub is_open : IsOpenIn store client
   pub no_session : IsNoSession sessions client
-  pub places : slab_len sessions + more ≤ sessions.capacity
-  pub room : more ≤ room_in store
+  pub places : most ≤ sessions.capacity
+  pub room : most ≤ room_in store + slab_len sessions
 
 -- ---- what calls do
 

@@ -15,14 +15,12 @@ const SESSIONS: usize = 2049;
 /// Limits or a use: RAM in bytes, and capabilities.
 pub(super) type Amounts = (Ram, Caps);
 
-/// A memory, a file server, and one client, which starts with all of the memory. It opens at most 2,049 sessions.
+/// A memory, a file server, and one client, which starts with all of the memory. It has at most 2,049 sessions.
 #[derive(Drop)]
 pub(super) struct Machine {
     memory: Memory,
     server: Server<FileService>,
     client: AccountId,
-    /// How many more sessions can be opened.
-    left: usize,
     reply: Reply,
 }
 
@@ -36,7 +34,7 @@ impl Model for Machine {
     ghost view = { λ m. m.client.0 };
 
     ghost invariant = { λ m.
-        Admits IsSession m.server.sessions m.client.0 m.left m.memory m.server.map };
+        Admits IsSession m.server.sessions m.client.0 2049 m.memory m.server.map };
 }
 
 impl Machine {
@@ -60,7 +58,6 @@ impl Machine {
             memory,
             server,
             client,
-            left: SESSIONS,
             reply: Reply::boot(alloc).expect(rt, "memory for a reply"),
         }
     }
@@ -73,11 +70,10 @@ impl Machine {
         ram: u64,
         caps: u32,
     ) -> Result<SessionId, Refusal> {
-        assert!(rt; label.len() <= 100 && self.left > 0);
+        assert!(rt; label.len() <= 100 && self.server.count() < SESSIONS);
         let id = self
             .server
             .open(&mut self.memory, self.client, label, Ram(ram), Caps(caps))?;
-        self.left -= 1;
         Ok(id)
     }
 

@@ -14,5 +14,5 @@ invariant_of-self g c =
     let present : slab.ContainsKey was.server.sessions c.args.id.0 = search rules in
     let value : LabelledLine → Share → Labelled = λ session share. as_kept session in
     let row = row_at value was.server.sessions was.memory was.server.map c.args.id.0 present in
-    admits_closed (λ session share. HasBlocksAlone share) value was.server.sessions c.close.new.self.sessions was.client.0 was.left was.memory c.close.new.memory was.server.map c.close.new.self.map
+    admits_closed (λ session share. HasBlocksAlone share) value was.server.sessions c.close.new.self.sessions was.client.0 2049 was.memory c.close.new.memory was.server.map c.close.new.self.map
     c.self.invariant c.close.ensures.server c.close.ensures.places c.args.id.0 row.0 row.1 (c.close.ensures.closes row.0 row.1) c.close.ensures.sessions
