@@ -1,18 +1,16 @@
 -- A node that is stored, a link that is set, and a file put behind the last one.
-use Rattle.std.proofs.Common.{◌≡◌, ◌≢◌, ℕ, ◌+◌, ◌-◌, ◌<◌, ◌≤◌, true, false, cond, eqb, List, [], ◌∷◌, ◌++◌, length, map, take, Option, Some, None, is_some, refl, sym, ap, subst, ◌∙◌, true≢false, ⊎_elim, arith}
+use Rattle.std.proofs.Common.{rules, ◌≡◌, ◌≢◌, ℕ, ◌+◌, ◌-◌, ◌<◌, ◌≤◌, true, false, cond, eqb, List, [], ◌∷◌, ◌++◌, length, map, sym, ap, subst, ◌∙◌, ⊎_elim, arith}
 use Rattle.std.proofs.lemmas.Bool.{cases_eq}
 use Rattle.std.proofs.lemmas.Bool.Decides.{nat_tests}
-use Rattle.std.specs.Prelude.{IsSome}
 use Rattle.std.specs.Option.{unwrap_or}
 use Rattle.std.specs.FinMap.{get, insert}
-use Rattle.own_model.specs.FileService.{File, Files}
+use Rattle.own_model.specs.FileService.{File}
 use Rattle.own_model.specs.NatMap.{NatMap}
 use Rattle.own_model.specs.OwnHeap.{OwnHeap, chunk_with, offset_of}
 use Rattle.own_model.proofs.NatMapLemmas.{get-insert}
 use Rattle.sliced_heap.specs.Chain.{is_listed}
-use Rattle.file_service.specs.Calls.{payload_in, HasBytes}
-use Rattle.file_service.specs.Files.{node_at, link_in, nodes_from, bytes_at, file_at, files_of, IsFile, StandAt}
-use Rattle.file_service.specs.Links.{last_of}
+use Rattle.file_service.specs.Calls.{HasBytes}
+use Rattle.file_service.specs.Files.{node_at, link_in, file_at, files_of, IsFile, StandAt}
 use Rattle.file_service.specs.Node.{FileNode, node_of}
 use Rattle.file_service.specs.Session.{LinksTo, KeepsFile, IsFresh}
 use Rattle.file_service.proofs.FileListLemmas.{append_map}
@@ -25,18 +23,13 @@ use Rattle.file_service.proofs.SearchLemmas.{link_some}
 module _ (nodes later : OwnHeap) (block : ℕ) (payload : List ℕ) (stored : later ≡ record nodes { payloads = insert nodes.payloads block payload }) where
   -- other blocks hold what they held
   pub stored_payload : (b : ℕ) → b ≢ block → get later.payloads b ≡ get nodes.payloads b
-  stored_payload b other =
-      let e : eqb b block ≡ false = grind (arith, nat_tests) in
-      ap (λ (n : OwnHeap). get n.payloads b) stored ∙ get-insert nodes.payloads block payload b ∙ rw e refl
+  stored_payload b other = grind (arith, nat_tests, get-insert)
 
   pub stored_node : (b : ℕ) → b ≢ block → node_at later b ≡ node_at nodes b
   stored_node b other = ap (λ o. node_of (unwrap_or o [])) (stored_payload b other)
 
   pub stored_there : (b : ℕ) → b ≢ block → HasBytes nodes.payloads b 0 64 → HasBytes later.payloads b 0 64
-  stored_there b other was = record {
-    there = subst (λ (o : Option (List ℕ)). IsSome o) (sym (stored_payload b other)) was.there;
-    within = subst (λ (o : Option (List ℕ)). 0 + 64 ≤ length (unwrap_or o [])) (sym (stored_payload b other)) was.within;
-  }
+  stored_there b other was = search (rules, stored_payload)
 
   pub stored_rest : later ≡ record nodes { payloads = later.payloads }
   stored_rest = stored ∙ ap (λ p. record nodes { payloads = p }) (sym (ap (λ (n : OwnHeap). n.payloads) stored))
@@ -66,12 +59,7 @@ module _ (nodes later : OwnHeap) (block : ℕ) (payload : List ℕ) (stored : la
 
 -- the session's own link is another one
 pub first_links : (first target : ℕ) (nodes : OwnHeap) → LinksTo first 0 target target nodes nodes
-first_links first target nodes = record {
-  linked = refl;
-  links = λ b other. let e : eqb b 0 ≡ false = grind (arith, nat_tests) in rw e refl;
-  rest = refl;
-  files = λ b was. record { name = refl; size = refl; content = refl; there = was };
-}
+first_links first target nodes = search rules
 
 -- ---- a file more
 
@@ -108,23 +96,10 @@ module _ (first last : ℕ) (nodes mid later : OwnHeap) (contents : NatMap (List
   count_same = ap (λ (n : OwnHeap). length n.shape.chunks) rest
 
   stays : (b : ℕ) → is_listed blocks b ≡ true → Stays nodes later contents contents b
-  stays b t =
-      let other = other_block b (listed_later 0 b blocks t) in
-      let node = stored_node nodes mid block payload stored b other in
-      let kept = links.files b (stored_there nodes mid block payload stored b other (stand.each b t).there) in
-      record {
-        name = kept.name ∙ ap (λ (n : FileNode). n.name) node;
-        size = kept.size ∙ ap (λ (n : FileNode). n.size) node;
-        content = kept.content ∙ ap (λ (n : FileNode). n.content) node;
-        there = kept.there;
-        chunk = chunk_same (b - 16);
-        offset = offset_same (b - 16);
-        bytes = λ _. refl;
-      }
+  stays b t = grind (arith, nat_tests, other_block, listed_later, stored_node, stored_there, chunk_same, offset_same)
 
   same_links : (b : ℕ) → is_listed (0 ∷ blocks) b ≡ true → b ≢ last → link_in first_later later b ≡ link_in first nodes b
-  same_links b t other =
-      links.links b other ∙ ap (λ (n : FileNode). cond (eqb b 0) first n.next) (stored_node nodes mid block payload stored b (other_block b t))
+  same_links b t other = search (rules, stored_node, other_block)
 
   block_some : block ≢ 0
   block_some e = other_block 0 (listed_first 0 blocks) (sym e)
@@ -142,20 +117,13 @@ module _ (first last : ℕ) (nodes mid later : OwnHeap) (contents : NatMap (List
   new_empty = new_file.size ∙ ap (λ (n : FileNode). n.size) back
 
   new_is_file : IsFile later contents block
-  new_is_file = record {
-    there = new_file.there;
-    place = omega (arith, fresh.place, chunk_same (block - 16), count_same);
-    content = λ some. absurd (omega (arith, some, new_empty));
-  }
+  new_is_file = search (rules, new_file, chunk_same, count_same, new_empty)
 
   pub stand_new : StandAt first_later block later contents (blocks ++ block ∷ [])
   stand_new = stand_appended first last nodes later contents contents blocks stand (omega (arith, count_same)) first_later block stays same_links links.linked ends not_listed new_is_file new_empty
 
   new_file_is : file_at later contents block ≡ record { name = name; bytes = []; chunk = chunk_with nodes (block - 16); offset = offset_of nodes (block - 16) }
-  new_file_is =
-      let named = new_file.name ∙ ap (λ (n : FileNode). n.name) back in
-      let none : bytes_at contents (node_at later block) ≡ [] = ap (λ n. take n (payload_in contents (node_at later block).content)) new_empty in
-      λ i. record { name = named i; bytes = none i; chunk = chunk_same (block - 16) i; offset = offset_same (block - 16) i }
+  new_file_is = grind (arith, nat_tests, new_file, new_empty, chunk_same, offset_same)
 
   pub files_new : files_of first_later later contents ≡ record (files_of first nodes contents) {
     files = (files_of first nodes contents).files ++ record { name = name; bytes = []; chunk = chunk_with nodes (block - 16); offset = offset_of nodes (block - 16) } ∷ [];

@@ -1,6 +1,6 @@
 -- How a session's heap of nodes begins: an account that has nothing but sliced blocks has no chunk, and a map that lies apart
 -- makes both heaps sound.
-use Rattle.std.proofs.Common.{◌≡◌, ◌≢◌, ℕ, ◌+◌, ◌-◌, ◌*◌, ◌<◌, ◌≤◌, ◌==◌, false, true, cond, List, [], length, Some, is_some, IsSome, refl, sym, ap, subst, ◌∙◌, arith, inl, inr}
+use Rattle.std.proofs.Common.{◌≡◌, ◌≢◌, ℕ, ◌+◌, ◌-◌, ◌*◌, ◌<◌, ◌≤◌, ◌==◌, cond, List, [], length, Some, is_some, IsSome, refl, sym, ap, subst, ◌∙◌, arith, inl, inr}
 use Rattle.std.proofs.lemmas.Bool.{cases_eq, cases_lt}
 use Rattle.std.proofs.lemmas.Bool.Decides.{nat_tests}
 use Rattle.std.proofs.lemmas.Option.{none-some, same_Some}
@@ -9,7 +9,7 @@ use Rattle.std.specs.FinMap.{get, insert, remove, len, len-empty, empty}
 use Rattle.std.specs.Option.{option_map, unwrap_or}
 use Rattle.std.specs.Ordering.{nat_cmp}
 use Rattle.own_model.proofs.MovedLemmas.{get-moved_up, get-moved_up_below}
-use Rattle.own_model.specs.NatMap.{NatMap, total, picked}
+use Rattle.own_model.specs.NatMap.{NatMap}
 use Rattle.own_model.specs.OwnHeap.{OwnHeap, no_heap}
 use Rattle.own_model.specs.Region.{Region}
 use Rattle.own_model.specs.Sliced.{sliced_header}
@@ -19,14 +19,14 @@ use Rattle.region_map.specs.Regions.{Regions, AreSound}
 use Rattle.dataspace_core.specs.Share.{Share, share_in}
 use Rattle.dataspace_core.specs.Store.{Store, part, IsOpenIn}
 use Rattle.heap_core.specs.declared.heap.Heap.{Heap}
-use Rattle.heap_core.specs.Heap.{payer_of as heap_payer, heap_in, large_tag, HasNoBlocks, IsLaid, IsSound as IsSoundHeap}
+use Rattle.heap_core.specs.Heap.{payer_of as heap_payer, heap_in, large_tag, HasNoBlocks, IsLaid}
 use Rattle.sliced_heap.specs.declared.heap.SlicedHeap.{SlicedHeap}
 use Rattle.sliced_heap.specs.Heap.{payer_of, share_at}
 use Rattle.sliced_heap.specs.Sliced.{sliced_tag, is_sliced_tag, sliced_of, block_regions, payload_of}
 use Rattle.heap_window.proofs.ShareLemmas.{get-sliced_regions}
 use Rattle.dataspace_core.proofs.ShareLaws.{in_share}
-use Rattle.server_frame.specs.Session.{IsSessionHeap, HasBlocksAlone, holding, holding_of}
-use Rattle.file_service.specs.Furnished.{IsShare, HoldsNodes, KeepsNodes, IsFurnished}
+use Rattle.server_frame.specs.Session.{IsSessionHeap, HasBlocksAlone, holding_of}
+use Rattle.file_service.specs.Furnished.{IsShare, KeepsNodes, IsFurnished}
 use Rattle.heap_window.proofs.BesideLemmas.{map_of}
 use Rattle.file_service.proofs.FurnishedLemmas.{laid_back}
 
@@ -96,10 +96,7 @@ record IsOfRegion (share : Share) (address : ℕ) : Type 0 where
 -- a test that lets something through
 tag_passes : (tag : Option ℕ) (o : Option Region) (r : Region) → cond (is_sliced_tag tag) o None ≡ Some r → (o ≡ Some r) × (tag ≡ Some sliced_tag)
 tag_passes None o r h = absurd (none-some r h)
-tag_passes (Some k) o r h = elim (cases_eq k sliced_tag) [
-  | inl is ↦ let t : (k == sliced_tag) ≡ true = grind (arith, nat_tests) in (rw t at h, ap (λ n. Some n) is)
-  | inr other ↦ let t : (k == sliced_tag) ≡ false = grind (arith, nat_tests) in absurd (none-some r (rw t at h))
-]
+tag_passes (Some k) o r h = grind (arith, nat_tests, cases_eq, none-some)
 
 of_region : (share : Share) (address : ℕ) (x : List ℕ) → get (sliced_of share) address ≡ Some x → IsOfRegion share address
 unfolding sliced_of

@@ -2,12 +2,12 @@
 use Rattle.std.proofs.Common.{◌≡◌, ◌≢◌, ℕ, ◌+◌, ◌-◌, ◌/◌, ◌≤◌, true, false, cond, nat_le, List, length, drop, Some, is_some, refl, sym, ap, ◌∙◌, arith, inl, inr}
 use Rattle.std.proofs.lemmas.Bool.{cases_eq}
 use Rattle.std.proofs.lemmas.Bool.Decides.{nat_tests}
-use Rattle.std.proofs.lemmas.Option.{none-some, same_Some}
+use Rattle.std.proofs.lemmas.Option.{none-some}
 use Rattle.std.specs.Prelude.{Option, None}
-use Rattle.std.specs.Option.{option_map, option_and_then, unwrap_or}
+use Rattle.std.specs.Option.{option_map, option_and_then}
 use Rattle.std.specs.FinMap.{get, insert, remove, len}
 use Rattle.trade_base.specs.Bytes.{with_bytes}
-use Rattle.own_model.specs.Account.{Account, opened, charged, credited}
+use Rattle.own_model.specs.Account.{Account, charged, credited}
 use Rattle.own_model.specs.NatMap.{NatMap}
 use Rattle.own_model.specs.OwnState.{zeros, with_part}
 use Rattle.own_model.specs.Region.{Region}
@@ -18,26 +18,24 @@ use Rattle.own_model.proofs.Totals.{len-insert_new, len-insert_at, len-remove_at
 use Rattle.region_map.specs.Regions.{Regions}
 use Rattle.dataspace_core.specs.Store.{Store, Part, part, account_in, account_of, bytes_of, part_with_bytes, PartBecomes}
 use Rattle.dataspace_core.specs.Share.{Share, share_in, shown}
-use Rattle.dataspace_core.proofs.PartLaws.{account_of-part}
-use Rattle.dataspace_core.proofs.ShareLaws.{get-tags_of}
+use Rattle.dataspace_core.proofs.WindowLaws.{unshown_free}
+use Rattle.dataspace_core.proofs.PartLaws.{account_by, account_of-part}
+use Rattle.dataspace_core.proofs.ShareLaws.{get-tags_of, in_share}
 use Rattle.heap_core.specs.declared.heap.Heap.{Heap}
 use Rattle.heap_core.specs.Heap.{large_tag}
 use Rattle.heap_core.specs.Laws.{block_region}
-use Rattle.dataspace_core.proofs.ShareLaws.{in_share}
-use Rattle.heap_window.proofs.ShareLemmas.{told_region}
+use Rattle.heap_window.proofs.ShareLemmas.{told_region, shown_block, kept_tag}
 use Rattle.sliced_heap.specs.declared.heap.SlicedHeap.{SlicedHeap}
 use Rattle.sliced_heap.specs.Heap.{payer_of, share_at, blocks_at, IsNoBlock, IsSound as IsSoundSliced, KeepsOthers, TakesBlock, GivesBlock, HoldsRange}
 use Rattle.sliced_heap.specs.Laws.{Pokes}
 use Rattle.sliced_heap.specs.Sliced.{sliced_tag, block_regions, payload_of}
 use Rattle.sliced_heap.proofs.BlockLemmas.{payload_at, is_of}
 use Rattle.sliced_heap.proofs.HeapLaws.{payload_poked}
-use Rattle.heap_window.proofs.ShareLemmas.{shown_block}
 use Rattle.file_service.specs.Furnished.{IsFurnished}
 use Rattle.heap_window.specs.Window.{low_region}
 use Rattle.heap_window.proofs.BesideLemmas.{gap_is_free, lie_with, lie_without}
 use Rattle.file_service.proofs.FurnishedLemmas.{ChangesContents}
 use Rattle.heap_window.proofs.WindowLemmas.{IsPut, is_put}
-use Rattle.heap_window.proofs.ShareLemmas.{kept_tag}
 
 -- ---- chunks of an account on a map that several accounts use
 
@@ -59,11 +57,7 @@ within_share tag (Some r) = refl
 region_is : (account : ℕ) (store : Store) (regions : Regions) (s : ℕ) →
     block_region (share_at account store regions) s ≡ numbered_in (part account store).spaces (get regions.tags s) (get regions.heap s)
 unfolding share_in
-region_is account store regions s =
-    let o = get-picked (shown (part account store).spaces) regions.heap s in
-    ap (λ t. low_region t (get (share_at account store regions).heap s)) (get-tags_of _ regions.tags s)
-    ∙ within_share (get regions.tags s) (get (share_at account store regions).heap s)
-    ∙ ap (low_region (get regions.tags s)) o
+region_is account store regions s = grind (arith, nat_tests, get-picked, get-tags_of, within_share)
 
 -- it is the same where its dataspace is there or not as before
 numbered_alike : (p q : NatMap (List ℕ)) (tag : Option ℕ) (o : Option Region) →
@@ -76,10 +70,6 @@ numbered_alike p q (Some k) (Some r) alike =
       | true ↦ λ low. ap (λ b. option_map (λ (region : Region). (region, k)) (cond b (Some r) None)) (alike r k refl refl (grind (arith, nat_tests)))
       | false ↦ λ high. refl
     ] refl
-
--- what there is of an account
-account_is : (o : Option Account) (x : Account) → o ≡ Some x → unwrap_or o (opened 0 0) ≡ x
-account_is o x is = ap (λ (y : Option Account). unwrap_or y (opened 0 0)) is
 
 module _ {heap : Heap} {sliced : SlicedHeap} {store : Store} {regions : Regions} (f : IsFurnished heap sliced store regions) where
   -- the account, its share, and its part
@@ -94,10 +84,7 @@ module _ {heap : Heap} {sliced : SlicedHeap} {store : Store} {regions : Regions}
 
   -- a dataspace that a region with a chunk's number shows is no sliced block's
   chunk_no_sliced : (s k : ℕ) (r : Region) → get regions.heap s ≡ Some r → get regions.tags s ≡ Some k → k ≤ large_tag → IsNoBlock S r.of
-  chunk_no_sliced s k r there tag low t q block e =
-      let one = shown_block (payer_of sliced) store regions t q block in
-      let at = f.sound.window.once t s q r one.there there e in
-      absurd (omega (arith, low, same_Some k sliced_tag (sym tag ∙ ap (get regions.tags) (sym at) ∙ one.tag)))
+  chunk_no_sliced s k r there tag low t q block e = let one = shown_block (payer_of sliced) store regions t q block in grind (arith, nat_tests, one, f.sound.window.once t s q r one.there there e)
 
   -- a chunk's region is the map's
   chunk_in_map : (s k : ℕ) (r : Region) → block_region S s ≡ Some (r, k) → (get regions.heap s ≡ Some r) × (get regions.tags s ≡ Some k) × (k ≤ large_tag)
@@ -107,10 +94,6 @@ module _ {heap : Heap} {sliced : SlicedHeap} {store : Store} {regions : Regions}
 
   account_was : account_in store (payer_of sliced) ≡ account_of p
   account_was = sym (account_of-part (payer_of sliced) store)
-
-  -- an account after a charge or a credit
-  account_now : (new : Store) (x : Account) → (part (payer_of sliced) new).account ≡ Some x → account_in new (payer_of sliced) ≡ x
-  account_now new x is = sym (account_of-part (payer_of sliced) new) ∙ account_is _ x is
 
   -- ---- a block more
 
@@ -131,9 +114,7 @@ module _ {heap : Heap} {sliced : SlicedHeap} {store : Store} {regions : Regions}
 
     -- no region shows the new dataspace
     more_unshown : (s : ℕ) (r : Region) → get regions.heap s ≡ Some r → r.of ≢ takes.ds
-    more_unshown s r there e =
-        let shown = f.sound.window.shown_whole s r there in
-        none-some shown.space (sym (ap (get store.spaces) e ∙ takes.fresh) ∙ shown.there)
+    more_unshown = unshown_free store regions.heap takes.ds f.sound.window.shown_whole takes.fresh
 
     more_same : (s k : ℕ) (r : Region) → get regions.heap s ≡ Some r → get regions.tags s ≡ Some k → k ≤ large_tag → get (part (payer_of sliced) new).spaces r.of ≡ get p.spaces r.of
     more_same s k r there tag low = takes.dataspaces r.of (more_unshown s r there) (chunk_no_sliced s k r there tag low)
@@ -164,7 +145,7 @@ module _ {heap : Heap} {sliced : SlicedHeap} {store : Store} {regions : Regions}
         ∙ payload_at S sliced.first f.session.sound.linked takes.start ∙ ap (option_and_then (payload_of S.part.spaces)) none
 
     pub more_charge : account_in new (payer_of sliced) ≡ charged (account_in store (payer_of sliced)) (sliced_size n) 1
-    more_charge = account_now new _ takes.charge
+    more_charge = account_by (payer_of sliced) new _ takes.charge
 
     pub more_changes : ChangesContents f now new after
     more_changes = record {
@@ -216,7 +197,7 @@ module _ {heap : Heap} {sliced : SlicedHeap} {store : Store} {regions : Regions}
         ∙ sym (region_is (payer_of sliced) store regions s)
 
     pub less_credit : account_in new (payer_of sliced) ≡ credited (account_in store (payer_of sliced)) (block_size gives.payload) 1
-    less_credit = account_now new _ gives.charge
+    less_credit = account_by (payer_of sliced) new _ gives.charge
 
     pub less_changes : ChangesContents f now new after
     less_changes = record {

@@ -1,5 +1,6 @@
 -- A content's front is copied to another piece by piece: what is copied grows by each.
-use Rattle.std.proofs.Common.{◌≡◌, ◌≢◌, ℕ, ◌+◌, ◌-◌, ◌<◌, ◌≤◌, min, List, [], ◌++◌, length, take, drop, is_some, refl, sym, ap, subst, ◌∙◌, arith, take-add}
+use Rattle.std.proofs.lemmas.Bool.Decides.{nat_tests}
+use Rattle.std.proofs.Common.{rules, ◌≡◌, ◌≢◌, ℕ, ◌+◌, ◌-◌, ◌<◌, ◌≤◌, min, List, [], ◌++◌, length, take, refl, sym, ap, subst, ◌∙◌, arith, take-add}
 use Rattle.std.proofs.lemmas.List.{length-take-le}
 use Rattle.std.specs.Prelude.{Option, slice_range}
 use Rattle.std.specs.Option.{unwrap_or}
@@ -17,8 +18,7 @@ use Rattle.file_service.specs.Furnished.{Stock}
 
 -- a front and what follows it are a longer front
 front_more : (bytes : List ℕ) (done size : ℕ) → take done bytes ++ slice_range bytes done (done + size) ≡ take (done + size) bytes
-front_more bytes done size =
-    ap (λ n. take done bytes ++ take n (drop done bytes)) (let e : done + size - done ≡ size = omega arith in e) ∙ sym (take-add done size bytes)
+front_more bytes done size = search (rules, take-add)
 
 -- a piece put behind a front is a longer front
 put_more : (bytes source : List ℕ) (done size : ℕ) → done + size ≤ length bytes → done + size ≤ length source →
@@ -51,25 +51,14 @@ module _ (contents : NatMap (List ℕ)) (from to count done : ℕ) (apart : from
 
   module _ (size : ℕ) (within : done + size ≤ count) where
     source_there : HasBytes copied from done size
-    source_there = record {
-      there = ap is_some (get-insert_other contents to _ from apart) ∙ source.there;
-      within = let has = source.within in omega (arith, has, within, ap length source_same);
-    }
+    source_there = search (rules, get-insert_other, source_same)
 
     target_there : HasBytes copied to done size
-    target_there = record {
-      there = ap is_some (get-insert_same contents to _ to refl);
-      within = let has = target.within in omega (arith, has, within, ap length target_now, length-with_part (payload_in contents to) 0 (take done (payload_in contents from)));
-    }
+    target_there = search (rules, get-insert_same, target_now, length-with_part)
 
     copied_more : insert copied to (with_part (payload_in copied to) done (slice_range (payload_in copied from) done (done + size)))
         ≡ insert contents to (with_part (payload_in contents to) 0 (take (done + size) (payload_in contents from)))
-    copied_more =
-        let has_source = source.within in
-        let has_target = target.within in
-        (λ i. insert copied to (with_part (target_now i) done (slice_range (source_same i) done (done + size))))
-        ∙ ap (insert copied to) (put_more (payload_in contents to) (payload_in contents from) done size (omega (arith, has_target, within)) (omega (arith, has_source, within)))
-        ∙ same _ _ (λ q. grind (arith, natmaps))
+    copied_more = grind (arith, nat_tests, natmaps, target_now, source_same, put_more, same, natmaps)
 
 -- ---- what a session has
 
@@ -88,14 +77,8 @@ module _ (old now : Stock) (from to count done size : ℕ) (apart : from ≢ to)
 
   -- and then as much more is copied
   pub piece_copied : (new : Stock) (piece : List ℕ) → piece ≡ slice_range (payload_in now.contents from) done (done + size) → new ≡ content_written to done piece now → new ≡ content_copied from to (done + size) old
-  piece_copied new piece read written =
-      written ∙ ap (λ p. content_written to done p now) read
-      ∙ ap (λ (s : Stock). content_written to done (slice_range (payload_in s.contents from) done (done + size)) s) is
-      ∙ ap (λ (m : NatMap (List ℕ)). record old { contents = m }) (copied_more old.contents from to count done apart source target size within)
+  piece_copied new piece read written = search (rules, copied_more)
 
 -- a piece is no longer than what is left, and fits a buffer
 pub piece_fits : (count done size : ℕ) (buffer : List ℕ) → done < count → length buffer ≡ 1024 → size ≡ min (count - done) 1024 → (done + size ≤ count) × (length (take size buffer) ≡ size)
-piece_fits count done size buffer more long is =
-    let left : size ≤ count - done = omega (arith, is) in
-    let most : size ≤ 1024 = omega (arith, is) in
-    (omega (arith, left, more), length-take-le size buffer (omega (arith, most, long)))
+piece_fits count done size buffer more long is = grind (arith, nat_tests, natmaps, length-take-le)

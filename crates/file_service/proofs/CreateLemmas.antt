@@ -1,13 +1,12 @@
 -- A block that is taken for the node of a new file: the other files stay, and it is where the model puts the file.
-use Rattle.std.proofs.Common.{◌≡◌, ◌≢◌, ℕ, ◌+◌, ◌-◌, ◌<◌, ◌≤◌, true, false, cond, eqb, List, [], ◌∷◌, ◌++◌, length, map, Option, Some, None, is_some, refl, sym, ap, subst, ◌∙◌, true≢false, arith}
+use Rattle.std.proofs.Common.{◌≡◌, ◌≢◌, ℕ, ◌+◌, ◌-◌, ◌<◌, ◌≤◌, true, false, List, [], ◌∷◌, ◌++◌, length, map, Option, Some, None, is_some, refl, sym, ap, subst, ◌∙◌, arith}
 use Rattle.std.proofs.lemmas.Bool.Decides.{nat_tests}
 use Rattle.std.proofs.lemmas.Option.{none-some}
-use Rattle.std.specs.Prelude.{IsSome}
 use Rattle.std.specs.Option.{unwrap_or}
 use Rattle.std.specs.FinMap.{get, insert}
-use Rattle.own_model.specs.Account.{Account, charged}
+use Rattle.own_model.specs.Account.{charged}
 use Rattle.own_model.specs.BestFit.{Spot, block_size}
-use Rattle.own_model.specs.FileService.{File, Files, FileServed, node_size, created, told}
+use Rattle.own_model.specs.FileService.{File, node_size, created, told}
 use Rattle.own_model.specs.FileText.FileReply.{Done}
 use Rattle.own_model.specs.Growth.{Growth, hole_for, growth_of, new_hole, shape_taken, shape_grown}
 use Rattle.own_model.specs.HeapStep.{size_taken, with_block, with_chunk}
@@ -19,8 +18,8 @@ use Rattle.own_model.proofs.ByteLemmas.{length-zeros}
 use Rattle.own_model.proofs.NatMapLemmas.{some_of, get-insert, get-insert_same}
 use Rattle.heap_core.proofs.TakesGrownLemmas.{growth_fits}
 use Rattle.sliced_heap.specs.Chain.{is_listed}
-use Rattle.file_service.specs.Calls.{payload_in, HasBytes, TakesNode, TakesInHole, TakesInChunk}
-use Rattle.file_service.specs.Files.{node_at, nodes_from, file_at, IsFile, StandAt}
+use Rattle.file_service.specs.Calls.{TakesNode, TakesInHole, TakesInChunk}
+use Rattle.file_service.specs.Files.{node_at, file_at, StandAt}
 use Rattle.file_service.specs.Furnished.{Stock}
 use Rattle.file_service.specs.Session.{IsFresh}
 use Rattle.file_service.specs.Node.{FileNode, node_of}
@@ -49,29 +48,13 @@ module _ (first last : ℕ) (nodes later : OwnHeap) (contents : NatMap (List ℕ
   not_it b t e = let there = some_of (get nodes.payloads b) (stand.each b t).there.there in none-some there.0 (sym free ∙ ap (get nodes.payloads) (sym e) ∙ there.1)
 
   same_payload : (b : ℕ) → is_listed blocks b ≡ true → get later.payloads b ≡ get nodes.payloads b
-  same_payload b t =
-      let other = not_it b t in
-      let e : eqb b block ≡ false = grind (arith, nat_tests) in
-      ap (λ m. get m b) is ∙ get-insert nodes.payloads block payload b ∙ rw e refl
+  same_payload b t = grind (arith, nat_tests, not_it, get-insert)
 
   same_node : (b : ℕ) → is_listed blocks b ≡ true → node_at later b ≡ node_at nodes b
   same_node b t = ap (λ o. node_of (unwrap_or o [])) (same_payload b t)
 
   taken_stays : (b : ℕ) → is_listed blocks b ≡ true → Stays nodes later contents contents b
-  taken_stays b t =
-      let was = (stand.each b t).there in
-      record {
-        name = ap (λ (n : FileNode). n.name) (same_node b t);
-        size = ap (λ (n : FileNode). n.size) (same_node b t);
-        content = ap (λ (n : FileNode). n.content) (same_node b t);
-        there = record {
-          there = subst (λ (o : Option (List ℕ)). IsSome o) (sym (same_payload b t)) was.there;
-          within = subst (λ (o : Option (List ℕ)). 0 + 64 ≤ length (unwrap_or o [])) (sym (same_payload b t)) was.within;
-        };
-        chunk = chunk (b - 16) (stand.each b t).place;
-        offset = offset (b - 16) (stand.each b t).place;
-        bytes = λ _. refl;
-      }
+  taken_stays b t = grind (arith, nat_tests, same_node, same_payload)
 
   pub stand_taken : StandAt first last later contents blocks
   stand_taken = stand_kept first last nodes later contents contents blocks stand more taken_stays (λ b t. ap (λ (n : FileNode). n.next) (same_node b t))

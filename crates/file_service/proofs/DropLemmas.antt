@@ -1,5 +1,5 @@
 -- DROP: a file goes, with its node and its content.
-use Rattle.std.proofs.Common.{◌≡◌, ◌≢◌, ℕ, ◌+◌, ◌-◌, ◌<◌, ◌≤◌, true, false, cond, eqb, List, [], ◌∷◌, ◌++◌, length, Option, is_some, refl, sym, ap, subst, ◌∙◌, arith}
+use Rattle.std.proofs.Common.{◌≡◌, ◌≢◌, ℕ, ◌+◌, ◌-◌, ◌<◌, ◌≤◌, true, false, cond, eqb, List, [], ◌∷◌, ◌++◌, length, refl, sym, ap, subst, ◌∙◌, arith}
 use Rattle.std.proofs.lemmas.Bool.Decides.{nat_tests}
 use Rattle.std.specs.Prelude.{IsSome}
 use Rattle.std.specs.Option.{unwrap_or}
@@ -11,13 +11,12 @@ use Rattle.own_model.specs.FileText.FileRequest.{Drop}
 use Rattle.own_model.specs.HeapStep.{without_block}
 use Rattle.own_model.specs.NatMap.{NatMap}
 use Rattle.own_model.specs.OwnHeap.{OwnHeap}
-use Rattle.own_model.specs.Sliced.{block_size, sliced_size}
+use Rattle.own_model.specs.Sliced.{block_size}
 use Rattle.own_model.proofs.NatMapLemmas.{get-remove}
 use Rattle.sliced_heap.specs.Chain.{is_listed}
 use Rattle.file_service.specs.Calls.{payload_in, content_given, HasBytes}
 use Rattle.file_service.specs.Files.{file_at}
 use Rattle.file_service.specs.Furnished.{Stock}
-use Rattle.file_service.specs.Links.{last_of}
 use Rattle.file_service.specs.Node.{FileNode}
 use Rattle.file_service.specs.Session.{IsFound, LinksTo, Serves, served_in}
 use Rattle.file_service.specs.declared.session.FileSession.{FileSession}
@@ -38,10 +37,7 @@ previous_there first last nodes contents name previous address node found some =
 
 -- nothing is credited
 credited_none : (account : Account) → credited account 0 0 ≡ account
-credited_none account =
-    let ram : account.ram_used - 0 ≡ account.ram_used = omega arith in
-    let caps : account.caps_used - 0 ≡ account.caps_used = omega arith in
-    λ i. record account { ram_used = ram i; caps_used = caps i }
+credited_none account = grind (arith, nat_tests)
 
 module _ (session later : FileSession) (was linked given : Stock) (name : List ℕ) (previous address : ℕ) (node : FileNode)
     (found : IsFound session.first session.last was.nodes was.contents name previous address node)
@@ -60,9 +56,7 @@ module _ (session later : FileSession) (was linked given : Stock) (name : List �
 
     -- so is its content
     pub given_there : 0 < node.size → IsSome (get given.contents node.content)
-    given_there some =
-        let has = found_content session.first session.last was.nodes was.contents name previous address node found some in
-        ap is_some (ap (λ (m : NatMap (List ℕ)). get m node.content) given_contents ∙ has.there)
+    given_there some = grind (arith, nat_tests, found_content session.first session.last was.nodes was.contents name previous address node found some)
 
     module _ (last_is : later.last ≡ cond (eqb session.last address) previous session.last) (label_is : later.label ≡ session.label) where
       abbrev pub file : File

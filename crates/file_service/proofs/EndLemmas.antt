@@ -1,10 +1,9 @@
 -- The heap of nodes ends: its chunks go, and the sliced blocks stay where they stand.
-use Rattle.std.proofs.Common.{◌≡◌, ℕ, ◌+◌, ◌==◌, Bool, true, false, cond, true≢false, length, Some, is_some, refl, sym, ap, subst, ◌∙◌, arith}
+use Rattle.std.proofs.Common.{rules, ◌≡◌, ℕ, ◌+◌, ◌==◌, Bool, true, false, cond, true≢false, length, Some, is_some, refl, sym, ap, subst, ◌∙◌, arith}
 use Rattle.std.proofs.lemmas.Bool.{false_from_ne_true}
 use Rattle.std.proofs.lemmas.Bool.Decides.{nat_tests}
 use Rattle.std.proofs.lemmas.Option.{same_Some}
 use Rattle.std.specs.Prelude.{Option, None}
-use Rattle.std.specs.Option.{option_and_then}
 use Rattle.std.specs.FinMap.{get, len, empty, len-empty}
 use Rattle.std.specs.Ordering.{nat_cmp}
 use Rattle.own_model.specs.Account.{Account, credited}
@@ -13,7 +12,7 @@ use Rattle.own_model.specs.Region.{Region}
 use Rattle.own_model.specs.Use.{heap_count, heap_size}
 use Rattle.own_model.proofs.NatMapLemmas.{same}
 use Rattle.region_map.specs.Regions.{Regions}
-use Rattle.dataspace_core.specs.Share.{KeepsShares, shown}
+use Rattle.dataspace_core.specs.Share.{KeepsShares}
 use Rattle.dataspace_core.specs.Store.{Store, part, account_in}
 use Rattle.heap_core.specs.declared.heap.Heap.{Heap}
 use Rattle.heap_core.specs.Calls.{GivesAll, IsNoBlock, KeepsElsewhere}
@@ -40,9 +39,7 @@ sliced_number (Some k) e = let is : k ≡ sliced_tag = grind (arith, nat_tests) 
 module _ (account : ℕ) (old new : Store) (regions after : Regions) (kept : KeepsElsewhere regions after)
     (alike : (s : ℕ) (r : Region) → get regions.heap s ≡ Some r → get regions.tags s ≡ Some sliced_tag → is_some (get (part account new).spaces r.of) ≡ is_some (get (part account old).spaces r.of)) where
   not_sliced : (s : ℕ) → is_sliced_tag (get regions.tags s) ≡ false → is_sliced_tag (get after.tags s) ≡ false
-  not_sliced s other = false_from_ne_true _ (λ is.
-      let test : (sliced_tag == sliced_tag) ≡ true = grind (arith, nat_tests) in
-      true≢false (sym test ∙ sym (ap is_sliced_tag (kept.fewer s sliced_tag (sliced_number _ is))) ∙ other))
+  not_sliced s other = search (rules, false_from_ne_true, true≢false, sliced_number)
 
   shown_still : (s : ℕ) (b : Bool) → is_sliced_tag (get regions.tags s) ≡ b →
       shown_block_at (part account new).spaces (get after.tags s) (get after.heap s) ≡ shown_block_at (part account old).spaces (get regions.tags s) (get regions.heap s)
@@ -51,9 +48,7 @@ module _ (account : ℕ) (old new : Store) (regions after : Regions) (kept : Kee
       let stays = kept.stays s sliced_tag tag (omega arith) in
       (λ i. shown_block_at (part account new).spaces (stays.1 i) (stays.0 i))
       ∙ ap (λ o. cond (is_sliced_tag (get regions.tags s)) o None) (each_shown (part account old).spaces (part account new).spaces (get regions.heap s) (λ r there. alike s r there tag))
-  shown_still s false other =
-      ap (λ b. cond b (option_and_then (shown (part account new).spaces) (get after.heap s)) None) (not_sliced s other)
-      ∙ sym (ap (λ b. cond b (option_and_then (shown (part account old).spaces) (get regions.heap s)) None) other)
+  shown_still s false other = grind (arith, nat_tests, not_sliced)
 
   blocks_kept : block_regions (share_at account new after) ≡ block_regions (share_at account old regions)
   blocks_kept = same _ _ (λ s. block_is account new after s ∙ shown_still s _ refl ∙ sym (block_is account old regions s))
@@ -69,9 +64,7 @@ module _ {heap later : Heap} {sliced : SlicedHeap} {store new : Store} {regions 
 
   -- so is what a sliced block shows
   sliced_alone : (s : ℕ) (r : Region) → get regions.heap s ≡ Some r → get regions.tags s ≡ Some sliced_tag → IsNoHeapBlock regions r.of
-  sliced_alone s r there tag t k q other number low e =
-      let at = f.sound.window.once t s q r other there e in
-      omega (arith, low, same_Some k sliced_tag (sym number ∙ ap (get regions.tags) at ∙ tag))
+  sliced_alone s r there tag t k q other number low e = grind (arith, nat_tests, same_Some)
 
   stands : block_regions (share_at (heap_payer heap) new after) ≡ block_regions (share_at (heap_payer heap) store regions)
   stands = blocks_kept (heap_payer heap) store new regions after given.kept (λ s r there tag. ap is_some (given.spaces r.of (no_block r.of (sliced_alone s r there tag))))
@@ -93,19 +86,7 @@ module _ {heap later : Heap} {sliced : SlicedHeap} {store new : Store} {regions 
   no_chunks_left = ap (λ (h : OwnHeap). length h.shape.chunks) given.value
 
   changes : ChangesNodes (heap_payer heap) heap store regions later new after
-  changes =
-      let fewer = given.count in
-      record {
-        sound = sound;
-        payer = payer;
-        shares = others;
-        rest = given.rest;
-        stands = stands;
-        kept = λ k some none. given.spaces k (no_block k none);
-        uses = omega (arith, ap (λ (x : Account). x.caps_used) credit, fewer, pays);
-        no_large = ap (λ (h : OwnHeap). h.large) given.value ∙ sym none_large;
-        count = omega (arith, fewer, count_is, no_chunks_left);
-      }
+  changes = grind (arith, nat_tests, stands, no_block, credit, pays, none_large, count_is, no_chunks_left)
 
   -- the session is kept
   pub end_keeps : KeepsSession sliced later sliced store new regions after
@@ -113,10 +94,7 @@ module _ {heap later : Heap} {sliced : SlicedHeap} {store new : Store} {regions 
 
   -- and has nothing but sliced blocks
   pub end_alone : HasBlocksAlone (holding_of sliced new after)
-  end_alone =
-      let all = end_keeps.furnished.nodes.all in
-      let none = ap (λ (h : OwnHeap). length h.shape.chunks) (nodes_are later sliced new after (payer ∙ f.payer)) ∙ no_chunks_left in
-      omega (arith, all, none)
+  end_alone = grind (arith, nat_tests, end_keeps, nodes_are, no_chunks_left)
 
   -- its limits stay
   pub end_ram : (account_in new (payer_of sliced)).ram_limit ≡ (account_in store (payer_of sliced)).ram_limit

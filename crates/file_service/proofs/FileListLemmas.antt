@@ -1,5 +1,6 @@
 -- Lists of files that are read of blocks, after one of them is another, after one goes, and after one is put last.
-use Rattle.std.proofs.Common.{◌≡◌, ℕ, ◌+◌, true, false, cond, List, [], ◌∷◌, ◌++◌, map, Some, None, refl, sym, ap, ◌∙◌}
+use Rattle.std.proofs.Common.{arith, rules, ◌≡◌, ℕ, ◌+◌, true, false, cond, List, [], ◌∷◌, ◌++◌, map, Some, None, refl, sym, ap, ◌∙◌}
+use Rattle.std.proofs.lemmas.Bool.Decides.{nat_tests}
 use Rattle.std.proofs.lemmas.Option.{none-some, same_Some}
 use Rattle.std.specs.Prelude.{find}
 use Rattle.own_model.specs.FileService.{File, is_named, rewritten, without}
@@ -11,10 +12,7 @@ NoneNamed name files = find (is_named name) files ≡ None
 module _ (name : List ℕ) where
   -- then the first hasn't
   none_first : (file : File) (rest : List File) → NoneNamed name (file ∷ rest) → is_named name file ≡ false
-  none_first file rest none = elim (is_named name file) as (λ b. is_named name file ≡ b → b ≡ false) [
-    | false ↦ λ _. refl
-    | true ↦ λ is. absurd (none-some file (sym none ∙ rw is refl))
-  ] refl
+  none_first file rest none = search (rules, none-some)
 
   -- nor has one of the others
   none_rest : (file : File) (rest : List File) → NoneNamed name (file ∷ rest) → NoneNamed name rest
@@ -29,15 +27,13 @@ module _ (name : List ℕ) where
   pub rewritten_behind : (bytes : List ℕ) (files : List File) (file : File) (rest : List File) → NoneNamed name files → is_named name file ≡ true →
       rewritten name bytes (files ++ file ∷ rest) ≡ files ++ record file { bytes = bytes } ∷ rest
   rewritten_behind bytes [] file rest none is = rw is refl
-  rewritten_behind bytes (x ∷ files) file rest none is =
-      rw (none_first x files none) (ap (λ (more : List File). x ∷ more) (rewritten_behind bytes files file rest (none_rest x files none) is))
+  rewritten_behind bytes (x ∷ files) file rest none is = grind (arith, nat_tests, none_first, none_rest, rewritten_behind bytes files file rest (none_rest x files none) is)
 
   -- and goes there
   pub without_behind : (files : List File) (file : File) (rest : List File) → NoneNamed name files → is_named name file ≡ true →
       without name (files ++ file ∷ rest) ≡ files ++ rest
   without_behind [] file rest none is = rw is refl
-  without_behind (x ∷ files) file rest none is =
-      rw (none_first x files none) (ap (λ (more : List File). x ∷ more) (without_behind files file rest (none_rest x files none) is))
+  without_behind (x ∷ files) file rest none is = grind (arith, nat_tests, none_first, none_rest, without_behind files file rest (none_rest x files none) is)
 
   -- a file that keeps its bytes stays as it is
   pub rewritten_same : (files : List File) (file : File) → find (is_named name) files ≡ Some file → rewritten name file.bytes files ≡ files

@@ -1,5 +1,6 @@
 -- Where a content's bytes are found.
-use Rattle.std.proofs.Common.{◌≡◌, ℕ, ◌+◌, ◌-◌, ◌*◌, ◌^◌, ◌≤◌, true≢false, List, [], ◌∷◌, length, drop, Some, IsSome, refl, sym, ap, subst, ◌∙◌, arith, inl, inr}
+use Rattle.std.proofs.lemmas.Bool.Decides.{nat_tests}
+use Rattle.std.proofs.Common.{rules, ◌≡◌, ℕ, ◌+◌, ◌-◌, ◌*◌, ◌^◌, ◌≤◌, true≢false, List, [], ◌∷◌, length, drop, Some, IsSome, refl, sym, ap, subst, ◌∙◌, arith, inl, inr}
 use Rattle.std.proofs.lemmas.Bool.{cases_eq}
 use Rattle.std.proofs.lemmas.Option.{none-some, same_Some}
 use Rattle.std.specs.Prelude.{Option, None, IfSome, IfNone, slice_range, unwrap_or}
@@ -13,7 +14,7 @@ use Rattle.own_model.proofs.EntryLemmas.{not_found_in_map}
 use Rattle.own_model.proofs.PayloadLemmas.{payload_holds}
 use Rattle.own_model.specs.NatMap.{NatMap}
 use Rattle.own_model.specs.OwnState.{with_part}
-use Rattle.own_model.specs.Sliced.{sliced_header, block_found, holds_in_payload}
+use Rattle.own_model.specs.Sliced.{sliced_header, block_found}
 use Rattle.own_model.proofs.HeapStepLemmas.{not_both}
 use Rattle.own_model.proofs.NatMapLemmas.{some_of, same, natmaps}
 use Rattle.region_map.specs.Regions.{Regions}
@@ -44,9 +45,7 @@ told_of {X} P o x is p = subst (λ (q : Option X). IfSome q P) is p
 
 -- no address of the window is past 40 bits
 pub window_low : (machine : ℕ) → machine ≤ 4096 → heap_high machine ≤ 2 ^ 40
-window_low machine few =
-    let more : machine + 2 ≤ 4098 = omega arith in
-    let m = mul-le-mul few more in omega (arith, m)
+window_low machine few = grind (arith, nat_tests, natmaps, mul-le-mul)
 
 -- nothing is made of nothing alone
 none_mapped : {X Y : Type 0} (g : X → Y) (o : Option X) → option_map g o ≡ None → o ≡ None
@@ -56,9 +55,7 @@ none_mapped g (Some x) is = absurd (none-some (g x) (sym is))
 -- what isn't found holds no range
 pub found_none : (payloads : NatMap (List ℕ)) (address count k : ℕ) (payload : List ℕ) → block_found payloads address count ≡ None → get payloads k ≡ Some payload →
     k ≤ address → address + count ≤ k + length payload → ⊥
-found_none payloads address count k payload none there from to =
-    true≢false (sym (payload_holds address count k (length payload) from to)
-    ∙ not_found_in_map (holds_in_payload address count) payloads k payload (none_mapped (λ (b : ℕ × List ℕ). (b.0, address - b.0)) _ none) there)
+found_none payloads address count k payload none there from to = search (rules, true≢false, payload_holds, not_found_in_map, none_mapped)
 
 -- what there is where there is something
 pub there_is : (m : NatMap (List ℕ)) (k : ℕ) → IsSome (get m k) → get m k ≡ Some (payload_in m k)
@@ -116,9 +113,7 @@ module _ {heap : Heap} {sliced : SlicedHeap} {store : Store} {regions : Regions}
     -- and its dataspace is there
     pub range_there : IsThere store ds offset count
     unfolding share_in
-    range_there =
-        let paid = paid_in_part (payer_of sliced) ds held.bytes store held.there in
-        record { exists = paid.exists; within = omega (arith, held.within, ap length paid.bytes_are) }
+    range_there = grind (arith, nat_tests, natmaps, paid_in_part)
 
     pub finds : FindsContent sliced store regions ds offset address into count
     finds = record { held = held; at = same_start; there = range_there }
@@ -149,17 +144,11 @@ module _ {heap : Heap} {sliced : SlicedHeap} {store : Store} {regions : Regions}
   -- bytes that are put there are put over the content's
   pub content_put : (bytes : List ℕ) → insert (sliced_of (share_at (payer_of sliced) store regions)) (found.held.start + sliced_header) (with_part (drop sliced_header found.held.bytes) (offset - sliced_header) bytes)
       ≡ insert (sliced_of (holding_of sliced store regions)) address (with_part (payload_in (sliced_of (holding_of sliced store regions)) address) into bytes)
-  content_put bytes =
-      let at : offset - sliced_header ≡ into = omega (arith, same_offset f address into count has some ds offset found.held) in
-      (λ i. insert (sym (contents_held (share_at (payer_of sliced) store regions)) i) (found.at i) (with_part (same_content f address into count has some ds offset found.held i) (at i) bytes))
+  content_put bytes = grind (arith, nat_tests, natmaps, same_offset, contents_held, same_content)
 
 -- no bytes change nothing
 pub nothing_put : (contents : NatMap (List ℕ)) (address offset : ℕ) → HasBytes contents address offset 0 → insert contents address (with_part (payload_in contents address) offset []) ≡ contents
-nothing_put contents address offset has =
-    let within = has.within in
-    let is : with_part (payload_in contents address) offset [] ≡ payload_in contents address
-    = with_part-within (payload_in contents address) offset [] (omega (arith, within)) ∙ with_bytes-nothing (payload_in contents address) offset in
-    ap (insert contents address) is ∙ same _ _ (λ q. grind (arith, natmaps, there_is contents address has.there))
+nothing_put contents address offset has = grind (arith, nat_tests, natmaps, with_part-within, with_bytes-nothing, same, natmaps, there_is)
 
 pub nothing_written : (old : Stock) (address offset : ℕ) (bytes : List ℕ) → length bytes ≡ 0 → HasBytes old.contents address offset (length bytes) → old ≡ content_written address offset bytes old
 nothing_written old address offset [] none has = λ i. record old { contents = sym (nothing_put old.contents address offset has) i }

@@ -1,5 +1,6 @@
 -- The front of a content after bytes are put over it.
-use Rattle.std.proofs.Common.{◌≡◌, ℕ, ◌+◌, ◌-◌, ◌<◌, ◌≤◌, min, List, [], ◌∷◌, ◌++◌, length, take, drop, refl, sym, ap, ◌∙◌, ⊎_elim, arith, length-append}
+use Rattle.std.proofs.lemmas.Bool.Decides.{nat_tests}
+use Rattle.std.proofs.Common.{◌≡◌, ℕ, ◌+◌, ◌-◌, ◌<◌, ◌≤◌, min, List, [], ◌∷◌, ◌++◌, length, take, drop, sym, ap, ◌∙◌, ⊎_elim, arith, length-append}
 use Rattle.std.proofs.lemmas.List.{drop-take, length-drop, length-take, length-take-le, take-append-le, take-take, take_all, take_at, take-append-drop, drop_all}
 use Rattle.std.proofs.lemmas.Bool.{cases_lt}
 use Rattle.std.specs.Prelude.{slice_range}
@@ -31,17 +32,12 @@ front_at n xs fresh long = take_at xs (drop (0 + length xs) fresh) n long
 -- what ends where the part ends
 front_ends : (n offset : ℕ) (bytes part : List ℕ) → offset ≤ length bytes → n ≡ offset + length part → take n (with_bytes bytes offset part) ≡ take offset bytes ++ part
 unfolding with_bytes
-front_ends n offset bytes part low is =
-    let front : length (take offset bytes) ≡ offset = length-take-le offset bytes low in
-    take_at (take offset bytes ++ part) (drop (offset + length part) bytes) n (omega (arith, front, is, length-append (take offset bytes) part))
+front_ends n offset bytes part low is = grind (arith, nat_tests, length-take-le, take_at, length-append)
 
 -- bytes that go past the end are the last ones
 ends_there : (size offset : ℕ) (bytes part : List ℕ) (n : ℕ) → length bytes ≡ size → offset ≤ size → size < offset + length part → n ≡ offset + length part → length (with_bytes bytes offset part) ≤ n
 unfolding with_bytes
-ends_there size offset bytes part n long low longer is =
-    let none : drop (offset + length part) bytes ≡ [] = drop_all (offset + length part) bytes (omega (arith, long, longer)) in
-    let front : length (take offset bytes) ≡ offset = length-take-le offset bytes (omega (arith, long, low)) in
-    rw none (omega (arith, front, is, length-append (take offset bytes ++ part) [], length-append (take offset bytes) part))
+ends_there size offset bytes part n long low longer is = grind (arith, nat_tests, drop_all, length-take-le, length-append)
 
 -- bytes at the end of a copy of the file's front, where they go past the file
 pub front_longer : (size n offset : ℕ) (fresh old part : List ℕ) → offset ≤ size → size < offset + length part → size ≤ length old → n ≡ offset + length part → n ≤ length fresh →
@@ -78,7 +74,4 @@ front_part size len offset count payload low is =
 -- these bytes are a range of the content, where a buffer starts with it
 pub front_read : (size len offset count n : ℕ) (payload piece rest : List ℕ) → size ≤ length payload → offset ≤ size → count ≡ min len (size - offset) → n ≡ count →
     piece ≡ slice_range payload offset (offset + n) → take len (drop offset (take size payload)) ≡ take count (piece ++ rest)
-front_read size len offset count n payload piece rest long low is n_is piece_is =
-    let range : piece ≡ take count (drop offset payload) = piece_is ∙ ap (λ k. take k (drop offset payload)) (omega (arith, n_is)) in
-    let length_is : length piece ≡ count = ap length range ∙ length-take-le count (drop offset payload) (let e = length-drop offset payload in omega (arith, e, long, low, is)) in
-    front_part size len offset count payload low is ∙ sym range ∙ sym (front_of count piece rest length_is)
+front_read size len offset count n payload piece rest long low is n_is piece_is = grind (arith, nat_tests, length-take-le, length-drop, front_part, front_of)

@@ -1,6 +1,6 @@
 -- What a call of one of a session's two heaps leaves of the other, and so of what the session has.
-use Rattle.std.proofs.Common.{◌≡◌, ℕ, ◌+◌, List, length, Some, IsSome, refl, sym, ap, subst, ◌∙◌, arith}
-use Rattle.std.proofs.lemmas.Option.{same_Some}
+use Rattle.std.proofs.lemmas.Bool.Decides.{nat_tests}
+use Rattle.std.proofs.Common.{rules, ◌≡◌, ℕ, ◌+◌, List, length, Some, IsSome, refl, sym, ap, subst, ◌∙◌, arith}
 use Rattle.std.specs.FinMap.{get, len}
 use Rattle.own_model.specs.Account.{Account}
 use Rattle.own_model.specs.HeapWindow.{heap_low, heap_high}
@@ -18,7 +18,7 @@ use Rattle.heap_core.proofs.StayLemmas.{heap_stays}
 use Rattle.sliced_heap.specs.declared.heap.SlicedHeap.{SlicedHeap}
 use Rattle.sliced_heap.specs.Heap.{payer_of, share_at, blocks_at, IsSound as IsSoundSliced, KeepsOthers}
 use Rattle.sliced_heap.specs.Laws.{HeapStays}
-use Rattle.sliced_heap.specs.Sliced.{sliced_tag, sliced_of, block_regions}
+use Rattle.sliced_heap.specs.Sliced.{sliced_of, block_regions}
 use Rattle.sliced_heap.proofs.HeapLaws.{heap_stays_among}
 use Rattle.heap_window.proofs.ShareLemmas.{shown_block}
 use Rattle.server_frame.specs.Session.{holding, holding_of}
@@ -73,8 +73,7 @@ laid_back heap share laid = record {
 -- the heap of nodes, as its own account has it
 pub nodes_are : (heap : Heap) (sliced : SlicedHeap) (store : Store) (regions : Regions) → heap_payer heap ≡ payer_of sliced →
     heap_in heap (holding_of sliced store regions) ≡ heap_at heap store regions
-nodes_are heap sliced store regions payer =
-    value_held heap (share_at (payer_of sliced) store regions) ∙ ap (λ a. heap_in heap (share_at a store regions)) (sym payer)
+nodes_are heap sliced store regions payer = search (rules, value_held)
 
 -- ---- a call of the heap of nodes
 
@@ -97,10 +96,7 @@ module _ {heap : Heap} {sliced : SlicedHeap} {store : Store} {regions : Regions}
 
   -- a sliced block's dataspace is none of the heap's
   pub sliced_no_chunk : (s : ℕ) (r : Region) → get (block_regions (share_at (payer_of sliced) store regions)) s ≡ Some r → IsNoHeapBlock regions r.of
-  sliced_no_chunk s r block t k q there tag low e =
-      let one = shown_block (payer_of sliced) store regions s r block in
-      let at = f.sound.window.once t s q r there one.there e in
-      absurd (omega (arith, low, same_Some k sliced_tag (sym tag ∙ ap (get regions.tags) at ∙ one.tag)))
+  sliced_no_chunk s r block t k q there tag low e = let one = shown_block (payer_of sliced) store regions s r block in grind (arith, nat_tests, one, f.sound.window.once t s q r there one.there e)
 
   module _ {later : Heap} {new : Store} {after : Regions} (c : ChangesNodes (payer_of sliced) heap store regions later new after) where
     opens_still : IsOpenIn new (payer_of sliced)
@@ -138,11 +134,7 @@ module _ {heap : Heap} {sliced : SlicedHeap} {store : Store} {regions : Regions}
     -- the contents stay
     pub contents_stay : (account : Account) (nodes : OwnHeap) → account_in new (payer_of sliced) ≡ account → heap_at later new after ≡ nodes →
         stock later sliced new after ≡ record (stock heap sliced store regions) { account = account; nodes = nodes }
-    contents_stay account nodes is value = λ i. record {
-      account = is i;
-      nodes = (nodes_are later sliced new after c.payer ∙ value) i;
-      contents = (contents_held (share_at (payer_of sliced) new after) ∙ sliced_stays.blocks ∙ sym (contents_held (share_at (payer_of sliced) store regions))) i;
-    }
+    contents_stay account nodes is value = search (rules, nodes_are, contents_held, sliced_stays)
 
   -- ---- a call of the sliced heap
 
@@ -175,8 +167,7 @@ module _ {heap : Heap} {sliced : SlicedHeap} {store : Store} {regions : Regions}
 
     -- it has the same
     pub nodes_stay : heap_in heap (holding_of now new after) ≡ heap_in heap (holding_of sliced store regions)
-    nodes_stay =
-        nodes_are heap now new after (f.payer ∙ sym c.payer) ∙ heap_stays_on.value ∙ sym (nodes_are heap sliced store regions f.payer)
+    nodes_stay = search (rules, nodes_are, heap_stays_on)
 
     -- the contents are those of the account
     contents_now : sliced_of (holding_of now new after) ≡ blocks_at (payer_of sliced) new after
@@ -210,8 +201,4 @@ module _ {heap : Heap} {sliced : SlicedHeap} {store : Store} {regions : Regions}
     -- what the session has
     pub nodes_stay_in : (account : Account) (contents : NatMap (List ℕ)) → account_in new (payer_of sliced) ≡ account → blocks_at (payer_of sliced) new after ≡ contents →
         stock heap now new after ≡ record (stock heap sliced store regions) { account = account; contents = contents }
-    nodes_stay_in account contents is value = λ i. record {
-      account = (ap (account_in new) c.payer ∙ is) i;
-      nodes = nodes_stay i;
-      contents = (contents_now ∙ value) i;
-    }
+    nodes_stay_in account contents is value = search (rules, nodes_stay, contents_now)

@@ -1,15 +1,15 @@
 -- A longer content is made of the old one's front and the bytes that are written.
-use Rattle.std.proofs.Common.{◌≡◌, ◌≢◌, ℕ, ◌+◌, ◌-◌, ◌<◌, ◌≤◌, true, List, [], ◌++◌, ◌∷◌, length, take, Option, Some, None, is_some, refl, sym, ap, subst, ◌∙◌, arith}
+use Rattle.std.proofs.Common.{rules, ◌≡◌, ◌≢◌, ℕ, ◌+◌, ◌-◌, ◌<◌, ◌≤◌, true, List, [], ◌++◌, ◌∷◌, length, take, Option, Some, None, is_some, refl, sym, ap, subst, ◌∙◌, arith}
 use Rattle.std.proofs.lemmas.Bool.Decides.{nat_tests}
 use Rattle.std.proofs.lemmas.List.{length-take}
 use Rattle.std.proofs.lemmas.Option.{none-some}
-use Rattle.std.specs.Prelude.{find, SomeIff, Result, Ok, Err}
+use Rattle.std.specs.Prelude.{SomeIff, Result, Ok, Err}
 use Rattle.std.specs.Result.{result_ok}
 use Rattle.std.specs.Option.{unwrap_or}
 use Rattle.std.specs.FinMap.{get}
 use Rattle.trade_base.specs.Bytes.{with_bytes}
 use Rattle.own_model.specs.Account.{shortage, charged}
-use Rattle.own_model.specs.FileService.{is_named, rewritten, content_credited}
+use Rattle.own_model.specs.FileService.{rewritten, content_credited}
 use Rattle.own_model.specs.FileText.FileRequest.{Write}
 use Rattle.own_model.specs.FileText.FileReply.{Count}
 use Rattle.own_model.specs.NatMap.{NatMap}
@@ -54,9 +54,7 @@ module _ (session : FileSession) (was taken : Stock) (name : List ℕ) (previous
     (size content offset : ℕ) (bytes : List ℕ) (low : offset ≤ node.size) (takes : TakesLonger was taken size content offset bytes) where
   -- the file's content is another one
   pub not_new : 0 < node.size → node.content ≢ content
-  not_new some =
-      let has = found_content session.first session.last was.nodes was.contents name previous address node found some in
-      apart_from was.contents node.content content has.payload has.there takes.free
+  not_new some = grind (arith, nat_tests, found_content session.first session.last was.nodes was.contents name previous address node found some)
 
   taken_other : (a : ℕ) → a ≢ content → get taken.contents a ≡ get was.contents a
   taken_other a apart = ap (λ (s : Stock). get s.contents a) takes.is ∙ get-insert_other was.contents content (zeros (sliced_size size - 32)) a apart
@@ -74,28 +72,17 @@ module _ (session : FileSession) (was taken : Stock) (name : List ℕ) (previous
       }
 
   pub target : HasBytes taken.contents content 0 offset
-  target = record {
-    there = ap is_some taken_new;
-    within = omega (arith, ap (λ o. length (unwrap_or o [])) taken_new, length-zeros (sliced_size size - 32), content_long size, takes.size_is);
-  }
+  target = search (rules, taken_new, length-zeros, content_long)
 
   module _ (copied : Stock) (copied_is : copied ≡ content_copied node.content content offset taken) where
     copied_payload : payload_in copied.contents content ≡ with_part (payload_in taken.contents content) 0 (take offset (payload_in taken.contents node.content))
-    copied_payload =
-        ap (λ (s : Stock). payload_in s.contents content) copied_is
-        ∙ ap (λ o. unwrap_or o []) (get-insert_same taken.contents content (with_part (payload_in taken.contents content) 0 (take offset (payload_in taken.contents node.content))) content refl)
+    copied_payload = search (rules, get-insert_same)
 
     copied_length : length (payload_in copied.contents content) ≡ sliced_size size - 32
-    copied_length =
-        ap length copied_payload ∙ length-with_part (payload_in taken.contents content) 0 (take offset (payload_in taken.contents node.content))
-        ∙ ap (λ o. length (unwrap_or o [])) taken_new ∙ length-zeros (sliced_size size - 32)
+    copied_length = simp (copied_payload, length-with_part, taken_new, length-zeros)
 
     pub room : HasBytes copied.contents content offset (length bytes)
-    room = record {
-      there = ap (λ (s : Stock). is_some (get s.contents content)) copied_is
-          ∙ ap is_some (get-insert_same taken.contents content (with_part (payload_in taken.contents content) 0 (take offset (payload_in taken.contents node.content))) content refl);
-      within = omega (arith, copied_length, content_long size, takes.size_is);
-    }
+    room = search (rules, get-insert_same, copied_length, content_long)
 
     module _ (made : Stock) (made_is : made ≡ content_written content offset bytes copied) where
       made_nodes : made.nodes ≡ was.nodes
@@ -103,21 +90,13 @@ module _ (session : FileSession) (was taken : Stock) (name : List ℕ) (previous
 
       -- all others are as they were
       made_other : (a : ℕ) → a ≢ content → get made.contents a ≡ get was.contents a
-      made_other a apart =
-          ap (λ (s : Stock). get s.contents a) made_is ∙ get-insert_other copied.contents content (with_part (payload_in copied.contents content) offset bytes) a apart
-          ∙ ap (λ (s : Stock). get s.contents a) copied_is
-          ∙ get-insert_other taken.contents content (with_part (payload_in taken.contents content) 0 (take offset (payload_in taken.contents node.content))) a apart
-          ∙ taken_other a apart
+      made_other a apart = search (rules, get-insert_other, taken_other)
 
       made_new : get made.contents content ≡ Some (with_part (payload_in copied.contents content) offset bytes)
       made_new = ap (λ (s : Stock). get s.contents content) made_is ∙ get-insert_same copied.contents content (with_part (payload_in copied.contents content) offset bytes) content refl
 
       pub made_has : HasContent made.contents (record node { content = content; size = size })
-      made_has = record {
-        payload = with_part (payload_in copied.contents content) offset bytes;
-        there = made_new;
-        long = length-with_part (payload_in copied.contents content) offset bytes ∙ copied_length;
-      }
+      made_has = search (rules, made_new, length-with_part, copied_length)
 
       -- no file has the new one
       other_content : (b : ℕ) → is_listed (found.before ++ address ∷ found.behind) b ≡ true → 0 < (node_at was.nodes b).size → (node_at was.nodes b).content ≢ content
@@ -128,15 +107,7 @@ module _ (session : FileSession) (was taken : Stock) (name : List ℕ) (previous
           (λ b t some. other_content b (ap (λ xs. is_listed xs b) (sym (blocks_are session.first session.last was.nodes was.contents (found.before ++ address ∷ found.behind) found.stand)) ∙ t) some)
 
       made_stays : (b : ℕ) → is_listed (found.before ++ address ∷ found.behind) b ≡ true → Stays was.nodes was.nodes was.contents made.contents b
-      made_stays b t = record {
-        name = refl;
-        size = refl;
-        content = refl;
-        there = (found.stand.each b t).there;
-        chunk = refl;
-        offset = refl;
-        bytes = λ some. made_other (node_at was.nodes b).content (other_content b t some);
-      }
+      made_stays b t = search (rules, made_other, other_content)
 
       made_stand : StandAt session.first session.last was.nodes made.contents (found.before ++ address ∷ found.behind)
       made_stand = stand_kept session.first session.last was.nodes was.nodes was.contents made.contents (found.before ++ address ∷ found.behind) found.stand (omega arith) made_stays (λ b t. refl)
@@ -150,15 +121,7 @@ module _ (session : FileSession) (was taken : Stock) (name : List ℕ) (previous
 
       -- so the file is found where it was
       pub made_found : IsFound session.first session.last made.nodes made.contents name previous address node
-      made_found = subst (λ n. IsFound session.first session.last n made.contents name previous address node) (sym made_nodes) (record {
-        before = found.before;
-        behind = found.behind;
-        stand = made_stand;
-        previous_is = found.previous_is;
-        others = ap (find (is_named name)) (map_kept (file_at was.nodes was.contents) (file_at was.nodes made.contents) found.before (λ b t. made_file b (made_before b t))) ∙ found.others;
-        named = found.named;
-        node_is = found.node_is;
-      })
+      made_found = search (rules, made_nodes, made_stand, map_kept, made_file, made_before)
 
       -- the files are those that were
       made_files : files_in session made ≡ files_in session was
@@ -190,14 +153,7 @@ module _ (session : FileSession) (was taken : Stock) (name : List ℕ) (previous
 
       -- the new content's front is the file's bytes with those that are written over them
       made_bytes : node.size < offset + length bytes → take size (payload_in made.contents content) ≡ with_bytes (file_at was.nodes was.contents address).bytes offset bytes
-      made_bytes longer =
-          let fresh = payload_in taken.contents content in
-          let old = payload_in was.contents node.content in
-          let room : size ≤ length fresh = omega (arith, ap (λ o. length (unwrap_or o [])) taken_new, length-zeros (sliced_size size - 32), content_long size) in
-          ap (λ o. take size (unwrap_or o [])) made_new
-          ∙ ap (λ p. take size (with_part p offset bytes)) (copied_payload ∙ ap (with_part fresh 0) front_same)
-          ∙ front_longer node.size size offset fresh old bytes low longer old_long takes.size_is room
-          ∙ ap (λ b. with_bytes b offset bytes) (sym (found_bytes session.first session.last was.nodes was.contents name previous address node found))
+      made_bytes longer = grind (arith, nat_tests, room, taken_new, length-zeros, content_long, made_new, copied_payload, front_same, front_longer, old_long, found_bytes)
 
       -- given to the file it is what is served
       pub made_served : node.size < offset + length bytes → (later : FileSession) (now : Stock) →

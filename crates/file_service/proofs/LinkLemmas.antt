@@ -1,32 +1,16 @@
 -- Links after a block is put behind the last one, and after one is taken out.
-use Rattle.std.proofs.Common.{◌≡◌, ◌≢◌, ℕ, zero, suc, ◌+◌, ◌≤◌, true, false, cond, eqb, List, [], ◌∷◌, ◌++◌, length, map, not, ◌&&◌, ◌||◌, refl, sym, ap, ◌∙◌, ⊎_elim, true≢false, arith}
-use Rattle.std.proofs.lemmas.Bool.{cases_eq}
+use Rattle.std.proofs.Common.{◌≡◌, ◌≢◌, ℕ, zero, suc, ◌+◌, ◌≤◌, true, false, List, [], ◌∷◌, ◌++◌, length, map, ◌&&◌, ◌||◌, refl, sym, ap, ◌∙◌, true≢false, arith}
 use Rattle.std.proofs.lemmas.Bool.Decides.{nat_tests}
 use Rattle.sliced_heap.specs.Chain.{is_listed, has_no_repeat}
-use Rattle.file_service.specs.Links.{Leads, last_of, along, IsLine}
+pub use Rattle.sliced_heap.proofs.ChainLemmas.{unlisted, listed_first, listed_later, once_first, once_later}
+use Rattle.file_service.specs.Links.{Leads, last_of, along}
 
 -- ---- what is listed, and nothing twice
 
--- a block that isn't listed is none of those listed
-pub unlisted : (xs : List ℕ) (a b : ℕ) → is_listed xs a ≡ false → is_listed xs b ≡ true → b ≢ a
-unlisted xs a b none there e = true≢false (sym there ∙ ap (is_listed xs) e ∙ none)
-
-pub listed_first : (x : ℕ) (xs : List ℕ) → is_listed (x ∷ xs) x ≡ true
-listed_first x xs = grind (arith, nat_tests)
-
-pub listed_later : (x b : ℕ) (xs : List ℕ) → is_listed xs b ≡ true → is_listed (x ∷ xs) b ≡ true
-listed_later x b xs there = grind (arith, nat_tests)
-
+-- what two lists have is what either has
 pub listed_append : (xs ys : List ℕ) (b : ℕ) → is_listed (xs ++ ys) b ≡ (is_listed xs b || is_listed ys b)
 listed_append [] ys b = refl
 listed_append (x ∷ xs) ys b = let rest = listed_append xs ys b in grind (arith, nat_tests)
-
--- where the first comes once, it isn't listed after itself, and nothing after it comes twice
-pub once_first : (x : ℕ) (xs : List ℕ) → has_no_repeat (x ∷ xs) ≡ true → is_listed xs x ≡ false
-once_first x xs once = grind (arith, nat_tests)
-
-pub once_later : (x : ℕ) (xs : List ℕ) → has_no_repeat (x ∷ xs) ≡ true → has_no_repeat xs ≡ true
-once_later x xs once = grind (arith, nat_tests)
 
 -- the last one is listed, the holder among them
 pub last_listed : (h : ℕ) (xs : List ℕ) → is_listed (h ∷ xs) (last_of h xs) ≡ true
@@ -36,27 +20,17 @@ last_listed h (x ∷ xs) = listed_later h (last_of x xs) (x ∷ xs) (last_listed
 -- nothing comes twice after a fresh one is put last
 pub once_appended : (xs : List ℕ) (a : ℕ) → has_no_repeat xs ≡ true → is_listed xs a ≡ false → has_no_repeat (xs ++ a ∷ []) ≡ true
 once_appended [] a once fresh = refl
-once_appended (x ∷ xs) a once fresh =
-    let rest = once_appended xs a (once_later x xs once) (grind (arith, nat_tests)) in
-    let listed = listed_append xs (a ∷ []) x in
-    grind (arith, nat_tests)
+once_appended (x ∷ xs) a once fresh = grind (arith, nat_tests, once_later, listed_append, once_appended xs a (once_later x xs once) (grind (arith, nat_tests)))
 
 -- nor where one is left out
 pub once_without : (before after : List ℕ) (x : ℕ) → has_no_repeat (before ++ x ∷ after) ≡ true → has_no_repeat (before ++ after) ≡ true
 once_without [] after x once = once_later x after once
-once_without (b ∷ before) after x once =
-    let rest = once_without before after x (once_later b (before ++ x ∷ after) once) in
-    let with_it = listed_append before (x ∷ after) b in
-    let without = listed_append before after b in
-    grind (arith, nat_tests)
+once_without (b ∷ before) after x once = grind (arith, nat_tests, once_later, listed_append, once_without before after x (once_later b (before ++ x ∷ after) once))
 
 -- what comes once isn't before itself
 pub once_apart : (before after : List ℕ) (x : ℕ) → has_no_repeat (before ++ x ∷ after) ≡ true → is_listed (before ++ after) x ≡ false
 once_apart [] after x once = once_first x after once
-once_apart (b ∷ before) after x once =
-    let rest = once_apart before after x (once_later b (before ++ x ∷ after) once) in
-    let with_it = listed_append before (x ∷ after) b in
-    grind (arith, nat_tests)
+once_apart (b ∷ before) after x once = grind (arith, nat_tests, once_later, listed_append, once_apart before after x (once_later b (before ++ x ∷ after) once))
 
 -- ---- links
 
@@ -64,8 +38,7 @@ module _ (link after_link : ℕ → ℕ) where
   -- links lead where they led while those of the blocks stay
   pub leads_kept : (holder : ℕ) (xs : List ℕ) → ((b : ℕ) → is_listed (holder ∷ xs) b ≡ true → after_link b ≡ link b) → Leads link holder xs → Leads after_link holder xs
   leads_kept holder [] kept leads = kept holder (listed_first holder []) ∙ leads
-  leads_kept holder (x ∷ xs) kept leads =
-      (kept holder (listed_first holder (x ∷ xs)) ∙ leads.0, leads_kept x xs (λ b t. kept b (listed_later holder b (x ∷ xs) t)) leads.1)
+  leads_kept holder (x ∷ xs) kept leads = grind (arith, nat_tests, listed_first, listed_later, leads_kept x xs (λ b t. kept b (listed_later holder b (x ∷ xs) t)) leads.1)
 
   -- a block more, to which the last one is linked
   pub leads_appended : (holder a : ℕ) (xs : List ℕ) → has_no_repeat (holder ∷ xs) ≡ true →
@@ -83,12 +56,7 @@ module _ (link after_link : ℕ → ℕ) where
       ((b : ℕ) → is_listed (holder ∷ (before ++ after)) b ≡ true → b ≢ last_of holder before → after_link b ≡ link b) →
       after_link (last_of holder before) ≡ link x → Leads link holder (before ++ x ∷ after) → Leads after_link holder (before ++ after)
   leads_without holder x [] [] once kept over leads = over ∙ leads.1
-  leads_without holder x [] (y ∷ ys) once kept over leads =
-      let once_x : has_no_repeat (x ∷ (y ∷ ys)) ≡ true = once_later holder (x ∷ (y ∷ ys)) once in
-      let fresh : is_listed (y ∷ ys) holder ≡ false = let all = once_first holder (x ∷ (y ∷ ys)) once in grind (arith, nat_tests) in (
-        over ∙ leads.1.0,
-        leads_kept y ys (λ b t. kept b (listed_later holder b (y ∷ ys) t) (unlisted (y ∷ ys) holder b fresh t)) leads.1.1,
-      )
+  leads_without holder x [] (y ∷ ys) once kept over leads = grind (arith, nat_tests, once_later, once_first, leads_kept, listed_later, unlisted)
   leads_without holder x (p ∷ before) after once kept over leads =
       let listed = last_listed p before in
       let all = once_first holder (p ∷ (before ++ x ∷ after)) once in
@@ -103,10 +71,7 @@ pub along_line : (link : ℕ → ℕ) (n holder : ℕ) (xs : List ℕ) → is_li
 along_line link zero holder [] no_zero few leads = refl
 along_line link zero holder (x ∷ xs) no_zero few leads = absurd (omega (arith, few))
 along_line link (suc n) holder [] no_zero few leads = rw leads refl
-along_line link (suc n) holder (x ∷ xs) no_zero few leads =
-    let nonzero : eqb x 0 ≡ false = grind (arith, nat_tests) in
-    let rest = along_line link n x xs (grind (arith, nat_tests)) (omega (arith, few)) leads.1 in
-    rw (leads.0, nonzero, rest) refl
+along_line link (suc n) holder (x ∷ xs) no_zero few leads = grind (arith, nat_tests, along_line link n x xs (grind (arith, nat_tests)) (omega (arith, few)) leads.1)
 
 -- ---- what is read of each block
 
@@ -114,5 +79,4 @@ module _ {X : Type 0} (f g : ℕ → X) where
   -- it stays while it stays of each
   pub map_kept : (xs : List ℕ) → ((b : ℕ) → is_listed xs b ≡ true → g b ≡ f b) → map g xs ≡ map f xs
   map_kept [] kept = refl
-  map_kept (x ∷ xs) kept =
-      rw (kept x (listed_first x xs), map_kept xs (λ b t. kept b (listed_later x b xs t))) refl
+  map_kept (x ∷ xs) kept = grind (arith, nat_tests, listed_first, listed_later, map_kept xs (λ b t. kept b (listed_later x b xs t)))

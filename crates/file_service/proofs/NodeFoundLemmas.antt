@@ -1,5 +1,5 @@
 -- Where a node's bytes are found.
-use Rattle.std.proofs.Common.{◌≡◌, ℕ, ◌+◌, ◌-◌, ◌≤◌, List, length, Some, sym, ap, ◌∙◌, arith}
+use Rattle.std.proofs.Common.{rules, ◌≡◌, ℕ, ◌+◌, ◌-◌, ◌≤◌, List, length, Some, sym, ap, ◌∙◌, arith}
 use Rattle.std.proofs.lemmas.Option.{same_Some}
 use Rattle.std.specs.Prelude.{slice_range}
 use Rattle.std.specs.FinMap.{get}
@@ -27,9 +27,7 @@ module _ {heap : Heap} {sliced : SlicedHeap} {store : Store} {regions : Regions}
 
   -- the node's payload is one of the heap's
   pub payload_there : get (heap_at heap store regions).payloads address ≡ Some payload
-  payload_there =
-      ap (λ (h : OwnHeap). get h.payloads address) (sym (nodes_are heap sliced store regions f.payer))
-      ∙ there_is (heap_in heap (holding_of sliced store regions)).payloads address has.there
+  payload_there = search (rules, nodes_are, there_is)
 
   module _ (ds offset : ℕ) (held : HoldsRange heap store regions ds offset address count) where
     -- what is found is that payload

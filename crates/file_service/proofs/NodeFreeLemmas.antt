@@ -1,4 +1,5 @@
 -- Where a node's block is taken no payload stood.
+use Rattle.std.proofs.lemmas.Bool.Decides.{nat_tests}
 use Rattle.std.proofs.Common.{◌≡◌, ◌≢◌, ◌⊎◌, ℕ, ◌+◌, ◌*◌, ◌/◌, ◌<◌, ◌≤◌, length, Some, refl, sym, ap, subst, ◌∙◌, arith}
 use Rattle.std.proofs.lemmas.Option.{none-some}
 use Rattle.std.specs.Prelude.{Option, None}
@@ -16,8 +17,8 @@ use Rattle.region_map.specs.Regions.{Regions, heap_attached}
 use Rattle.dataspace_core.specs.Share.{Share}
 use Rattle.dataspace_core.specs.Store.{Store, part}
 use Rattle.heap_core.specs.declared.heap.Heap.{Heap}
-use Rattle.heap_core.specs.Calls.{TakesSmall, TakesGrown, growth_at}
-use Rattle.heap_core.specs.Heap.{payer_of as heap_payer, chunk_at, heap_in, heap_at, keys_in, share_at, shape_in, words_in, IsSound as IsSoundHeap}
+use Rattle.heap_core.specs.Calls.{TakesSmall, TakesGrown}
+use Rattle.heap_core.specs.Heap.{payer_of as heap_payer, chunk_at, heap_in, heap_at, share_at, shape_in, words_in, IsSound as IsSoundHeap}
 use Rattle.heap_core.specs.Lookup.{LiesOutside}
 use Rattle.heap_core.proofs.FoundLemmas.{blocks_at}
 use Rattle.heap_core.proofs.LookupLemmas.{no_payload, outside_free}
@@ -92,14 +93,7 @@ module _ (heap : Heap) (store : Store) (regions : Regions) (sound : IsSoundHeap 
     chunk_free = outside_free heap store regions sound (start + 16) grown_outside
 
   grown_free : (later : Heap) (n address : ℕ) (new : Store) (after : Regions) → IsSoundHeap later new after → TakesGrown heap later n address store new regions after → get (heap_at heap store regions).payloads address ≡ None
-  grown_free later n address new after sound' takes =
-      let bytes : ℕ = (growth_at n heap store).bytes in
-      let is = subst (IsSoundHeap later new) takes.attaches.attached sound' in
-      let region : Region = record { of = takes.ds; pages = bytes / 4096 } in
-      let some = is.window.lie.some takes.start region (get-insert_same regions.heap takes.start region takes.start refl) in
-      ap (get (heap_at heap store regions).payloads) takes.at
-      ∙ chunk_free later new takes.ds (bytes / 4096) (length (keys_in heap)) takes.start is
-      (gap_is_free regions.pages regions.heap (bytes / 4096) takes.start some sound.window.lie takes.attaches.gap)
+  grown_free later n address new after sound' takes = grind (arith, nat_tests, get-insert_same, chunk_free, gap_is_free)
 
 -- where a node's block is taken there was none
 pub node_free : {heap later : Heap} {sliced : SlicedHeap} {store new : Store} {regions after : Regions} (f : IsFurnished heap sliced store regions) → IsSoundHeap later new after → (address : ℕ) →

@@ -1,18 +1,17 @@
 -- A node's block is given back.
-use Rattle.std.proofs.Common.{◌≡◌, ℕ, ◌+◌, length, Some, IsSome, sym, ap, subst, ◌∙◌}
+use Rattle.std.proofs.Common.{arith, rules, ◌≡◌, ℕ, ◌+◌, length, IsSome, sym, ap, subst, ◌∙◌}
+use Rattle.std.proofs.lemmas.Bool.Decides.{nat_tests}
 use Rattle.std.specs.Prelude.{None, Result, OnOk}
 use Rattle.std.specs.Result.{result_err}
 use Rattle.std.specs.FinMap.{get}
 use Rattle.trade_base.specs.declared.refusal.Refusal.{Refusal}
-use Rattle.own_model.specs.BestFit.{chunk_of, used_at}
-use Rattle.own_model.specs.Growth.{shape_given}
 use Rattle.own_model.specs.HeapStep.{without_block}
 use Rattle.own_model.specs.NatMap.{NatMap}
-use Rattle.own_model.specs.OwnHeap.{OwnHeap, start_of}
+use Rattle.own_model.specs.OwnHeap.{OwnHeap}
 use Rattle.own_model.proofs.NatMapLemmas.{get-empty}
 use Rattle.region_map.specs.Regions.{Regions}
 use Rattle.dataspace_core.specs.Share.{KeepsShares}
-use Rattle.dataspace_core.specs.Store.{Store, account_in}
+use Rattle.dataspace_core.specs.Store.{Store}
 use Rattle.heap_core.specs.declared.heap.Heap.{Heap}
 use Rattle.heap_core.specs.Calls.{GivesSmall, free_refusal}
 use Rattle.heap_core.specs.Heap.{payer_of as heap_payer, heap_in, heap_at, IsSound as IsSoundHeap}
@@ -20,7 +19,7 @@ use Rattle.sliced_heap.specs.declared.heap.SlicedHeap.{SlicedHeap}
 use Rattle.sliced_heap.specs.Heap.{payer_of}
 use Rattle.server_frame.specs.Session.{holding_of}
 use Rattle.file_service.specs.Calls.{GivesNode}
-use Rattle.file_service.specs.Furnished.{IsFurnished, KeepsSession, Stock, stock}
+use Rattle.file_service.specs.Furnished.{IsFurnished, KeepsSession, stock}
 use Rattle.file_service.proofs.FurnishedLemmas.{ChangesNodes, nodes_are, nodes_kept, contents_stay}
 use Rattle.file_service.proofs.NodeCallLemmas.{in_place, account_stays, chunks_given}
 use Rattle.file_service.proofs.NodePlaceLemmas.{given_at}
@@ -35,8 +34,7 @@ module _ {heap : Heap} {sliced : SlicedHeap} {store : Store} {regions : Regions}
   pub gives_of : {later : Heap} {new : Store} {after : Regions} {X : Type 0} (r : Result X Refusal) → IsSome (get (heap_in heap (holding_of sliced store regions)).payloads address) →
       result_err r ≡ free_refusal (heap_at heap store regions) address →
       OnOk r (get (heap_at heap store regions).large address ≡ None → GivesSmall heap later address store new regions after) → GivesSmall heap later address store new regions after
-  gives_of r there refusal small =
-      ok_then r (free_ok address (ap (λ (h : OwnHeap). h.payloads) (nodes_are heap sliced store regions f.payer)) there refusal) small no_large
+  gives_of r there refusal small = search (rules, ok_then, free_ok, nodes_are, no_large)
 
   module _ {later : Heap} {new : Store} {after : Regions} (gives : GivesSmall heap later address store new regions after) (sound : IsSoundHeap later new after)
       (payer : heap_payer later ≡ heap_payer heap) (others : KeepsShares (heap_payer heap) store new regions.heap regions.tags after.heap after.tags) where
@@ -54,16 +52,7 @@ module _ {heap : Heap} {sliced : SlicedHeap} {store : Store} {regions : Regions}
     given_keeps = nodes_kept f changes
 
     stock_is : stock later sliced new after ≡ record (stock heap sliced store regions) { nodes = without_block address (heap_in heap (holding_of sliced store regions)) }
-    stock_is =
-        contents_stay f changes _ _
-        (subst (λ x. account_in new x ≡ account_in store x) f.payer (account_stays heap later store new regions f.sound payer gives.account))
-        (gives.value ∙ ap (without_block address) (sym (nodes_are heap sliced store regions f.payer)))
+    stock_is = grind (arith, nat_tests, contents_stay, changes, account_stays, nodes_are)
 
     pub given_is : GivesNode address (stock heap sliced store regions) (stock later sliced new after)
-    given_is = record {
-      is = stock_is;
-      place = λ chunk offset size used at.
-          ap (λ (s : Stock). s.nodes.shape) stock_is
-          ∙ subst (λ (h : OwnHeap). used_at offset (chunk_of h.shape.chunks chunk) ≡ Some size → address ≡ start_of h chunk + offset + 16 → (without_block address h).shape ≡ shape_given chunk offset h.shape)
-          (sym (nodes_are heap sliced store regions f.payer)) (given_at heap store regions f.sound chunk offset size address) used at;
-    }
+    given_is = search (rules, stock_is, nodes_are, given_at)

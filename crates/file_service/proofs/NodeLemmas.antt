@@ -1,4 +1,5 @@
 -- The bytes that stand for a node tell it back.
+use Rattle.std.proofs.lemmas.Bool.Decides.{nat_tests}
 use Rattle.std.proofs.Common.{◌≡◌, ℕ, ◌+◌, ◌-◌, ◌<◌, ◌≤◌, ◌^◌, List, [], ◌++◌, length, take, drop, refl, sym, ap, ◌∙◌, append_assoc, length-append, arith}
 use Rattle.std.proofs.Math.Seq.{take-append_seam, drop-append_seam}
 use Rattle.std.proofs.lemmas.List.{length-drop, length-take-le, take-append-drop, take-append-le, drop-append-le}
@@ -18,8 +19,7 @@ slice_mid xs ys zs n m long to =
 
 -- a word between others
 word_mid : (xs zs : List ℕ) (word n : ℕ) → length xs ≡ n → word < 2 ^ 64 → word_from (xs ++ (word_bytes word ++ zs)) n ≡ word
-word_mid xs zs word n long small =
-    ap word_of (slice_mid xs (word_bytes word) zs n (n + 8) long (ap (λ k. n + k) (sym (length-word_bytes word)))) ∙ word_of-word_bytes word small
+word_mid xs zs word n long small = simp (slice_mid, length-word_bytes, word_of-word_bytes)
 
 -- six lists one after another
 parted : (a b c d e f : List ℕ) → a ++ b ++ c ++ d ++ e ++ f ≡ a ++ (b ++ (c ++ (d ++ (e ++ f))))
@@ -92,28 +92,16 @@ module _ (v : FileNode) (is : IsNode v) (rest : List ℕ) where
 -- so many bytes stand for it
 pub length-bytes_of : (v : FileNode) → length (bytes_of v) ≡ 32 + length v.name
 unfolding bytes_of
-length-bytes_of v =
-    let w0 = length-word_bytes v.next in
-    let w1 = length-word_bytes v.content in
-    let w2 = length-word_bytes v.size in
-    let w3 = length-word_bytes (length v.name) in
-    simp length-append (omega (arith, w0, w1, w2, w3))
+length-bytes_of v = grind (arith, nat_tests, length-word_bytes, length-append)
 
 -- put over the front of a payload they tell the node
 pub node_stored_back : (v : FileNode) → IsNode v → (payload : List ℕ) → 64 ≤ length payload → node_of (with_part payload 0 (bytes_of v)) ≡ v
 unfolding with_bytes
-node_stored_back v is payload long =
-    let size = length-bytes_of v in
-    let few = is.name in
-    ap node_of (with_part-within payload 0 (bytes_of v) (omega (arith, size, few, long)))
-    ∙ node_back v is (drop (0 + length (bytes_of v)) payload)
+node_stored_back v is payload long = grind (arith, nat_tests, length-bytes_of, with_part-within, node_back)
 
 -- a range of the first of two lists
 slice_left : (xs ys : List ℕ) (from count : ℕ) → from + count ≤ length xs → slice_range (xs ++ ys) from (from + count) ≡ slice_range xs from (from + count)
-slice_left xs ys from count within =
-    let size = length-drop from xs in
-    ap (take (from + count - from)) (drop-append-le from xs ys (omega (arith, within)))
-    ∙ take-append-le (from + count - from) (drop from xs) ys (omega (arith, size, within))
+slice_left xs ys from count within = grind (arith, nat_tests, length-drop, drop-append-le, take-append-le)
 
 -- what stands behind the bytes of a node tells nothing of it
 slice_front : (bytes : List ℕ) (from count : ℕ) → 64 ≤ length bytes → from + count ≤ 64 → slice_range (slice_range bytes 0 64) from (from + count) ≡ slice_range bytes from (from + count)

@@ -1,18 +1,16 @@
 -- A write of a node changes its payload alone.
-use Rattle.std.proofs.Common.{◌≡◌, ℕ, ◌+◌, ◌-◌, ◌*◌, ◌<◌, ◌≤◌, true, List, [], ◌∷◌, length, get_or, suc, Some, refl, sym, ap, ◌∙◌, ⊎_elim, arith, inl, inr}
+use Rattle.std.proofs.Common.{rules, ◌≡◌, ℕ, ◌+◌, ◌-◌, ◌*◌, ◌<◌, ◌≤◌, true, List, [], ◌∷◌, length, get_or, suc, Some, refl, sym, ap, ◌∙◌, ⊎_elim, arith, inl, inr}
 use Rattle.std.proofs.lemmas.Bool.{cases_eq}
 use Rattle.std.proofs.lemmas.Bool.Decides.{nat_tests}
 use Rattle.std.proofs.lemmas.Option.{same_Some}
 use Rattle.std.specs.Prelude.{nat_lt}
 use Rattle.std.specs.FinMap.{get, len}
 use Rattle.trade_base.specs.Bytes.{with_bytes}
-use Rattle.own_model.specs.Account.{Account}
-use Rattle.own_model.specs.OwnHeap.{OwnHeap}
 use Rattle.own_model.specs.Region.{Region}
 use Rattle.own_model.proofs.HeapStepLemmas.{not_both}
 use Rattle.own_model.proofs.Totals.{len-insert_at}
 use Rattle.region_map.specs.Regions.{Regions}
-use Rattle.dataspace_core.specs.Share.{Share, share_in}
+use Rattle.dataspace_core.specs.Share.{Share}
 use Rattle.dataspace_core.specs.Store.{Store, Part, part, account_in, account_of, bytes_of, part_with_bytes, PartBecomes}
 use Rattle.dataspace_core.proofs.PartLaws.{account_of-part}
 use Rattle.dataspace_core.proofs.WindowLaws.{in_memory}
@@ -108,19 +106,4 @@ module _ (heap : Heap) (store : Store) (regions : Regions) (sound : IsSoundHeap 
     spaces_count = ap (λ (q : Part). len q.spaces) becomes.own ∙ len-insert_at p.spaces ds (with_bytes (bytes_of p ds) offset bytes) held.bytes held.there
 
     pub poked_changes : ChangesNodes (heap_payer heap) heap store regions heap new regions
-    poked_changes = record {
-      sound = pokes.sound;
-      payer = refl;
-      shares = record {
-        shares = λ other apart. ap (λ q. share_in q regions.heap regions.tags) (becomes.others other apart);
-        root = becomes.root;
-        parents = becomes.parents;
-        room = becomes.room;
-      };
-      rest = refl;
-      stands = blocks_in_place (heap_payer heap) store new regions (λ s r at. put.alike r.of);
-      kept = λ k some none. put.others k (λ e. none held.start held_tag.0 region there held_tag.1 held_tag.2 (sym e));
-      uses = omega (arith, spaces_count, ap (λ (x : Account). x.caps_used) poked_account);
-      no_large = ap (λ (h : OwnHeap). h.large) pokes.value;
-      count = omega (arith, spaces_count, ap (λ (h : OwnHeap). length h.shape.chunks) pokes.value);
-    }
+    poked_changes = search (rules, pokes, blocks_in_place, put, held_tag, there, spaces_count, poked_account)

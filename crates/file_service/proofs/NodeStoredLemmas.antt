@@ -1,6 +1,5 @@
 -- What a session has after a node is stored.
-use Rattle.std.proofs.Common.{◌≡◌, ℕ, ◌-◌, ◌≤◌, true, List, [], length, Some, is_some, refl, sym, ap, subst, ◌∙◌, arith}
-use Rattle.std.specs.Prelude.{Option, unwrap_or}
+use Rattle.std.proofs.Common.{rules, ◌≡◌, ℕ, ◌-◌, ◌≤◌, true, List, [], length, Some, sym, subst, ◌∙◌, arith}
 use Rattle.std.specs.FinMap.{get}
 use Rattle.own_model.specs.HeapStep.{with_poked}
 use Rattle.own_model.specs.OwnState.{with_part}
@@ -16,7 +15,7 @@ use Rattle.sliced_heap.specs.declared.heap.SlicedHeap.{SlicedHeap}
 use Rattle.sliced_heap.specs.Heap.{payer_of}
 use Rattle.server_frame.specs.Session.{holding_of}
 use Rattle.file_service.specs.Calls.{HasBytes, payload_in, node_stored}
-use Rattle.file_service.specs.Furnished.{IsFurnished, KeepsSession, Stock, stock}
+use Rattle.file_service.specs.Furnished.{IsFurnished, KeepsSession, stock}
 use Rattle.file_service.specs.Node.{FileNode, IsNode, node_of, bytes_of}
 use Rattle.file_service.proofs.FurnishedLemmas.{ChangesNodes, nodes_are, nodes_kept, contents_stay}
 use Rattle.file_service.proofs.NodeFoundLemmas.{same_at, same_payload}
@@ -45,22 +44,10 @@ module _ {heap : Heap} {sliced : SlicedHeap} {store : Store} {regions : Regions}
 
   -- the payload that stands there then
   payload_now : get (heap_in heap (holding_of sliced new regions)).payloads address ≡ Some (with_part (payload_in (heap_in heap (holding_of sliced store regions)).payloads address) 0 bytes)
-  payload_now = ap (λ (s : Stock). get s.nodes.payloads address) stored_is
-      ∙ get-insert_same (heap_in heap (holding_of sliced store regions)).payloads address _ address refl
+  payload_now = search (rules, stored_is, get-insert_same)
 
   pub stored_there : HasBytes (heap_in heap (holding_of sliced new regions)).payloads address 0 64
-  stored_there = record {
-    there = ap is_some payload_now;
-    within = omega (
-      arith,
-      has.within,
-      ap (λ (o : Option (List ℕ)). length (unwrap_or o [])) payload_now,
-      length-with_part (payload_in (heap_in heap (holding_of sliced store regions)).payloads address) 0 bytes,
-    );
-  }
+  stored_there = search (rules, payload_now, length-with_part)
 
   pub stored_back : (v : FileNode) → IsNode v → bytes ≡ bytes_of v → node_of (payload_in (heap_in heap (holding_of sliced new regions)).payloads address) ≡ v
-  stored_back v is same =
-      ap (λ (o : Option (List ℕ)). node_of (unwrap_or o [])) payload_now
-      ∙ ap (λ b. node_of (with_part (payload_in (heap_in heap (holding_of sliced store regions)).payloads address) 0 b)) same
-      ∙ node_stored_back v is (payload_in (heap_in heap (holding_of sliced store regions)).payloads address) has.within
+  stored_back v is same = search (rules, payload_now, node_stored_back)

@@ -1,4 +1,5 @@
 -- A node's block is taken, in a hole or in a new chunk.
+use Rattle.std.proofs.lemmas.Bool.Decides.{nat_tests}
 use Rattle.std.proofs.Common.{◌≡◌, ℕ, ◌/◌, ◌≤◌, length, sym, ap, subst, ◌∙◌, arith}
 use Rattle.std.specs.Prelude.{Result, Ok, Err, IfOk, OnErr}
 use Rattle.own_model.specs.Account.{charged}
@@ -6,7 +7,7 @@ use Rattle.own_model.specs.BestFit.{Spot}
 use Rattle.own_model.specs.FileService.{node_size}
 use Rattle.own_model.specs.Growth.{Growth, growth_of, heap_refusal, new_hole}
 use Rattle.own_model.specs.HeapStep.{with_block, with_chunk}
-use Rattle.own_model.specs.OwnHeap.{OwnHeap, payload_start}
+use Rattle.own_model.specs.OwnHeap.{OwnHeap}
 use Rattle.region_map.specs.Regions.{Regions, heap_attached}
 use Rattle.dataspace_core.specs.Share.{KeepsShares}
 use Rattle.dataspace_core.specs.Store.{Store, part, account_in}
@@ -59,12 +60,7 @@ module _ {heap : Heap} {sliced : SlicedHeap} {store : Store} {regions : Regions}
       small_keeps = nodes_kept f changes_small
 
       pub taken_in_hole : TakesInHole hole address (stock heap sliced store regions) (stock later sliced new after)
-      taken_in_hole = record {
-        at = takes.at ∙ ap (λ h. payload_start h hole) (sym (nodes_are heap sliced store regions f.payer));
-        is = contents_stay f changes_small _ _
-            (subst (λ x. account_in new x ≡ account_in store x) f.payer (account_stays heap later store new regions f.sound payer takes.account))
-            (takes.value ∙ ap (with_block node_size hole) (sym (nodes_are heap sliced store regions f.payer)));
-      }
+      taken_in_hole = grind (arith, nat_tests, nodes_are, contents_stay, changes_small, account_stays)
 
     -- ---- in a new chunk
 

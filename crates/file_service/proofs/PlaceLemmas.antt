@@ -1,11 +1,12 @@
 -- Where the blocks of nodes stand: in which chunk, and how far into it. A block stands there while others come and go.
-use Rattle.std.proofs.Common.{◌≡◌, ◌≢◌, ℕ, ◌+◌, ◌-◌, ◌<◌, ◌≤◌, true, List, [], ◌∷◌, ◌++◌, length, get_or, Some, None, refl, sym, ap, subst, ◌∙◌, arith}
+use Rattle.std.proofs.lemmas.Bool.Decides.{nat_tests}
+use Rattle.std.proofs.Common.{rules, ◌≡◌, ◌≢◌, ℕ, ◌+◌, ◌-◌, ◌<◌, ◌≤◌, [], ◌∷◌, ◌++◌, length, get_or, Some, sym, ap, subst, ◌∙◌, arith}
 use Rattle.std.proofs.lemmas.List.{length-map, get_or-map, get_or_append_left, length-append, length-set, get_or-set_same}
 use Rattle.std.proofs.Math.Seq.{get_or-append_seam}
 use Rattle.std.specs.List.{AllByRecursion}
-use Rattle.own_model.specs.BestFit.{Spot, block_size, chunk_of, taken_in, given_in}
-use Rattle.own_model.specs.Growth.{Growth, hole_for, growth_of, new_hole}
-use Rattle.own_model.specs.Heap.{Block, Hole, AreBlocks, bytes_in}
+use Rattle.own_model.specs.BestFit.{Spot, block_size, chunk_of}
+use Rattle.own_model.specs.Growth.{Growth, hole_for, new_hole}
+use Rattle.own_model.specs.Heap.{Hole, AreBlocks, bytes_in}
 use Rattle.own_model.specs.HeapStep.{with_block, with_chunk, without_block}
 use Rattle.own_model.specs.OwnHeap.{OwnHeap, start_of, chunk_with, offset_of, payload_start}
 use Rattle.own_model.proofs.BestFitLemmas.{best_is_hole}
@@ -42,12 +43,7 @@ module _ (heap : Heap) (store : Store) (regions : Regions) (sound : IsSound heap
   lies_chunk : (c k address : ℕ) → c < length heap.chunks.items → k < length heap.chunks.items →
       Lies (starts_in heap) (blocks heap (share_at (payer_of heap) store regions) sound.laid) c address →
       Lies (starts_in heap) (blocks heap (share_at (payer_of heap) store regions) sound.laid) k address → k ≡ c
-  lies_chunk c k address in_c in_k here there =
-      let total = chunk_total heap (share_at (payer_of heap) store regions) sound.laid in
-      let start = start_is k in_k in
-      let start_c = start_is c in_c in
-      one_chunk heap store regions sound k c address in_k in_c
-      (omega (arith, there.low, start)) (omega (arith, there.high, start, total k in_k)) (omega (arith, here.low, start_c)) (omega (arith, here.high, start_c, total c in_c))
+  lies_chunk c k address in_c in_k here there = grind (arith, nat_tests, chunk_total, start_is, one_chunk)
 
   pub heap_has_places : HasPlaces (heap_in heap (holding (share_at (payer_of heap) store regions)))
   unfolding heap_in
@@ -80,9 +76,7 @@ module _ (nodes : OwnHeap) (n : ℕ) (hole : Spot) where
 module _ (nodes : OwnHeap) (block : ℕ) where
   -- a block is given back
   pub chunk_given : (address : ℕ) → chunk_with (without_block block nodes) address ≡ chunk_with nodes address
-  chunk_given address =
-      chunk_from-set 0 nodes.starts nodes.shape.chunks (chunk_with nodes (block - 16)) _ address
-      (bytes-given (offset_of nodes (block - 16)) (chunk_of nodes.shape.chunks (chunk_with nodes (block - 16))))
+  chunk_given address = simp (chunk_from-set, bytes-given)
 
   pub offset_given : (address : ℕ) → offset_of (without_block block nodes) address ≡ offset_of nodes address
   offset_given address = ap (λ c. address - start_of nodes c) (chunk_given address)
@@ -93,14 +87,10 @@ module _ (nodes : OwnHeap) (block : ℕ) where
 module _ (nodes : OwnHeap) (growth : Growth) (start : ℕ) (has : HasPlaces nodes) (address : ℕ) (within : chunk_with nodes address < length nodes.shape.chunks) where
   -- the heap grows
   pub chunk_grown : chunk_with (with_chunk growth start nodes) address ≡ chunk_with nodes address
-  chunk_grown =
-      let e = chunk_from-append 0 nodes.starts nodes.shape.chunks address start (Hole growth.bytes ∷ []) has.starts (chunk_with nodes address) within (omega arith) in
-      omega (arith, e)
+  chunk_grown = omega (arith, chunk_from-append 0 nodes.starts nodes.shape.chunks address start (Hole growth.bytes ∷ []) has.starts (chunk_with nodes address) within (omega arith))
 
   pub offset_grown : offset_of (with_chunk growth start nodes) address ≡ offset_of nodes address
-  offset_grown =
-      ap (λ c. address - start_of (with_chunk growth start nodes) c) chunk_grown
-      ∙ ap (λ s. address - s) (get_or_append_left nodes.starts (start ∷ []) 0 (chunk_with nodes address) (omega (arith, within, has.starts)))
+  offset_grown = search (rules, chunk_grown, get_or_append_left)
 
 -- ---- a new block
 
@@ -125,27 +115,14 @@ module _ (nodes : OwnHeap) (n address start : ℕ) (growth : Growth) (has : HasP
     starts_there = ap (λ k. get_or (nodes.starts ++ start ∷ []) k 0) (sym has.starts) ∙ get_or-append_seam nodes.starts start [] 0
 
     bytes_there : bytes_in (chunk_of grown.shape.chunks (length nodes.shape.chunks)) ≡ growth.bytes + 0
-    bytes_there =
-        let chunks = nodes.shape.chunks ++ (Hole growth.bytes ∷ []) ∷ [] in
-        let long : length nodes.shape.chunks < length chunks = omega (arith, length-append nodes.shape.chunks ((Hole growth.bytes ∷ []) ∷ [])) in
-        ap bytes_in (get_or-set_same chunks (length nodes.shape.chunks) (taken_in (block_size n) 0 (chunk_of chunks (length nodes.shape.chunks))) [] long)
-        ∙ bytes-taken (block_size n) 0 (chunk_of chunks (length nodes.shape.chunks))
-        ∙ ap bytes_in (get_or-append_seam nodes.shape.chunks (Hole growth.bytes ∷ []) [] [])
+    bytes_there = grind (arith, nat_tests, length-append, get_or-set_same, bytes-taken, get_or-append_seam)
 
     pub placed_in_chunk : (length nodes.shape.chunks < length grown.shape.chunks) × ((chunk_with grown (address - 16) ≡ length nodes.shape.chunks) × (offset_of grown (address - 16) ≡ 0))
-    placed_in_chunk =
-        let more : length nodes.shape.chunks < length grown.shape.chunks =
-        omega (arith, count_taken (with_chunk growth start nodes) n (new_hole growth nodes.shape), length-append nodes.shape.chunks ((Hole growth.bytes ∷ []) ∷ [])) in
-        let back : address - 16 ≡ start_of grown (length nodes.shape.chunks) + 0 = omega (arith, at, starts_there) in
-        let here = later.place (length nodes.shape.chunks) 0 more (omega (arith, bytes_there, fits, (block_size-fits n).least)) in
-        let chunk : chunk_with grown (address - 16) ≡ length nodes.shape.chunks = ap (chunk_with grown) back ∙ here in
-        (more, (chunk, ap (λ c. address - 16 - start_of grown c) chunk ∙ omega (arith, back)))
+    placed_in_chunk = grind (arith, nat_tests, count_taken, length-append, starts_there, bytes_there, block_size-fits)
 
 -- and its payload starts behind a header there
 pub starts_at : (nodes : OwnHeap) (growth : Growth) (start : ℕ) → HasPlaces nodes → payload_start (with_chunk growth start nodes) (new_hole growth nodes.shape) ≡ start + 16
-starts_at nodes growth start has =
-    let e : get_or (nodes.starts ++ start ∷ []) (length nodes.shape.chunks) 0 ≡ start = ap (λ k. get_or (nodes.starts ++ start ∷ []) k 0) (sym has.starts) ∙ get_or-append_seam nodes.starts start [] 0 in
-    omega (arith, e)
+starts_at nodes growth start has = grind (arith, nat_tests, get_or-append_seam)
 
 -- the heap of a session that is furnished has places
 pub furnished_has_places : (heap : Heap) (sliced : SlicedHeap) (store : Store) (regions : Regions) → IsFurnished heap sliced store regions → HasPlaces (stock heap sliced store regions).nodes

@@ -1,25 +1,22 @@
 -- A file that goes: the one before it is linked to the one behind it, and the others stay.
-use Rattle.std.proofs.Common.{◌≡◌, ◌≢◌, ℕ, ◌+◌, ◌-◌, ◌<◌, ◌≤◌, true, false, cond, eqb, List, [], ◌∷◌, ◌++◌, length, map, take, Option, Some, None, refl, sym, ap, subst, ◌∙◌, true≢false, ⊎_elim, arith}
-use Rattle.std.proofs.lemmas.Bool.{cases_eq}
+use Rattle.std.proofs.Common.{rules, ◌≡◌, ◌≢◌, ℕ, ◌+◌, ◌-◌, ◌<◌, ◌≤◌, true, false, cond, eqb, List, [], ◌∷◌, ◌++◌, length, map, refl, sym, ap, ◌∙◌, arith}
 use Rattle.std.proofs.lemmas.Bool.Decides.{nat_tests}
-use Rattle.std.specs.Prelude.{IsSome}
 use Rattle.std.specs.Option.{unwrap_or}
-use Rattle.std.specs.FinMap.{get, remove}
-use Rattle.own_model.specs.FileService.{File, Files, is_named, without}
+use Rattle.std.specs.FinMap.{get}
+use Rattle.own_model.specs.FileService.{File, without}
 use Rattle.own_model.specs.Growth.{shape_given}
 use Rattle.own_model.specs.HeapStep.{without_block}
 use Rattle.own_model.specs.NatMap.{NatMap}
 use Rattle.own_model.specs.OwnHeap.{OwnHeap, chunk_with, offset_of}
 use Rattle.own_model.proofs.NatMapLemmas.{get-remove}
 use Rattle.sliced_heap.specs.Chain.{is_listed}
-use Rattle.file_service.specs.Calls.{payload_in, HasBytes}
 use Rattle.file_service.specs.Files.{node_at, link_in, file_at, files_of, StandAt}
 use Rattle.file_service.specs.Links.{last_of}
 use Rattle.file_service.specs.Node.{FileNode, node_of}
-use Rattle.file_service.specs.Session.{IsFound, LinksTo, KeepsFile}
+use Rattle.file_service.specs.Session.{IsFound, LinksTo}
 use Rattle.file_service.proofs.FileListLemmas.{append_map, without_behind}
 use Rattle.file_service.proofs.KeptLemmas.{Stays, same_file, stand_without, files_are, listed_nonzero}
-use Rattle.file_service.proofs.LinkLemmas.{map_kept, listed_append, listed_first, listed_later, last_listed, once_first, once_later, once_apart, unlisted}
+use Rattle.file_service.proofs.LinkLemmas.{map_kept, listed_append, last_listed, once_later, once_apart, unlisted}
 use Rattle.file_service.proofs.PlaceLemmas.{chunk_given, offset_given, count_given}
 use Rattle.file_service.proofs.SearchLemmas.{files_around, in_blocks}
 
@@ -44,34 +41,17 @@ module _ (first last : ℕ) (nodes mid later : OwnHeap) (contents after : NatMap
   in_all = in_blocks first last nodes contents name previous address node found
 
   not_old : (b : ℕ) → is_listed all b ≡ true → b ≢ address → 0 < (node_at nodes b).size → 0 < node.size → (node_at nodes b).content ≢ node.content
-  not_old b t other some_b some e =
-      other (found.stand.apart b address t in_all some_b (subst (λ (n : FileNode). 0 < n.size) found.node_is some) (e ∙ ap (λ (n : FileNode). n.content) found.node_is))
+  not_old b t other some_b some e = search (rules, in_all)
 
   -- other blocks stay when one is given back
   left_payload : (b : ℕ) → b ≢ address → get later.payloads b ≡ get mid.payloads b
-  left_payload b other =
-      let e : eqb b address ≡ false = grind (arith, nat_tests) in
-      ap (λ (n : OwnHeap). get n.payloads b) given ∙ get-remove mid.payloads address b ∙ rw e refl
+  left_payload b other = grind (arith, nat_tests, get-remove)
 
   left_node : (b : ℕ) → b ≢ address → node_at later b ≡ node_at mid b
   left_node b other = ap (λ o. node_of (unwrap_or o [])) (left_payload b other)
 
   left_stays : (b : ℕ) → is_listed all b ≡ true → b ≢ address → Stays nodes later contents after b
-  left_stays b t other =
-      let kept = links.files b (found.stand.each b t).there in
-      let same = left_node b other in
-      record {
-        name = ap (λ (n : FileNode). n.name) same ∙ kept.name;
-        size = ap (λ (n : FileNode). n.size) same ∙ kept.size;
-        content = ap (λ (n : FileNode). n.content) same ∙ kept.content;
-        there = record {
-          there = subst (λ (o : Option (List ℕ)). IsSome o) (sym (left_payload b other)) kept.there.there;
-          within = subst (λ (o : Option (List ℕ)). 0 + 64 ≤ length (unwrap_or o [])) (sym (left_payload b other)) kept.there.within;
-        };
-        chunk = chunk_same (b - 16);
-        offset = offset_same (b - 16);
-        bytes = λ some_b. gone (node_at nodes b).content (λ some. not_old b t other some_b some);
-      }
+  left_stays b t other = grind (arith, nat_tests, left_node, left_payload, chunk_same, offset_same, not_old)
 
   left_link : (b : ℕ) → b ≢ address → link_in first_later later b ≡ link_in first_later mid b
   left_link b other = ap (λ (n : FileNode). cond (eqb b 0) first_later n.next) (left_node b other)
@@ -90,19 +70,14 @@ module _ (first last : ℕ) (nodes mid later : OwnHeap) (contents after : NatMap
       unlisted (0 ∷ found.before) address (last_of 0 found.before) fresh (last_listed 0 found.before)
 
   left_linked : link_in first_later later (last_of 0 found.before) ≡ (node_at nodes address).next
-  left_linked =
-      left_link (last_of 0 found.before) previous_other ∙ ap (link_in first_later mid) (sym found.previous_is) ∙ links.linked ∙ ap (λ (n : FileNode). n.next) found.node_is
+  left_linked = search (rules, left_link, previous_other)
 
   pub stand_removed : StandAt first_later last_later later after (found.before ++ found.behind)
   stand_removed = stand_without first last nodes later contents after all found.stand (omega (arith, count_same)) first_later last_later address found.before found.behind refl
       left_stays left_links left_linked (last_is ∙ ap (λ p. cond (eqb last address) p last) found.previous_is)
 
   same_others : (b : ℕ) → is_listed (found.before ++ found.behind) b ≡ true → file_at later after b ≡ file_at nodes contents b
-  same_others b t =
-      let l = listed_append found.before (address ∷ found.behind) b in
-      let w = listed_append found.before found.behind b in
-      let fresh = once_apart found.before found.behind address (once_later 0 all found.stand.line.once) in
-      same_file nodes later contents after b (left_stays b (grind (arith, nat_tests)) (unlisted (found.before ++ found.behind) address b fresh t))
+  same_others b t = grind (arith, nat_tests, listed_append, once_apart, once_later, same_file, left_stays, unlisted)
 
   pub files_removed : files_of first_later later after ≡ record {
     files = without name (files_of first nodes contents).files;

@@ -1,5 +1,5 @@
 -- A file that gets another content in place of its old one, which is given back after it.
-use Rattle.std.proofs.Common.{◌≡◌, ◌≢◌, ℕ, ◌+◌, ◌-◌, ◌<◌, true, false, eqb, List, ◌∷◌, ◌++◌, length, take, refl, sym, ap, subst, ◌∙◌, arith}
+use Rattle.std.proofs.Common.{◌≡◌, ◌≢◌, ℕ, ◌+◌, ◌-◌, ◌<◌, true, List, ◌∷◌, ◌++◌, length, take, refl, sym, ap, subst, ◌∙◌, arith}
 use Rattle.std.proofs.lemmas.Bool.Decides.{nat_tests}
 use Rattle.std.specs.FinMap.{get, insert, remove}
 use Rattle.own_model.specs.Account.{Account, credited}
@@ -41,10 +41,7 @@ module _ (first last : ℕ) (nodes later : OwnHeap) (contents : NatMap (List ℕ
     left = remove contents node.content
 
     gone : (a : ℕ) → (0 < node.size → a ≢ node.content) → get left a ≡ get contents a
-    gone a apart =
-        let other = apart was_some in
-        let e : eqb a node.content ≡ false = grind (arith, nat_tests) in
-        get-remove contents node.content a ∙ rw e refl
+    gone a apart = grind (arith, nat_tests, get-remove)
 
     content_stays : 0 < size → get left content ≡ get contents content
     content_stays some =
@@ -70,7 +67,4 @@ module _ (first last : ℕ) (nodes later : OwnHeap) (contents : NatMap (List ℕ
 -- what was charged for a content is credited
 pub credited_is : (account : Account) (size : ℕ) (payload : List ℕ) → 0 < size → length payload ≡ sliced_size size - 32 →
     credited account (block_size payload) 1 ≡ credited account (content_ram size) (content_caps size)
-credited_is account size payload some long =
-    let e : eqb size 0 ≡ false = grind (arith, nat_tests) in
-    let b : 32 + length payload ≡ sliced_size size = omega (arith, long, content_long size, some) in
-    rw e (ap (λ ram. credited account ram 1) b)
+credited_is account size payload some long = grind (arith, nat_tests, content_long)

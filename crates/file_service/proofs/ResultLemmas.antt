@@ -1,5 +1,5 @@
 -- What is so of calls that may be refused.
-use Rattle.std.proofs.Common.{◌≡◌, ℕ, List, cond, is_some, IsSome, Some, refl, sym, ap, subst, true≢false, ◌∙◌}
+use Rattle.std.proofs.Common.{rules, ◌≡◌, ℕ, List, cond, is_some, IsSome, Some, refl, sym, ap, subst, true≢false, ◌∙◌}
 use Rattle.std.proofs.lemmas.Option.{none-some}
 use Rattle.std.specs.Prelude.{Option, None, Result, Ok, Err, MatchResult, IsErrAnd, is_ok, IfOk, OnOk, OnErr}
 use Rattle.std.specs.FinMap.{get}
@@ -26,16 +26,7 @@ either_way (Err e) p a b c f g = g a b c
 -- to change nothing keeps a session
 pub keeps_same : {heap later : Heap} {sliced now : SlicedHeap} {store new : Store} {regions after : Regions} → IsFurnished heap sliced store regions →
     later ≡ heap → now ≡ sliced → new ≡ store → after ≡ regions → KeepsSession sliced later now store new regions after
-keeps_same {heap} {later} {sliced} {now} {store} {new} {regions} {after} f h s m r =
-    subst (λ x. KeepsSession sliced x now store new regions after) (sym h)
-    (subst (λ x. KeepsSession sliced heap x store new regions after) (sym s)
-    (subst (λ x. KeepsSession sliced heap sliced store x regions after) (sym m)
-    (subst (λ x. KeepsSession sliced heap sliced store store regions x) (sym r)
-    (record {
-      furnished = f;
-      payer = refl;
-      others = record { shares = λ other apart. refl; root = refl; parents = refl; room = refl; rest = refl };
-    }))))
+keeps_same {heap} {later} {sliced} {now} {store} {new} {regions} {after} f h s m r = search rules
 
 -- what is so of an accepted call, of one that isn't refused
 pub ok_then : {X E P : Type 0} (r : Result X E) → result_err r ≡ None → OnOk r P → P

@@ -1,26 +1,25 @@
 -- A file that is found by its name, and how many bytes it has.
-use Rattle.std.proofs.Common.{◌≡◌, ◌≢◌, ℕ, zero, suc, ◌+◌, ◌-◌, ◌*◌, ◌<◌, ◌≤◌, true, false, cond, eqb, List, [], ◌∷◌, ◌++◌, length, map, take, drop, Option, Some, None, is_some, refl, sym, ap, subst, ◌∙◌, ⊎_elim, true≢false, arith, length-append}
+use Rattle.std.proofs.Common.{rules, ◌≡◌, ◌≢◌, ℕ, ◌+◌, ◌-◌, ◌*◌, ◌<◌, ◌≤◌, true, false, eqb, List, [], ◌∷◌, ◌++◌, length, map, take, Some, refl, sym, ap, subst, ◌∙◌, arith, length-append}
 use Rattle.std.proofs.lemmas.Bool.Decides.{nat_tests}
 use Rattle.std.proofs.lemmas.List.{length-take}
 use Rattle.std.proofs.lemmas.Option.{slice_get-map}
 use Rattle.std.specs.Prelude.{find, slice_get}
-use Rattle.std.specs.Option.{option_map, unwrap_or}
-use Rattle.std.specs.FinMap.{get, len}
-use Rattle.trade_base.specs.Page.{page_of}
+use Rattle.std.specs.Option.{option_map}
+use Rattle.std.specs.FinMap.{len}
 use Rattle.trade_base.proofs.PageLemmas.{IsLeastPageSize-page_of}
 use Rattle.own_model.specs.FileService.{File, is_named, file_named}
 use Rattle.own_model.specs.NatMap.{NatMap}
 use Rattle.own_model.specs.OwnHeap.{OwnHeap}
 use Rattle.own_model.specs.Sliced.{sliced_size}
-use Rattle.sliced_heap.specs.Chain.{is_listed, has_no_repeat}
+use Rattle.sliced_heap.specs.Chain.{is_listed}
 use Rattle.file_service.specs.Calls.{payload_in, HasBytes}
-use Rattle.file_service.specs.Files.{node_at, link_in, bytes_at, file_at, files_of, HasContent, IsFile, StandAt, AreFiles}
+use Rattle.file_service.specs.Files.{node_at, link_in, bytes_at, file_at, files_of, HasContent, IsFile, StandAt}
 use Rattle.file_service.specs.Links.{along, last_of, Leads}
 use Rattle.file_service.specs.Node.{FileNode}
 use Rattle.file_service.specs.Session.{IsFound}
-use Rattle.file_service.proofs.FileListLemmas.{append_map, find_behind, none_appended}
+use Rattle.file_service.proofs.FileListLemmas.{append_map, find_behind}
 use Rattle.file_service.proofs.KeptLemmas.{blocks_few, files_are, listed_nonzero}
-use Rattle.file_service.proofs.LinkLemmas.{listed_append, listed_first, along_line, once_first}
+use Rattle.file_service.proofs.LinkLemmas.{listed_append, along_line, once_first}
 
 -- a content is as long as its file, or longer
 pub content_long : (size : ℕ) → size ≤ sliced_size size - 32
@@ -28,14 +27,7 @@ content_long size = let covers = (IsLeastPageSize-page_of (32 + size)).covers in
 
 -- the front of a content is as long as the file
 pub bytes_long : (contents : NatMap (List ℕ)) (node : FileNode) → (0 < node.size → HasContent contents node) → length (bytes_at contents node) ≡ node.size
-bytes_long contents node content = elim node.size as (λ n. node.size ≡ n → length (take n (payload_in contents node.content)) ≡ n) [
-  | zero ↦ λ _. refl
-  | suc n ↦ λ is.
-      let has = content (omega (arith, is)) in
-      let payload : payload_in contents node.content ≡ has.payload = ap (λ o. unwrap_or o []) has.there in
-      let long : suc n ≤ length has.payload = omega (arith, has.long, is, content_long node.size) in
-      ap (λ p. length (take (suc n) p)) payload ∙ (let e = length-take (suc n) has.payload in omega (arith, e, long))
-] refl
+bytes_long contents node content = search (rules, content_long, length-take)
 
 module _ (first last : ℕ) (nodes : OwnHeap) (contents : NatMap (List ℕ)) (name : List ℕ) (previous address : ℕ) (node : FileNode)
     (found : IsFound first last nodes contents name previous address node) where
@@ -61,15 +53,11 @@ module _ (first last : ℕ) (nodes : OwnHeap) (contents : NatMap (List ℕ)) (na
 
   -- its content, if it has one
   pub found_content : 0 < node.size → HasContent contents node
-  found_content some =
-      subst (HasContent contents) (sym found.node_is) (found_file.content (subst (λ (n : FileNode). 0 < n.size) found.node_is some))
+  found_content some = search (rules, found_file)
 
   -- which has at least the file's bytes
   pub found_has : (offset count : ℕ) → 0 < count → offset + count ≤ node.size → HasBytes contents node.content offset count
-  found_has offset count some within =
-      let has = found_content (omega (arith, some, within)) in
-      let payload : length (payload_in contents node.content) ≡ length has.payload = ap (λ o. length (unwrap_or o [])) has.there in
-      record { there = ap is_some has.there; within = omega (arith, within, payload, has.long, content_long node.size) }
+  found_has offset count some within = grind (arith, nat_tests, found_content, content_long)
 
   -- the file's bytes are the front of it
   pub found_bytes : (f address).bytes ≡ take node.size (payload_in contents node.content)
@@ -116,15 +104,11 @@ module _ (first last : ℕ) (nodes : OwnHeap) (contents : NatMap (List ℕ)) (pr
 
   -- and holds a file's node
   pub here_behind : address ≢ 0 → IsFile nodes contents address
-  here_behind some =
-      let next = next_behind some in
-      stand.each address (ap (λ xs. is_listed (before ++ xs) address) next.1.0 ∙ (let l = listed_append before (address ∷ next.0) address in grind (arith, nat_tests)))
+  here_behind some = grind (arith, nat_tests, next_behind, listed_append)
 
   -- the same blocks, with it last of those before
   pub stand_on : (some : address ≢ 0) → StandAt first last nodes contents ((before ++ address ∷ []) ++ (next_behind some).0)
-  stand_on some =
-      let next = next_behind some in
-      subst (StandAt first last nodes contents) (ap (λ xs. before ++ xs) next.1.0 ∙ sym (seam before next.0 address)) stand
+  stand_on some = grind (arith, nat_tests, next_behind, seam)
 
 -- the link that a node holds
 pub link_some : (first : ℕ) (nodes : OwnHeap) (a : ℕ) → a ≢ 0 → link_in first nodes a ≡ (node_at nodes a).next

@@ -1,8 +1,8 @@
 -- How requests are served, by the tests that they pass.
-use Rattle.std.proofs.Common.{◌≡◌, ◌≢◌, ℕ, ◌-◌, ◌<◌, ◌≤◌, true, false, List, [], length, take, drop, Option, Some, None, is_some, refl, sym, ap, subst, ◌∙◌, true≢false, arith}
+use Rattle.std.proofs.Common.{rules, ◌≡◌, ◌≢◌, ℕ, ◌-◌, ◌<◌, ◌≤◌, true, false, List, [], length, take, drop, Option, Some, None, is_some, refl, sym, ap, ◌∙◌, true≢false, arith}
 use Rattle.std.proofs.lemmas.Bool.Decides.{nat_tests}
 use Rattle.std.proofs.lemmas.Slice.Eq.{bytes_eq-Decides}
-use Rattle.std.specs.Prelude.{nat_lt, Result, Ok, Err, MatchResult, is_ok}
+use Rattle.std.specs.Prelude.{Result, Ok, Err, MatchResult, is_ok}
 use Rattle.std.specs.Str.{bytes_eq}
 use Rattle.trade_base.specs.declared.refusal.Refusal.{Refusal}
 use Rattle.own_model.specs.Account.{Account}
@@ -17,7 +17,6 @@ use Rattle.region_map.specs.Regions.{Regions}
 use Rattle.dataspace_core.specs.Store.{Store}
 use Rattle.heap_core.specs.declared.heap.Heap.{Heap}
 use Rattle.sliced_heap.specs.declared.heap.SlicedHeap.{SlicedHeap}
-use Rattle.sliced_heap.specs.Heap.{payer_of, KeepsOthers}
 use Rattle.sliced_heap.proofs.EndLemmas.{keeps_then}
 use Rattle.file_service.specs.Files.{file_at}
 use Rattle.file_service.specs.Furnished.{Stock, stock, IsFurnished, KeepsSession}
@@ -29,61 +28,39 @@ use Rattle.file_service.specs.declared.session.FileSession.{FileSession}
 
 -- nothing is done
 pub keeps_same : (heap : Heap) (sliced : SlicedHeap) (old new : Store) (regions : Regions) → IsFurnished heap sliced old regions → new ≡ old → KeepsSession sliced heap sliced old new regions regions
-keeps_same heap sliced old new regions furnished e = subst (λ m. KeepsSession sliced heap sliced old m regions regions) (sym e) (record {
-  furnished = furnished;
-  payer = refl;
-  others = record { shares = λ other apart. refl; root = refl; parents = refl; room = refl; rest = refl };
-})
+keeps_same heap sliced old new regions furnished e = search rules
 
 -- one thing after another
 pub keeps_both : (heap later : Heap) (sliced between now : SlicedHeap) (old mid new : Store) (regions middle after : Regions) →
     KeepsSession sliced heap between old mid regions middle → KeepsSession between later now mid new middle after → KeepsSession sliced later now old new regions after
-keeps_both heap later sliced between now old mid new regions middle after first next = record {
-  furnished = next.furnished;
-  payer = next.payer ∙ first.payer;
-  others = keeps_then (payer_of sliced) old mid new regions middle after first.others (subst (λ k. KeepsOthers k mid new middle after) first.payer next.others);
-}
+keeps_both heap later sliced between now old mid new regions middle after first next = search (rules, keeps_then)
 
 -- ---- a reply that leaves all
 
 -- a told reply is served so
 pub serves_told : (served : FileServed) (reply : model.FileReply) (session : FileSession) (has : Stock) → HasFiles session has →
     served ≡ told reply (files_in session has) has.account → Serves served reply session session has
-serves_told served reply session has files is = record {
-  reply_is = ap (λ (s : FileServed). s.reply) (sym is);
-  leaves = record { account = ap (λ (s : FileServed). s.account) (sym is); files = ap (λ (s : FileServed). s.files) (sym is); kept = files; label = refl };
-}
+serves_told served reply session has files is = search rules
 
 -- also where the memory is told to be the same
 pub serves_same : (served : FileServed) (reply : model.FileReply) (session : FileSession) (sliced : SlicedHeap) (old new : Store) (regions : Regions) →
     HasFiles session (stock session.heap sliced old regions) → new ≡ old →
     served ≡ told reply (files_in session (stock session.heap sliced old regions)) (stock session.heap sliced old regions).account →
     Serves served reply session session (stock session.heap sliced new regions)
-serves_same served reply session sliced old new regions files e is =
-    subst (λ m. Serves served reply session session (stock session.heap sliced m regions)) (sym e) (serves_told served reply session (stock session.heap sliced old regions) files is)
+serves_same served reply session sliced old new regions files e is = search (rules, serves_told)
 
 -- also where all is told to be the same
 pub serves_refused : (served : FileServed) (reply : model.FileReply) (session : FileSession) (sliced now : SlicedHeap) (old new : Store) (regions after : Regions) →
     HasFiles session (stock session.heap sliced old regions) → now ≡ sliced → new ≡ old → after ≡ regions →
     served ≡ told reply (files_in session (stock session.heap sliced old regions)) (stock session.heap sliced old regions).account →
     Serves served reply session session (stock session.heap now new after)
-serves_refused served reply session sliced now old new regions after files s e r is =
-    subst (λ x. Serves served reply session session (stock session.heap x new after)) (sym s)
-    (subst (λ x. Serves served reply session session (stock session.heap sliced new x)) (sym r) (serves_same served reply session sliced old new regions files e is))
+serves_refused served reply session sliced now old new regions after files s e r is = search (rules, serves_same)
 
 -- what is done is served so
 pub serves_done : (served : FileServed) (reply : model.FileReply) (files : Files) (account : Account) (old later : FileSession) (new : Stock) →
     served ≡ told reply files account → new.account ≡ account → files_in later new ≡ files → HasFiles later new → later.label ≡ old.label →
     Serves served reply old later new
-serves_done served reply files account old later new is account_is files_are kept label = record {
-  reply_is = ap (λ (s : FileServed). s.reply) (sym is);
-  leaves = record {
-    account = account_is ∙ ap (λ (s : FileServed). s.account) (sym is);
-    files = files_are ∙ ap (λ (s : FileServed). s.files) (sym is);
-    kept = kept;
-    label = label;
-  };
-}
+serves_done served reply files account old later new is account_is files_are kept label = search rules
 
 -- ---- names
 
@@ -94,8 +71,7 @@ name_is xs ys e = (bytes_eq-Decides xs ys).0 e
 -- a file that is found has the name
 pub found_name : (first last : ℕ) (session : FileSession) (has : Stock) (name : List ℕ) (previous address : ℕ) (node : FileNode) →
     IsFound first last has.nodes has.contents name previous address node → node.name ≡ name
-found_name first last session has name previous address node found =
-    ap (λ (n : FileNode). n.name) found.node_is ∙ name_is (file_at has.nodes has.contents address).name name found.named
+found_name first last session has name previous address node found = search (rules, name_is)
 
 -- so has the file of its block
 pub file_name : (first last : ℕ) (has : Stock) (name : List ℕ) (previous address : ℕ) (node : FileNode) →
@@ -129,29 +105,20 @@ module _ (name : List ℕ) (session : FileSession) (has : Stock) where
   size_none none = ap (λ o. sized o (files_in session has) has.account) none
 
   pub size_found : (file : File) (n : ℕ) → found_in ≡ Some file → length file.bytes ≡ n → IsTold (Size name) (Count n) session has
-  size_found file n there is =
-      ap (λ o. sized o (files_in session has) has.account) there ∙ ap (λ m. told (Count m) (files_in session has) has.account) is
+  size_found file n there is = cc
 
   pub read_none : (offset count : ℕ) → found_in ≡ None → IsTold (Read name offset count) (Refused NotFound) session has
   read_none offset count none = ap (λ o. read offset count o (files_in session has) has.account) none
 
   pub read_gap : (offset count : ℕ) (file : File) → found_in ≡ Some file → length file.bytes < offset → IsTold (Read name offset count) (Refused Gap) session has
-  read_gap offset count file there above =
-      let e : nat_lt (length file.bytes) offset ≡ true = grind (arith, nat_tests) in
-      ap (λ o. read offset count o (files_in session has) has.account) there ∙ rw e refl
+  read_gap offset count file there above = grind (arith, nat_tests)
 
   pub read_long : (offset count : ℕ) (file : File) → found_in ≡ Some file → offset ≤ length file.bytes → 1024 < count → IsTold (Read name offset count) (Refused TooLong) session has
-  read_long offset count file there low above =
-      let e : nat_lt (length file.bytes) offset ≡ false = grind (arith, nat_tests) in
-      let l : nat_lt 1024 count ≡ true = grind (arith, nat_tests) in
-      ap (λ o. read offset count o (files_in session has) has.account) there ∙ rw (e, l) refl
+  read_long offset count file there low above = grind (arith, nat_tests)
 
   pub read_found : (offset count : ℕ) (file : File) (bytes : List ℕ) → found_in ≡ Some file → offset ≤ length file.bytes → count ≤ 1024 →
       take count (drop offset file.bytes) ≡ bytes → IsTold (Read name offset count) (Bytes bytes) session has
-  read_found offset count file bytes there low few is =
-      let e : nat_lt (length file.bytes) offset ≡ false = grind (arith, nat_tests) in
-      let l : nat_lt 1024 count ≡ false = grind (arith, nat_tests) in
-      ap (λ o. read offset count o (files_in session has) has.account) there ∙ rw (e, l) (ap (λ b. told (Bytes b) (files_in session has) has.account) is)
+  read_found offset count file bytes there low few is = grind (arith, nat_tests)
 
   pub clear_none : found_in ≡ None → IsTold (Clear name) (Refused NotFound) session has
   clear_none none = ap (λ o. cleared o (files_in session has) has.account) none
@@ -159,9 +126,7 @@ module _ (name : List ℕ) (session : FileSession) (has : Stock) where
   pub clear_done : (file : File) → found_in ≡ Some file → file.name ≡ name →
       served_in (Clear name) session has
       ≡ told Done (record (files_in session has) { files = rewritten name [] (files_in session has).files }) (content_credited file has.account)
-  clear_done file there is =
-      ap (λ o. cleared o (files_in session has) has.account) there
-      ∙ ap (λ n. told Done (record (files_in session has) { files = rewritten n [] (files_in session has).files }) (content_credited file has.account)) is
+  clear_done file there is = cc
 
   pub drop_done : (file : File) → found_in ≡ Some file → file.name ≡ name →
       served_in (Drop name) session has
@@ -169,12 +134,7 @@ module _ (name : List ℕ) (session : FileSession) (has : Stock) where
         files = without name (files_in session has).files;
         shape = shape_given file.chunk file.offset (files_in session has).shape;
       }) (content_credited file has.account)
-  drop_done file there is =
-      ap (λ o. dropped o (files_in session has) has.account) there
-      ∙ ap (λ n. told Done (record {
-        files = without n (files_in session has).files;
-        shape = shape_given file.chunk file.offset (files_in session has).shape;
-      }) (content_credited file has.account)) is
+  drop_done file there is = cc
 
   pub drop_none : found_in ≡ None → IsTold (Drop name) (Refused NotFound) session has
   drop_none none = ap (λ o. dropped o (files_in session has) has.account) none
@@ -183,9 +143,7 @@ module _ (name : List ℕ) (session : FileSession) (has : Stock) where
   write_none offset bytes none = ap (λ o. written offset bytes o (files_in session has) has.account) none
 
   pub write_gap : (offset : ℕ) (bytes : List ℕ) (file : File) → found_in ≡ Some file → length file.bytes < offset → IsTold (Write name offset bytes) (Refused Gap) session has
-  write_gap offset bytes file there above =
-      let e : nat_lt (length file.bytes) offset ≡ true = grind (arith, nat_tests) in
-      ap (λ o. written offset bytes o (files_in session has) has.account) there ∙ rw e refl
+  write_gap offset bytes file there above = grind (arith, nat_tests)
 
 -- ---- results
 

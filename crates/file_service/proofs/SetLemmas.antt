@@ -1,21 +1,20 @@
 -- A file that gets another content, and one that goes: the others stay.
-use Rattle.std.proofs.Common.{◌≡◌, ◌≢◌, ℕ, zero, suc, ◌+◌, ◌-◌, ◌<◌, ◌≤◌, true, false, cond, eqb, List, [], ◌∷◌, ◌++◌, length, map, take, Option, Some, None, is_some, refl, sym, ap, subst, ◌∙◌, true≢false, ⊎_elim, arith}
+use Rattle.std.proofs.Common.{rules, ◌≡◌, ◌≢◌, ℕ, ◌+◌, ◌-◌, ◌<◌, ◌≤◌, true, List, [], ◌∷◌, ◌++◌, length, map, take, sym, ap, subst, ◌∙◌, arith}
 use Rattle.std.proofs.lemmas.Bool.{cases_eq}
 use Rattle.std.proofs.lemmas.Bool.Decides.{nat_tests}
-use Rattle.std.specs.Option.{unwrap_or}
 use Rattle.std.specs.FinMap.{get, insert}
-use Rattle.own_model.specs.FileService.{File, Files, is_named, rewritten, without}
+use Rattle.own_model.specs.FileService.{File, rewritten}
 use Rattle.own_model.specs.NatMap.{NatMap}
 use Rattle.own_model.specs.OwnHeap.{OwnHeap, chunk_with, offset_of}
 use Rattle.sliced_heap.specs.Chain.{is_listed}
 use Rattle.file_service.specs.Calls.{payload_in, HasBytes}
-use Rattle.file_service.specs.Files.{node_at, link_in, nodes_from, bytes_at, file_at, files_of, HasContent, IsFile, StandAt}
-use Rattle.file_service.specs.Node.{FileNode, node_of}
+use Rattle.file_service.specs.Files.{node_at, nodes_from, file_at, files_of, HasContent, IsFile, StandAt}
+use Rattle.file_service.specs.Node.{FileNode}
 use Rattle.file_service.specs.Session.{IsFound}
 use Rattle.file_service.proofs.AppendLemmas.{stored_node, stored_there, stored_rest}
 use Rattle.file_service.proofs.FileListLemmas.{append_map, rewritten_behind}
 use Rattle.file_service.proofs.KeptLemmas.{Stays, same_file, stand_set, files_are, blocks_are}
-use Rattle.file_service.proofs.LinkLemmas.{map_kept, listed_append, once_first, once_later, once_apart, unlisted}
+use Rattle.file_service.proofs.LinkLemmas.{map_kept, listed_append, once_later, once_apart, unlisted}
 use Rattle.file_service.proofs.SearchLemmas.{files_around, in_blocks}
 
 module _ (first last : ℕ) (nodes later : OwnHeap) (contents after : NatMap (List ℕ)) (name : List ℕ) (previous address : ℕ) (node : FileNode)
@@ -41,8 +40,7 @@ module _ (first last : ℕ) (nodes later : OwnHeap) (contents after : NatMap (Li
 
   -- the others' contents aren't the old one
   not_old : (b : ℕ) → is_listed all b ≡ true → b ≢ address → 0 < (node_at nodes b).size → 0 < node.size → (node_at nodes b).content ≢ node.content
-  not_old b t other some_b some e =
-      other (found.stand.apart b address t in_all some_b (subst (λ (n : FileNode). 0 < n.size) found.node_is some) (e ∙ ap (λ (n : FileNode). n.content) found.node_is))
+  not_old b t other some_b some e = search (rules, in_all)
 
   set_stays : (b : ℕ) → is_listed all b ≡ true → b ≢ address → Stays nodes later contents after b
   set_stays b t other =
@@ -58,18 +56,10 @@ module _ (first last : ℕ) (nodes later : OwnHeap) (contents after : NatMap (Li
       }
 
   set_links : (b : ℕ) → is_listed all b ≡ true → (node_at later b).next ≡ (node_at nodes b).next
-  set_links b t = ⊎_elim
-      (λ (is : b ≡ address). subst (λ a. (node_at later a).next ≡ (node_at nodes a).next) (sym is)
-      (ap (λ (n : FileNode). n.next) back ∙ ap (λ (n : FileNode). n.next) found.node_is))
-      (λ (other : b ≢ address). ap (λ (n : FileNode). n.next) (stored_node nodes later address payload stored b other))
-      (cases_eq b address)
+  set_links b t = search (rules, stored_node, cases_eq)
 
   set_file : IsFile later after address
-  set_file = record {
-    there = there;
-    place = omega (arith, (found.stand.each address in_all).place, chunk_same (address - 16), count_same);
-    content = λ some. subst (HasContent after) (sym back) (has (subst (λ (n : FileNode). 0 < n.size) back some));
-  }
+  set_file = search (rules, in_all, chunk_same, count_same)
 
   set_own : (b : ℕ) → is_listed all b ≡ true → b ≢ address → 0 < (node_at later address).size → 0 < (node_at nodes b).size → (node_at later address).content ≢ (node_at nodes b).content
   set_own b t other some some_b e =
@@ -95,10 +85,7 @@ module _ (first last : ℕ) (nodes later : OwnHeap) (contents after : NatMap (Li
       same_file nodes later contents after b (set_stays b (grind (arith, nat_tests)) (unlisted (found.before ++ found.behind) address b fresh (grind (arith, nat_tests)))))
 
   file_set : file_at later after address ≡ record (file_at nodes contents address) { bytes = take size (payload_in after content) }
-  file_set =
-      let named = ap (λ (n : FileNode). n.name) (back ∙ (λ i. record (found.node_is i) { content = content; size = size })) in
-      let bytes = ap (bytes_at after) back in
-      λ i. record { name = named i; bytes = bytes i; chunk = chunk_same (address - 16) i; offset = offset_same (address - 16) i }
+  file_set = grind (arith, nat_tests, chunk_same, offset_same)
 
   pub files_rewritten : files_of first later after ≡ record (files_of first nodes contents) { files = rewritten name (take size (payload_in after content)) (files_of first nodes contents).files }
   files_rewritten =

@@ -1,10 +1,10 @@
 -- WRITE: why it is refused, and what it does.
-use Rattle.std.proofs.Common.{◌≡◌, ◌≢◌, ℕ, ◌+◌, ◌-◌, ◌<◌, ◌≤◌, ◌^◌, true, false, cond, Bool, List, [], ◌∷◌, ◌++◌, length, take, Option, Some, None, refl, sym, ap, subst, ◌∙◌, ⊎_elim, arith}
+use Rattle.std.proofs.Common.{rules, ◌≡◌, ◌≢◌, ℕ, ◌+◌, ◌-◌, ◌<◌, ◌≤◌, ◌^◌, true, false, cond, Bool, List, [], ◌∷◌, ◌++◌, length, take, Option, Some, None, sym, ap, subst, ◌∙◌, arith}
 use Rattle.std.proofs.lemmas.Bool.{cases_lt}
 use Rattle.std.proofs.lemmas.Bool.Decides.{nat_tests}
 use Rattle.std.proofs.lemmas.Option.{same_Some, none-some}
 use Rattle.std.specs.Prelude.{nat_lt, ◌&&◌}
-use Rattle.std.specs.Option.{option_map, unwrap_or}
+use Rattle.std.specs.Option.{option_map}
 use Rattle.std.specs.FinMap.{get, insert}
 use Rattle.trade_base.specs.Bytes.{with_bytes}
 use Rattle.trade_base.specs.Page.{is_valid_size}
@@ -12,7 +12,7 @@ use Rattle.trade_base.specs.declared.refusal.Refusal.{Refusal}
 use Rattle.trade_base.specs.declared.refusal.Refusal.TheVariants.{InvalidSize, OutOfRam}
 use Rattle.trade_base.proofs.BytesLemmas.{with_bytes-nothing}
 use Rattle.own_model.specs.Account.{Account, shortage, charged}
-use Rattle.own_model.specs.FileService.{File, rewritten, told, error_of, file_named, written, content_credited}
+use Rattle.own_model.specs.FileService.{File, rewritten, told, error_of, file_named, content_credited}
 use Rattle.own_model.specs.FileText as model
 use Rattle.own_model.specs.FileText.FileRequest.{Write}
 use Rattle.own_model.specs.FileText.FileReply.{Count, Refused}
@@ -39,8 +39,7 @@ use Rattle.file_service.proofs.SetLemmas.{stand_rewritten, files_rewritten}
 
 -- an account doesn't cover what is above its limit
 pub above_limit : (account : Account) (ram : ℕ) → account.ram_limit < ram → shortage account ram 1 ≡ Some OutOfRam
-above_limit account ram above =
-    let e : nat_lt account.ram_limit (account.ram_used + ram) ≡ true = grind (arith, nat_tests) in rw e refl
+above_limit account ram above = grind (arith, nat_tests)
 
 -- nor a content whose size doesn't fit a word, where the limit does
 pub above_words : (account : Account) (n : ℕ) → account.ram_limit < 2 ^ 64 → 2 ^ 64 ≤ n → shortage account (sliced_size n) 1 ≡ Some OutOfRam
@@ -49,17 +48,7 @@ above_words account n limit above = above_limit account (sliced_size n) (omega (
 -- a content is refused for want of what the account lacks for it
 pub refused_short : (n : ℕ) (account : Account) (r : Refusal) → 0 < n → account.ram_limit < 2 ^ 64 → sliced_refusal n account ≡ Some r →
     option_map error_of (shortage account (sliced_size n) 1) ≡ Some (error_of r)
-refused_short n account r some limit is =
-    let s : nat_lt 0 n ≡ true = grind (arith, nat_tests) in
-    let h : nat_lt 0 (32 + n) ≡ true = grind (arith, nat_tests) in
-    ⊎_elim
-    (λ (fits : sliced_size n < 2 ^ 64). let e : nat_lt (sliced_size n) (2 ^ 64) ≡ true = grind (arith, nat_tests) in
-    let lacks : shortage account (sliced_size n) 1 ≡ Some r = rw (s, h, e) at is in
-    ap (option_map error_of) lacks)
-    (λ (above : 2 ^ 64 ≤ sliced_size n). let e : nat_lt (sliced_size n) (2 ^ 64) ≡ false = grind (arith, nat_tests) in
-    let invalid : Some InvalidSize ≡ Some r = rw (s, h, e) at is in
-    ap (option_map error_of) (above_limit account (sliced_size n) (omega (arith, limit, above))) ∙ ap (λ x. Some (error_of x)) (same_Some InvalidSize r invalid))
-    (cases_lt (sliced_size n) (2 ^ 64))
+refused_short n account r some limit is = grind (arith, nat_tests, above_limit, same_Some, cases_lt)
 
 covered_by : (b : Bool) (o : Option Refusal) → cond b o (Some InvalidSize) ≡ None → o ≡ None
 covered_by true o none = none
@@ -75,32 +64,18 @@ module _ (name : List ℕ) (session : FileSession) (has : Stock) (offset : ℕ) 
     (there : file_named name (files_in session has) ≡ Some file) (low : offset ≤ length file.bytes) where
   pub write_short : (e : model.FileError) → length file.bytes < offset + length bytes → option_map error_of (shortage has.account (sliced_size (offset + length bytes)) 1) ≡ Some e →
       IsTold (Write name offset bytes) (Refused e) session has
-  write_short e longer short =
-      let g : nat_lt (length file.bytes) offset ≡ false = grind (arith, nat_tests) in
-      let l : nat_lt (length file.bytes) (offset + length bytes) ≡ true = grind (arith, nat_tests) in
-      ap (λ o. written offset bytes o (files_in session has) has.account) there ∙ rw (g, l, short) refl
+  write_short e longer short = grind (arith, nat_tests)
 
   pub write_longer : length file.bytes < offset + length bytes → shortage has.account (sliced_size (offset + length bytes)) 1 ≡ None → file.name ≡ name →
       served_in (Write name offset bytes) session has
       ≡ told (Count (length bytes)) (record (files_in session has) { files = rewritten name (with_bytes file.bytes offset bytes) (files_in session has).files })
       (content_credited file (charged has.account (sliced_size (offset + length bytes)) 1))
-  write_longer longer covered is =
-      let g : nat_lt (length file.bytes) offset ≡ false = grind (arith, nat_tests) in
-      let l : nat_lt (length file.bytes) (offset + length bytes) ≡ true = grind (arith, nat_tests) in
-      ap (λ o. written offset bytes o (files_in session has) has.account) there
-      ∙ rw (g, l, covered)
-      (ap (λ n. told (Count (length bytes)) (record (files_in session has) { files = rewritten n (with_bytes file.bytes offset bytes) (files_in session has).files })
-      (content_credited file (charged has.account (sliced_size (offset + length bytes)) 1))) is)
+  write_longer longer covered is = grind (arith, nat_tests)
 
   pub write_within : offset + length bytes ≤ length file.bytes → file.name ≡ name →
       served_in (Write name offset bytes) session has
       ≡ told (Count (length bytes)) (record (files_in session has) { files = rewritten name (with_bytes file.bytes offset bytes) (files_in session has).files }) has.account
-  write_within within is =
-      let g : nat_lt (length file.bytes) offset ≡ false = grind (arith, nat_tests) in
-      let l : nat_lt (length file.bytes) (offset + length bytes) ≡ false = grind (arith, nat_tests) in
-      ap (λ o. written offset bytes o (files_in session has) has.account) there
-      ∙ rw (g, l)
-      (ap (λ n. told (Count (length bytes)) (record (files_in session has) { files = rewritten n (with_bytes file.bytes offset bytes) (files_in session has).files }) has.account) is)
+  write_within within is = grind (arith, nat_tests)
 
 -- no bytes change nothing
 no_bytes : (xs : List ℕ) (offset : ℕ) (part : List ℕ) → length part ≡ 0 → with_bytes xs offset part ≡ xs
@@ -146,11 +121,7 @@ module _ (session : FileSession) (was : Stock) (name : List ℕ) (previous addre
       has = found_content session.first session.last was.nodes was.contents name previous address node found (omega (arith, some, within))
 
       has_put : HasContent after node
-      has_put = record {
-        payload = put;
-        there = get-insert_same was.contents node.content put node.content refl;
-        long = length-with_part (payload_in was.contents node.content) offset bytes ∙ ap (λ o. length (unwrap_or o [])) has.there ∙ has.long;
-      }
+      has_put = search (rules, there, get-insert_same, long, length-with_part, has)
 
       -- the node isn't touched
       node_there : (payload : List ℕ) × (get was.nodes.payloads address ≡ Some payload)
@@ -180,19 +151,10 @@ module _ (session : FileSession) (was : Stock) (name : List ℕ) (previous addre
 
       -- the file's bytes are those with these over them
       front : take node.size (payload_in after node.content) ≡ with_bytes file.bytes offset bytes
-      front =
-          let payload = payload_in was.contents node.content in
-          let enough : node.size ≤ length payload = omega (arith, ap (λ o. length (unwrap_or o [])) has.there, has.long, content_long node.size) in
-          ap (λ o. take node.size (unwrap_or o [])) (get-insert_same was.contents node.content put node.content refl)
-          ∙ front_written node.size payload offset bytes enough within
-          ∙ ap (λ b. with_bytes b offset bytes) (sym (found_bytes session.first session.last was.nodes was.contents name previous address node found))
+      front = grind (arith, nat_tests, has, there, long, content_long, get-insert_same, front_written, found_bytes)
 
       pub over_served : (now : Stock) → now ≡ content_written node.content offset bytes was → Serves (served_in (Write name offset bytes) session was) (Count (length bytes)) session session now
-      over_served now is =
-          subst (Serves (served_in (Write name offset bytes) session was) (Count (length bytes)) session session) (sym is)
-          (serves_done (served_in (Write name offset bytes) session was) (Count (length bytes)) _ _ session session (content_written node.content offset bytes was)
-          served refl (files ∙ ap (λ b. record (files_in session was) { files = rewritten name b (files_in session was).files }) front)
-          (record { blocks = found.before ++ address ∷ found.behind; stand = stand }) refl)
+      over_served now is = search (rules, serves_done, served, files, front, stand)
 
   -- ---- the file gets longer
 
@@ -209,9 +171,4 @@ module _ (session : FileSession) (was : Stock) (name : List ℕ) (previous addre
         files_in later now ≡ record (files_in session made) { files = rewritten name front (files_in session made).files } → HasFiles later now →
         now.account ≡ content_credited (file_at made.nodes made.contents address) made.account → later.label ≡ session.label →
         Serves (served_in (Write name offset bytes) session was) (Count (length bytes)) session later now
-    longer_served later made now front covered charge same file_is front_is files kept account label =
-        serves_done (served_in (Write name offset bytes) session was) (Count (length bytes)) _ _ session later now
-        (write_longer name session was offset bytes file there (omega (arith, long, low)) (omega (arith, long, longer)) covered named)
-        (account ∙ (λ i. content_credited (file_is i) (charge i)))
-        (files ∙ (λ i. record (same i) { files = rewritten name (front_is i) (same i).files }))
-        kept label
+    longer_served later made now front covered charge same file_is front_is files kept account label = search (rules, serves_done, write_longer, there, long, named, files)

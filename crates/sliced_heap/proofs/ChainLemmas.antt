@@ -5,21 +5,21 @@ use Rattle.std.proofs.lemmas.Bool.Decides.{nat_tests}
 use Rattle.sliced_heap.specs.Chain.{link_to, is_listed, has_no_repeat, Linked, IsChain}
 
 -- a block that isn't listed is none of those listed
-unlisted : (xs : List ℕ) (a b : ℕ) → is_listed xs a ≡ false → is_listed xs b ≡ true → b ≢ a
+pub unlisted : (xs : List ℕ) (a b : ℕ) → is_listed xs a ≡ false → is_listed xs b ≡ true → b ≢ a
 unlisted xs a b none there e = true≢false (sym there ∙ ap (is_listed xs) e ∙ none)
 
 -- the first of a list is listed, and what is listed after it
-listed_first : (x : ℕ) (xs : List ℕ) → is_listed (x ∷ xs) x ≡ true
+pub listed_first : (x : ℕ) (xs : List ℕ) → is_listed (x ∷ xs) x ≡ true
 listed_first x xs = grind (arith, nat_tests)
 
-listed_later : (x b : ℕ) (xs : List ℕ) → is_listed xs b ≡ true → is_listed (x ∷ xs) b ≡ true
+pub listed_later : (x b : ℕ) (xs : List ℕ) → is_listed xs b ≡ true → is_listed (x ∷ xs) b ≡ true
 listed_later x b xs there = grind (arith, nat_tests)
 
 -- where the first comes once, it isn't listed after itself, and nothing after it comes twice
-once_first : (x : ℕ) (xs : List ℕ) → has_no_repeat (x ∷ xs) ≡ true → is_listed xs x ≡ false
+pub once_first : (x : ℕ) (xs : List ℕ) → has_no_repeat (x ∷ xs) ≡ true → is_listed xs x ≡ false
 once_first x xs once = grind (arith, nat_tests)
 
-once_later : (x : ℕ) (xs : List ℕ) → has_no_repeat (x ∷ xs) ≡ true → has_no_repeat xs ≡ true
+pub once_later : (x : ℕ) (xs : List ℕ) → has_no_repeat (x ∷ xs) ≡ true → has_no_repeat xs ≡ true
 once_later x xs once = grind (arith, nat_tests)
 
 -- the list without a block

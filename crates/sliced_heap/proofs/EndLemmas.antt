@@ -1,4 +1,5 @@
 -- All blocks are given back, one after another.
+use Rattle.own_model.proofs.AccountLemmas.{credit_nothing, credit_twice}
 use Rattle.std.proofs.Common.{◌≡◌, ◌≢◌, ◌+◌, ◌-◌, ℕ, true, List, [], ◌∷◌, Some, refl, sym, ap, subst, ◌∙◌, ⊎_elim, true≢false, unwrap_or, arith}
 use Rattle.std.proofs.lemmas.Bool.{cases_eq}
 use Rattle.std.proofs.lemmas.Option.{none-some}
@@ -11,7 +12,7 @@ use Rattle.own_model.specs.NatMap.{NatMap, picked, total}
 use Rattle.own_model.specs.Region.{Region}
 use Rattle.own_model.specs.Moved.{moved_up}
 use Rattle.own_model.specs.Sliced.{sliced_header as header, block_size}
-use Rattle.own_model.proofs.NatMapLemmas.{same, get-empty, get-remove_same, get-remove_other, before_remove, picked-empty}
+use Rattle.own_model.proofs.NatMapLemmas.{same, get-empty, get-remove_same, get-remove_other, before_remove, picked-empty, none_if}
 use Rattle.own_model.proofs.MovedLemmas.{same_moved, get-moved_up, get-moved_up_below}
 use Rattle.own_model.proofs.Totals.{total-empty, total-remove, len-remove_at}
 use Rattle.region_map.specs.Regions.{Regions}
@@ -57,19 +58,9 @@ no_blocks : (next previous : ℕ → ℕ) (before link : ℕ) (blocks : List ℕ
 no_blocks next previous before link [] h none = refl
 no_blocks next previous before link (x ∷ xs) h none = let leads = h.0 in absurd (omega (arith, leads, none))
 
--- a credit of nothing
-credit_nothing : (a : Account) → credited a 0 0 ≡ a
-credit_nothing a =
-    let ram : a.ram_used - 0 ≡ a.ram_used = omega arith in
-    let caps : a.caps_used - 0 ≡ a.caps_used = omega arith in
-    λ i. record a { ram_used = ram i; caps_used = caps i }
-
 module _ (heap : SlicedHeap) (store : Store) (regions : Regions) (sound : IsSound heap store regions) (last : heap.first ≡ 0) where
   none_left : HasNoBlocks (share_at (payer_of heap) store regions)
-  none_left s = elim (get (block_regions (share_at (payer_of heap) store regions)) s) as (λ o. get (block_regions (share_at (payer_of heap) store regions)) s ≡ o → o ≡ None) [
-    | None ↦ λ e. refl
-    | Some r ↦ λ e. absurd (true≢false (sym (sound.linked.all s r e).0 ∙ ap (λ b. is_listed b r.of) (no_blocks _ _ 0 heap.first sound.linked.blocks sound.linked.chain.linked last)))
-  ] refl
+  none_left s = none_if _ (λ r e. absurd (true≢false (sym (sound.linked.all s r e).0 ∙ ap (λ b. is_listed b r.of) (no_blocks _ _ 0 heap.first sound.linked.blocks sound.linked.chain.linked last))))
 
   nothing_there : blocks_at (payer_of heap) store regions ≡ empty
   unfolding sliced_of
@@ -94,13 +85,6 @@ module _ (heap : SlicedHeap) (store : Store) (regions : Regions) (sound : IsSoun
   }
 
 -- ---- one is given back, and then all that are left
-
--- two credits are one
-credit_twice : (a : Account) (m n k : ℕ) → credited (credited a m 1) n k ≡ credited a (m + n) (k + 1)
-credit_twice a m n k =
-    let ram : a.ram_used - m - n ≡ a.ram_used - (m + n) = omega arith in
-    let caps : a.caps_used - 1 - k ≡ a.caps_used - (k + 1) = omega arith in
-    λ i. record a { ram_used = ram i; caps_used = caps i }
 
 -- others stay over two calls
 pub keeps_then : (account : ℕ) (old mid new : Store) (regions between after : Regions) → KeepsOthers account old mid regions between → KeepsOthers account mid new between after → KeepsOthers account old new regions after
@@ -131,7 +115,7 @@ module _ (heap : SlicedHeap) (address : ℕ) (old mid : Store) (regions between 
 
   module _ (new : Store) (after : Regions) (rest : GivesAll account mid new between after) where
     -- what is credited in all
-    sum : block_size one.payload + total block_size (blocks_at account mid between) ≡ total block_size (blocks_at account old regions)
+    sum : total block_size (blocks_at account mid between) + block_size one.payload ≡ total block_size (blocks_at account old regions)
     sum = let e = total-remove block_size (blocks_at account old regions) address one.payload one.was in let b = ap (total block_size) one.blocks in omega (arith, e, b)
 
     number : len (blocks_at account mid between) + 1 ≡ len (blocks_at account old regions)
@@ -164,7 +148,7 @@ module _ (heap : SlicedHeap) (address : ℕ) (old mid : Store) (regions between 
       none = rest.none;
       charge = rest.charge
           ∙ ap (λ a. Some (credited a (total block_size (blocks_at account mid between)) (len (blocks_at account mid between)))) account_mid
-          ∙ ap (λ a. Some a) (credit_twice (account_in old account) (block_size one.payload) (total block_size (blocks_at account mid between)) (len (blocks_at account mid between)))
+          ∙ ap (λ a. Some a) (credit_twice (account_in old account) (block_size one.payload) (total block_size (blocks_at account mid between)) 1 (len (blocks_at account mid between)))
           ∙ ap (λ n. Some (credited (account_in old account) n (len (blocks_at account mid between) + 1))) sum
           ∙ ap (λ n. Some (credited (account_in old account) (total block_size (blocks_at account old regions)) n)) number;
       dataspaces = λ k none.
