@@ -120,7 +120,7 @@ module _ {store : Store} {roles : Roles} {i s : ℕ} {script : Script} (two : Ar
   module _ {store' : Store} {roles' : Roles} {script' : Script} {host host' : Component} {q account : ℕ} {session : SessionId} {was is : Option (Row Labelled)}
       (host_is : roles s ≡ host.role) (replaced : ReplacesTwo roles roles' i s (AScript script') host'.role)
       (alone : (owner : Owner) → Owns store roles owner account → owner ≡ SessionAt s session.0)
-      (changes : ChangesSession account s q session store store' script script' (rows_in store (roles s)) (rows_in store' host'.role) was is) (stays : StaysServer host store' host') where
+      (changes : ChangesSession account s q session store store' script script' (rows_in store (roles s)) (rows_in store' host'.role) was is) (stays : StaysServer store host store' host') where
     open changes.moves use {others, parents, parent, root}
 
     -- the client and the session are touched
@@ -343,7 +343,7 @@ module _ {store store' : Store} (components components' : List Component) {i s :
     {host host' : Component} {q account : ℕ} {session : SessionId} {was is : Option (Row Labelled)}
     (host_is : roles_of components s ≡ host.role) (replaced : ReplacesTwo (roles_of components) (roles_of components') i s (AScript script') host'.role) (faces : SameFaces components components')
     (alone : (owner : Owner) → Owns store (roles_of components) owner account → owner ≡ SessionAt s session.0)
-    (changes : ChangesSession account s q session store store' script script' (rows_in store (roles_of components s)) (rows_in store' host'.role) was is) (stays : StaysServer host store' host')
+    (changes : ChangesSession account s q session store store' script script' (rows_in store (roles_of components s)) (rows_in store' host'.role) was is) (stays : StaysServer store host store' host')
     (rules : Rules) (call : Call) (on : is_exit call ≡ false) (reply : Reply) (lines : List LogLine) (told : Told) (text : told.text ≡ reply_text reply) (finished : told.lines ≡ flat_map log_text lines) where
   abbrev roles : Roles
   roles = roles_of components

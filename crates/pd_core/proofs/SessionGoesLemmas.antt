@@ -29,7 +29,7 @@ use Rattle.server_frame.specs.Frame.{Row, ServesSession}
 use Rattle.server_frame.specs.Session.{service_step}
 use Rattle.server_frame.specs.Told.{Told}
 use Rattle.pd_core.specs.Answer.{told_alone}
-use Rattle.pd_core.specs.Component.{entry_of, kind_of, served_by, caps_in, rows_in, rows_of, own, own_in, IsSoundRole, IsSound, StaysServer}
+use Rattle.pd_core.specs.Component.{entry_of, kind_of, served_by, caps_in, rows_in, rows_of, own, own_in, IsSoundRole, Serves, StaysServer}
 use Rattle.pd_core.specs.Core.{Rules, Roles, roles_of, rows_at, sessions_in, IsCore}
 use Rattle.pd_core.specs.Own.{Sessions, own_of, own_at}
 use Rattle.pd_core.specs.Sessions.{row_session, NamesSession}
@@ -144,12 +144,9 @@ module _ {store : Store} (components : List Component) {i s : ℕ} {script : Scr
   there : get (rows_of store host) session.0 ≡ Some row
   there = ap (λ r. get (rows_in store r) session.0) (sym host_is) ∙ (its_row two q session names).there
 
-  -- it is sound, and the session is open
-  pub host_sound : IsSound store host
-  host_sound = subst (IsSoundRole store) host_is (two.core.sound s)
-
-  pub named_open : IsSome (get (rows_of store host) session.0)
-  named_open = ap is_some there
+  -- it serves the session
+  pub host_serves : Serves store host session.0
+  host_serves = record { sound = subst (IsSoundRole store) host_is (two.core.sound s); row = ap is_some there }
 
   pays : row.client ≡ script.account.0
   pays = sym (its_row two q session names).client
@@ -186,7 +183,7 @@ module _ {store : Store} (components : List Component) {i s : ℕ} {script : Scr
 
   -- ---- the call is made
 
-  module _ (store' : Store) (host' : Component) (stays : StaysServer host store' host') (limits : ram_limits_in store' ≡ ram_limits_in store) (rules : Rules) where
+  module _ (store' : Store) (host' : Component) (stays : StaysServer store host store' host') (rules : Rules) where
     face : face_of host' ≡ face_of host
     face = face_is host host' stays.entry stays.service
 
@@ -200,10 +197,10 @@ module _ {store : Store} (components : List Component) {i s : ℕ} {script : Scr
         let faces = face_set (set components i client) s host' e (face ∙ ap face_of read)
         ∙ face_set components i client d (ap face_of is ∙ (λ j. record { name = (get_or components i d).name.items; kind = kind_of (without_selector (caller_is j) q); service = served_by (without_selector (caller_is j) q) })
         ∙ (λ j. record { name = (get_or components i d).name.items; kind = kind_of (sym caller_is j); service = served_by (sym caller_is j) })) in
-        let done = closes_done store store' script (rows_in store (roles_of components s)) q s session (script_sound two) named limits (row_paid two q session names).account (closes row there) in
+        let done = closes_done store store' script (rows_in store (roles_of components s)) q s session (script_sound two) named stays.machine (row_paid two q session names).account (closes row there) in
         session_goes components (set (set components i client) s host') two d host_is
         (subst (λ r. ReplacesTwo (roles_of components) (roles_of (set (set components i client) s host')) i s r host'.role) client_is (both_put components two client host')) faces (row_alone two q session names)
-        (changes_closed two q session names store' (subst (λ k. ClosesPart row.key k store store') pays (closes row there)) (written ∙ ap (λ r. remove (rows_in store r) session.0) (sym host_is)) done.sound limits) stays
+        (changes_closed two q session names store' (subst (λ k. ClosesPart row.key k store store') pays (closes row there)) (written ∙ ap (λ r. remove (rows_in store r) session.0) (sym host_is)) done.sound stays.machine) stays
         rules (Close q) refl Done [] (told_alone (reply_text Done)) refl refl done.does
 
     -- more is donated for it
@@ -217,11 +214,11 @@ module _ {store : Store} (components : List Component) {i s : ℕ} {script : Scr
         let enough = sym (accepted row there) in
         let raises = raised_by row there in
         let next : Row Labelled = record row { account = raised row.account more.ram more.caps } in
-        let done = upgrades_done store store' script (rows_in store (roles_of components s)) q s session (script_sound two) named limits text more reads enough raises in
+        let done = upgrades_done store store' script (rows_in store (roles_of components s)) q s session (script_sound two) named stays.machine text more reads enough raises in
         let moves = raise_moves two q session names store' more.ram more.caps (subst (λ k. RaisesPart k row.key more.ram more.caps store store') pays raises)
         (covers (account_in store script.account.0) more.ram more.caps (ap (λ k. shortage (account_in store k) more.ram more.caps) (sym pays) ∙ enough)) in
         session_goes components (set components s host') two d host_is (host_put components two host') (face_set components s host' e (face ∙ ap face_of read)) (row_alone two q session names)
-        (changes_written two q session names store' refl refl (written_by row there ∙ ap (λ r. insert (rows_in store r) session.0 next) (sym host_is)) moves done.sound limits) stays
+        (changes_written two q session names store' refl refl (written_by row there ∙ ap (λ r. insert (rows_in store r) session.0 next) (sym host_is)) moves done.sound stays.machine) stays
         rules (Upgrade q text) refl Done [] (told_alone (reply_text Done)) refl refl done.does
 
     -- a request is served on it
@@ -238,8 +235,8 @@ module _ {store : Store} (components : List Component) {i s : ℕ} {script : Scr
         = ap (λ (m : NatMap (Row Labelled)). get m session.0) serves.sessions ∙ get-insert_same (rows_in store (roles_of components s)) session.0 next session.0 refl in
         let paid = paid_in store' host'.role stays.works session.0 next now in
         let limit = (serve_keeps (row_session row).state (row_session row) request).1 in
-        let done = serves_done store store' script (rows_in store (roles_of components s)) q s session (script_sound two) named limits request
+        let done = serves_done store store' script (rows_in store (roles_of components s)) q s session (script_sound two) named stays.machine request
         (serves.others script.account.0 (λ same. (row_paid two q session names).apart (pays ∙ same))) in
         session_goes components (set components s host') two d host_is (host_put components two host') (face_set components s host' e (face ∙ ap face_of read)) (row_alone two q session names)
-        (changes_written two q session names store' refl refl serves.sessions (serve_moves two q session names store' serves paid.opens (ap (λ (a : Account). a.caps_limit) paid.account ∙ limit)) done.sound limits) stays
+        (changes_written two q session names store' refl refl serves.sessions (serve_moves two q session names store' serves paid.opens (ap (λ (a : Account). a.caps_limit) paid.account ∙ limit)) done.sound stays.machine) stays
         rules (CallSession q request) refl (AnswerTold (served (row_session row) request).reply) (served (row_session row) request).lines written (text row there) (lines row there) done.does

@@ -23,7 +23,7 @@ use Rattle.dataspace_core.proofs.PartLaws.{account_of-part}
 use Rattle.server_frame.specs.Frame.{Row, OpensSession}
 use Rattle.server_frame.proofs.RowLaws.{IsNoRows}
 use Rattle.pd_core.specs.Answer.{told_alone}
-use Rattle.pd_core.specs.Component.{entry_of, kind_of, served_by, caps_of, caps_in, rows_in, rows_of, service_of, own_in, HasPlace, IsSoundRole, IsSound, StaysServer}
+use Rattle.pd_core.specs.Component.{entry_of, kind_of, served_by, caps_of, caps_in, rows_in, rows_of, service_of, own_in, HasPlace, IsSoundRole, Admits, StaysServer}
 use Rattle.pd_core.specs.Core.{Rules, Roles, roles_of, sessions_in, IsCore}
 use Rattle.pd_core.specs.Own.{Sessions, HasSessions, own_of, own_at}
 use Rattle.pd_core.specs.Sessions.{row_session}
@@ -34,7 +34,7 @@ use Rattle.pd_core.specs.declared.script.Script.{Script}
 use Rattle.pd_core.proofs.HeldLemmas.{names_open as all_open}
 use Rattle.pd_core.proofs.PlainLemmas.{face_is}
 use Rattle.pd_core.proofs.RouterLemmas.{led_to_service}
-use Rattle.pd_core.proofs.SessionAccountLemmas.{no_session, has_place, script_sound, names_open, new_alone, new_row, changes_opened}
+use Rattle.pd_core.proofs.SessionAccountLemmas.{payer_open, no_session, has_place, has_room, script_sound, names_open, new_alone, new_row, changes_opened}
 use Rattle.pd_core.proofs.SessionChangeLemmas.{AreTwo, ReplacesTwo, two_places, sessions_agree, now_there, step_goes}
 use Rattle.pd_core.proofs.SessionGoesLemmas.{caller_within, host_within, kept_put}
 use Rattle.pd_core.proofs.SessionOpenLemmas.{OpensFor, opens_for, script_with, has_place as has_selector}
@@ -104,21 +104,19 @@ module _ {rules : Rules} {leads : Leads} {store : Store} {components : List Comp
     host_is : roles_of components s ≡ (get_or components s e).role
     host_is = role_at components s e to_service.2.0
 
-    pub led_sound : IsSound store (get_or components s e)
-    led_sound = subst (IsSoundRole store) host_is (core.sound s)
-
-    pub led_serving : IsSome (service_of (get_or components s e))
-    led_serving = ap is_some (to_service.2.1 e)
-
-    -- it has a place for the session, and none is on the script's account
-    pub led_none : IsNoRows (rows_of store (get_or components s e)) script.account.0
-    led_none = subst (λ r. IsNoRows (rows_in store r) script.account.0) host_is (no_session led_two)
-
-    pub led_place : donation_refusal (account_in store script.account.0) args.ram args.caps ≡ None → HasPlace (get_or components s e).role
-    led_place accepted = subst HasPlace host_is (has_place led_two args.ram args.caps accepted)
+    -- it can open a session for the script
+    pub led_admits : Admits store (get_or components s e) script.account.0 args.ram args.caps
+    led_admits = record {
+      sound = subst (IsSoundRole store) host_is (core.sound s);
+      serving = ap is_some (to_service.2.1 e);
+      is_open = payer_open led_two;
+      no_session = subst (λ r. IsNoRows (rows_in store r) script.account.0) host_is (no_session led_two);
+      place = λ accepted. subst HasPlace host_is (has_place led_two args.ram args.caps accepted);
+      room = has_room led_two args.ram args.caps;
+    }
 
     -- a session is opened, and the script is read again
-    module _ (store' : Store) (host' : Component) (stays : StaysServer (get_or components s e) store' host') (limits : ram_limits_in store' ≡ ram_limits_in store)
+    module _ (store' : Store) (host' : Component) (stays : StaysServer store (get_or components s e) store' host')
         (accepted : None ≡ donation_refusal (account_in store script.account.0) args.ram args.caps) (session : SessionId) (whole : List ℕ) (labelled : whole ≡ label_with (get_or components i d).name.items args.label)
         (opening : (k : Service) → service_of (get_or components s e) ≡ Some k →
         OpensSession script.account.0 args.ram args.caps session.0 (record { label = whole; state = state_at_first k }) store store' (rows_of store (get_or components s e)) (rows_of store' host')) (d' : Component) where
@@ -144,7 +142,7 @@ module _ {rules : Rules} {leads : Leads} {store : Store} {components : List Comp
       pub led_selector : HasSelectorLeft (get_or (set components s host') i d').role
       led_selector =
           subst HasSelectorLeft (sym same_role)
-          (has_selector store store' script (rows_in store (roles_of components s)) s session args.ram args.caps (script_sound led_two) (names_open led_two) opens.free limits opens.parted (sym accepted))
+          (has_selector store store' script (rows_in store (roles_of components s)) s session args.ram args.caps (script_sound led_two) (names_open led_two) opens.free stays.machine opens.parted (sym accepted))
 
       -- it goes as the model's
       pub led_opened : (selector : Selector) (kept : Component) → selector.0 ≡ new_selector (caps_of (get_or (set components s host') i d')) →
@@ -156,8 +154,8 @@ module _ {rules : Rules} {leads : Leads} {store : Store} {components : List Comp
           let is_new : selector.0 ≡ new_selector script.caps.caps = least ∙ ap (λ r. new_selector (caps_in r)) same_role in
           let unused : get script.caps.caps selector.0 ≡ None = ap (get script.caps.caps) is_new ∙ new_selector_free script.caps.caps in
           let for_it : OpensFor selector.0 s session args.ram args.caps store store' script
-          = opens_for store store' script (rows_in store (roles_of components s)) s session args.ram args.caps (script_sound led_two) (names_open led_two) opens.free limits opens.parted (sym accepted) selector.0 unused is_new in
-          let changes = changes_opened led_two args.ram args.caps (sym accepted) store' opens selector.0 unused for_it.sound limits in
+          = opens_for store store' script (rows_in store (roles_of components s)) s session args.ram args.caps (script_sound led_two) (names_open led_two) opens.free stays.machine opens.parted (sym accepted) selector.0 unused is_new in
+          let changes = changes_opened led_two args.ram args.caps (sym accepted) store' opens selector.0 unused for_it.sound stays.machine in
           let alone = new_alone led_two args.ram args.caps (sym accepted) store' opens in
           let kept_role : kept.role ≡ AScript script' = ap (λ (c : Component). c.role) is ∙ ap (λ r. with_session r selector.0 s session) same_role in
           let replaced = subst (λ r. ReplacesTwo (roles_of components) (roles_of after) i s r host'.role) kept_role (kept_put components led_two host' kept) in

@@ -12,11 +12,11 @@ use Rattle.own_model.specs.Routes.{Rule, Service}
 use Rattle.own_model.specs.Routes.Service.{Log as LogKind, Files as FilesKind}
 use Rattle.own_model.specs.StartList.{Entry, Kind}
 use Rattle.own_model.specs.StartList.Kind.{Script as AScript, Server as AServer}
-use Rattle.own_model.specs.Session.{Labelled}
+use Rattle.own_model.specs.Session.{Labelled, donation_refusal}
 use Rattle.cap_space.specs.Space.{Space}
 use Rattle.cap_space.specs.declared.cap.Cap.{Cap}
 use Rattle.region_map.specs.Regions.{Regions}
-use Rattle.dataspace_core.specs.Store.{Store, part, account_of, root_in, parents_in, room_in, ram_limits_in, caps_limits_in}
+use Rattle.dataspace_core.specs.Store.{Store, part, account_of, account_in, root_in, parents_in, room_in, ram_limits_in, caps_limits_in, IsOpenIn}
 use Rattle.heap_core.specs.Heap.{payer_of as heap_payer}
 use Rattle.sliced_heap.specs.Heap.{payer_of as sliced_payer}
 use Rattle.dataspace_core.specs.Share.{Share}
@@ -190,13 +190,30 @@ IsSoundRole store Gone = Unit {0}
 abbrev pub IsSound : Store → Component → Type 0
 IsSound store component = IsSoundRole store component.role
 
--- a server after a call of one of its sessions: it works on the memory, and is the same but for its sessions
-pub record StaysServer (before : Component) (new : Store) (after : Component) : Type 0 where
+-- a server after a call of one of its sessions: it works on the memory, and is the same but for its sessions, and so are the
+-- limits of RAM in all
+pub record StaysServer (old : Store) (before : Component) (new : Store) (after : Component) : Type 0 where
   pub entry : (rules : List Rule) → entry_of rules after ≡ entry_of rules before
   pub service : service_of after ≡ service_of before
   pub account : payer_of after ≡ payer_of before
   pub capacity : capacity_in after.role ≡ capacity_in before.role
   pub works : Works new after.role
+  pub machine : ram_limits_in new ≡ ram_limits_in old
+
+-- a sound component serves a session
+pub record Serves (store : Store) (component : Component) (id : ℕ) : Type 0 where
+  pub sound : IsSound store component
+  pub row : IsSome (get (rows_of store component) id)
+
+-- a sound component serves sessions, and can open one for a client's account with this donation: the client is open and no
+-- session, and where it covers the donation there is a place for the session and for its account
+pub record Admits (store : Store) (component : Component) (client ram caps : ℕ) : Type 0 where
+  pub sound : IsSound store component
+  pub serving : IsSome (service_of component)
+  pub is_open : IsOpenIn store client
+  pub no_session : (id : ℕ) (row : Row Labelled) → get (rows_of store component) id ≡ Some row → row.key ≢ client
+  pub place : donation_refusal (account_in store client) ram caps ≡ None → HasPlace component.role
+  pub room : donation_refusal (account_in store client) ram caps ≡ None → 0 < room_in store
 
 -- what a script's call that is none of a session and no exit keeps: the component is sound after it; its entry, service and account, its limit of
 -- capabilities and its places for them, what sessions its selectors name and what it serves, the root's key, who is whose

@@ -68,7 +68,8 @@ impl<R: Router + Drop> Core<R> {
     pub fn session_account(&self, component: usize, selector: u64) -> Option<Quotas>
         requires { component < length self.now.entries }
         ensures { option_map quotas_account result
-            ≡ option_map (λ (s : AnOpenSession). s.account) (session_named (get (state_at self.now.states component).selectors selector)) }
+            ≡ option_map (λ (s : AnOpenSession). s.account)
+            (session_named (get (state_at self.now.states component).selectors selector)) }
     {
         session_quotas(
             &self.memory,
@@ -82,7 +83,8 @@ impl<R: Router + Drop> Core<R> {
     pub fn last_selector(&self, component: usize) -> u64
         requires { component < length self.now.entries }
         ensures most { result ≤ 4096 }
-        ensures none { (selector : ℕ) → result < selector → get (state_at self.now.states component).selectors selector ≡ None }
+        ensures none { (selector : ℕ) → result < selector →
+            get (state_at self.now.states component).selectors selector ≡ None }
     {
         let components = self.components.as_slice();
         components[component].last_selector()
@@ -90,19 +92,18 @@ impl<R: Router + Drop> Core<R> {
 }
 
 impl Component {
-    ghost use Rattle.std.specs.Prelude.{◌≡◌, ◌≤◌, Some, IsSome};
-    ghost use Rattle.std.specs.FinMap.{get};
-    ghost use Rattle.own_model.specs.Session.{Labelled};
-    ghost use Rattle.server_frame.specs.Frame.{Row};
+    ghost use Rattle.std.specs.Prelude.{◌≡◌, ◌≤◌};
+    ghost use Rattle.server_frame.specs.Frame.{AtRow};
     ghost use Rattle.pd_core.specs.Answer.{quotas_account};
-    ghost use Rattle.pd_core.specs.Component.{rows_of, own, IsSound};
+    ghost use Rattle.pd_core.specs.Component.{rows_of, own, IsSound, Serves};
     ghost use Rattle.pd_core.specs.Exit.{HasSelectorsTo};
     ghost use Rattle.pd_core.specs.Own.{Sessions};
 
     /// The limits and the use of the account that the component is charged on, all of them 0 once it has exited.
     fn quotas(&self, memory: &Memory) -> Quotas
         requires { IsSound memory.now self.now }
-        ensures { (sessions : Sessions) → quotas_account result ≡ (own sessions memory.now self.now).account }
+        ensures { (sessions : Sessions) → quotas_account result
+            ≡ (own sessions memory.now self.now).account }
     {
         match &self.role {
             Role::Script(script) => quotas_of(memory, script.account),
@@ -132,9 +133,9 @@ impl Component {
     /// The limits and the use of the account of a session that the component serves.
     #[tactic(auto, using(crate::proofs::ServerLemmas::log_open, crate::proofs::ServerLemmas::files_open, crate::proofs::ServerLemmas::script_open, crate::proofs::ServerLemmas::gone_open))]
     fn session_quotas(&self, memory: &Memory, id: SessionId) -> Quotas
-        requires sound { IsSound memory.now self.now }
-        requires there { IsSome (get (rows_of memory.now self.now) id.0) }
-        ensures { (row : Row Labelled) → get (rows_of memory.now self.now) id.0 ≡ Some row → quotas_account result ≡ row.account }
+        requires { Serves memory.now self.now id.0 }
+        ensures { AtRow (rows_of memory.now self.now) id.0 (λ row.
+            quotas_account result ≡ row.account) }
     {
         match &self.role {
             Role::Log(_, server) => quotas_of(memory, server.account(id)),
@@ -148,7 +149,8 @@ impl Component {
 fn component_quotas(memory: &Memory, components: &[Component], place: usize) -> Quotas
     requires core { IsCore memory.now components.now }
     requires place { place < length components.now }
-    ensures { (rules : Rules) → quotas_account result ≡ (state_at (world_of rules memory.now components.now).states place).account }
+    ensures { (rules : Rules) → quotas_account result
+        ≡ (state_at (world_of rules memory.now components.now).states place).account }
 {
     components[place].quotas(memory)
 }
@@ -163,7 +165,8 @@ fn session_quotas(
     requires core { IsCore memory.now components.now }
     requires place { place < length components.now }
     ensures { (rules : Rules) → option_map quotas_account result
-        ≡ option_map (λ (s : AnOpenSession). s.account) (session_named (get (state_at (world_of rules memory.now components.now).states place).selectors selector)) }
+        ≡ option_map (λ (s : AnOpenSession). s.account) (session_named (get
+        (state_at (world_of rules memory.now components.now).states place).selectors selector)) }
 {
     match components[place].session(selector) {
         Ok((server, session)) => Some(components[server].session_quotas(memory, session)),

@@ -61,7 +61,8 @@ impl Component {
     /// empty heaps.
     pub fn script(name: &[u8], account: AccountId, caps: CapSpace, regions: RegionMap) -> Component
         requires { length name.now ≤ 32 }
-        ensures entry { (rules : List Rule) → entry_of rules result ≡ record { name = name.now; kind = AScript; routes = rules } }
+        ensures entry { (rules : List Rule) → entry_of rules result
+            ≡ record { name = name.now; kind = AScript; routes = rules } }
         ensures account { payer_of result ≡ account.0 }
         ensures tables { tables_of result ≡ Some (caps, regions) }
         ensures heap { HasNewHeap result.role }
@@ -83,11 +84,13 @@ impl Component {
     /// A log server of a name of at most 32 bytes that is charged on the account.
     pub fn log(name: &[u8], account: AccountId, server: Server<LogService>) -> Component
         requires { length name.now ≤ 32 }
-        ensures entry { (rules : List Rule) → entry_of rules result ≡ record { name = name.now; kind = AServer; routes = rules } }
+        ensures entry { (rules : List Rule) → entry_of rules result
+            ≡ record { name = name.now; kind = AServer; routes = rules } }
         ensures account { payer_of result ≡ account.0 }
         ensures tables { tables_of result ≡ None }
         ensures heap { HasNewHeap result.role }
-        ensures server { (store : Store) → HasNoSessions store server.sessions server.map → IsNewServer store result.role }
+        ensures server { (store : Store) → HasNoSessions store server.sessions server.map →
+            IsNewServer store result.role }
         ensures service { service_of result ≡ Some LogKind }
     {
         Component {
@@ -99,11 +102,13 @@ impl Component {
     /// A file server of a name of at most 32 bytes that is charged on the account.
     pub fn files(name: &[u8], account: AccountId, server: Server<FileService>) -> Component
         requires { length name.now ≤ 32 }
-        ensures entry { (rules : List Rule) → entry_of rules result ≡ record { name = name.now; kind = AServer; routes = rules } }
+        ensures entry { (rules : List Rule) → entry_of rules result
+            ≡ record { name = name.now; kind = AServer; routes = rules } }
         ensures account { payer_of result ≡ account.0 }
         ensures tables { tables_of result ≡ None }
         ensures heap { HasNewHeap result.role }
-        ensures server { (store : Store) → HasNoSessions store server.sessions server.map → IsNewServer store result.role }
+        ensures server { (store : Store) → HasNoSessions store server.sessions server.map →
+            IsNewServer store result.role }
         ensures service { service_of result ≡ Some FilesKind }
     {
         Component {
@@ -131,7 +136,8 @@ impl Component {
     /// then `Gone`, then `InvalidSession`.
     pub(crate) fn take_session(&mut self, selector: u64) -> Result<(usize, SessionId), Refusal>
         ensures named { result ≡ named_in self.old.role selector }
-        ensures gone { IfOk result (λ _. self.new ≡ record self.old { role = without_selector self.old.role selector }) }
+        ensures gone { IfOk result (λ _. self.new
+            ≡ record self.old { role = without_selector self.old.role selector }) }
         ensures err { OnErr result (self.new ≡ self.old) }
     {
         match &mut self.role {
@@ -148,7 +154,8 @@ impl Component {
     pub(crate) fn keep_session(&mut self, server: usize, session: SessionId) -> Selector
         requires room { HasSelectorLeft self.old.role }
         ensures least { result.0 ≡ new_selector (caps_of self.old) }
-        ensures kept { self.new ≡ record self.old { role = with_session self.old.role result.0 server session } }
+        ensures kept { self.new
+            ≡ record self.old { role = with_session self.old.role result.0 server session } }
     {
         match &mut self.role {
             Role::Script(script) => script.caps.insert(Cap::Session { server, session }),
@@ -201,11 +208,14 @@ impl Component {
         requires sound { IsSound memory.old self.old }
         requires call { IsWellFormed call }
         requires plain { IsPlain call }
-        ensures outcome { (rules : List Rule) (sessions : Sessions) → HasSessions sessions (caps_of self.old) →
+        ensures outcome { (rules : List Rule) (sessions : Sessions) →
+            HasSessions sessions (caps_of self.old) →
             told reply.new (own sessions memory.new self.new)
-            ≡ told_of (own_step (entry_of rules self.old) (model_call call.entry) (own sessions memory.old self.old)) }
+            ≡ told_of (own_step (entry_of rules self.old) (model_call call.entry)
+            (own sessions memory.old self.old)) }
         ensures keeps { IsScriptRole self.old.role → Keeps memory.old self.old memory.new self.new }
-        ensures stays { IsSome (refusal_of self.old.role) → (memory.new ≡ memory.old) × (self.new ≡ self.old) }
+        ensures stays { IsSome (refusal_of self.old.role) → (memory.new ≡ memory.old)
+            × (self.new ≡ self.old) }
     {
         match &mut self.role {
             Role::Script(script) => script.step(memory, call, reply),

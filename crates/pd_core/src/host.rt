@@ -6,19 +6,18 @@ use server_frame::{LONGEST_LABEL, Reply};
 use trade_base::{AccountId, Caps, Ram, Refusal, SessionId};
 
 impl Component {
-    ghost use Rattle.std.specs.Prelude.{◌≡◌, ◌≢◌, ◌<◌, ◌≤◌, ℕ, length, Some, None, IsSome, IfOk, OnOk, OnErr};
-    ghost use Rattle.std.specs.FinMap.{get, insert, remove};
+    ghost use Rattle.std.specs.Prelude.{◌≡◌, ◌≤◌, length, Some, IfOk, OnOk, OnErr};
+    ghost use Rattle.std.specs.FinMap.{insert, remove};
     ghost use Rattle.std.specs.Result.{result_err};
     ghost use Rattle.own_model.specs.Account.{shortage};
     ghost use Rattle.own_model.specs.Donation.{raised};
     ghost use Rattle.own_model.specs.Routes.{Service};
-    ghost use Rattle.own_model.specs.Session.{Labelled, donation_refusal, state_at_first};
-    ghost use Rattle.dataspace_core.specs.Store.{account_in, ram_limits_in, IsOpenIn, room_in, RaisesPart, ClosesPart};
-    ghost use Rattle.server_frame.specs.Frame.{Row, OpensSession, ServesSession};
+    ghost use Rattle.own_model.specs.Session.{donation_refusal, state_at_first};
+    ghost use Rattle.dataspace_core.specs.Store.{account_in, RaisesPart, ClosesPart};
+    ghost use Rattle.server_frame.specs.Frame.{AtRow, OpensSession, ServesSession};
     ghost use Rattle.server_frame.specs.Session.{service_step};
     ghost use Rattle.server_frame.specs.Told.{nothing_told};
-    ghost use Rattle.pd_core.specs.Component.{rows_of, service_of, HasPlace, IsSound, StaysServer};
-    ghost use Rattle.pd_core.specs.SessionCalls.{IsServing};
+    ghost use Rattle.pd_core.specs.Component.{rows_of, service_of, Admits, Serves, StaysServer};
 
     /// Opens a session for a client's account, with its donation: RAM in bytes, and capabilities. Refused as
     /// `Server::open` is, where nothing changes.
@@ -30,21 +29,18 @@ impl Component {
         ram: Ram,
         caps: Caps,
     ) -> Result<SessionId, Refusal>
-        requires sound { IsSound memory.old self.old }
-        requires serving { IsServing self.old }
-        requires client { IsOpenIn memory.old client.0 }
-        requires no_session { (id : ℕ) (row : Row Labelled) → get (rows_of memory.old self.old) id ≡ Some row → row.key ≢ client.0 }
+        requires admits { Admits memory.old self.old client.0 ram.0 caps.0 }
         requires label { length label.now ≤ LONGEST_LABEL }
-        requires place { donation_refusal (account_in memory.old client.0) ram.0 caps.0 ≡ None → HasPlace self.old.role }
-        requires room { donation_refusal (account_in memory.old client.0) ram.0 caps.0 ≡ None → 0 < room_in memory.old }
-        ensures refusal { result_err result ≡ donation_refusal (account_in memory.old client.0) ram.0 caps.0 }
+        ensures refusal { result_err result
+            ≡ donation_refusal (account_in memory.old client.0) ram.0 caps.0 }
         ensures opens { (kind : Service) → service_of self.old ≡ Some kind → IfOk result (λ id.
-            OpensSession client.0 ram.0 caps.0 id.0 (record { label = label.now; state = state_at_first kind }) memory.old memory.new
+            OpensSession client.0 ram.0 caps.0 id.0 (record {
+              label = label.now;
+              state = state_at_first kind;
+            }) memory.old memory.new
             (rows_of memory.old self.old) (rows_of memory.new self.new)) }
-        ensures stays { StaysServer self.old memory.new self.new }
-        ensures machine { ram_limits_in memory.new ≡ ram_limits_in memory.old }
-        ensures err { OnErr result (self.new ≡ self.old) }
-        ensures memory_err { OnErr result (memory.new ≡ memory.old) }
+        ensures stays { StaysServer memory.old self.old memory.new self.new }
+        ensures err { OnErr result ((memory.new ≡ memory.old) × (self.new ≡ self.old)) }
     {
         match &mut self.role {
             Role::Log(_, server) => server.open(memory, client, label, ram, caps),
@@ -62,18 +58,17 @@ impl Component {
         ram: Ram,
         caps: Caps,
     ) -> Result<(), Refusal>
-        requires sound { IsSound memory.old self.old }
-        requires open { IsSome (get (rows_of memory.old self.old) id.0) }
-        ensures refusal { (row : Row Labelled) → get (rows_of memory.old self.old) id.0 ≡ Some row →
-            result_err result ≡ shortage (account_in memory.old row.client) ram.0 caps.0 }
-        ensures raises { (row : Row Labelled) → get (rows_of memory.old self.old) id.0 ≡ Some row →
-            OnOk result (RaisesPart row.client row.key ram.0 caps.0 memory.old memory.new) }
-        ensures sessions { (row : Row Labelled) → get (rows_of memory.old self.old) id.0 ≡ Some row →
+        requires { Serves memory.old self.old id.0 }
+        ensures refusal { AtRow (rows_of memory.old self.old) id.0 (λ row.
+            result_err result ≡ shortage (account_in memory.old row.client) ram.0 caps.0) }
+        ensures raises { AtRow (rows_of memory.old self.old) id.0 (λ row.
+            OnOk result (RaisesPart row.client row.key ram.0 caps.0 memory.old memory.new)) }
+        ensures sessions { AtRow (rows_of memory.old self.old) id.0 (λ row.
             OnOk result (rows_of memory.new self.new
-            ≡ insert (rows_of memory.old self.old) id.0 (record row { account = raised row.account ram.0 caps.0 })) }
-        ensures stays { StaysServer self.old memory.new self.new }
+            ≡ insert (rows_of memory.old self.old) id.0
+            (record row { account = raised row.account ram.0 caps.0 }))) }
+        ensures stays { StaysServer memory.old self.old memory.new self.new }
         ensures same { self.new ≡ self.old }
-        ensures machine { ram_limits_in memory.new ≡ ram_limits_in memory.old }
         ensures memory_err { OnErr result (memory.new ≡ memory.old) }
     {
         match &mut self.role {
@@ -92,18 +87,16 @@ impl Component {
         request: &[u8],
         reply: &mut Reply,
     )
-        requires sound { IsSound memory.old self.old }
-        requires open { IsSome (get (rows_of memory.old self.old) id.0) }
+        requires serves { Serves memory.old self.old id.0 }
         requires reply { reply.old ≡ nothing_told }
-        ensures text { (row : Row Labelled) → get (rows_of memory.old self.old) id.0 ≡ Some row →
-            reply.new.text ≡ (service_step request.now row.account row.value).text }
-        ensures lines { (row : Row Labelled) → get (rows_of memory.old self.old) id.0 ≡ Some row →
-            reply.new.lines ≡ (service_step request.now row.account row.value).lines }
-        ensures serves { (row : Row Labelled) → get (rows_of memory.old self.old) id.0 ≡ Some row →
-            ServesSession row id.0 (service_step request.now row.account row.value) memory.old memory.new
-            (rows_of memory.old self.old) (rows_of memory.new self.new) }
-        ensures stays { StaysServer self.old memory.new self.new }
-        ensures machine { ram_limits_in memory.new ≡ ram_limits_in memory.old }
+        ensures text { AtRow (rows_of memory.old self.old) id.0 (λ row.
+            reply.new.text ≡ (service_step request.now row.account row.value).text) }
+        ensures lines { AtRow (rows_of memory.old self.old) id.0 (λ row.
+            reply.new.lines ≡ (service_step request.now row.account row.value).lines) }
+        ensures serves { AtRow (rows_of memory.old self.old) id.0 (λ row.
+            ServesSession row id.0 (service_step request.now row.account row.value)
+            memory.old memory.new (rows_of memory.old self.old) (rows_of memory.new self.new)) }
+        ensures stays { StaysServer memory.old self.old memory.new self.new }
     {
         match &mut self.role {
             Role::Log(_, server) => server.serve(memory, id, request, reply),
@@ -115,13 +108,11 @@ impl Component {
     /// Closes a session: its client's limits are raised by those of its account.
     #[tactic(auto, using(crate::proofs::ServerLemmas::log_open, crate::proofs::ServerLemmas::files_open, crate::proofs::ServerLemmas::script_open, crate::proofs::ServerLemmas::gone_open))]
     pub(crate) fn close_session(&mut self, memory: &mut Memory, id: SessionId)
-        requires sound { IsSound memory.old self.old }
-        requires open { IsSome (get (rows_of memory.old self.old) id.0) }
-        ensures closes { (row : Row Labelled) → get (rows_of memory.old self.old) id.0 ≡ Some row →
-            ClosesPart row.key row.client memory.old memory.new }
+        requires { Serves memory.old self.old id.0 }
+        ensures closes { AtRow (rows_of memory.old self.old) id.0 (λ row.
+            ClosesPart row.key row.client memory.old memory.new) }
         ensures sessions { rows_of memory.new self.new ≡ remove (rows_of memory.old self.old) id.0 }
-        ensures stays { StaysServer self.old memory.new self.new }
-        ensures machine { ram_limits_in memory.new ≡ ram_limits_in memory.old }
+        ensures stays { StaysServer memory.old self.old memory.new self.new }
     {
         match &mut self.role {
             Role::Log(_, server) => server.close(memory, id),

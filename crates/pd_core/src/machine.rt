@@ -76,11 +76,17 @@ impl<R: Router + Drop> Core<R> {
     pub fn step(&mut self, component: usize, call: Call<'_>, reply: &mut Reply)
         requires component { component < length self.old.entries }
         requires call { IsWellFormed call }
-        ensures answered { reply.new.text ≡ reply_text (outcome_at self.old component (model_call call.entry)).reply }
-        ensures lines { reply.new.lines ≡ flat_map log_text (outcome_at self.old component (model_call call.entry)).lines }
-        ensures stepped { self.new ≡ with_state self.old component (outcome_at self.old component (model_call call.entry)).next }
-        ensures balance { (pages caps : ℕ) → IsBalanced pages caps self.old → IsBalanced pages caps self.new }
-        ensures balance_for { (list : StartList) → IsBalancedFor list self.old → IsBalancedFor list self.new }
+        ensures answered { reply.new.text
+            ≡ reply_text (outcome_at self.old component (model_call call.entry)).reply }
+        ensures lines { reply.new.lines
+            ≡ flat_map log_text (outcome_at self.old component (model_call call.entry)).lines }
+        ensures stepped { self.new
+            ≡ with_state self.old component
+            (outcome_at self.old component (model_call call.entry)).next }
+        ensures balance { (pages caps : ℕ) → IsBalanced pages caps self.old →
+            IsBalanced pages caps self.new }
+        ensures balance_for { (list : StartList) → IsBalancedFor list self.old →
+            IsBalancedFor list self.new }
     {
         carry_out(
             &mut self.memory,

@@ -17,8 +17,10 @@ impl Script {
         requires none { (selector : ℕ) → session_at (get self.caps.caps selector) ≡ None }
         requires child { IsSome (get (parents_in memory.old) self.account.0) }
         requires leaf { IsLeafIn memory.old self.account.0 }
-        ensures closes { ClosesPart self.account.0 (parent_in memory.old self.account.0) memory.old memory.new }
-        ensures related { AreRelatedIn memory.old self.account.0 (parent_in memory.old self.account.0) }
+        ensures closes { ClosesPart self.account.0 (parent_in memory.old self.account.0) memory.old
+            memory.new }
+        ensures related { AreRelatedIn memory.old self.account.0
+            (parent_in memory.old self.account.0) }
         ensures machine { ram_limits_in memory.new ≡ ram_limits_in memory.old }
         ensures caps { caps_limits_in memory.new ≡ caps_limits_in memory.old }
     {
@@ -45,7 +47,8 @@ impl Script {
         requires plain { session_at (get self.old.caps.caps selector) ≡ None }
         ensures keeps { Keeps memory.old self.old memory.new self.new }
         ensures gone { get self.new.caps.caps selector ≡ None }
-        ensures fewer { (other : ℕ) → IsSome (get self.new.caps.caps other) → IsSome (get self.old.caps.caps other) }
+        ensures fewer { (other : ℕ) → IsSome (get self.new.caps.caps other) →
+            IsSome (get self.old.caps.caps other) }
     {
         // It is a dataspace or an RPC object, and the other call is refused.
         let _ = self.free(memory, selector);

@@ -44,7 +44,8 @@ impl Script {
         requires sound { IsSoundScript memory.old self.old }
         requires call { IsWellFormed call }
         requires plain { IsPlain call }
-        ensures outcome { DoesTold (model_call call.entry) reply.new memory.old self.old memory.new self.new }
+        ensures outcome { DoesTold (model_call call.entry) reply.new
+            memory.old self.old memory.new self.new }
         ensures keeps { Keeps memory.old self.old memory.new self.new }
     {
         match call {
@@ -75,7 +76,8 @@ impl Script {
     /// A dataspace under a new selector, or why not: `InvalidSize`, then `OutOfRam`, then `OutOfCaps`.
     fn alloc(&mut self, memory: &mut Memory, bytes: u64) -> Result<Answer, Refusal>
         requires { IsSoundScript memory.old self.old }
-        ensures outcome { Does (ModelledAlloc bytes) result memory.old self.old memory.new self.new }
+        ensures outcome { Does (ModelledAlloc bytes) result
+            memory.old self.old memory.new self.new }
         ensures keeps { Keeps memory.old self.old memory.new self.new }
     {
         let space = memory.alloc(self.account, bytes)?;
@@ -85,7 +87,8 @@ impl Script {
     /// The dataspace that the selector names goes with its regions, or `InvalidCap` where it names none.
     pub(crate) fn free(&mut self, memory: &mut Memory, selector: u64) -> Result<Answer, Refusal>
         requires { IsSoundScript memory.old self.old }
-        ensures outcome { Does (ModelledFree selector) result memory.old self.old memory.new self.new }
+        ensures outcome { Does (ModelledFree selector) result
+            memory.old self.old memory.new self.new }
         ensures keeps { Keeps memory.old self.old memory.new self.new }
     {
         let Some(space) = self.caps.take_dataspace(selector) else {
@@ -109,7 +112,8 @@ impl Script {
     /// The RPC object that the selector names goes, or `InvalidCap` where it names none.
     pub(crate) fn capfree(&mut self, memory: &mut Memory, selector: u64) -> Result<Answer, Refusal>
         requires { IsSoundScript memory.old self.old }
-        ensures outcome { Does (ModelledCapfree selector) result memory.old self.old memory.new self.new }
+        ensures outcome { Does (ModelledCapfree selector) result
+            memory.old self.old memory.new self.new }
         ensures keeps { Keeps memory.old self.old memory.new self.new }
     {
         if !self.caps.take_rpc_object(selector) {
@@ -123,7 +127,8 @@ impl Script {
     /// `TooManyRegions`, then `RegionConflict`.
     fn attach(&mut self, memory: &Memory, selector: u64) -> Result<Answer, Refusal>
         requires { IsSoundScript memory.now self.old }
-        ensures outcome { Does (ModelledAttach selector) result memory.now self.old memory.now self.new }
+        ensures outcome { Does (ModelledAttach selector) result
+            memory.now self.old memory.now self.new }
         ensures keeps { Keeps memory.now self.old memory.now self.new }
     {
         let (space, pages) = self.dataspace(memory, selector)?;
@@ -134,7 +139,8 @@ impl Script {
     /// The same at an address.
     fn attach_at(&mut self, memory: &Memory, selector: u64, address: u64) -> Result<Answer, Refusal>
         requires { IsSoundScript memory.now self.old }
-        ensures outcome { Does (ModelledAttachAt selector address) result memory.now self.old memory.now self.new }
+        ensures outcome { Does (ModelledAttachAt selector address) result
+            memory.now self.old memory.now self.new }
         ensures keeps { Keeps memory.now self.old memory.now self.new }
     {
         let (space, pages) = self.dataspace(memory, selector)?;
@@ -145,7 +151,8 @@ impl Script {
     /// The region that starts at an address goes, or `PageFault` where none does.
     fn detach(&mut self, memory: &Memory, address: u64) -> Result<Answer, Refusal>
         requires { IsSoundScript memory.now self.old }
-        ensures outcome { Does (ModelledDetach address) result memory.now self.old memory.now self.new }
+        ensures outcome { Does (ModelledDetach address) result
+            memory.now self.old memory.now self.new }
         ensures keeps { Keeps memory.now self.old memory.now self.new }
     {
         self.regions.detach(address)?;
@@ -156,7 +163,8 @@ impl Script {
     /// `PageFault` where no region, no sliced block's payload and no payload of the heap holds them all.
     fn peek(&self, memory: &mut Memory, address: u64, count: u64, reply: &mut Reply)
         requires { IsSoundScript memory.old self.now }
-        ensures outcome { DoesTold (ModelledPeek address count) reply.new memory.old self.now memory.new self.now }
+        ensures outcome { DoesTold (ModelledPeek address count) reply.new
+            memory.old self.now memory.new self.now }
         ensures memory { memory.new ≡ memory.old }
     {
         match self.range(memory, address, count) {
@@ -169,7 +177,8 @@ impl Script {
     fn poke(&self, memory: &mut Memory, address: u64, hex: &[u8]) -> Result<Answer, Refusal>
         requires hex { IsSome (bytes_of_hex hex.now) }
         requires sound { IsSoundScript memory.old self.now }
-        ensures outcome { Does (ModelledPoke address (bytes_in hex.now)) result memory.old self.now memory.new self.now }
+        ensures outcome { Does (ModelledPoke address (bytes_in hex.now)) result
+            memory.old self.now memory.new self.now }
         ensures keeps { Keeps memory.old self.now memory.new self.now }
     {
         let count = hex.len() / 2;
@@ -195,7 +204,8 @@ impl Script {
     /// The block of the heap whose payload starts at an address goes, or `PageFault` where none does.
     fn del_block(&mut self, memory: &mut Memory, address: u64) -> Result<Answer, Refusal>
         requires { IsSoundScript memory.old self.old }
-        ensures outcome { Does (ModelledDel address) result memory.old self.old memory.new self.new }
+        ensures outcome { Does (ModelledDel address) result
+            memory.old self.old memory.new self.new }
         ensures keeps { Keeps memory.old self.old memory.new self.new }
     {
         self.heap.free(memory, &mut self.regions, address)?;
@@ -215,7 +225,8 @@ impl Script {
     /// The sliced block whose payload starts at an address goes, or `PageFault` where none does.
     fn sdel(&mut self, memory: &mut Memory, address: u64) -> Result<Answer, Refusal>
         requires { IsSoundScript memory.old self.old }
-        ensures outcome { Does (ModelledSdel address) result memory.old self.old memory.new self.new }
+        ensures outcome { Does (ModelledSdel address) result
+            memory.old self.old memory.new self.new }
         ensures keeps { Keeps memory.old self.old memory.new self.new }
     {
         self.sliced.free(memory, &mut self.regions, address)?;
@@ -233,7 +244,8 @@ impl Script {
     /// The dataspace that a selector names and its pages, or `InvalidCap` where it names none.
     fn dataspace(&self, memory: &Memory, selector: u64) -> Result<(DsId, u64), Refusal>
         requires { IsSoundScript memory.now self.now }
-        ensures { result ≡ sized_at (part_at memory.now self.now) (get self.now.caps.caps selector) }
+        ensures { result
+            ≡ sized_at (part_at memory.now self.now) (get self.now.caps.caps selector) }
     {
         match self.caps.get(selector) {
             Some(Cap::Dataspace(space)) => Ok((space, memory.size(space) / PAGE)),
@@ -246,7 +258,8 @@ impl Script {
     fn range(&self, memory: &mut Memory, address: u64, count: u64) -> Result<(DsId, u64), Refusal>
         requires { IsSoundScript memory.old self.now }
         ensures refusal { result_err result ≡ range_refusal
-            self.now.regions.user (sliced_at memory.old self.now) (own_heap_at memory.old self.now) address count }
+            self.now.regions.user (sliced_at memory.old self.now) (own_heap_at memory.old self.now)
+            address count }
         ensures found { IfOk result (λ at. IsFound memory.old self.now address count at.0.0 at.1) }
         ensures memory { memory.new ≡ memory.old }
     {

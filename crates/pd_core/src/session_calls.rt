@@ -64,7 +64,8 @@ pub(crate) fn call(
 )
     requires core { IsCore memory.old components.old }
     requires caller { caller < length components.old }
-    ensures { (rules : Rules) → Goes rules (ModelledCallSession selector request.now) caller reply.new
+    ensures { (rules : Rules) →
+        Goes rules (ModelledCallSession selector request.now) caller reply.new
         memory.old components.old memory.new components.new }
 {
     let (entry, session) = match components[caller].session(selector) {

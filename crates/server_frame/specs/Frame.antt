@@ -36,6 +36,13 @@ row_of value store regions session = record {
 abbrev pub sessions_of : {T V : Type 0} → (T → Share → V) → Slab (Session T) → Store → Regions → NatMap (Row V)
 sessions_of value sessions store regions = map_of (row_of value store regions) sessions
 
+-- what is so of the session under a key, where there is one
+abbrev pub AtRow : {V : Type 0} → NatMap (Row V) → ℕ → (Row V → Type 0) → Type 0
+AtRow {V} rows id P = (row : Row V) → get rows id ≡ Some row → P row
+
+abbrev pub AtSession : {T V : Type 0} → (T → Share → V) → Slab (Session T) → Store → Regions → ℕ → (Row V → Type 0) → Type 0
+AtSession value sessions store regions id P = AtRow (sessions_of value sessions store regions) id P
+
 -- ---- what is true between calls
 
 -- a session's heap is its account's, the account is its client's child and nobody's parent, and the service finds what it keeps

@@ -93,7 +93,8 @@ impl Buffer {
     /// Appends bytes as the log prints them.
     pub(crate) fn add_printed(&mut self, more: &[u8])
         requires { length self.old.text + length more.now ≤ self.old.size }
-        ensures added { self.new ≡ record self.old { text = self.old.text ++ map printed more.now } }
+        ensures added { self.new
+            ≡ record self.old { text = self.old.text ++ map printed more.now } }
         ensures len { length self.new.text ≡ length self.old.text + length more.now }
     {
         let end = self.len + more.len();

@@ -68,7 +68,8 @@ pub(crate) fn furnish(
     requires enough { too_small ram.0 caps.0 ≡ None }
     ensures refusal { result_err result ≡ shortage (account_in memory.old client.0) ram.0 caps.0 }
     ensures furnished { IfOk result (λ session.
-        Furnishes client.0 ram.0 caps.0 session.0.0 session.1 memory.old memory.new map.old map.new) }
+        Furnishes client.0 ram.0 caps.0 session.0.0 session.1
+        memory.old memory.new map.old map.new) }
     ensures memory_err { OnErr result (memory.new ≡ memory.old) }
     ensures map_err { OnErr result (map.new ≡ map.old) }
 {

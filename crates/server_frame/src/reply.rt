@@ -69,8 +69,12 @@ impl Reply {
     /// those that aren't from 20 to 7e in hexadecimal digits are dots.
     pub fn add_line(&mut self, label: &[u8], text: &[u8])
         requires { length self.old.lines + (length label.now + length text.now + 4) ≤ MOST_LINES }
-        ensures added { self.new ≡ record self.old { lines = self.old.lines ++ log_text (record { label = label.now; text = text.now }) } }
-        ensures len { length self.new.lines ≡ length self.old.lines + (length label.now + length text.now + 4) }
+        ensures added { self.new ≡ record self.old {
+          lines = self.old.lines
+              ++ log_text (record { label = label.now; text = text.now });
+        } }
+        ensures len { length self.new.lines
+            ≡ length self.old.lines + (length label.now + length text.now + 4) }
     {
         self.lines.add(b"[");
         self.lines.add(label);

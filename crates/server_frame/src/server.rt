@@ -1,7 +1,7 @@
 //! Sessions, each on an account of its own.
 ghost use Rattle.std.specs.Prelude.{◌≡◌, ◌*◌, ◌<◌, ◌≤◌, [], Some, None, is_some, IfOk, IfSome, OnOk, OnErr, length};
 ghost use Rattle.std.specs.Result.{result_err};
-ghost use Rattle.std.specs.FinMap.{get, insert, remove};
+ghost use Rattle.std.specs.FinMap.{insert, remove};
 ghost use Rattle.slab.specs.Slab.{ContainsKey, slab_len};
 ghost use Rattle.slab.specs.Slab as slab;
 ghost use Rattle.own_model.specs.Account.{shortage};
@@ -9,7 +9,7 @@ ghost use Rattle.own_model.specs.Donation.{raised};
 ghost use Rattle.own_model.specs.Session.{donation_refusal};
 ghost use Rattle.region_map.specs.Regions.{fresh_regions};
 ghost use Rattle.dataspace_core.specs.Store.{Store, account_in, ram_limits_in, IsOpenIn, room_in, RaisesPart, ClosesPart};
-ghost use Rattle.server_frame.specs.Frame.{Row, sessions_of, IsServer, IsNoSession, OpensSession, ServesSession};
+ghost use Rattle.server_frame.specs.Frame.{sessions_of, AtSession, IsServer, IsNoSession, OpensSession, ServesSession};
 ghost use Rattle.server_frame.specs.Told.{nothing_told};
 
 use crate::furniture::{dismiss, furnish, test_donation};
@@ -52,7 +52,8 @@ impl<S: Service + Drop> Server<S> {
         ensures none { IfOk result (λ server. server.sessions.slots ≡ []) }
         ensures places { IfOk result (λ server. sessions ≤ server.sessions.capacity) }
         ensures map { IfOk result (λ server. server.map ≡ fresh_regions 0 pages pages) }
-        ensures server { IfOk result (λ server. (store : Store) → ram_limits_in store ≡ pages * 4096 →
+        ensures server { IfOk result (λ server.
+            (store : Store) → ram_limits_in store ≡ pages * 4096 →
             IsServer S.IsKept server.sessions store server.map) }
     {
         let table = Slab::with_capacity(alloc, sessions).map_err(|_| NoMemory)?;
@@ -106,8 +107,10 @@ impl<S: Service + Drop> Server<S> {
         requires label { length label.now ≤ LONGEST_LABEL }
         requires place { donation_refusal (account_in memory.old client.0) ram.0 caps.0 ≡ None →
             slab_len self.old.sessions < self.old.sessions.capacity }
-        requires room { donation_refusal (account_in memory.old client.0) ram.0 caps.0 ≡ None → 0 < room_in memory.old }
-        ensures refusal { result_err result ≡ donation_refusal (account_in memory.old client.0) ram.0 caps.0 }
+        requires room { donation_refusal (account_in memory.old client.0) ram.0 caps.0 ≡ None →
+            0 < room_in memory.old }
+        ensures refusal { result_err result
+            ≡ donation_refusal (account_in memory.old client.0) ram.0 caps.0 }
         ensures server { IsServer S.IsKept self.new.sessions memory.new self.new.map }
         ensures opens { IfOk result (λ id.
             OpensSession client.0 ram.0 caps.0 id.0 (S.first label.now) memory.old memory.new
@@ -143,14 +146,15 @@ impl<S: Service + Drop> Server<S> {
     ) -> Result<(), Refusal>
         requires server { IsServer S.IsKept self.old.sessions memory.old self.old.map }
         requires open { ContainsKey self.old.sessions id.0 }
-        ensures refusal { (row : Row S.Value) → get (sessions_of S.value self.old.sessions memory.old self.old.map) id.0 ≡ Some row →
-            result_err result ≡ shortage (account_in memory.old row.client) ram.0 caps.0 }
+        ensures refusal { AtSession S.value self.old.sessions memory.old self.old.map id.0 (λ row.
+            result_err result ≡ shortage (account_in memory.old row.client) ram.0 caps.0) }
         ensures server { IsServer S.IsKept self.new.sessions memory.new self.new.map }
-        ensures raises { (row : Row S.Value) → get (sessions_of S.value self.old.sessions memory.old self.old.map) id.0 ≡ Some row →
-            OnOk result (RaisesPart row.client row.key ram.0 caps.0 memory.old memory.new) }
-        ensures sessions { (row : Row S.Value) → get (sessions_of S.value self.old.sessions memory.old self.old.map) id.0 ≡ Some row →
+        ensures raises { AtSession S.value self.old.sessions memory.old self.old.map id.0 (λ row.
+            OnOk result (RaisesPart row.client row.key ram.0 caps.0 memory.old memory.new)) }
+        ensures sessions { AtSession S.value self.old.sessions memory.old self.old.map id.0 (λ row.
             OnOk result (sessions_of S.value self.new.sessions memory.new self.new.map
-            ≡ insert (sessions_of S.value self.old.sessions memory.old self.old.map) id.0 (record row { account = raised row.account ram.0 caps.0 })) }
+            ≡ insert (sessions_of S.value self.old.sessions memory.old self.old.map) id.0
+            (record row { account = raised row.account ram.0 caps.0 }))) }
         ensures same { self.new ≡ self.old }
         ensures machine { ram_limits_in memory.new ≡ ram_limits_in memory.old }
         ensures memory_err { OnErr result (memory.new ≡ memory.old) }
@@ -165,14 +169,14 @@ impl<S: Service + Drop> Server<S> {
         requires open { ContainsKey self.old.sessions id.0 }
         requires reply { reply.old ≡ nothing_told }
         ensures server { IsServer S.IsKept self.new.sessions memory.new self.new.map }
-        ensures text { (row : Row S.Value) → get (sessions_of S.value self.old.sessions memory.old self.old.map) id.0 ≡ Some row →
-            reply.new.text ≡ (S.step request.now row.account row.value).text }
-        ensures lines { (row : Row S.Value) → get (sessions_of S.value self.old.sessions memory.old self.old.map) id.0 ≡ Some row →
-            reply.new.lines ≡ (S.step request.now row.account row.value).lines }
-        ensures serves { (row : Row S.Value) → get (sessions_of S.value self.old.sessions memory.old self.old.map) id.0 ≡ Some row →
+        ensures text { AtSession S.value self.old.sessions memory.old self.old.map id.0 (λ row.
+            reply.new.text ≡ (S.step request.now row.account row.value).text) }
+        ensures lines { AtSession S.value self.old.sessions memory.old self.old.map id.0 (λ row.
+            reply.new.lines ≡ (S.step request.now row.account row.value).lines) }
+        ensures serves { AtSession S.value self.old.sessions memory.old self.old.map id.0 (λ row.
             ServesSession row id.0 (S.step request.now row.account row.value) memory.old memory.new
             (sessions_of S.value self.old.sessions memory.old self.old.map)
-            (sessions_of S.value self.new.sessions memory.new self.new.map) }
+            (sessions_of S.value self.new.sessions memory.new self.new.map)) }
         ensures places { self.new.sessions.capacity ≡ self.old.sessions.capacity }
         ensures machine { ram_limits_in memory.new ≡ ram_limits_in memory.old }
     {
@@ -192,8 +196,8 @@ impl<S: Service + Drop> Server<S> {
         requires server { IsServer S.IsKept self.old.sessions memory.old self.old.map }
         requires open { ContainsKey self.old.sessions id.0 }
         ensures server { IsServer S.IsKept self.new.sessions memory.new self.new.map }
-        ensures closes { (row : Row S.Value) → get (sessions_of S.value self.old.sessions memory.old self.old.map) id.0 ≡ Some row →
-            ClosesPart row.key row.client memory.old memory.new }
+        ensures closes { AtSession S.value self.old.sessions memory.old self.old.map id.0 (λ row.
+            ClosesPart row.key row.client memory.old memory.new) }
         ensures sessions { sessions_of S.value self.new.sessions memory.new self.new.map
             ≡ remove (sessions_of S.value self.old.sessions memory.old self.old.map) id.0 }
         ensures places { self.new.sessions.capacity ≡ self.old.sessions.capacity }

@@ -41,7 +41,8 @@ pub trait Service {
     /// its own, where it has one, is made for the account here.
     fn open(&self, account: AccountId, label: &[u8]) -> Self::State
         requires { length label.now ≤ LONGEST_LABEL }
-        ensures first { (share : Share) → HasBlocksAlone share → value result share ≡ first label.now }
+        ensures first { (share : Share) → HasBlocksAlone share →
+            value result share ≡ first label.now }
         ensures kept { (share : Share) → HasBlocksAlone share → IsKept result share };
 
     /// Answers a request of a session.
@@ -62,7 +63,8 @@ pub trait Service {
           lines = reply.new.lines;
           account = account_in memory.new (payer_of heap.new);
           value = value state.new (holding_of heap.new memory.new map.new);
-        } ≡ step request.now (account_in memory.old (payer_of heap.old)) (value state.old (holding_of heap.old memory.old map.old)) }
+        } ≡ step request.now (account_in memory.old (payer_of heap.old))
+            (value state.old (holding_of heap.old memory.old map.old)) }
         ensures kept { IsKept state.new (holding_of heap.new memory.new map.new) }
         ensures heap { IsSessionHeap heap.new memory.new map.new }
         ensures payer { payer_of heap.new ≡ payer_of heap.old }
@@ -79,8 +81,10 @@ pub trait Service {
         requires heap { IsSessionHeap heap.old memory.old map.old }
         requires kept { IsKept state (holding_of heap.old memory.old map.old) }
         ensures blocks { HasBlocksAlone (holding_of heap.new memory.new map.new) }
-        ensures ram { (account_in memory.new (payer_of heap.new)).ram_limit ≡ (account_in memory.old (payer_of heap.old)).ram_limit }
-        ensures caps { (account_in memory.new (payer_of heap.new)).caps_limit ≡ (account_in memory.old (payer_of heap.old)).caps_limit }
+        ensures ram { (account_in memory.new (payer_of heap.new)).ram_limit
+            ≡ (account_in memory.old (payer_of heap.old)).ram_limit }
+        ensures caps { (account_in memory.new (payer_of heap.new)).caps_limit
+            ≡ (account_in memory.old (payer_of heap.old)).caps_limit }
         ensures heap { IsSessionHeap heap.new memory.new map.new }
         ensures payer { payer_of heap.new ≡ payer_of heap.old }
         ensures others { KeepsOthers (payer_of heap.old) memory.old memory.new map.old map.new };

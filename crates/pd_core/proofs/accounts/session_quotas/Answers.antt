@@ -23,17 +23,14 @@ offset_bounds-components-server c =
     let served = served_where c.args.selector c.requires.core c.requires.place c.index-components-place.is (sym c.session.ensures ∙ c.in-Ok.is) in
     let within = served.within in search rules
 
-pub session_quotas-requires-clause-sound : goal.session_quotas-requires-clause-sound
-session_quotas-requires-clause-sound c =
+pub session_quotas-requires : goal.session_quotas-requires
+session_quotas-requires c =
     let served = served_where c.args.selector c.requires.core c.requires.place c.index-components-place.is (sym c.session.ensures ∙ c.in-Ok.is) in
     let at = c.index-components-server in
-    subst (IsSoundRole c.args.memory.now) (role_read c.args.components.now c.in-Ok.server at.result served.within at.is) (c.requires.core.sound c.in-Ok.server)
-
-pub session_quotas-requires-clause-there : goal.session_quotas-requires-clause-there
-session_quotas-requires-clause-there c =
-    let served = served_where c.args.selector c.requires.core c.requires.place c.index-components-place.is (sym c.session.ensures ∙ c.in-Ok.is) in
-    let at = c.index-components-server in
-    ap is_some (ap (λ d. get (rows_of c.args.memory.now d) c.in-Ok.session.0) at.is ∙ served.its at.result)
+    record {
+      sound = subst (IsSoundRole c.args.memory.now) (role_read c.args.components.now c.in-Ok.server at.result served.within at.is) (c.requires.core.sound c.in-Ok.server);
+      row = ap is_some (ap (λ d. get (rows_of c.args.memory.now d) c.in-Ok.session.0) at.is ∙ served.its at.result);
+    }
 
 pub returns-in-Ok : goal.returns-in-Ok
 returns-in-Ok c = λ rules.

@@ -2,7 +2,7 @@
 use Rattle.std.proofs.Common.{rules, get_or, set, length-set, refl, sym, ◌∙◌, arith}
 use Rattle.own_model.specs.Call.Call.{Close}
 use Rattle.pd_core.proofs.SessionRefusedLemmas.{close_asks, unnamed_goes, passed_on, unchanged}
-use Rattle.pd_core.proofs.SessionGoesLemmas.{Names, named_two, named_cap, host_within, host_read, host_sound, named_open, close_goes}
+use Rattle.pd_core.proofs.SessionGoesLemmas.{Names, named_two, named_cap, host_within, host_read, host_serves, close_goes}
 use Rattle.pd_core.proofs.session_calls.close.Goals as goal
 
 pub returns-in_err-entry : goal.returns-in_err-entry
@@ -31,10 +31,7 @@ close_session-requires c =
     let host = get_or (set components c.args.caller c.take_session.new.self) c.in_ok-entry.entry c.index-components-entry.result in
     let host_is = host_read components two c.take_session.new.self c.index-components-entry.result in
     let d = c.index-components-caller.result in
-    record {
-      sound = host_sound components two d host host_is c.args.selector c.in_ok-entry.session (named_cap names);
-      «open» = named_open components two d host host_is c.args.selector c.in_ok-entry.session (named_cap names);
-    }
+    host_serves components two d host host_is c.args.selector c.in_ok-entry.session (named_cap names)
 
 pub returns : goal.returns
 returns c = λ rules.
@@ -46,4 +43,4 @@ returns c = λ rules.
     let e = c.index-components-entry.result in
     let done = c.close_session in
     close_goes components two c.index-components-caller.result (get_or (set components c.args.caller client) c.in_ok-entry.entry e) (host_read components two client e) c.args.selector c.in_ok-entry.session (named_cap names)
-    done.new.memory done.new.self done.ensures.stays done.ensures.machine rules client e refl c.in_ok-entry.ensures.gone done.ensures.closes done.ensures.sessions
+    done.new.memory done.new.self done.ensures.stays rules client e refl c.in_ok-entry.ensures.gone done.ensures.closes done.ensures.sessions

@@ -5,9 +5,8 @@ use Rattle.own_model.specs.Call.Call.{Open}
 use Rattle.own_model.specs.Session.{label_with}
 use Rattle.pd_core.proofs.RouterLemmas.{denied_wish}
 use Rattle.pd_core.proofs.SessionRefusedLemmas.{no_script_goes, unasked_goes, unread_wish, passed_on, unchanged, arguments_are}
-use Rattle.pd_core.proofs.SessionAccountLemmas.{payer_open, no_session, has_place, has_room}
 use Rattle.pd_core.proofs.SessionGoesLemmas.{host_within}
-use Rattle.pd_core.proofs.SessionLedLemmas.{IsLed, led_two, led_refused, led_sound, led_serving, led_none, led_place, led_selector, led_opened}
+use Rattle.pd_core.proofs.SessionLedLemmas.{IsLed, led_two, led_refused, led_admits, led_selector, led_opened}
 use Rattle.pd_core.proofs.session_calls.open.Goals as goal
 
 pub returns-in_default : goal.returns-in_default
@@ -58,17 +57,7 @@ open_session-requires g c =
       reads = arguments_are c.args.text.now c.ram.result.0 c.caps.result.0 c.label.result.now c.in_ok-args.ensures.value c.ram.ensures c.caps.ensures c.label.ensures;
       led = sym c.provider.ensures ∙ c.in-Some.is;
     } in
-    let two = led_two is_led in
-    let e = c.index-components-entry.result in
-    record {
-      sound = led_sound is_led e;
-      serving = led_serving is_led e;
-      client = payer_open two;
-      no_session = led_none is_led e;
-      label = omega (arith, ap length c.deref.ensures.0, c.label_of-label.ensures.len);
-      place = led_place is_led e;
-      room = has_room two c.ram.result.0 c.caps.result.0;
-    }
+    record { admits = led_admits is_led c.index-components-entry.result; label = omega (arith, ap length c.deref.ensures.0, c.label_of-label.ensures.len) }
 
 pub returns-in_err-session : goal.returns-in_err-session
 returns-in_err-session g c =
@@ -82,7 +71,7 @@ returns-in_err-session g c =
       led = sym c.provider.ensures ∙ c.in-Some.is;
     } in
     let refusal = c.in_err-session.field-0.0 in
-    unchanged c.in-Some.entry c.index-components-entry.result c.in_err-session.ensures.memory_err c.in_err-session.ensures.err
+    unchanged c.in-Some.entry c.index-components-entry.result c.in_err-session.ensures.err.0 c.in_err-session.ensures.err.1
     (passed_on refusal c.from_residual-in_err-session.result c.from_residual-in_err-session.ensures.1 (led_refused is_led refusal c.in_err-session.ensures.refusal))
 
 pub keep_session-requires : goal.keep_session-requires
@@ -99,7 +88,7 @@ keep_session-requires g c =
     let labelled = c.deref.ensures.0 ∙ c.label_of-label.ensures.label ∙ (λ j. label_with (c.as_slice.ensures.value j) ((c.label-2.ensures ∙ sym c.label.ensures) j)) in
     let done = c.open_session in
     record {
-      room = led_selector is_led c.index-components-entry.result done.new.memory done.new.self done.ensures.stays done.ensures.machine
+      room = led_selector is_led c.index-components-entry.result done.new.memory done.new.self done.ensures.stays
           c.in_ok-session.ensures.refusal c.in_ok-session.session c.deref.result.now labelled c.in_ok-session.ensures.opens c.index-components-caller-2.result;
     }
 
@@ -117,6 +106,6 @@ returns g c =
     let labelled = c.deref.ensures.0 ∙ c.label_of-label.ensures.label ∙ (λ j. label_with (c.as_slice.ensures.value j) ((c.label-2.ensures ∙ sym c.label.ensures) j)) in
     let done = c.open_session in
     let kept = c.keep_session in
-    led_opened is_led c.index-components-entry.result done.new.memory done.new.self done.ensures.stays done.ensures.machine
+    led_opened is_led c.index-components-entry.result done.new.memory done.new.self done.ensures.stays
     c.in_ok-session.ensures.refusal c.in_ok-session.session c.deref.result.now labelled c.in_ok-session.ensures.opens c.index-components-caller-2.result
     kept.result kept.new.self kept.ensures.least kept.ensures.kept

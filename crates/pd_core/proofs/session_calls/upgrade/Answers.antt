@@ -4,7 +4,7 @@ use Rattle.std.specs.Prelude.{IsErrAnd}
 use Rattle.trade_base.specs.declared.refusal.Refusal.TheVariants.{BadArgs}
 use Rattle.own_model.specs.Call.Call.{Upgrade}
 use Rattle.pd_core.proofs.SessionRefusedLemmas.{upgrade_asks, unnamed_goes, passed_on, unchanged, arguments_are}
-use Rattle.pd_core.proofs.SessionGoesLemmas.{Names, named_two, named_cap, host_within, host_sound, named_open, unread_goes, short_goes, upgrade_goes}
+use Rattle.pd_core.proofs.SessionGoesLemmas.{Names, named_two, named_cap, host_within, host_serves, unread_goes, short_goes, upgrade_goes}
 use Rattle.pd_core.proofs.WorldLemmas.{role_at}
 use Rattle.pd_core.proofs.session_calls.upgrade.Goals as goal
 
@@ -48,10 +48,7 @@ raise_session-requires c =
     let e = c.index-components-entry.result in
     let host = get_or components c.in_ok-entry.entry e in
     let host_is = role_at components c.in_ok-entry.entry e (host_within components c.in_ok-entry.entry two.serving) in
-    record {
-      sound = host_sound components two d host host_is c.args.selector c.in_ok-entry.session (named_cap names);
-      «open» = named_open components two d host host_is c.args.selector c.in_ok-entry.session (named_cap names);
-    }
+    host_serves components two d host host_is c.args.selector c.in_ok-entry.session (named_cap names)
 
 pub returns-in_err-raise_session : goal.returns-in_err-raise_session
 returns-in_err-raise_session c = λ rules.
@@ -82,5 +79,5 @@ returns c = λ rules.
     let reads = arguments_are c.args.text.now c.ram.result.0 c.caps.result.0 c.in_ok-more.more.label c.in_ok-more.ensures.value c.ram.ensures c.caps.ensures refl in
     let done = c.raise_session in
     let raised = c.in_ok-raise_session.ensures in
-    upgrade_goes components two d host host_is c.args.selector c.in_ok-entry.session (named_cap names) done.new.memory done.new.self done.ensures.stays done.ensures.machine rules e refl c.args.text.now reads
+    upgrade_goes components two d host host_is c.args.selector c.in_ok-entry.session (named_cap names) done.new.memory done.new.self done.ensures.stays rules e refl c.args.text.now reads
     raised.refusal raised.raises raised.sessions

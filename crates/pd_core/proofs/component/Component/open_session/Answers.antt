@@ -9,10 +9,10 @@ pub open-requires-clause-no_session : goal.open-requires-clause-no_session
 open-requires-clause-no_session c =
     let memory = c.args.memory.now in
     let server = c.in-Log.server in
-    is_none log_value server.sessions memory server.map c.args.self.now.role (ap (rows_in memory) c.in-Log.is) c.args.client.0 c.requires.no_session
+    is_none log_value server.sessions memory server.map c.args.self.now.role (ap (rows_in memory) c.in-Log.is) c.args.client.0 c.requires.admits.no_session
 
 pub open-requires-in-Files-clause-no_session : goal.open-requires-in-Files-clause-no_session
 open-requires-in-Files-clause-no_session c =
     let memory = c.args.memory.now in
     let server = c.in-Files.server in
-    is_none files_value server.sessions memory server.map c.args.self.now.role (ap (rows_in memory) c.in-Files.is) c.args.client.0 c.requires.no_session
+    is_none files_value server.sessions memory server.map c.args.self.now.role (ap (rows_in memory) c.in-Files.is) c.args.client.0 c.requires.admits.no_session

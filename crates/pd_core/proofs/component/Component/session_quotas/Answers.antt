@@ -13,14 +13,14 @@ quotas_of-requires c =
     let memory = c.args.memory.now in
     let server = c.in-Log.server in
     account_open IsLogKept server.sessions memory server.map (subst (IsSoundRole memory) c.in-Log.is c.requires.sound).server c.args.id.0 c.account.result
-    (log_open memory c.args.self.now.role c.in-Log.field-0 server c.args.id.0 c.in-Log.is c.requires.there) c.account.ensures
+    (log_open memory c.args.self.now.role c.in-Log.field-0 server c.args.id.0 c.in-Log.is c.requires.row) c.account.ensures
 
 pub quotas_of-requires-in-Files : goal.quotas_of-requires-in-Files
 quotas_of-requires-in-Files c =
     let memory = c.args.memory.now in
     let server = c.in-Files.server in
     account_open IsFilesKept server.sessions memory server.map (subst (IsSoundRole memory) c.in-Files.is c.requires.sound).server c.args.id.0 c.account-in-Files.result
-    (files_open memory c.args.self.now.role c.in-Files.field-0 server c.args.id.0 c.in-Files.is c.requires.there) c.account-in-Files.ensures
+    (files_open memory c.args.self.now.role c.in-Files.field-0 server c.args.id.0 c.in-Files.is c.requires.row) c.account-in-Files.ensures
 
 pub returns-in-Log : goal.returns-in-Log
 returns-in-Log c = λ row there.
