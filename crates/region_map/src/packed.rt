@@ -25,7 +25,8 @@ pub struct Packed {
 impl Packed {
     /// So many rows in front, up to an address, and no others.
     pub fn front(count: usize, end: u64) -> Packed
-        ensures known { (low : ℕ) (rows : List AnyRow) → IsPacked low count end rows → AreKnown low result rows }
+        ensures known { (low : ℕ) (rows : List AnyRow) → IsPacked low count end rows
+            → AreKnown low result rows }
         ensures count { result.count ≡ count }
     {
         Packed {
@@ -39,7 +40,8 @@ impl Packed {
 
     /// As one stretch, where no gap is left between them.
     pub fn merged(self) -> Packed
-        ensures { (low : ℕ) (rows : List AnyRow) → AreKnown low self rows → AreKnown low result rows }
+        ensures { (low : ℕ) (rows : List AnyRow) → AreKnown low self rows
+            → AreKnown low result rows }
     {
         if self.from == self.end {
             Packed::front(self.until, self.to)
@@ -87,7 +89,8 @@ impl Packed {
     fn with_next(self, row: Row) -> Packed
         requires order { self.count ≤ self.until }
         requires short { self.until + 1 < 2 ^ 64 }
-        ensures { (low : ℕ) (rows : List AnyRow) → row.start ≡ self.end → AreKnown low self rows → AreKnown low result (insert rows self.count row) }
+        ensures { (low : ℕ) (rows : List AnyRow) → row.start ≡ self.end → AreKnown low self rows
+            → AreKnown low result (insert rows self.count row) }
     {
         Packed {
             count: self.count + 1,
@@ -100,7 +103,8 @@ impl Packed {
 
     /// Once the row at a place is taken out.
     pub fn without_row(self, at: usize, row: Row) -> Packed
-        ensures { (low : ℕ) (rows : List AnyRow) → at < length rows → row ≡ slice_index_or rows at row → AreKnown low self rows → AreKnown low result (remove rows at) }
+        ensures { (low : ℕ) (rows : List AnyRow) → at < length rows → row ≡ slice_index_or rows at row
+            → AreKnown low self rows → AreKnown low result (remove rows at) }
     {
         if at < self.count {
             Packed {
