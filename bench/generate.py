@@ -1,6 +1,10 @@
 #!/usr/bin/env python3
 """Writes a large scenario to standard output: generate.py SHAPE LINES [SEED].
 
+A shape `NAME:SIZE` is one in steady state, on the machine `largest.json`: first so many things are taken, by lines that
+aren't among the LINES, and then one of them, at random, is given back and one taken in turn. NAME is live (dataspaces of
+a page), selectors (of RPC objects), blocks (sliced blocks of a page) or open (sessions of the log service).
+
 Shapes: quota (quota alone, both scripts in turn), churn (an allocation and its release, one dataspace at a time),
 limit (allocations and releases at the account's limit), bytes (pokes and peeks of 1 to 1,024 bytes in turn), short (the
 same of 1 to 16 bytes), regions (attaches and detaches, up to 128 regions), full (detaches, attaches and peeks with 127 or
@@ -392,6 +396,26 @@ def every(lines, _):
     yield from tail
 
 
+def steady(take, give):
+    """A shape in steady state: how one thing is taken, and how the one of a number is given back."""
+
+    def shape(lines, rng, size):
+        for _ in range(size):
+            yield take
+        for number in range(lines):
+            yield give(rng.randrange(size)) if number % 2 == 0 else take
+
+    return shape
+
+
+STEADY = {
+    "live": steady("alice alloc 4096", lambda n: f"alice free {n + 1}"),
+    "selectors": steady("alice capalloc", lambda n: f"alice capfree {n + 1}"),
+    "blocks": steady("alice snew 256", lambda n: f"alice sdel {HEAP_WINDOW + n * PAGE + SLICED_HEADER:#x}"),
+    "open": steady("alice open LOG ram_quota=4K, cap_quota=2", lambda n: f"alice close {n + 1}"),
+}
+
+
 SHAPES = {
     "quota": quota,
     "churn": churn,
@@ -419,7 +443,8 @@ def main():
     shape, lines = sys.argv[1], int(sys.argv[2])
     rng = random.Random(int(sys.argv[3]) if len(sys.argv) > 3 else 1)
     out = []
-    for line in SHAPES[shape](lines, rng):
+    name, _, size = shape.partition(":")
+    for line in STEADY[name](lines, rng, int(size)) if size else SHAPES[name](lines, rng):
         out.append(line)
         if len(out) == 10000:
             sys.stdout.write("\n".join(out) + "\n")

@@ -1,7 +1,10 @@
 -- Rows that stand without a gap between them: what stays of them, and that no gap is among them.
-use Rattle.std.proofs.Common.{◌≡◌, ℕ, suc, zero, ◌<◌, ◌≤◌, List, [], ◌∷◌, length, get_or, drop, refl, sym, ap, subst, ◌∙◌, arith}
+use Rattle.std.proofs.Common.{◌≡◌, ℕ, suc, zero, ◌+◌, ◌-◌, ◌<◌, ◌≤◌, List, [], ◌∷◌, length, get_or, drop, refl, sym, ap, subst, ◌∙◌, arith}
 use Rattle.std.specs.List.{insert as insert_at, remove as remove_at}
+use Rattle.std.proofs.lemmas.List.{length-drop, get_or-drop}
 use Rattle.region_map.specs.declared.row.Row.{Row}
+use Rattle.region_map.specs.declared.packed.Packed.{Packed}
+use Rattle.region_map.specs.Known.{AreKnown}
 use Rattle.region_map.specs.Rows.{region_of, end_of, map_of, AreInOrder, IsTable, IsPacked, gap_from}
 use Rattle.own_model.specs.Region.{first_gap}
 use Rattle.region_map.proofs.GapLemmas.{gap_behind, first_gap-rows}
@@ -75,3 +78,129 @@ gap_behind_packed low high (suc count) last pages (r ∷ rows) some is =
 pub first_gap-behind : (low high count last pages : ℕ) (rows : List Row) → 1 ≤ pages → IsTable low high rows → IsPacked low count last rows → gap_from last high (drop count rows) pages ≡ first_gap low high (map_of region_of rows) pages
 first_gap-behind low high count last pages rows some is packed =
     sym (gap_behind_packed low high count last pages rows some packed) ∙ first_gap-rows low high pages rows is
+
+-- ---- two stretches
+
+-- two of them with no gap between are one
+packed-joined : (low a middle b last : ℕ) (rows : List Row) → IsPacked low a middle rows → IsPacked middle b last (drop a rows) → IsPacked low (a + b) last rows
+packed-joined low zero middle b last rows is next =
+    let none : b ≡ 0 + b = omega arith in
+    subst (λ n. IsPacked low n last rows) none (subst (λ n. IsPacked n b last rows) is next)
+packed-joined low (suc a) middle b last [] is next = absurd is
+packed-joined low (suc a) middle b last (r ∷ rows) is next =
+    let more : suc a + b ≡ suc (a + b) = omega arith in
+    subst (λ n. IsPacked low n last (r ∷ rows)) (sym more) (is.0, packed-joined (end_of r) a middle b last rows is.1 next)
+
+-- what is behind a row that is put in
+drop-inserted : (count : ℕ) (rows : List Row) (row : Row) → count ≤ length rows → drop (suc count) (insert_at rows count row) ≡ drop count rows
+drop-inserted zero rows row h = refl
+drop-inserted (suc count) [] row h = absurd (omega arith)
+drop-inserted (suc count) (r ∷ rows) row h = drop-inserted count rows row (omega arith)
+
+-- rows in front of which one is put in further on
+packed-insert_behind : (low count last : ℕ) (rows : List Row) (at : ℕ) (row : Row) → count ≤ at → IsPacked low count last rows → IsPacked low count last (insert_at rows at row)
+packed-insert_behind low zero last rows at row past is = is
+packed-insert_behind low (suc count) last [] at row past is = absurd is
+packed-insert_behind low (suc count) last (r ∷ rows) zero row past is = absurd (omega arith)
+packed-insert_behind low (suc count) last (r ∷ rows) (suc at) row past is = (is.0, packed-insert_behind (end_of r) count last rows at row (omega arith) is.1)
+
+drop-insert : (count at : ℕ) (rows : List Row) (row : Row) → count ≤ at → count ≤ length rows → drop count (insert_at rows at row) ≡ insert_at (drop count rows) (at - count) row
+drop-insert zero at rows row past h = ap (λ n. insert_at rows n row) (omega arith)
+drop-insert (suc count) at [] row past h = absurd (omega arith)
+drop-insert (suc count) zero (r ∷ rows) row past h = absurd (omega arith)
+drop-insert (suc count) (suc at) (r ∷ rows) row past h = drop-insert count at rows row (omega arith) (omega arith) ∙ ap (λ n. insert_at (drop count rows) n row) (omega arith)
+
+-- and where one is taken out
+drop-remove : (count at : ℕ) (rows : List Row) → count ≤ at → at < length rows → drop count (remove_at rows at) ≡ remove_at (drop count rows) (at - count)
+drop-remove zero at rows past h = ap (remove_at rows) (omega arith)
+drop-remove (suc count) at [] past h = absurd (omega arith)
+drop-remove (suc count) zero (r ∷ rows) past h = absurd (omega arith)
+drop-remove (suc count) (suc at) (r ∷ rows) past h = drop-remove count at rows (omega arith) (omega arith) ∙ ap (remove_at (drop count rows)) (omega arith)
+
+-- the rows behind one that is taken out stand without a gap too
+packed-rest : (low count last : ℕ) (rows : List Row) (at : ℕ) (row : Row) → at < count → row ≡ get_or rows at row → IsPacked low count last rows → IsPacked (end_of row) (count - 1 - at) last (drop at (remove_at rows at))
+packed-rest low zero last rows at row below is_row is = absurd (omega arith)
+packed-rest low (suc count) last [] at row below is_row is = absurd is
+packed-rest low (suc count) last (r ∷ rows) zero row below is_row is =
+    let same : count ≡ suc count - 1 - 0 = omega arith in
+    subst (λ n. IsPacked (end_of row) n last rows) same (subst (λ n. IsPacked n count last rows) (ap end_of (sym is_row)) is.1)
+packed-rest low (suc count) last (r ∷ rows) (suc at) row below is_row is =
+    let same : count - 1 - at ≡ suc count - 1 - suc at = omega arith in
+    subst (λ n. IsPacked (end_of row) n last (drop at (remove_at rows at))) same (packed-rest (end_of r) count last rows at row (omega arith) is_row is.1)
+
+-- none behind so many rows
+pub known-front : (low count last : ℕ) (rows : List Row) → IsPacked low count last rows → AreKnown low (record { count = count; end = last; from = last; until = count; to = last }) rows
+known-front low count last rows is = record {
+  front = is;
+  order = omega arith;
+  behind = let none : 0 ≡ count - count = omega arith in subst (λ n. IsPacked last n last (drop count rows)) none refl;
+}
+
+module _ (low : ℕ) (packed : Packed) (rows : List Row) (is : AreKnown low packed rows) where
+  -- there are as many rows
+  known_within : packed.count ≤ length rows
+  known_within = packed_within low packed.count packed.end rows is.front
+
+  -- and as many to the end of the second stretch
+  pub until_within : packed.until ≤ length rows
+  until_within =
+      let here = known_within in
+      let order = is.order in
+      omega (arith, packed_within packed.from (packed.until - packed.count) packed.to (drop packed.count rows) is.behind, length-drop packed.count rows)
+
+  -- with no gap between the stretches
+  pub known-merged : packed.from ≡ packed.end → IsPacked low packed.until packed.to rows
+  known-merged same =
+      let all : packed.count + (packed.until - packed.count) ≡ packed.until = let order = is.order in omega arith in
+      subst (λ n. IsPacked low n packed.to rows) all
+      (packed-joined low packed.count packed.end (packed.until - packed.count) packed.to rows is.front (subst (λ n. IsPacked n (packed.until - packed.count) packed.to (drop packed.count rows)) same is.behind))
+
+  -- a row comes where the first ends
+  pub known-next : (row : Row) (count until : ℕ) → row.start ≡ packed.end → count ≡ suc packed.count → until ≡ suc packed.until → AreKnown low (record { count = count; end = end_of row; from = packed.from; until = until; to = packed.to }) (insert_at rows packed.count row)
+  known-next row count until start one more = record {
+    front = subst (λ n. IsPacked low n (end_of row) (insert_at rows packed.count row)) (sym one) (packed-inserted low packed.count packed.end rows row start is.front);
+    order = let order = is.order in omega arith;
+    behind =
+        let same : packed.until - packed.count ≡ until - count = omega arith in
+        rw (one, drop-inserted packed.count rows row known_within) (subst (λ n. IsPacked packed.from n packed.to (drop packed.count rows)) (same ∙ ap (λ n. until - n) one) is.behind);
+  }
+
+  -- a row comes behind both
+  pub known-insert : (at : ℕ) (row : Row) → packed.until ≤ at → AreKnown low packed (insert_at rows at row)
+  known-insert at row past =
+      let order = is.order in
+      record {
+        front = packed-insert_behind low packed.count packed.end rows at row (omega arith) is.front;
+        order = is.order;
+        behind = rw (drop-insert packed.count at rows row (omega arith) known_within) (packed-insert_behind packed.from (packed.until - packed.count) packed.to (drop packed.count rows) (at - packed.count) row (omega arith) is.behind);
+      }
+
+  module _ (at : ℕ) (row : Row) (within : at < length rows) (is_row : row ≡ get_or rows at row) where
+    -- a row of the first goes
+    pub known-split : at < packed.count → AreKnown low (record { count = at; end = row.start; from = end_of row; until = packed.count - 1; to = packed.end }) (remove_at rows at)
+    known-split below = record {
+      front = packed-removed low packed.count packed.end rows at row below is_row is.front;
+      order = omega arith;
+      behind = packed-rest low packed.count packed.end rows at row below is_row is.front;
+    }
+
+    -- a row of the second goes
+    pub known-cut : packed.count ≤ at → at < packed.until → AreKnown low (record { count = packed.count; end = packed.end; from = packed.from; until = at; to = row.start }) (remove_at rows at)
+    known-cut past below =
+        let there : packed.count + (at - packed.count) ≡ at = omega arith in
+        let same : row ≡ get_or (drop packed.count rows) (at - packed.count) row = is_row ∙ sym (get_or-drop packed.count rows (at - packed.count) row ∙ ap (λ k. get_or rows k row) there) in
+        record {
+          front = packed-remove low packed.count packed.end rows at past is.front;
+          order = past;
+          behind = rw (drop-remove packed.count at rows past within) (packed-removed packed.from (packed.until - packed.count) packed.to (drop packed.count rows) (at - packed.count) row (omega arith) same is.behind);
+        }
+
+    -- one behind both goes
+    pub known-remove : packed.until ≤ at → AreKnown low packed (remove_at rows at)
+    known-remove past =
+        let order = is.order in
+        record {
+          front = packed-remove low packed.count packed.end rows at (omega arith) is.front;
+          order = is.order;
+          behind = rw (drop-remove packed.count at rows (omega arith) within) (packed-remove packed.from (packed.until - packed.count) packed.to (drop packed.count rows) (at - packed.count) (omega arith) is.behind);
+        }

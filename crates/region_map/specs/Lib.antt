@@ -1,3 +1,4 @@
 pub mod Regions
 pub mod Window
 pub mod Rows
+pub mod Known

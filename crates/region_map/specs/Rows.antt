@@ -54,8 +54,3 @@ pub record IsTable (low high : ℕ) (rows : List Row) : Type 0 where
   pub aligned : low % 4096 ≡ 0
   pub small : high ≤ 2 ^ 40
   pub in_order : AreInOrder low high rows
-
--- and so many rows in front are known to stand without a gap
-pub record IsKept (low high : ℕ) (rows : List Row) (count last : ℕ) : Type 0 where
-  pub table : IsTable low high rows
-  pub packed : IsPacked low count last rows

@@ -1,40 +1,67 @@
-//! How many rows in front surely stand without a gap between them, so that a search for a gap passes them over.
+//! Which rows surely stand without a gap between them, so that a search for a gap passes them over.
 ghost use Rattle.std.specs.Prelude.{◌≡◌, ℕ, ◌+◌, ◌^◌, ◌<◌, ◌≤◌, List, drop, length, slice_index_or};
 ghost use Rattle.std.specs.List.{insert, remove};
 ghost use Rattle.region_map.specs.declared.row.Row.{Row as AnyRow};
 ghost use Rattle.region_map.specs.Rows.{AreInOrder, IsPacked};
+ghost use Rattle.region_map.specs.Known.{AreKnown};
 
 use super::row::Row;
 
-/// So many rows in front stand without a gap between them, from the window's first address on. There may be more.
+/// Two stretches of rows without a gap between them: those in front of `count`, from the window's first address on, and
+/// behind a gap those in front of `until`. So a gap that one region leaves and another fills costs no search. More rows
+/// may stand so: this is a lower bound.
 #[derive(Clone, Copy)]
 pub struct Packed {
     pub count: usize,
-    /// The address after them.
+    /// The address after the first stretch.
     pub end: u64,
+    /// Where the second one starts.
+    pub from: u64,
+    pub until: usize,
+    /// The address after it.
+    pub to: u64,
 }
 
 impl Packed {
-    /// No row, in a window from an address on.
-    pub fn none(low: u64) -> Packed
-        ensures { (rows : List AnyRow) → IsPacked low result.count result.end rows }
+    /// So many rows in front, up to an address, and no others.
+    pub fn front(count: usize, end: u64) -> Packed
+        ensures known { (low : ℕ) (rows : List AnyRow) → IsPacked low count end rows
+            → AreKnown low result rows }
+        ensures count { result.count ≡ count }
     {
-        Packed { count: 0, end: low }
+        Packed {
+            count,
+            end,
+            from: end,
+            until: count,
+            to: end,
+        }
     }
 
-    /// With the rows behind them that stand without a gap too.
+    /// As one stretch, where no gap is left between them.
+    pub fn merged(self) -> Packed
+        ensures { (low : ℕ) (rows : List AnyRow) → AreKnown low self rows
+            → AreKnown low result rows }
+    {
+        if self.from == self.end {
+            Packed::front(self.until, self.to)
+        } else {
+            self
+        }
+    }
+
+    /// With the rows behind the first stretch that stand without a gap too.
     pub fn raised(self, rows: &[Row]) -> Packed
-        ensures { (low : ℕ) → IsPacked low self.count self.end rows.now → IsPacked low result.count result.end rows.now }
+        ensures { (low : ℕ) → AreKnown low self rows.now → AreKnown low result rows.now }
     {
         let mut packed = self;
         while packed.count < rows.len() && rows[packed.count].start == packed.end {
-            packed.end = rows[packed.count].end();
-            packed.count += 1;
+            packed = Packed::front(packed.count + 1, rows[packed.count].end());
         }
         packed
     }
 
-    /// The rows behind them.
+    /// The rows behind the first stretch.
     pub fn rows_behind<'a>(self, rows: &'a [Row]) -> &'a [Row]
         requires { self.count ≤ length rows.now }
         ensures { result.now ≡ drop self.count rows.now }
@@ -44,28 +71,56 @@ impl Packed {
 
     /// Once a row is put in at a place where it overlaps none.
     pub fn with_row(self, at: usize, row: Row) -> Packed
-        requires { at + 1 < 2 ^ 64 }
+        requires order { self.count ≤ self.until }
+        requires short { self.until + 1 < 2 ^ 64 }
         ensures { (low high : ℕ) (rows : List AnyRow) → AreInOrder low high (insert rows at row)
-            → IsPacked low self.count self.end rows → IsPacked low result.count result.end (insert rows at row) }
+            → AreKnown low self rows → AreKnown low result (insert rows at row) }
     {
         if at == self.count && row.start == self.end {
-            return Packed {
-                count: at + 1,
-                end: row.end(),
-            };
+            self.with_next(row).merged()
+        } else if at < self.until {
+            Packed::front(self.count, self.end)
+        } else {
+            self
         }
-        self
     }
 
-    /// Once the row at a place, which starts at an address, is taken out.
-    pub fn without_row(self, at: usize, start: u64) -> Packed
-        ensures { (low : ℕ) (rows : List AnyRow) (row : AnyRow) → at < length rows → row ≡ slice_index_or rows at row → row.start ≡ start
-            → IsPacked low self.count self.end rows → IsPacked low result.count result.end (remove rows at) }
+    /// Once a row is put in that starts where the first stretch ends.
+    fn with_next(self, row: Row) -> Packed
+        requires order { self.count ≤ self.until }
+        requires short { self.until + 1 < 2 ^ 64 }
+        ensures { (low : ℕ) (rows : List AnyRow) → row.start ≡ self.end → AreKnown low self rows
+            → AreKnown low result (insert rows self.count row) }
+    {
+        Packed {
+            count: self.count + 1,
+            end: row.end(),
+            from: self.from,
+            until: self.until + 1,
+            to: self.to,
+        }
+    }
+
+    /// Once the row at a place is taken out.
+    pub fn without_row(self, at: usize, row: Row) -> Packed
+        ensures { (low : ℕ) (rows : List AnyRow) → at < length rows → row ≡ slice_index_or rows at row
+            → AreKnown low self rows → AreKnown low result (remove rows at) }
     {
         if at < self.count {
             Packed {
                 count: at,
-                end: start,
+                end: row.start,
+                from: row.end(),
+                until: self.count - 1,
+                to: self.end,
+            }
+        } else if at < self.until {
+            Packed {
+                count: self.count,
+                end: self.end,
+                from: self.from,
+                until: at,
+                to: row.start,
             }
         } else {
             self

@@ -27,7 +27,8 @@ pub struct Table {
 
 impl Model for Table {
     ghost use Rattle.std.specs.Prelude.{vec_capacity};
-    ghost use Rattle.region_map.specs.Rows.{map_of, region_of, tag_of, IsKept};
+    ghost use Rattle.region_map.specs.Rows.{map_of, region_of, tag_of};
+    ghost use Rattle.region_map.specs.Known.{IsKept};
     ghost use Rattle.region_map.specs.Window.{Window, coded_window};
 
     ghost Value = { Window };
@@ -36,7 +37,7 @@ impl Model for Table {
 
     ghost view = { λ t. record { low = t.low; high = t.high; regions = map_of region_of t.rows.items; tags = map_of tag_of t.rows.items; most = vec_capacity t.rows } };
 
-    ghost invariant = { λ t. IsKept t.low t.high t.rows.items t.packed.count t.packed.end };
+    ghost invariant = { λ t. IsKept t.low t.high t.rows.items t.packed };
 }
 
 impl Table {
@@ -53,7 +54,7 @@ impl Table {
         ensures fresh { IfOk result (λ table. table ≡ fresh_window low high most) }
         ensures sound { IfOk result IsWindow }
     {
-        let packed = Packed::none(low);
+        let packed = Packed::front(0, low);
         let rows = Vec::with_capacity(alloc, most).map_err(|_| NoMemory)?;
         Ok(Table {
             rows,
@@ -160,8 +161,8 @@ impl Table {
     {
         match self.rows.binary_search_by_key(&address, |row| row.start) {
             Ok(at) => {
-                self.packed = self.packed.without_row(at, address);
-                self.rows.remove(at);
+                let row = self.rows.remove(at);
+                self.packed = self.packed.without_row(at, row);
                 true
             }
             Err(_) => false,
@@ -176,7 +177,7 @@ impl Table {
         ensures high { self.new.high ≡ self.old.high }
         ensures sound { IsWindow self.new }
     {
-        self.packed = Packed::none(self.low);
+        self.packed = Packed::front(0, self.low);
         self.rows.retain(|row| row.ds.0 != ds.0);
     }
 

@@ -10,4 +10,4 @@ loop-packed-preserved c = λ low was.
     let within : c.loop-packed.packed.count < length c.args.rows.now = omega arith in
     let row = c.index-rows-packed-in-loop-packed.result in
     let start = ap (λ (x : Row). x.start) (get_or_read c.args.rows.now c.loop-packed.packed.count row within c.index-rows-packed-in-loop-packed.is c.index-rows-packed.result) ∙ c.if-rows-packed.true in
-    rw (add-one, c.end.ensures) (packed_more low _ _ _ row (c.loop-packed.invariant low was) within c.index-rows-packed-in-loop-packed.is start)
+    c.front-packed.ensures.known low _ (rw (add-one, c.end.ensures) (packed_more low _ _ _ row (c.loop-packed.invariant low was).front within c.index-rows-packed-in-loop-packed.is start))

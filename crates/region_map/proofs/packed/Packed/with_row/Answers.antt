@@ -1,11 +1,9 @@
--- A row that starts at their end is one more of them; any other stands behind them.
-use Rattle.std.proofs.Common.{add-one}
-use Rattle.region_map.proofs.PackedLemmas.{packed-insert, packed-inserted}
+-- A row that starts where the first stretch ends is one more of it; one in front of the second's end may part that.
+use Rattle.region_map.proofs.PackedLemmas.{packed-insert, known-insert}
 use Rattle.region_map.proofs.packed.Packed.with_row.Goals as goal
 
-pub returns-then-row-self : goal.returns-then-row-self
-returns-then-row-self c = λ low high rows order is.
-    rw (add-one, c.end.ensures, c.if-at-self.true) (packed-inserted low _ _ rows c.args.row c.if-row-self.true is)
+pub returns-then-at-self-2 : goal.returns-then-at-self-2
+returns-then-at-self-2 c = λ low high rows order is. c.front.ensures.known low _ (packed-insert low high _ _ rows c.args.at c.args.row order is.front)
 
-pub returns : goal.returns
-returns c = λ low high rows order is. packed-insert low high _ _ rows c.args.at c.args.row order is
+pub returns-else-at-self-2 : goal.returns-else-at-self-2
+returns-else-at-self-2 c = λ low high rows order is. known-insert low _ rows is c.args.at c.args.row c.if-at-self-2.false

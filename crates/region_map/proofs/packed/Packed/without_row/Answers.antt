@@ -1,13 +1,12 @@
--- One of them goes, or another does.
-use Rattle.std.proofs.Common.{subst}
-use Rattle.region_map.specs.Rows.{IsPacked}
-use Rattle.std.specs.List.{remove}
-use Rattle.region_map.proofs.PackedLemmas.{packed-removed, packed-remove}
+-- A row of the first stretch goes, or of the second, or another does.
+use Rattle.region_map.proofs.PackedLemmas.{known-split, known-cut, known-remove}
 use Rattle.region_map.proofs.packed.Packed.without_row.Goals as goal
 
 pub returns-then-at-self : goal.returns-then-at-self
-returns-then-at-self c = λ low rows row within is_row start is.
-    subst (λ n. IsPacked low c.args.at n (remove rows c.args.at)) start (packed-removed low _ _ rows c.args.at row c.if-at-self.true is_row is)
+returns-then-at-self c = λ low rows within is_row is. rw c.end.ensures (known-split low _ rows is c.args.at c.args.row within is_row c.if-at-self.true)
 
-pub returns-else-at-self : goal.returns-else-at-self
-returns-else-at-self c = λ low rows row within is_row start is. packed-remove low _ _ rows c.args.at c.if-at-self.false is
+pub returns-then-at-self-2 : goal.returns-then-at-self-2
+returns-then-at-self-2 c = λ low rows within is_row is. known-cut low _ rows is c.args.at c.args.row within is_row c.if-at-self.false c.if-at-self-2.true
+
+pub returns-else-at-self-2 : goal.returns-else-at-self-2
+returns-else-at-self-2 c = λ low rows within is_row is. known-remove low _ rows is c.args.at c.args.row within is_row c.if-at-self-2.false

@@ -1,5 +1,5 @@
 -- No rows are an empty window.
-use Rattle.std.proofs.Common.{◌≡◌, List, [], sym, ap, ◌∙◌, subst, rules}
+use Rattle.std.proofs.Common.{◌≡◌, List, [], sym, ap, ◌∙◌, subst, rules, refl}
 use Rattle.std.specs.Prelude.{vec_capacity}
 use Rattle.region_map.specs.declared.row.Row.{Row}
 use Rattle.region_map.specs.Rows.{region_of, tag_of, map_of, IsTable}
@@ -14,7 +14,7 @@ is_table : (c : goal.In_ok-rows) → IsTable c.args.low c.args.high c.in_ok-rows
 is_table c = subst (λ (rows : List Row). IsTable c.args.low c.args.high rows) (sym (no_rows c)) (IsTable-none c.args.low c.args.high c.requires.aligned c.requires.within c.requires.small)
 
 pub invariant_of-result : goal.invariant_of-result
-invariant_of-result c = record { table = is_table c; packed = c.none-packed.ensures _ }
+invariant_of-result c = record { table = is_table c; known = c.front-packed.ensures.known _ _ refl }
 
 pub returns-clause-fresh : goal.returns-clause-fresh
 returns-clause-fresh c =

@@ -8,6 +8,7 @@ use Rattle.own_model.specs.Region.{can_stand}
 use Rattle.region_map.specs.Rows.{region_of, tag_of, map_of, count_to, IsTable}
 use Rattle.region_map.specs.Window.{Window, window_with}
 use Rattle.region_map.proofs.ApartLemmas.{is_window}
+use Rattle.region_map.proofs.PackedLemmas.{until_within}
 use Rattle.region_map.proofs.RowLemmas.{len-map_of}
 use Rattle.region_map.proofs.SearchLemmas.{rising}
 use Rattle.region_map.proofs.TableLemmas.{Added, added}
@@ -49,7 +50,7 @@ is_table c = rw (items c) (facts c).table
 pub invariant_of-self : goal.invariant_of-self
 invariant_of-self c = record {
   table = is_table c;
-  packed = rw (put_in c) (c.with_row-self-inside.ensures c.self.inside.low c.self.inside.high c.self.inside.rows.items (rw (put_in c) at (is_table c).in_order) c.self.invariant.packed);
+  known = rw (put_in c) (c.with_row-self-inside.ensures c.self.inside.low c.self.inside.high c.self.inside.rows.items (rw (put_in c) at (is_table c).in_order) c.self.invariant.known);
 }
 
 pub returns-clause-added : goal.returns-clause-added
@@ -67,3 +68,12 @@ returns-clause-free c = rw (← c.self.view_is) (facts c).free
 
 pub returns-clause-sound : goal.returns-clause-sound
 returns-clause-sound c = is_window c.self.inside.low c.self.inside.high (vec_capacity c.insert.new.self) c.insert.new.self.items (is_table c)
+
+pub with_row-self-inside-requires-clause-order : goal.with_row-self-inside-requires-clause-order
+with_row-self-inside-requires-clause-order c = c.self.invariant.known.order
+
+pub with_row-self-inside-requires-clause-short : goal.with_row-self-inside-requires-clause-short
+with_row-self-inside-requires-clause-short c =
+    let within = until_within c.self.inside.low c.self.inside.packed c.self.inside.rows.items c.self.invariant.known in
+    let long : length c.self.inside.rows.items ≡ vec_len c.self.inside.rows = search rules in
+    omega (arith, c.self.inside.rows.small)

@@ -12,40 +12,40 @@ use Rattle.region_map.proofs.ApartLemmas.{is_window}
 use Rattle.region_map.proofs.TableLemmas.{Removed, removed, same_start, not_found}
 use Rattle.region_map.proofs.table.Table.remove.Goals as goal
 
-bound : (c : goal.After-remove) → c.in-Ok.at < length c.self.inside.rows.items
+bound : (c : goal.After-self-1) → c.in-Ok.at < length c.self.inside.rows.items
 bound c = rw c.deref.ensures.value at c.in-Ok.ensures.bound
 
 -- the row that is found starts at the address
-start : (c : goal.After-remove) → c.remove.result.start ≡ c.args.address
+start : (c : goal.After-self-1) → c.remove-row.result.start ≡ c.args.address
 start c =
     let position : IsBinarySearchResult (λ (row : Row). nat_cmp row.start c.args.address) c.deref.result.now (Ok c.in-Ok.at) =
     c.in-Ok.ensures.position (λ row. row.start) (answers_always _ _ _ (λ f a r g called. search rules)) in
-    ap (λ (row : Row). row.start) c.remove.ensures.value ∙ same_start c.args.address c.in-Ok.at c.self.inside.rows.items c.remove.result (rw c.deref.ensures.value at position)
+    ap (λ (row : Row). row.start) c.remove-row.ensures.value ∙ same_start c.args.address c.in-Ok.at c.self.inside.rows.items c.remove-row.result (rw c.deref.ensures.value at position)
 
-facts : (c : goal.After-remove) → Removed c.self.inside.low c.self.inside.high c.self.inside.rows.items c.in-Ok.at c.args.address
-facts c = removed c.self.inside.low c.self.inside.high c.self.inside.rows.items c.in-Ok.at c.remove.result c.args.address c.self.invariant.table (bound c) c.remove.ensures.value (start c)
+facts : (c : goal.After-self-1) → Removed c.self.inside.low c.self.inside.high c.self.inside.rows.items c.in-Ok.at c.args.address
+facts c = removed c.self.inside.low c.self.inside.high c.self.inside.rows.items c.in-Ok.at c.remove-row.result c.args.address c.self.invariant.table (bound c) c.remove-row.ensures.value (start c)
 
-is_table : (c : goal.After-remove) → IsTable c.self.inside.low c.self.inside.high c.remove.new.self.items
-is_table c = rw c.remove.ensures.items (facts c).table
+is_table : (c : goal.After-self-1) → IsTable c.self.inside.low c.self.inside.high c.remove-row.new.self.items
+is_table c = rw c.remove-row.ensures.items (facts c).table
 
 pub invariant_of-self : goal.invariant_of-self
 invariant_of-self c = record {
   table = is_table c;
-  packed = rw c.remove.ensures.items (c.without_row-self-inside.ensures c.self.inside.low c.self.inside.rows.items c.remove.result (bound c) c.remove.ensures.value (start c) c.self.invariant.packed);
+  known = rw c.remove-row.ensures.items (c.without_row-self-inside.ensures c.self.inside.low c.self.inside.rows.items (bound c) c.remove-row.ensures.value c.self.invariant.known);
 }
 
 pub returns-in-Ok : goal.returns-in-Ok
 returns-in-Ok c =
-    let regions = ap (map_of region_of) c.remove.ensures.items ∙ (facts c).regions in
-    let tags = ap (map_of tag_of) c.remove.ensures.items ∙ (facts c).tags in
+    let regions = ap (map_of region_of) c.remove-row.ensures.items ∙ (facts c).regions in
+    let tags = ap (map_of tag_of) c.remove-row.ensures.items ∙ (facts c).tags in
     record {
       found = rw (← c.self.view_is) (sym (facts c).there);
       removed = subst
-          (λ (w : Window). record { low = c.self.inside.low; high = c.self.inside.high; regions = map_of region_of c.remove.new.self.items; tags = map_of tag_of c.remove.new.self.items; most = vec_capacity c.remove.new.self } ≡ window_without w c.args.address)
+          (λ (w : Window). record { low = c.self.inside.low; high = c.self.inside.high; regions = map_of region_of c.remove-row.new.self.items; tags = map_of tag_of c.remove-row.new.self.items; most = vec_capacity c.remove-row.new.self } ≡ window_without w c.args.address)
           c.self.view_is
-          (λ i. record { low = c.self.inside.low; high = c.self.inside.high; regions = regions i; tags = tags i; most = c.remove.ensures.capacity i });
+          (λ i. record { low = c.self.inside.low; high = c.self.inside.high; regions = regions i; tags = tags i; most = c.remove-row.ensures.capacity i });
       kept = tt;
-      sound = is_window c.self.inside.low c.self.inside.high (vec_capacity c.remove.new.self) c.remove.new.self.items (is_table c);
+      sound = is_window c.self.inside.low c.self.inside.high (vec_capacity c.remove-row.new.self) c.remove-row.new.self.items (is_table c);
     }
 
 pub returns-in-Err : goal.returns-in-Err

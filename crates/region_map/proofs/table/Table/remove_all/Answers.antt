@@ -1,5 +1,5 @@
 -- The rows of other dataspaces stay.
-use Rattle.std.proofs.Common.{◌≡◌, ◌==◌, not, ap, ◌∙◌, rules}
+use Rattle.std.proofs.Common.{◌≡◌, ◌==◌, not, ap, ◌∙◌, rules, refl}
 use Rattle.std.proofs.lemmas.Fn.{filter_same}
 use Rattle.std.specs.Prelude.{vec_capacity}
 use Rattle.std.specs.List.{filter}
@@ -23,7 +23,7 @@ is_table c =
     })
 
 pub invariant_of-self : goal.invariant_of-self
-invariant_of-self c = record { table = is_table c; packed = c.none-self-inside.ensures _ }
+invariant_of-self c = record { table = is_table c; known = c.front-self-inside.ensures.known _ _ refl }
 
 pub returns-clause-regions : goal.returns-clause-regions
 returns-clause-regions c =
