@@ -69,6 +69,10 @@ def bytes_of_short_lengths(lines, rng):
     return pokes_and_peeks(lines, rng, 16)
 
 
+def bytes_of_middle_lengths(lines, rng):
+    return pokes_and_peeks(lines, rng, 180)
+
+
 def regions(lines, rng):
     """Attaches and detaches of one page, three attaches to two detaches until all regions are attached."""
     yield "alice alloc 1"
@@ -247,6 +251,13 @@ def log(lines, rng):
         yield f"{'alice' if number % 2 == 0 else 'bob'} call 1 WRITE {text_in_hex(rng, 199)}"
 
 
+def bulk(lines, rng):
+    """Requests of 4,000 bytes each: log lines of a thousand bytes, which are cut at 200."""
+    yield "alice open LOG ram_quota=4K, cap_quota=2"
+    for _ in range(lines - 1):
+        yield "alice call 1 WRITE " + 4 * ("".join(f"{rng.randrange(0x61, 0x7B):02x}" for _ in range(999)) + "0a")
+
+
 MOST_FILES = 4
 
 
@@ -421,6 +432,7 @@ SHAPES = {
     "churn": churn,
     "limit": limit,
     "bytes": bytes_of_all_lengths,
+    "middle": bytes_of_middle_lengths,
     "short": bytes_of_short_lengths,
     "regions": regions,
     "full": full,
@@ -431,6 +443,7 @@ SHAPES = {
     "holes": holes,
     "sessions": sessions,
     "log": log,
+    "bulk": bulk,
     "files": files,
     "contents": contents,
     "eight": eight,

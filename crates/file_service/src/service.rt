@@ -129,6 +129,8 @@ fn answer(
 }
 
 /// Puts the bytes that a text of hexadecimal digits stands for over a file's from an offset on, and tells how many they are.
+/// It stands alone, since who takes it in would clear its buffer at each request.
+#[inline(never)]
 fn write(
     session: &mut FileSession,
     heap: &mut SlicedHeap,

@@ -12,7 +12,8 @@ use trade_base::DsId;
 /// The most bytes of a peek or a poke.
 pub(crate) const MOST_BYTES: usize = 1024;
 
-/// Writes so many bytes of a dataspace in place of what the reply was.
+/// Writes so many bytes of a dataspace in place of what the reply was. It stands alone, as `poke` does.
+#[inline(never)]
 pub(crate) fn tell_range(reply: &mut Reply, memory: &Memory, space: DsId, offset: u64, count: usize)
     requires exists { Exists memory.now space.0 }
     requires range { offset + count ≤ length (space_at memory.now space.0).bytes }

@@ -24,7 +24,7 @@ pub(crate) struct Script {
 }
 
 impl Script {
-    ghost use Rattle.std.specs.Prelude.{◌≡◌, Some, IfOk, IsSome};
+    ghost use Rattle.std.specs.Prelude.{◌≡◌, ◌≢◌, ℕ, Some, IfOk, IsSome};
     ghost use Rattle.std.specs.Result.{result_err};
     ghost use Rattle.std.specs.FinMap.{get};
     ghost use Rattle.own_model.specs.Call.Call.{Alloc as ModelledAlloc, Free as ModelledFree, Attach as ModelledAttach};
@@ -35,6 +35,7 @@ impl Script {
     ghost use Rattle.dataspace_core.specs.Store.{account_in};
     ghost use Rattle.pd_core.specs.Answer.{quotas_account};
     ghost use Rattle.pd_core.specs.Call.{model_call, bytes_in, IsPlain, IsWellFormed};
+    ghost use Rattle.pd_core.specs.declared.call.Call.TheVariants.{Peek};
     ghost use Rattle.pd_core.specs.Does.{Does, DoesTold};
     ghost use Rattle.pd_core.specs.Own.{part_at, own_heap_at, sliced_at, sized_at, range_refusal, IsFound};
     ghost use Rattle.pd_core.specs.Sound.{IsSoundScript, Keeps};
@@ -49,23 +50,40 @@ impl Script {
         ensures keeps { Keeps memory.old self.old memory.new self.new }
     {
         match call {
-            Call::Alloc(bytes) => tell(self.alloc(memory, bytes), reply),
-            Call::Free(selector) => tell(self.free(memory, selector), reply),
-            Call::Attach(selector) => tell(self.attach(memory, selector), reply),
-            Call::AttachAt { selector, address } => {
-                tell(self.attach_at(memory, selector, address), reply)
-            }
-            Call::Detach(address) => tell(self.detach(memory, address), reply),
             Call::Peek { address, count } => self.peek(memory, address, count, reply),
-            Call::Poke { address, hex } => tell(self.poke(memory, address, hex), reply),
-            Call::Capalloc => tell(self.capalloc(memory), reply),
-            Call::Capfree(selector) => tell(self.capfree(memory, selector), reply),
-            Call::New(bytes) => tell(self.new_block(memory, bytes), reply),
-            Call::Del(address) => tell(self.del_block(memory, address), reply),
-            Call::Snew(bytes) => tell(self.snew(memory, bytes), reply),
-            Call::Sdel(address) => tell(self.sdel(memory, address), reply),
-            Call::Quota => tell(Ok(Answer::Quotas(self.quota(memory))), reply),
-            Call::Open { .. }
+            _ => {
+                let outcome = self.carry_out(memory, call);
+                tell(outcome, reply);
+            }
+        }
+    }
+
+    /// Carries such a call out that is no peek, and tells how. Its arms share one place for their outcomes, which a function
+    /// clears as it is entered.
+    fn carry_out(&mut self, memory: &mut Memory, call: Call<'_>) -> Result<Answer, Refusal>
+        requires sound { IsSoundScript memory.old self.old }
+        requires call { IsWellFormed call }
+        requires plain { IsPlain call }
+        requires no_peek { (address count : ℕ) → call ≢ Peek address count }
+        ensures outcome { Does (model_call call.entry) result memory.old self.old memory.new self.new }
+        ensures keeps { Keeps memory.old self.old memory.new self.new }
+    {
+        match call {
+            Call::Alloc(bytes) => self.alloc(memory, bytes),
+            Call::Free(selector) => self.free(memory, selector),
+            Call::Attach(selector) => self.attach(memory, selector),
+            Call::AttachAt { selector, address } => self.attach_at(memory, selector, address),
+            Call::Detach(address) => self.detach(memory, address),
+            Call::Poke { address, hex } => self.poke(memory, address, hex),
+            Call::Capalloc => self.capalloc(memory),
+            Call::Capfree(selector) => self.capfree(memory, selector),
+            Call::New(bytes) => self.new_block(memory, bytes),
+            Call::Del(address) => self.del_block(memory, address),
+            Call::Snew(bytes) => self.snew(memory, bytes),
+            Call::Sdel(address) => self.sdel(memory, address),
+            Call::Quota => Ok(Answer::Quotas(self.quota(memory))),
+            Call::Peek { .. }
+            | Call::Open { .. }
             | Call::Upgrade { .. }
             | Call::CallSession { .. }
             | Call::Close(_)
@@ -173,7 +191,9 @@ impl Script {
         }
     }
 
-    /// The bytes that a text of hexadecimal digits stands for are put from an address on, or why not, as with `peek`.
+    /// The bytes that a text of hexadecimal digits stands for are put from an address on, or why not, as with `peek`. It
+    /// stands alone, since who takes it in would clear its buffer at each call.
+    #[inline(never)]
     fn poke(&self, memory: &mut Memory, address: u64, hex: &[u8]) -> Result<Answer, Refusal>
         requires hex { IsSome (bytes_of_hex hex.now) }
         requires sound { IsSoundScript memory.old self.now }

@@ -1,5 +1,5 @@
 //! Bytes that are gathered before they are written.
-ghost use Rattle.std.specs.Prelude.{◌≡◌, ℕ, ◌-◌, ◌<◌, ◌≤◌, List, [], ◌++◌, length, nat_lt, take, false, OnOk, is_err};
+ghost use Rattle.std.specs.Prelude.{◌≡◌, ℕ, ◌+◌, ◌-◌, ◌<◌, ◌≤◌, List, [], ◌++◌, length, nat_lt, take, drop, false, OnOk, is_err};
 ghost use Rattle.std.specs.Io.KnownBytes.{Appends};
 ghost use Rattle.scenario_run.specs.Gathered.{TellsUnless, line_with};
 
@@ -58,7 +58,33 @@ impl Gather {
     }
 
     /// Gathers a name and its reply, as a line of their own. A write fails as in `put`.
+    #[inline]
     pub fn put_reply<K: Sink>(
+        &mut self,
+        sink: &mut K,
+        name: &[u8],
+        reply: &[u8],
+    ) -> Result<(), DeviceFault>
+        requires { K.has_failed sink.old ≡ false }
+        ensures told { TellsUnless result (K.contents sink.old) self.old (K.contents sink.new) self.new
+            (line_with name.now reply.now) }
+        ensures failing { K.has_failed sink.new ≡ is_err result }
+    {
+        // One test for the room of all parts, which a line mostly finds.
+        let room = CAPACITY - self.end;
+        if name.len() > room || reply.len() + 3 > room - name.len() {
+            return self.put_parts(sink, name, reply);
+        }
+        let len = name.len() + (reply.len() + 3);
+        let end = self.end + len;
+        write_line(&mut self.bytes[self.end..end], name, reply);
+        self.end = end;
+        Ok(())
+    }
+
+    // Gathers a name and its reply part by part.
+    #[inline(never)]
+    fn put_parts<K: Sink>(
         &mut self,
         sink: &mut K,
         name: &[u8],
@@ -88,6 +114,9 @@ impl Gather {
             (lines.now ++ line_with name.now reply.now) }
         ensures failing { K.has_failed sink.new ≡ is_err result }
     {
+        if lines.is_empty() {
+            return self.put_reply(sink, name, reply);
+        }
         self.put(sink, lines)?;
         self.put_reply(sink, name, reply)
     }
@@ -136,6 +165,32 @@ impl Gather {
         self.end = 0;
         Ok(())
     }
+}
+
+/// Writes a name and its reply as a line over as many bytes, from the end on.
+#[inline]
+fn write_line(line: &mut [u8], name: &[u8], reply: &[u8])
+    requires { length line.old ≡ length name.now + length reply.now + 3 }
+    ensures { line.new ≡ line_with name.now reply.now }
+{
+    let end = line.len();
+    let end = put_before(line, end, b"\n");
+    let end = put_before(line, end, reply);
+    let end = put_before(line, end, b": ");
+    put_before(line, end, name);
+}
+
+/// Puts a piece over the bytes of a line before a place, and tells where it starts.
+#[inline]
+fn put_before(line: &mut [u8], end: usize, piece: &[u8]) -> usize
+    requires fits { length piece.now ≤ end }
+    requires within { end ≤ length line.old }
+    ensures start { result + length piece.now ≡ end }
+    ensures written { drop result line.new ≡ piece.now ++ drop end line.old }
+{
+    let start = end - piece.len();
+    line[start..end].copy_from_slice(piece);
+    start
 }
 
 /// Writes bytes until all are written or a write fails, and answers how many were written.

@@ -1,21 +1,19 @@
--- A write that fails in one part of the line loses the parts after it.
-use Rattle.scenario_run.proofs.GatheredLemmas.{Tells-more, Tells-front, told_err, told_more}
+-- The line stands behind what was gathered.
+use Rattle.std.proofs.Common.{◌≡◌, ◌+◌, ◌++◌, ◌∙◌, ap, take, length, length-append, arith}
+use Rattle.std.proofs.lemmas.List.{take_all}
+use Rattle.scenario_run.specs.Gathered.{line_with}
+use Rattle.scenario_run.proofs.BlockLemmas.{slice_range-grown}
+use Rattle.scenario_run.proofs.GatheredLemmas.{Tells-gathered}
 use Rattle.scenario_run.proofs.gather.Gather.put_reply.Goals as goal
-
-pub returns-in_err-put-clause-told : goal.returns-in_err-put-clause-told
-returns-in_err-put-clause-told g c =
-    told_err _ _ _ c.from_residual.ensures.1 (_, Tells-front _ (Tells-front _ (Tells-front _ (c.in_err-put.ensures.told.1))))
-
-pub returns-in_err-put-2-clause-told : goal.returns-in_err-put-2-clause-told
-returns-in_err-put-2-clause-told g c =
-    told_err _ _ _ c.from_residual-in_err-put-2.ensures.1
-    (_, Tells-front _ (Tells-front _ (Tells-more c.in_ok-put.ensures.told (c.in_err-put-2.ensures.told.1))))
-
-pub returns-in_err-put-3-clause-told : goal.returns-in_err-put-3-clause-told
-returns-in_err-put-3-clause-told g c =
-    told_err _ _ _ c.from_residual-in_err-put-3.ensures.1
-    (_, Tells-front _ (Tells-more (Tells-more c.in_ok-put.ensures.told c.in_ok-put-2.ensures.told) (c.in_err-put-3.ensures.told.1)))
 
 pub returns-clause-told : goal.returns-clause-told
 returns-clause-told g c =
-    told_more _ _ _ _ (Tells-more (Tells-more c.in_ok-put.ensures.told c.in_ok-put-2.ensures.told) c.in_ok-put-3.ensures.told) c.put-4.ensures.told
+    let s = c.self.inside in
+    let n = length c.args.name.now + (length c.args.reply.now + 3) in
+    let line = c.write_line.new.line in
+    let size : length line ≡ n = ap length c.write_line.ensures ∙ simp length-append (omega arith) in
+    let copied : take n line ≡ line_with c.args.name.now c.args.reply.now = take_all n line (omega (arith, size)) ∙ c.write_line.ensures in
+    Tells-gathered _ _ _ _ (
+    slice_range-grown s.bytes line _ s.start s.end n (omega arith) (omega arith) (omega (arith, size))
+    ∙ ap (λ ahead. ahead ++ take n line) c.self.view_is
+    ∙ ap (λ more. c.args.self.now ++ more) copied)
