@@ -66,9 +66,9 @@ fn words_that_are_read(rt: HostRuntime) -> Result<(), Fail> {
     ];
     for (words, check, accounts, path) in lines {
         let options = Options::read(alloc, words)?;
-        assert!(rt; options.check() == check, "{words:?}");
-        assert!(rt; options.accounts() == accounts, "{words:?}");
-        assert!(rt; options.path() == path, "{words:?}");
+        assert!(rt; options.check == check, "{words:?}");
+        assert!(rt; options.accounts == accounts, "{words:?}");
+        assert!(rt; options.path == path, "{words:?}");
     }
     Ok(())
 }
@@ -186,7 +186,7 @@ fn a_word_that_is_no_text_is_a_bad_line(rt: HostRuntime) -> Result<(), Fail> {
     let words = words_given(&(GivenWords(&good), alloc))?;
     assert!(rt; words.len() == 3);
     let options = Options::read(alloc, words.as_slice())?;
-    assert!(rt; options.check() && options.path() == Some(""));
+    assert!(rt; options.check && options.path == Some(""));
     let bad: [&[u8]; 3] = [b"scenario_run", b"--check", b"a\xffb"];
     let refused = words_given(&(GivenWords(&bad), alloc))
         .err()
@@ -213,7 +213,7 @@ fn refused_memory_is_told_as_such(rt: HostRuntime) {
     for _ in 0..2 {
         match Options::read(rt.alloc(), &["scenario_run", "--check", "a.json"]) {
             Ok(options) => {
-                assert!(rt; options.check() && options.path() == Some("a.json"));
+                assert!(rt; options.check && options.path == Some("a.json"));
             }
             Err(error) => {
                 assert!(rt; error.kind() == ErrorKind::OutOfMemory && !wanted);

@@ -59,9 +59,17 @@ const EXITS_LISTED: &[u8] =
 
 // What a scenario is told on the machine of a text, with the account list behind it.
 fn told_with_list(alloc: Global, text: &str, input: &[u8]) -> Result<Vec<u8>, Fail> {
-    let told = run_bytes(alloc, text.as_bytes(), Task::Run { accounts: true }, input)
-        .ok()
-        .ok_or("a run to its end")?;
+    let told = run_bytes(
+        alloc,
+        text.as_bytes(),
+        Task::Run {
+            accounts: true,
+            only: None,
+        },
+        input,
+    )
+    .ok()
+    .ok_or("a run to its end")?;
     Ok(told)
 }
 

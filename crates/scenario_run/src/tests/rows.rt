@@ -25,7 +25,15 @@ pub(super) fn check_on<R: Abort + AllocGlobal>(
     input: &[u8],
     transcript: &[u8],
 ) -> Result<(), Fail> {
-    match run_bytes(rt.alloc(), text, Task::Run { accounts: false }, input) {
+    match run_bytes(
+        rt.alloc(),
+        text,
+        Task::Run {
+            accounts: false,
+            only: None,
+        },
+        input,
+    ) {
         Ok(written) => assert_eq!(rt; written.as_slice(), transcript),
         Err(stopped) => assert!(rt; false, "{:?}", stopped.failure),
     }
