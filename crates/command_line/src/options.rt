@@ -11,8 +11,7 @@ use std::rt::Env;
 use std::{env, io};
 
 const ABOUT: &str = "Simulates one machine whose components trade quotas of RAM and capabilities.
-Each line of standard input is a call of a component; the replies are written
-to standard output.";
+Each line of standard input is a call of a component; replies are printed.";
 
 const FORMS: &str = "A line is NAME CALL, with one space between two words. CALL is one of
   alloc N       capalloc      attach S        new N     open SERVICE ARGS
@@ -41,16 +40,19 @@ impl<'a> Options<'a> {
     /// Reads the words of a command line, of which the first is the program's own name.
     pub fn read<S: AsStr>(alloc: Global, words: &'a [S]) -> Result<Options<'a>, Error>
         ensures check { IfOk result (λ options.
-            options.check ≡ is_set (codes "check") (matches_of program (map S.text words.entry.now))) }
+            options.check
+            ≡ is_set (codes "check") (matches_of program (map S.text words.entry.now))) }
         ensures accounts { IfOk result (λ options.
-            options.accounts ≡ is_set (codes "accounts") (matches_of program (map S.text words.entry.now))) }
+            options.accounts
+            ≡ is_set (codes "accounts") (matches_of program (map S.text words.entry.now))) }
         ensures only { IfOk result (λ options. option_map (λ name. name.now) options.only
             ≡ first_of (codes "only") (matches_of program (map S.text words.entry.now))) }
         ensures path { IfOk result (λ options. option_map (λ path. path.now) options.path
             ≡ first_of (codes "config") (matches_of program (map S.text words.entry.now))) }
         ensures refusals { FailsBy (fault_of program (map S.text words.entry.now)) result }
         ensures takes { IfErr result (λ error.
-            takes program (map S.text words.entry.now) ≡ true → kind_of error ≡ ErrorKind.OutOfMemory) }
+            takes program (map S.text words.entry.now) ≡ true
+            → kind_of error ≡ ErrorKind.OutOfMemory) }
     {
         let matches = command(alloc)?.try_get_matches_from(words)?;
         Ok(Options {
@@ -64,13 +66,15 @@ impl<'a> Options<'a> {
 
 // The command line as `clap` reads it.
 fn command<'a>(alloc: Global) -> Result<Command<'a>, Error>
-    ensures { MatchResult result (λ made. app_of made ≡ program) (λ error. kind_of error ≡ ErrorKind.OutOfMemory) }
+    ensures { MatchResult result (λ made. app_of made ≡ program)
+        (λ error. kind_of error ≡ ErrorKind.OutOfMemory) }
 {
     let check = flag(alloc, "check", "Only boot, print ok and read no scenario");
     let accounts = flag(alloc, "accounts", "Print all accounts after the last reply");
-    let only = Arg::new(alloc, "only").long("only").value_name("NAME").help(
-        "Answer the lines of this component alone, and skip all others",
-    );
+    let only = Arg::new(alloc, "only")
+        .long("only")
+        .value_name("NAME")
+        .help("Answer the lines of this component alone");
     let config = Arg::new(alloc, "config").value_name("CONFIG").help(
         "A start list in JSON; without it a built-in machine boots",
     );

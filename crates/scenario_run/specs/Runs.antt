@@ -18,11 +18,13 @@ pub record Completes (only : Option (List ℕ)) (lines : ℕ) (old new : World) 
   pub counted : lines ≡ length (lines_of input)
   pub readable : AreReadable (lines_of input)
   -- what is written is the transcript of the lines that are run
-  pub transcript : Appends written now_written (told_after old.entries old.states [] (said_by only (lines_of input)))
+  pub transcript : Appends written now_written
+      (told_after old.entries old.states [] (said_by only (lines_of input)))
   -- each component's own state is that of its own run on its own part of them
   pub states : (component : ℕ) →
       state_at new.states component
-      ≡ state_after old.entries old.states (calls_of old.entries (said_by only (lines_of input))) component
+      ≡ state_after old.entries old.states
+      (calls_of old.entries (said_by only (lines_of input))) component
   pub world : new ≡ world_running old (said_by only (lines_of input))
 
 -- what a run keeps, however it ends
@@ -35,8 +37,10 @@ pub record KeepsWorld (old new : World) : Type 0 where
 -- an input within the bounds, over devices that don't fail, is no cause to stop
 abbrev pub HasCause : List ℕ → ℕ → Bool → Bool → Type 0
 HasCause input max_lines read_failed write_failed =
-    read_failed ≡ false → write_failed ≡ false → AreReadable (lines_of input) → length (lines_of input) ≤ max_lines → ⊥
+    read_failed ≡ false → write_failed ≡ false → AreReadable (lines_of input)
+    → length (lines_of input) ≤ max_lines → ⊥
 
 -- the fault that is told of devices that had failed before: the writer's first
 abbrev pub FaultBefore : Result Summary RunFault → Bool → Bool → Type 0
-FaultBefore result read_failed write_failed = result ≡ Err (if write_failed then WriteFault else ReadFault)
+FaultBefore result read_failed write_failed =
+    result ≡ Err (if write_failed then WriteFault else ReadFault)

@@ -41,7 +41,8 @@ pub fn answer_line<R: Router + Drop, K: Sink>(
     requires writes { K.has_failed sink.old ≡ false }
     requires listed { core.old.entries ≡ entries_of (start_list_of list.now) }
     ensures world { core.new ≡ after_all (option_copied only.entry) core.old (line.now ∷ []) }
-    ensures told { TellsUnless result (K.contents sink.old) gathered.old (K.contents sink.new) gathered.new
+    ensures told { TellsUnless result
+        (K.contents sink.old) gathered.old (K.contents sink.new) gathered.new
         (told_of_all (option_copied only.entry) core.old (line.now ∷ [])) }
     ensures failing { K.has_failed sink.new ≡ is_err result }
 {
@@ -67,7 +68,8 @@ pub fn answer_no_call<K: Sink>(
     sink: &mut K,
 ) -> Result<(), DeviceFault>
     requires { K.has_failed sink.old ≡ false }
-    ensures told { TellsUnless result (K.contents sink.old) gathered.old (K.contents sink.new) gathered.new
+    ensures told { TellsUnless result
+        (K.contents sink.old) gathered.old (K.contents sink.new) gathered.new
         (told_of_none (option_copied only.entry)) }
     ensures failing { K.has_failed sink.new ≡ is_err result }
 {
@@ -92,7 +94,8 @@ fn answer_call<R: Router + Drop, K: Sink>(
     requires listed { core.old.entries ≡ entries_of (start_list_of list.now) }
     ensures world { core.new ≡ world_after_heard core.old
         (hears core.old (record { name = name.now; call = model_call call.entry })) }
-    ensures told { TellsUnless result (K.contents sink.old) gathered.old (K.contents sink.new) gathered.new
+    ensures told { TellsUnless result
+        (K.contents sink.old) gathered.old (K.contents sink.new) gathered.new
         (told_now core.old.entries core.old.states
         (hears core.old (record { name = name.now; call = model_call call.entry }))) }
     ensures failing { K.has_failed sink.new ≡ is_err result }
@@ -147,7 +150,8 @@ fn tell_refusal<K: Sink>(
     sink: &mut K,
 ) -> Result<(), DeviceFault>
     requires { K.has_failed sink.old ≡ false }
-    ensures told { TellsUnless result (K.contents sink.old) gathered.old (K.contents sink.new) gathered.new
+    ensures told { TellsUnless result
+        (K.contents sink.old) gathered.old (K.contents sink.new) gathered.new
         (reply_line name.now (Refused refusal)) }
     ensures failing { K.has_failed sink.new ≡ is_err result }
 {

@@ -48,7 +48,8 @@ pub enum Task<'a> {
 
 /// The task that the options of the command line ask for: a check where they ask for one, whatever else they say.
 pub fn task_of<'a>(options: &Options<'a>) -> Task<'a>
-    ensures { AsksFor options.now.check options.now.accounts (option_map (λ name. name.now) options.now.only) result }
+    ensures { AsksFor options.now.check options.now.accounts
+        (option_map (λ name. name.now) options.now.only) result }
 {
     if options.check {
         return Task::Check;
@@ -102,8 +103,8 @@ pub fn boot_and_run<S: Source, K: Sink>(
     reader: &mut S,
     writer: &mut K,
 ) -> Result<Summary, Failure>
-    ensures done { IfOk result (λ summary. IsDone task.entry text.now (S.remaining reader.old) summary.lines
-        (K.contents writer.old) (K.contents writer.new)) }
+    ensures done { IfOk result (λ summary. IsDone task.entry text.now
+        (S.remaining reader.old) summary.lines (K.contents writer.old) (K.contents writer.new)) }
     ensures few { IfOk result (λ summary. summary.lines ≤ MAX_LINES) }
     ensures fails { IfErr result (λ failure. FailsFor failure task.entry text.now MAX_LINES
         (S.remaining reader.old) (S.remaining reader.new) (S.has_failed reader.new)
@@ -145,11 +146,12 @@ fn answer_scenario<R: Router + Drop, S: Source, K: Sink>(
     requires balanced { IsBalancedFor (start_list_of list.now) core.old }
     ensures few { IfOk result (λ summary. summary.lines ≤ MAX_LINES) }
     ensures told { IfOk result (λ summary. IfSome (S.remaining reader.old) (λ input.
-        IsAnswered (scenario_text accounts (option_copied only.entry) core.old input) input summary.lines
-        (K.contents writer.old) (K.contents writer.new))) }
+        IsAnswered (scenario_text accounts (option_copied only.entry) core.old input)
+        input summary.lines (K.contents writer.old) (K.contents writer.new))) }
     ensures stops { IfErr result (λ fault. IfSome (S.remaining reader.old) (λ input.
         StopsScenario accounts (option_copied only.entry) fault MAX_LINES core.old input
-        (S.remaining reader.new) (S.has_failed reader.new) (K.contents writer.old) (K.contents writer.new))) }
+        (S.remaining reader.new) (S.has_failed reader.new)
+        (K.contents writer.old) (K.contents writer.new))) }
     ensures writing { K.has_failed writer.new ≡ is_write_fault result }
 {
     match run_said_by(core, list, reply, only, reader, writer, MAX_LINES) {

@@ -67,13 +67,15 @@ pub fn run<R: Router + Drop, S: Source, K: Sink>(
 ) -> Result<Summary, RunFault>
     requires listed { core.old.entries ≡ entries_of (start_list_of list.now) }
     ensures few { IfOk result (λ summary. summary.lines ≤ max_lines) }
-    ensures done { IfOk result (λ summary. IfSome (S.remaining reader.old) (λ input. Completes None summary.lines
-        core.old core.new input (K.contents writer.old) (K.contents writer.new))) }
+    ensures done { IfOk result (λ summary. IfSome (S.remaining reader.old) (λ input.
+        Completes None summary.lines core.old core.new input
+        (K.contents writer.old) (K.contents writer.new))) }
     ensures keeps { KeepsWorld core.old core.new }
     ensures writing { K.has_failed writer.new ≡ is_write_fault result }
     ensures reading { OnOk result (S.has_failed reader.new ≡ false) }
     ensures stops { IfErr result (λ fault. IfSome (S.remaining reader.old) (λ input.
-        Stops None fault max_lines core.old core.new input (S.remaining reader.new) (S.has_failed reader.new)
+        Stops None fault max_lines core.old core.new input
+        (S.remaining reader.new) (S.has_failed reader.new)
         (K.contents writer.old) (K.contents writer.new))) }
     ensures ok { IfErr result (λ fault. IfSome (S.remaining reader.old) (λ input.
         HasCause input max_lines (S.has_failed reader.new) (K.has_failed writer.new))) }
@@ -99,13 +101,15 @@ pub fn run_only<R: Router + Drop, S: Source, K: Sink>(
 ) -> Result<Summary, RunFault>
     requires listed { core.old.entries ≡ entries_of (start_list_of list.now) }
     ensures few { IfOk result (λ summary. summary.lines ≤ max_lines) }
-    ensures done { IfOk result (λ summary. IfSome (S.remaining reader.old) (λ input. Completes (Some only.now) summary.lines
-        core.old core.new input (K.contents writer.old) (K.contents writer.new))) }
+    ensures done { IfOk result (λ summary. IfSome (S.remaining reader.old) (λ input.
+        Completes (Some only.now) summary.lines core.old core.new input
+        (K.contents writer.old) (K.contents writer.new))) }
     ensures keeps { KeepsWorld core.old core.new }
     ensures writing { K.has_failed writer.new ≡ is_write_fault result }
     ensures reading { OnOk result (S.has_failed reader.new ≡ false) }
     ensures stops { IfErr result (λ fault. IfSome (S.remaining reader.old) (λ input.
-        Stops (Some only.now) fault max_lines core.old core.new input (S.remaining reader.new) (S.has_failed reader.new)
+        Stops (Some only.now) fault max_lines core.old core.new input
+        (S.remaining reader.new) (S.has_failed reader.new)
         (K.contents writer.old) (K.contents writer.new))) }
     ensures ok { IfErr result (λ fault. IfSome (S.remaining reader.old) (λ input.
         HasCause input max_lines (S.has_failed reader.new) (K.has_failed writer.new))) }
@@ -129,13 +133,15 @@ pub(crate) fn run_said_by<R: Router + Drop, S: Source, K: Sink>(
 ) -> Result<Summary, RunFault>
     requires listed { core.old.entries ≡ entries_of (start_list_of list.now) }
     ensures few { IfOk result (λ summary. summary.lines ≤ max_lines) }
-    ensures done { IfOk result (λ summary. IfSome (S.remaining reader.old) (λ input. Completes (option_copied only.entry) summary.lines
-        core.old core.new input (K.contents writer.old) (K.contents writer.new))) }
+    ensures done { IfOk result (λ summary. IfSome (S.remaining reader.old) (λ input.
+        Completes (option_copied only.entry) summary.lines core.old core.new input
+        (K.contents writer.old) (K.contents writer.new))) }
     ensures keeps { KeepsWorld core.old core.new }
     ensures writing { K.has_failed writer.new ≡ is_write_fault result }
     ensures reading { OnOk result (S.has_failed reader.new ≡ false) }
     ensures stops { IfErr result (λ fault. IfSome (S.remaining reader.old) (λ input.
-        Stops (option_copied only.entry) fault max_lines core.old core.new input (S.remaining reader.new) (S.has_failed reader.new)
+        Stops (option_copied only.entry) fault max_lines core.old core.new input
+        (S.remaining reader.new) (S.has_failed reader.new)
         (K.contents writer.old) (K.contents writer.new))) }
     ensures ok { IfErr result (λ fault. IfSome (S.remaining reader.old) (λ input.
         HasCause input max_lines (S.has_failed reader.new) (K.has_failed writer.new))) }

@@ -74,6 +74,34 @@ fn words_that_are_read(rt: HostRuntime) -> Result<(), Fail> {
 }
 
 #[test]
+fn name_alone_is_read(rt: HostRuntime) -> Result<(), Fail> {
+    let alloc = rt.alloc();
+    let lines: [(&[&str], Option<&str>); 6] = [
+        (&["scenario_run"], None),
+        (&["scenario_run", "--only", "alice"], Some("alice")),
+        (&["scenario_run", "--only=alice", "a.json"], Some("alice")),
+        (&["scenario_run", "a.json", "--only", ""], Some("")),
+        (
+            &["scenario_run", "--only", "alice quota"],
+            Some("alice quota"),
+        ),
+        (&["scenario_run", "--", "--only"], None),
+    ];
+    for (words, only) in lines {
+        let options = Options::read(alloc, words)?;
+        assert!(rt; options.only == only, "{words:?}");
+    }
+    for words in [
+        ["scenario_run", "--only"].as_slice(),
+        ["scenario_run", "--only", "a", "--only", "b"].as_slice(),
+    ] {
+        let refused = Options::read(alloc, words).err().ok_or("refused")?;
+        assert_eq!(rt; refused.exit_code(), 2, "{words:?}");
+    }
+    Ok(())
+}
+
+#[test]
 fn words_that_are_refused(rt: HostRuntime) -> Result<(), Fail> {
     let alloc = rt.alloc();
     let lines: [(&[&str], ErrorKind); 15] = [
@@ -144,6 +172,7 @@ fn help_fits_a_screen(rt: HostRuntime) -> Result<(), Fail> {
             "Usage: scenario_run [OPTIONS] [CONFIG]",
             "--check",
             "--accounts",
+            "--only <NAME>",
             "attach_at S A",
             "exit",
             "docs/FORMATS.md",
