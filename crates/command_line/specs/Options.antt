@@ -9,13 +9,19 @@ use Rattle.clap.specs.declared.builder.ArgAction.TheVariants.{SetTrue}
 abbrev pub flag_rule : Text → Rule
 flag_rule name = record (new_rule name) { long = Some name; action = Some SetTrue }
 
+-- the name whose lines alone are answered
+abbrev pub only_rule : Rule
+only_rule = record (new_rule (codes "only")) { long = Some (codes "only"); value_names = 1 }
+
 -- the path of a start list
 abbrev pub config_rule : Rule
 config_rule = record (new_rule (codes "config")) { value_names = 1 }
 
 -- the command itself
 abbrev pub program : App
-program = with_rule (with_rule (with_rule (new_app (codes "scenario_run")) (flag_rule (codes "check"))) (flag_rule (codes "accounts"))) config_rule
+program =
+    with_rule (with_rule (with_rule (with_rule (new_app (codes "scenario_run"))
+    (flag_rule (codes "check"))) (flag_rule (codes "accounts"))) only_rule) config_rule
 
 -- a text says that a flag was used
 abbrev pub is_true : Option Text → Bool

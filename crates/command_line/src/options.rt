@@ -11,8 +11,7 @@ use std::rt::Env;
 use std::{env, io};
 
 const ABOUT: &str = "Simulates one machine whose components trade quotas of RAM and capabilities.
-Each line of standard input is a call of a component; the replies are written
-to standard output.";
+Each line of standard input is a call of a component; replies are printed.";
 
 const FORMS: &str = "A line is NAME CALL, with one space between two words. CALL is one of
   alloc N       capalloc      attach S        new N     open SERVICE ARGS
@@ -27,60 +26,55 @@ docs/FORMATS.md has the forms of lines, replies and start lists.";
 /// What the program was asked to do.
 #[derive(Clone, Copy, Debug, PartialEq, Eq)]
 pub struct Options<'a> {
-    check: bool,
-    accounts: bool,
-    path: Option<&'a str>,
+    /// Whether the start list is only read and booted.
+    pub check: bool,
+    /// Whether the account list is told after the last reply.
+    pub accounts: bool,
+    /// The name whose lines alone are answered, or none for all lines.
+    pub only: Option<&'a str>,
+    /// The path of a start list, or none for the built-in machine.
+    pub path: Option<&'a str>,
 }
 
 impl<'a> Options<'a> {
     /// Reads the words of a command line, of which the first is the program's own name.
     pub fn read<S: AsStr>(alloc: Global, words: &'a [S]) -> Result<Options<'a>, Error>
         ensures check { IfOk result (λ options.
-            options.check ≡ is_set (codes "check") (matches_of program (map S.text words.entry.now))) }
+            options.check
+            ≡ is_set (codes "check") (matches_of program (map S.text words.entry.now))) }
         ensures accounts { IfOk result (λ options.
-            options.accounts ≡ is_set (codes "accounts") (matches_of program (map S.text words.entry.now))) }
+            options.accounts
+            ≡ is_set (codes "accounts") (matches_of program (map S.text words.entry.now))) }
+        ensures only { IfOk result (λ options. option_map (λ name. name.now) options.only
+            ≡ first_of (codes "only") (matches_of program (map S.text words.entry.now))) }
         ensures path { IfOk result (λ options. option_map (λ path. path.now) options.path
             ≡ first_of (codes "config") (matches_of program (map S.text words.entry.now))) }
         ensures refusals { FailsBy (fault_of program (map S.text words.entry.now)) result }
         ensures takes { IfErr result (λ error.
-            takes program (map S.text words.entry.now) ≡ true → kind_of error ≡ ErrorKind.OutOfMemory) }
+            takes program (map S.text words.entry.now) ≡ true
+            → kind_of error ≡ ErrorKind.OutOfMemory) }
     {
         let matches = command(alloc)?.try_get_matches_from(words)?;
         Ok(Options {
             check: is_set(&matches, "check"),
             accounts: is_set(&matches, "accounts"),
+            only: matches.get_str("only"),
             path: matches.get_str("config"),
         })
-    }
-
-    /// Whether the start list is only read and booted.
-    pub fn check(&self) -> bool
-        ensures { result ≡ self.now.check }
-    {
-        self.check
-    }
-
-    /// Whether the account list is told after the last reply.
-    pub fn accounts(&self) -> bool
-        ensures { result ≡ self.now.accounts }
-    {
-        self.accounts
-    }
-
-    /// The path of a start list, or none for the built-in machine.
-    pub fn path(&self) -> Option<&'a str>
-        ensures { result ≡ self.now.path }
-    {
-        self.path
     }
 }
 
 // The command line as `clap` reads it.
 fn command<'a>(alloc: Global) -> Result<Command<'a>, Error>
-    ensures { MatchResult result (λ made. app_of made ≡ program) (λ error. kind_of error ≡ ErrorKind.OutOfMemory) }
+    ensures { MatchResult result (λ made. app_of made ≡ program)
+        (λ error. kind_of error ≡ ErrorKind.OutOfMemory) }
 {
     let check = flag(alloc, "check", "Only boot, print ok and read no scenario");
     let accounts = flag(alloc, "accounts", "Print all accounts after the last reply");
+    let only = Arg::new(alloc, "only")
+        .long("only")
+        .value_name("NAME")
+        .help("Answer the lines of this component alone");
     let config = Arg::new(alloc, "config").value_name("CONFIG").help(
         "A start list in JSON; without it a built-in machine boots",
     );
@@ -89,6 +83,7 @@ fn command<'a>(alloc: Global) -> Result<Command<'a>, Error>
         .after_help(FORMS)
         .arg(check)?
         .arg(accounts)?
+        .arg(only)?
         .arg(config)?;
     Ok(command)
 }

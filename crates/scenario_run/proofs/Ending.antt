@@ -2,16 +2,17 @@
 use Rattle.std.proofs.Common.{◌≡◌, ℕ, ◌+◌, ◌<◌, ◌≤◌, Bool, true, false, List, [], ◌∷◌, ◌++◌, length, get_or, Option, Some, None, IfSome, Result, Ok, Err, inl, ⊎_elim, arith, refl, sym, ◌∙◌, ap, subst, append-nil, length-append}
 use Rattle.std.proofs.lemmas.List.{get_or-append-add}
 use Rattle.std.specs.Io.KnownBytes.{Appends}
-use Rattle.own_model.specs.Running.{init_running}
+use Rattle.own_model.specs.SaidBy.{said_by}
 use Rattle.own_model.specs.Text.{lines_of}
-use Rattle.own_model.specs.Transcript.{transcript, told_after, calls_of, state_at, state_after}
-use Rattle.own_model.specs.StartList.{StartList}
+use Rattle.own_model.specs.Transcript.{told_after, calls_of, state_at, state_after}
 use Rattle.own_model.specs.World.{World, IsBalanced, IsBalancedFor, world_running}
 use Rattle.own_model.proofs.BalanceLemmas.{lines_balanced, lines_balanced_for}
 use Rattle.own_model.proofs.RunningLemmas.{Tracks-none, told_after-running, length-states_running, states_running-at}
 use Rattle.scenario_run.specs.Answered.{told_of_all, after_all}
 use Rattle.scenario_run.specs.Lines.{longest_read, AreReadable}
+use Rattle.scenario_run.specs.Runs.{Completes, HasCause, KeepsWorld}
 use Rattle.scenario_run.specs.Serves.{Serves}
+use Rattle.scenario_run.proofs.Serving.{left_none, said_none}
 use Rattle.scenario_run.specs.Stops.{Stops, StopsFor, IsWritten, is_write_fault}
 use Rattle.scenario_run.specs.declared.running.RunFault.{RunFault}
 use Rattle.scenario_run.proofs.ReachLemmas.{keeps_up_as, keeps_up_none}
@@ -20,110 +21,81 @@ use Rattle.std.proofs.lemmas.List.Elements.{All-nil}
 use Rattle.scenario_run.specs.declared.running.RunFault.TheVariants.{ReadFault, WriteFault, TooManyLines}
 
 -- what is told of lines by the running states is what is told of them by the history
-told_same : (world : World) (lines : List (List ℕ)) → told_of_all world lines ≡ told_after world.entries world.states [] lines
+told_same : (world : World) (lines : List (List ℕ)) → told_of_all None world lines ≡ told_after world.entries world.states [] lines
 told_same world lines = sym (told_after-running world.entries world.states world.states [] lines (Tracks-none world.entries world.states))
 
--- each own state is that of the component's own run on its own part of the lines answered
-states_at : (old new : World) (lines : List (List ℕ)) → new ≡ after_all old lines → (component : ℕ) →
+-- each own state is that of the component's own run on its own part of the lines that are run
+states_at : (old new : World) (lines : List (List ℕ)) → new ≡ world_running old lines → (component : ℕ) →
     state_at new.states component ≡ state_after old.entries old.states (calls_of old.entries lines) component
 states_at old new lines left component = ap (λ w. state_at w.states component) left ∙ states_running-at old.entries old.states lines component
 
-module _ {result : Result ℕ RunFault} {max_lines : ℕ} {old new : World} {input rest : Option (List ℕ)} {failed : Bool} {written now_written : Option (List ℕ)}
-    (serves : Serves result max_lines old new input rest failed written now_written) where
-  -- there are as many own states as before
-  pub as_many_states : length new.states ≡ length old.states
-  as_many_states = ap (λ w. length w.states) serves.world ∙ length-states_running old.entries old.states serves.answered
-
-  -- and the balance stays
-  pub still_balanced : (pages caps : ℕ) → IsBalanced pages caps old → IsBalanced pages caps new
-  still_balanced pages caps balanced = subst (IsBalanced pages caps) (sym serves.world) (lines_balanced pages caps old serves.answered balanced)
-
-  -- for a start list too
-  pub still_balanced_for : (list : StartList) → IsBalancedFor list old → IsBalancedFor list new
-  still_balanced_for list balanced = subst (IsBalancedFor list) (sym serves.world) (lines_balanced_for list old serves.answered balanced)
+-- after any lines a world has as many own states, and the balance stays
+pub keeps_world : (old new : World) (lines : List (List ℕ)) → new ≡ world_running old lines → KeepsWorld old new
+keeps_world old new lines left = record {
+  entries = ap (λ w. w.entries) left;
+  count = ap (λ w. length w.states) left ∙ length-states_running old.entries old.states lines;
+  balance = λ pages caps balanced. subst (IsBalanced pages caps) (sym left) (lines_balanced pages caps old lines balanced);
+  shares = λ list balanced. subst (IsBalancedFor list) (sym left) (lines_balanced_for list old lines balanced);
+}
 
 -- where no line is left, those answered are all
 all_answered : (text : List ℕ) (answered left : List (List ℕ)) → lines_of text ≡ answered ++ left → left ≡ [] → answered ≡ lines_of text
 all_answered text answered left parts none = sym (parts ∙ ap (λ l. answered ++ l) none ∙ append-nil answered)
 
--- a run that answers Ok has written the transcript
-pub transcript_written : {count max_lines : ℕ} {old new : World} {input rest : Option (List ℕ)} {failed : Bool} {written now_written : Option (List ℕ)} →
-    Serves (Ok count) max_lines old new input rest failed written now_written →
-    IfSome input (λ text. Appends written now_written (transcript old.entries old.states text))
-transcript_written {input = None} serves = tt
-transcript_written {old = old} {input = Some text} {written = written} {now_written = now_written} serves =
-    subst (Appends written now_written)
-    (told_same old serves.answered ∙ ap (told_after old.entries old.states []) (all_answered text serves.answered serves.lines.0 serves.lines.1 serves.lines.2))
-    serves.told
-
--- and each own state is that after all lines
-pub states_after_all : {count max_lines : ℕ} {old new : World} {input rest : Option (List ℕ)} {failed : Bool} {written now_written : Option (List ℕ)} →
-    Serves (Ok count) max_lines old new input rest failed written now_written →
-    IfSome input (λ text. (component : ℕ) → state_at new.states component ≡ state_after old.entries old.states (calls_of old.entries (lines_of text)) component)
-states_after_all {input = None} serves = tt
-states_after_all {old = old} {new = new} {input = Some text} serves =
-    λ component. states_at old new serves.answered serves.world component
-    ∙ ap (λ lines. state_after old.entries old.states (calls_of old.entries lines) component)
-    (all_answered text serves.answered serves.lines.0 serves.lines.1 serves.lines.2)
-
--- the world is that after all lines
-pub world_after_all : {count max_lines : ℕ} {old new : World} {input rest : Option (List ℕ)} {failed : Bool} {written now_written : Option (List ℕ)} →
-    Serves (Ok count) max_lines old new input rest failed written now_written → IfSome input (λ text. new ≡ world_running old (lines_of text))
-world_after_all {input = None} serves = tt
-world_after_all {old = old} {input = Some text} serves =
-    serves.world ∙ ap (world_running old) (all_answered text serves.answered serves.lines.0 serves.lines.1 serves.lines.2)
-
--- and so is init's account
-pub init_after_all : {count max_lines : ℕ} {old new : World} {input rest : Option (List ℕ)} {failed : Bool} {written now_written : Option (List ℕ)} →
-    Serves (Ok count) max_lines old new input rest failed written now_written →
-    IfSome input (λ text. new.init ≡ init_running old.entries old.init old.states (lines_of text))
-init_after_all {input = None} serves = tt
-init_after_all {old = old} {input = Some text} serves =
-    ap (λ w. w.init) serves.world
-    ∙ ap (init_running old.entries old.init old.states) (all_answered text serves.answered serves.lines.0 serves.lines.1 serves.lines.2)
-
--- and each line was read to its end
-pub all_readable : {count max_lines : ℕ} {old new : World} {input rest : Option (List ℕ)} {failed : Bool} {written now_written : Option (List ℕ)} →
-    Serves (Ok count) max_lines old new input rest failed written now_written → IfSome input (λ text. AreReadable (lines_of text))
-all_readable {input = None} serves = tt
-all_readable {input = Some text} serves = subst AreReadable (all_answered text serves.answered serves.lines.0 serves.lines.1 serves.lines.2) serves.readable
+-- a run that answers Ok has come to the end of its input
+pub completes : {only : Option (List ℕ)} {count max_lines : ℕ} {old new : World} {input rest : Option (List ℕ)} {failed : Bool} {written now_written : Option (List ℕ)} →
+    Serves only (Ok count) max_lines old new input rest failed written now_written →
+    IfSome input (λ text. Completes only count old new text written now_written)
+completes {input = None} serves = tt
+completes {only = only} {count = count} {old = old} {new = new} {input = Some text} {written = written} {now_written = now_written} serves =
+    let all : serves.answered ≡ lines_of text = all_answered text serves.answered serves.lines.0 serves.lines.1 serves.lines.2 in
+    let left : new ≡ world_running old (said_by only (lines_of text)) = serves.world ∙ ap (after_all only old) all in
+    record {
+      counted = sym serves.count.1 ∙ ap length all;
+      readable = subst AreReadable all serves.readable;
+      transcript = subst (Appends written now_written) (told_same old (said_by only serves.answered) ∙ ap (λ lines. told_after old.entries old.states [] (said_by only lines)) all) serves.told;
+      states = states_at old new (said_by only (lines_of text)) left;
+      world = left;
+    }
 
 -- what is written at a fault, by the history
 written_same : (fault : RunFault) (written now_written : Option (List ℕ)) (a b : List ℕ) → a ≡ b → IsWritten fault written now_written a → IsWritten fault written now_written b
 written_same fault written now_written a b same told = subst (IsWritten fault written now_written) same told
 
 -- a run that stops has answered the first lines
-pub stops_at : {fault : RunFault} {max_lines : ℕ} {old new : World} {input rest : Option (List ℕ)} {failed : Bool} {written now_written : Option (List ℕ)} →
-    Serves (Err fault) max_lines old new input rest failed written now_written →
-    IfSome input (λ text. Stops fault max_lines old new text rest failed written now_written)
+pub stops_at : {only : Option (List ℕ)} {fault : RunFault} {max_lines : ℕ} {old new : World} {input rest : Option (List ℕ)} {failed : Bool} {written now_written : Option (List ℕ)} →
+    Serves only (Err fault) max_lines old new input rest failed written now_written →
+    IfSome input (λ text. Stops only fault max_lines old new text rest failed written now_written)
 stops_at {input = None} serves = tt
-stops_at {fault = fault} {old = old} {new = new} {input = Some text} {written = written} {now_written = now_written} serves = record {
+stops_at {only = only} {fault = fault} {old = old} {new = new} {input = Some text} {written = written} {now_written = now_written} serves = record {
   answered = serves.answered;
   left = serves.lines.0;
   lines = serves.lines.1;
   cause = serves.lines.2;
   readable = serves.readable;
-  keeps_up = keeps_up_as (told_of_all old) (told_after old.entries old.states []) (told_same old) serves.keeps_up;
-  told = written_same fault written now_written _ _ (told_same old serves.answered) serves.told;
-  states = states_at old new serves.answered serves.world;
-  init = ap (λ w. w.init) serves.world;
+  keeps_up =
+      keeps_up_as (told_of_all only old) (λ lines. told_after old.entries old.states [] (said_by only lines)) (λ lines. told_same old (said_by only lines)) serves.keeps_up;
+  told = written_same fault written now_written _ _ (told_same old (said_by only serves.answered)) serves.told;
+  states = states_at old new (said_by only serves.answered) serves.world;
+  world = serves.world;
 }
 
 -- or none, where a device had failed before
-stops_unread : (fault : RunFault) (max_lines : ℕ) (world : World) (input written : Option (List ℕ)) (failed : Bool) →
+stops_unread : (only : Option (List ℕ)) (fault : RunFault) (max_lines : ℕ) (world : World) (input written : Option (List ℕ)) (failed : Bool) →
     IsWritten fault written written [] → IfSome input (λ text. StopsFor fault [] (lines_of text) max_lines text input failed) →
-    IfSome input (λ text. Stops fault max_lines world world text input failed written written)
-stops_unread fault max_lines world None written failed told cause = tt
-stops_unread fault max_lines world (Some text) written failed told cause = record {
+    IfSome input (λ text. Stops only fault max_lines world world text input failed written written)
+stops_unread only fault max_lines world None written failed told cause = tt
+stops_unread only fault max_lines world (Some text) written failed told cause = record {
   answered = [];
   left = lines_of text;
   lines = refl;
   cause = cause;
   readable = All-nil (λ line. length line ≤ longest_read);
-  keeps_up = keeps_up_none (told_after world.entries world.states []) (Some text) written refl;
-  told = told;
-  states = λ component. refl;
-  init = refl;
+  keeps_up =
+      keeps_up_none (λ lines. told_after world.entries world.states [] (said_by only lines)) (Some text) written (ap (told_after world.entries world.states []) (said_none only));
+  told = subst (IsWritten fault written written) (ap (told_after world.entries world.states []) (sym (said_none only))) told;
+  states = λ component. ap (λ lines. state_after world.entries world.states (calls_of world.entries lines) component) (sym (said_none only));
+  world = sym (left_none only world);
 }
 
 -- what is still to come is all of the input
@@ -132,18 +104,18 @@ unread_for None P all = tt
 unread_for (Some text) P all = all text
 
 -- the writer
-pub stops_unwritten : (max_lines : ℕ) (world : World) (input written : Option (List ℕ)) (failed : Bool) →
-    IfSome input (λ text. Stops WriteFault max_lines world world text input failed written written)
-stops_unwritten max_lines world input written failed =
-    stops_unread WriteFault max_lines world input written failed (record { part = []; left = []; parts = refl; grows = Appends-none written })
+pub stops_unwritten : (only : Option (List ℕ)) (max_lines : ℕ) (world : World) (input written : Option (List ℕ)) (failed : Bool) →
+    IfSome input (λ text. Stops only WriteFault max_lines world world text input failed written written)
+stops_unwritten only max_lines world input written failed =
+    stops_unread only WriteFault max_lines world input written failed (record { part = []; left = []; parts = refl; grows = Appends-none written })
     (unread_for input (λ text rest. StopsFor WriteFault [] (lines_of text) max_lines text rest failed)
     (λ text. (omega arith, record { read = []; left = text; is_left = refl; parts = refl; whole = inl (omega arith) })))
 
 -- or the reader
-pub stops_unreadable : (max_lines : ℕ) (world : World) (input written : Option (List ℕ)) (failed : Bool) → failed ≡ true →
-    IfSome input (λ text. Stops ReadFault max_lines world world text input failed written written)
-stops_unreadable max_lines world input written failed fails =
-    stops_unread ReadFault max_lines world input written failed (Appends-none written)
+pub stops_unreadable : (only : Option (List ℕ)) (max_lines : ℕ) (world : World) (input written : Option (List ℕ)) (failed : Bool) → failed ≡ true →
+    IfSome input (λ text. Stops only ReadFault max_lines world world text input failed written written)
+stops_unreadable only max_lines world input written failed fails =
+    stops_unread only ReadFault max_lines world input written failed (Appends-none written)
     (unread_for input (λ text rest. StopsFor ReadFault [] (lines_of text) max_lines text rest failed)
     (λ text. inl (fails, record { read = []; left = text; is_left = refl; parts = refl; ended = inl refl })))
 
@@ -168,12 +140,12 @@ no_cause TooManyLines answered left max_lines text rest failed write_failed part
     omega (arith, cause.0, cause.1, ap length parts, length-append answered left)
 
 -- so it answers Ok
-pub not_stopped : {fault : RunFault} {max_lines : ℕ} {old new : World} {input rest : Option (List ℕ)} {failed : Bool} {written now_written : Option (List ℕ)} (write_failed : Bool) →
-    Serves (Err fault) max_lines old new input rest failed written now_written → write_failed ≡ is_write_fault {T = ℕ} (Err fault) →
-    IfSome input (λ text. failed ≡ false → write_failed ≡ false → AreReadable (lines_of text) → length (lines_of text) ≤ max_lines → ⊥)
+pub not_stopped : {only : Option (List ℕ)} {fault : RunFault} {max_lines : ℕ} {old new : World} {input rest : Option (List ℕ)} {failed : Bool} {written now_written : Option (List ℕ)} (write_failed : Bool) →
+    Serves only (Err fault) max_lines old new input rest failed written now_written → write_failed ≡ is_write_fault {T = ℕ} (Err fault) →
+    IfSome input (λ text. HasCause text max_lines failed write_failed)
 not_stopped {input = None} write_failed serves fails = tt
 not_stopped {fault = fault} {max_lines = max_lines} {input = Some text} {rest = rest} {failed = failed} write_failed serves fails =
     no_cause fault serves.answered serves.lines.0 max_lines text rest failed write_failed serves.lines.1 serves.lines.2 fails
 
 -- what each clause of a run says
-pub ruleset endings = (transcript_written, states_after_all, world_after_all, init_after_all, as_many_states, all_readable, stops_at)
+pub ruleset endings = (completes, stops_at)

@@ -2,9 +2,8 @@
 use Rattle.std.proofs.Common.{◌≡◌, ℕ, ◌+◌, ◌<◌, ◌≤◌, List, [], ◌++◌, length, take, drop, Option, Some, None, IfSome, Result, Ok, Err, inl, inr, arith, refl, sym, ◌∙◌, ap, subst, append_assoc, append-nil, length-append}
 use Rattle.std.proofs.lemmas.List.{length-take, take-append-drop}
 use Rattle.std.specs.Io.KnownBytes.{Appends, Keeps}
-use Rattle.scenario_run.specs.Answered.{Point, Answers, ReadsOn}
 use Rattle.scenario_run.specs.Gathered.{Tells, TellsUnless}
-use Rattle.scenario_run.specs.Lines.{HasRead, PassesLines, PassesSome, line_length, to_come}
+use Rattle.scenario_run.specs.Lines.{PassesLines, PassesSome, line_length, to_come}
 use Rattle.scenario_run.specs.Next.{TellsAt, TellsOrStops}
 use Rattle.scenario_run.specs.Reach.{IsFlushed, IsReadUpTo, KeepsUp, ReadsBehind, longest_ahead, reach}
 use Rattle.scenario_run.specs.declared.lines.LineFault.{LineFault}

@@ -2,12 +2,13 @@
 use Rattle.std.proofs.Common.{◌≡◌, ℕ, ◌+◌, ◌<◌, nat_lt, ◌≤◌, slice_index_or, take, drop, Bool, true, false, List, [], ◌∷◌, ◌++◌, length, Option, Some, None, IfSome, Result, Ok, Err, inl, inr, arith, refl, sym, ◌∙◌, ap, subst, append_assoc, append-nil, length-append}
 use Rattle.std.proofs.lemmas.Bool.Decides.{nat_tests}
 use Rattle.std.specs.Io.KnownBytes.{Appends}
-use Rattle.own_model.specs.StartList.{Entry}
 use Rattle.own_model.specs.Text.{lines_of}
-use Rattle.own_model.specs.Transcript.{heard, longest_line}
-use Rattle.own_model.specs.Transcript.Heard.{NoCall}
-use Rattle.own_model.specs.World.{World}
-use Rattle.scenario_run.specs.Answered.{Point, Answers, Ended, Halts, HaltsFor, AnswersNext, ReadsOn, told_of, told_of_all, after_one, after_all, bad_line, more_unless_failed}
+use Rattle.own_model.specs.Transcript.{heard}
+use Rattle.own_model.specs.World.{World, world_after_heard, world_running}
+use Rattle.scenario_run.specs.Answered.{Point, Answers, Ended, Halts, HaltsFor, AnswersNext, ReadsOn, told_of_all, told_of_none, after_all, more_unless_failed}
+use Rattle.own_model.specs.Running.{told_now}
+use Rattle.own_model.specs.SaidBy.{is_said_by, said_by}
+use Rattle.scenario_run.proofs.AnsweringLemmas.{IsTold, told_long, told_no_call}
 use Rattle.scenario_run.specs.Gathered.{Tells, TellsUnless}
 use Rattle.scenario_run.specs.Lines.{line_of, longest_read, to_come, AreReadable, HasRead, PassesLines}
 use Rattle.scenario_run.specs.Next.{BeginsWithLine, PassesLongLine, StopsBefore, TellsAt, is_read_fault}
@@ -22,27 +23,37 @@ use Rattle.scenario_run.proofs.LineLemmas.{line_length-le, lines_of-cons, length
 use Rattle.scenario_run.proofs.PassedLines.{has_passed, has_read_more, passes_line, passes_none, passes_more, read_to}
 use Rattle.scenario_run.proofs.ReachLemmas.{Writes, keeps_up_more, writes_at}
 use Rattle.scenario_run.specs.Reach.{KeepsUp}
-use Rattle.std.proofs.lemmas.List.Elements.{All-append, All-cons, All-nil}
+use Rattle.std.proofs.lemmas.List.Elements.{All-append, All-cons, All-nil, filter-append}
+
+-- a name's lines among lines and then others
+said_by-append : (only : Option (List ℕ)) (xs ys : List (List ℕ)) → said_by only (xs ++ ys) ≡ said_by only xs ++ said_by only ys
+said_by-append None xs ys = refl
+said_by-append (Some name) xs ys = filter-append (is_said_by name) xs ys
 
 -- what lines leave, and then others
-after_all-append : (world : World) (xs ys : List (List ℕ)) → after_all (after_all world xs) ys ≡ after_all world (xs ++ ys)
-after_all-append world [] ys = refl
-after_all-append world (x ∷ xs) ys = after_all-append (after_one world x) xs ys
+world_running-append : (world : World) (xs ys : List (List ℕ)) → world_running (world_running world xs) ys ≡ world_running world (xs ++ ys)
+world_running-append world [] ys = refl
+world_running-append world (x ∷ xs) ys = world_running-append (world_after_heard world (heard world.entries x)) xs ys
 
 -- what is told of lines, and then of others
-told_of_all-append : (world : World) (xs ys : List (List ℕ)) → told_of_all world (xs ++ ys) ≡ told_of_all world xs ++ told_of_all (after_all world xs) ys
-told_of_all-append world [] ys = refl
-told_of_all-append world (x ∷ xs) ys =
-    ap (λ text. told_of world x ++ text) (told_of_all-append (after_one world x) xs ys)
-    ∙ sym (append_assoc (told_of world x) (told_of_all (after_one world x) xs) (told_of_all (after_all world (x ∷ xs)) ys))
+told_running-append : (world : World) (xs ys : List (List ℕ)) → told_of_all None world (xs ++ ys) ≡ told_of_all None world xs ++ told_of_all None (world_running world xs) ys
+told_running-append world [] ys = refl
+told_running-append world (x ∷ xs) ys =
+    let told = told_now world.entries world.states (heard world.entries x) in
+    let next = world_after_heard world (heard world.entries x) in
+    ap (λ text. told ++ text) (told_running-append next xs ys)
+    ∙ sym (append_assoc told (told_of_all None next xs) (told_of_all None (world_running next xs) ys))
 
--- the same from the world that the first lines left
-told_of_both : (world mid : World) (xs ys : List (List ℕ)) → mid ≡ after_all world xs → told_of_all world xs ++ told_of_all mid ys ≡ told_of_all world (xs ++ ys)
-told_of_both world mid xs ys left = rw left (sym (told_of_all-append world xs ys))
+module _ (only : Option (List ℕ)) where
+  -- the same from the world that the first lines left
+  told_of_both : (world mid : World) (xs ys : List (List ℕ)) → mid ≡ after_all only world xs → told_of_all only world xs ++ told_of_all only mid ys ≡ told_of_all only world (xs ++ ys)
+  told_of_both world mid xs ys left =
+      rw left (sym (ap (told_of_all None world) (said_by-append only xs ys) ∙ told_running-append world (said_by only xs) (said_by only ys)))
 
--- and the world that both leave
-left_by_both : (world mid last : World) (xs ys : List (List ℕ)) → mid ≡ after_all world xs → last ≡ after_all mid ys → last ≡ after_all world (xs ++ ys)
-left_by_both world mid last xs ys left then = then ∙ ap (λ w. after_all w ys) left ∙ after_all-append world xs ys
+  -- and the world that both leave
+  left_by_both : (world mid last : World) (xs ys : List (List ℕ)) → mid ≡ after_all only world xs → last ≡ after_all only mid ys → last ≡ after_all only world (xs ++ ys)
+  left_by_both world mid last xs ys left then =
+      then ∙ ap (λ w. after_all only w ys) left ∙ world_running-append world (said_by only xs) (said_by only ys) ∙ ap (world_running world) (sym (said_by-append only xs ys))
 
 -- a run that starts: nothing is read ahead or gathered
 abbrev pub start : World → Option (List ℕ) → Option (List ℕ) → Point
@@ -56,19 +67,38 @@ none_readable = All-nil (λ line. length line ≤ longest_read)
 one_readable : (line : List ℕ) → length line ≤ longest_read → AreReadable (line ∷ [])
 one_readable line short = All-cons (λ line. length line ≤ longest_read) line [] short none_readable
 
+-- a name has no line where there is none
+pub said_none : (only : Option (List ℕ)) → said_by only [] ≡ []
+said_none None = refl
+said_none (Some name) = refl
+
+-- so nothing is told, and nothing changes
+pub told_none : (only : Option (List ℕ)) (world : World) → told_of_all only world [] ≡ []
+told_none only world = ap (told_of_all None world) (said_none only)
+
+pub left_none : (only : Option (List ℕ)) (world : World) → after_all only world [] ≡ world
+left_none only world = ap (world_running world) (said_none only)
+
 -- no line is answered at first
-pub answers_none : (world : World) (rest written : Option (List ℕ)) (ahead gathered : List ℕ) → ahead ≡ [] → gathered ≡ [] →
-    Answers [] (start world rest written) (record { world = world; ahead = ahead; rest = rest; written = written; gathered = gathered })
-answers_none world None written ahead gathered no_ahead no_gathered =
-    rw (no_ahead, no_gathered) (record { world = refl; tells = Tells-none written []; passes = tt; readable = none_readable })
-answers_none world (Some text) written ahead gathered no_ahead no_gathered =
-    rw (no_ahead, no_gathered) (record { world = refl; tells = Tells-none written []; passes = passes_none text; readable = none_readable })
+pub answers_none : (only : Option (List ℕ)) (world : World) (rest written : Option (List ℕ)) (ahead gathered : List ℕ) → ahead ≡ [] → gathered ≡ [] →
+    Answers only [] (start world rest written) (record { world = world; ahead = ahead; rest = rest; written = written; gathered = gathered })
+answers_none only world rest written ahead gathered no_ahead no_gathered =
+    rw (no_ahead, no_gathered) (record {
+      world = sym (left_none only world);
+      tells = subst (Tells written [] written []) (sym (told_none only world)) (Tells-none written []);
+      passes = at rest;
+      readable = none_readable;
+    })
+  where
+    at : (o : Option (List ℕ)) → IfSome (to_come [] o) (λ text. PassesLines text (to_come [] o) [])
+    at None = tt
+    at (Some text) = passes_none text
 
 -- lines are answered after lines
-pub answers_more : {p q r : Point} {xs ys : List (List ℕ)} → Answers xs p q → Answers ys q r → Answers (xs ++ ys) p r
-answers_more {p = p} {q = q} {r = r} {xs = xs} {ys = ys} first then = record {
-  world = left_by_both p.world q.world r.world xs ys first.world then.world;
-  tells = rw (← told_of_both p.world q.world xs ys first.world) (Tells-more first.tells then.tells);
+pub answers_more : {only : Option (List ℕ)} {p q r : Point} {xs ys : List (List ℕ)} → Answers only xs p q → Answers only ys q r → Answers only (xs ++ ys) p r
+answers_more {only = only} {p = p} {q = q} {r = r} {xs = xs} {ys = ys} first then = record {
+  world = left_by_both only p.world q.world r.world xs ys first.world then.world;
+  tells = rw (← told_of_both only p.world q.world xs ys first.world) (Tells-more first.tells then.tells);
   passes = passes_more (to_come p.ahead p.rest) (to_come q.ahead q.rest) (to_come r.ahead r.rest) xs ys first.passes then.passes;
   readable = All-append (λ line. length line ≤ longest_read) xs ys first.readable then.readable;
 }
@@ -80,16 +110,16 @@ left_behind None rest ahead xs passes = tt
 left_behind (Some text) rest ahead xs passes = (lines_of passes.rest, passes.first, has_passed text ahead rest xs passes)
 
 -- a line is answered, unless a write fails
-pub answered_line : {E : Type 0} (p q : Point) (written : Option (List ℕ)) (gathered line : List ℕ) (answered : Result (Unit {0}) E) →
-    Tells p.written p.gathered written gathered [] → TellsUnless answered written gathered q.written q.gathered (told_of p.world line) →
-    q.world ≡ after_one p.world line → IfSome (to_come p.ahead p.rest) (λ text. PassesLines text (to_come q.ahead q.rest) (line ∷ [])) →
-    length line ≤ longest_read → AnswersNext (more_unless_failed answered) p q
-answered_line p q written gathered line (Ok done) before tells world passes short =
-    (line, record { world = world; tells = rw (append-nil (told_of p.world line)) (Tells-more before tells); passes = passes; readable = one_readable line short })
-answered_line p q written gathered line (Err fault) before tells world passes short = record {
+pub answered_line : {E : Type 0} (only : Option (List ℕ)) (p q : Point) (written : Option (List ℕ)) (gathered line : List ℕ) (answered : Result (Unit {0}) E) →
+    Tells p.written p.gathered written gathered [] → TellsUnless answered written gathered q.written q.gathered (told_of_all only p.world (line ∷ [])) →
+    q.world ≡ after_all only p.world (line ∷ []) → IfSome (to_come p.ahead p.rest) (λ text. PassesLines text (to_come q.ahead q.rest) (line ∷ [])) →
+    length line ≤ longest_read → AnswersNext only (more_unless_failed answered) p q
+answered_line only p q written gathered line (Ok done) before tells world passes short =
+    (line, record { world = world; tells = Tells-more before tells; passes = passes; readable = one_readable line short })
+answered_line only p q written gathered line (Err fault) before tells world passes short = record {
   answered = line ∷ [];
   world = world;
-  tells = (tells.0, rw (append-nil (told_of p.world line)) (Tells-more before (tells.1)));
+  tells = (tells.0, Tells-more before (tells.1));
   lines = left_behind (to_come p.ahead p.rest) q.rest q.ahead (line ∷ []) passes;
   readable = one_readable line short;
   one = omega arith;
@@ -101,25 +131,13 @@ pub passes_ahead : (old rest : Option (List ℕ)) (ahead left : List ℕ) (n : �
 passes_ahead None rest ahead left n begins is = tt
 passes_ahead (Some text) rest ahead left n begins is = grind (arith, nat_tests, passes_line)
 
--- a line that is too long is no call
-heard_long : (entries : List Entry) (line : List ℕ) → longest_line < length line → heard entries line ≡ NoCall
-heard_long entries line long = grind (arith, nat_tests)
-
--- a line that is no call is told so, and changes nothing
-pub record IsUnheard (world : World) (line : List ℕ) : Type 0 where
-  pub tells : told_of world line ≡ bad_line
-  pub leaves : after_one world line ≡ world
-
-unheard : (world : World) (line : List ℕ) → heard world.entries line ≡ NoCall → IsUnheard world line
-unheard world line e = record { tells = rw e refl; leaves = rw e refl }
-
 -- a line that was too long, and is passed
-pub passes_long : (world : World) (old come : Option (List ℕ)) → IfSome old (λ before. PassesLongLine before come) →
-    (line : List ℕ) × IsUnheard world line × IfSome old (λ text. PassesLines text come (line ∷ [])) × (length line ≤ longest_read)
-passes_long world None come long = ([], unheard world [] refl, tt, omega arith)
-passes_long world (Some text) come long = (
+pub passes_long : (only : Option (List ℕ)) (world : World) (old come : Option (List ℕ)) → IfSome old (λ before. PassesLongLine before come) →
+    (line : List ℕ) × IsTold only world line (told_of_none only) world × IfSome old (λ text. PassesLines text come (line ∷ [])) × (length line ≤ longest_read)
+passes_long only world None come long = ([], told_no_call only world [] (omega arith) refl, tt, omega arith)
+passes_long only world (Some text) come long = (
   line_of text,
-  unheard world (line_of text) (heard_long world.entries (line_of text) (omega (arith, long.long, length-line_of text))),
+  told_long only world (line_of text) (omega (arith, long.long, length-line_of text)),
   passes_line text come (omega (arith, long.long, line_length-le text)) long.after,
   omega (arith, long.ends, length-line_of text),
 )
@@ -132,9 +150,16 @@ halts_for (Some text) rest Write stops = (lines_of text, refl, stops)
 halts_for (Some text) rest Endless stops = (refl, stops)
 
 -- no line comes, so none is answered
-abbrev pub halts_before : (p q : Point) (fault : LineFault) → q.world ≡ p.world → TellsAt fault p.written p.gathered q.written [] →
-    IfSome (to_come p.ahead p.rest) (λ before. StopsBefore fault before q.rest) → Halts fault p q
-halts_before p q fault world tells stops = record { answered = []; world = world; tells = tells; lines = halts_for (to_come p.ahead p.rest) q.rest fault stops; readable = none_readable; one = omega arith }
+abbrev pub halts_before : (only : Option (List ℕ)) (p q : Point) (fault : LineFault) → q.world ≡ p.world → TellsAt fault p.written p.gathered q.written [] →
+    IfSome (to_come p.ahead p.rest) (λ before. StopsBefore fault before q.rest) → Halts only fault p q
+halts_before only p q fault world tells stops = record {
+  answered = [];
+  world = world ∙ sym (left_none only p.world);
+  tells = subst (TellsAt fault p.written p.gathered q.written) (sym (told_none only p.world)) tells;
+  lines = halts_for (to_come p.ahead p.rest) q.rest fault stops;
+  readable = none_readable;
+  one = omega arith;
+}
 
 -- where no line begins nothing is to come
 pub none_begins : (come : Option (List ℕ)) → IfSome come (λ before. false ≡ nat_lt 0 (length before)) → IfSome come (λ text. text ≡ [])
@@ -174,31 +199,31 @@ stops_for Endless text come rest xs answered max_lines failed fails few p halts 
     rw (halts.0, append-nil xs) (lines_of p.rest, p.first, inr long)
 
 -- a run ends behind the lines answered
-module _ {world : World} {input written : Option (List ℕ)} {xs : List (List ℕ)} {q : Point} (answers : Answers xs (start world input written) q)
-    (up : KeepsUp (told_of_all world) xs input q.rest written q.written) where
+module _ {only : Option (List ℕ)} {world : World} {input written : Option (List ℕ)} {xs : List (List ℕ)} {q : Point} (answers : Answers only xs (start world input written) q)
+    (up : KeepsUp (told_of_all only world) xs input q.rest written q.written) where
   -- it keeps up until it ends
-  kept_up : (r : Point) (ys : List (List ℕ)) → ReadsOn q r → Writes q.written r.written → KeepsUp (told_of_all world) (xs ++ ys) input r.rest written r.written
-  kept_up r ys on more = keeps_up_more (told_of_all world) ys (to_come q.ahead q.rest) answers.tells (whole input answers.passes) up on more
+  kept_up : (r : Point) (ys : List (List ℕ)) → ReadsOn q r → Writes q.written r.written → KeepsUp (told_of_all only world) (xs ++ ys) input r.rest written r.written
+  kept_up r ys on more = keeps_up_more (told_of_all only world) ys (to_come q.ahead q.rest) answers.tells (whole input answers.passes) up on more
     where
       whole : (o : Option (List ℕ)) → IfSome (to_come [] o) (λ text. PassesLines text (to_come q.ahead q.rest) xs) → IfSome o (λ text. PassesLines text (to_come q.ahead q.rest) xs)
       whole None passes = tt
       whole (Some text) passes = passes
 
   -- one line more is answered
-  pub kept_up_next : (r : Point) (line : List ℕ) → ReadsOn q r → Answers (line ∷ []) q r → KeepsUp (told_of_all world) (xs ++ line ∷ []) input r.rest written r.written
+  pub kept_up_next : (r : Point) (line : List ℕ) → ReadsOn q r → Answers only (line ∷ []) q r → KeepsUp (told_of_all only world) (xs ++ line ∷ []) input r.rest written r.written
   kept_up_next r line on then = kept_up r (line ∷ []) on (record { out = then.tells.out; grows = then.tells.grows })
 
   -- or none
-  kept_up_here : (r : Point) → ReadsOn q r → Writes q.written r.written → KeepsUp (told_of_all world) xs input r.rest written r.written
-  kept_up_here r on more = subst (λ lines. KeepsUp (told_of_all world) lines input r.rest written r.written) (append-nil xs) (kept_up r [] on more)
+  kept_up_here : (r : Point) → ReadsOn q r → Writes q.written r.written → KeepsUp (told_of_all only world) xs input r.rest written r.written
+  kept_up_here r on more = subst (λ lines. KeepsUp (told_of_all only world) lines input r.rest written r.written) (append-nil xs) (kept_up r [] on more)
 
   -- no line is left
   pub serves_to_end : (r : Point) (max_lines count : ℕ) (failed : Bool) → length xs ≡ count → count ≤ max_lines → ReadsOn q r → Ended q r →
-      Serves (Ok count) max_lines world r.world input r.rest failed written r.written
+      Serves only (Ok count) max_lines world r.world input r.rest failed written r.written
   serves_to_end r max_lines count failed full few on ended = record {
     answered = xs;
     world = ended.world ∙ answers.world;
-    told = all_written (subst (Tells written [] r.written []) (append-nil (told_of_all world xs)) (Tells-more answers.tells ended.tells));
+    told = all_written (subst (Tells written [] r.written []) (append-nil (told_of_all only world xs)) (Tells-more answers.tells ended.tells));
     count = (few, full);
     lines = behind input (to_come q.ahead q.rest) xs _ _ answers.passes ended.none (λ text p none. (lines_of p.rest, p.first, ap lines_of none));
     readable = answers.readable;
@@ -206,14 +231,14 @@ module _ {world : World} {input written : Option (List ℕ)} {xs : List (List �
   }
 
   -- a fault comes
-  pub serves_to_fault : (r : Point) (max_lines : ℕ) (failed : Bool) (fault : LineFault) → failed ≡ is_read_fault {T = Bool} (Err fault) → (halts : Halts fault q r) →
-      length xs + length halts.answered ≤ max_lines → ReadsOn q r → Serves (Err (run_fault fault)) max_lines world r.world input r.rest failed written r.written
+  pub serves_to_fault : (r : Point) (max_lines : ℕ) (failed : Bool) (fault : LineFault) → failed ≡ is_read_fault {T = Bool} (Err fault) → (halts : Halts only fault q r) →
+      length xs + length halts.answered ≤ max_lines → ReadsOn q r → Serves only (Err (run_fault fault)) max_lines world r.world input r.rest failed written r.written
   serves_to_fault r max_lines failed fault fails halts few on = record {
     answered = xs ++ halts.answered;
-    world = left_by_both world q.world r.world xs halts.answered answers.world halts.world;
+    world = left_by_both only world q.world r.world xs halts.answered answers.world halts.world;
     told =
-        written_at written r.written _ fault (subst (TellsAt fault written [] r.written) (told_of_both world q.world xs halts.answered answers.world)
-        (told_at r.written (told_of_all q.world halts.answered) fault answers.tells halts.tells));
+        written_at written r.written _ fault (subst (TellsAt fault written [] r.written) (told_of_both only world q.world xs halts.answered answers.world)
+        (told_at r.written (told_of_all only q.world halts.answered) fault answers.tells halts.tells));
     count = tt;
     lines =
         behind input (to_come q.ahead q.rest) xs _ _ answers.passes halts.lines
@@ -225,11 +250,11 @@ module _ {world : World} {input written : Option (List ℕ)} {xs : List (List �
   -- there are more lines than are allowed
   pub serves_too_many : (r : Point) (max_lines : ℕ) (failed : Bool) → length xs ≡ max_lines → r.world ≡ q.world →
       Tells q.written q.gathered r.written [] [] → IfSome (to_come q.ahead q.rest) (λ before. true ≡ nat_lt 0 (length before)) → ReadsOn q r →
-      Serves (Err TooManyLines) max_lines world r.world input r.rest failed written r.written
+      Serves only (Err TooManyLines) max_lines world r.world input r.rest failed written r.written
   serves_too_many r max_lines failed full same tells more on = record {
     answered = xs;
     world = same ∙ answers.world;
-    told = all_written (subst (Tells written [] r.written []) (append-nil (told_of_all world xs)) (Tells-more answers.tells tells));
+    told = all_written (subst (Tells written [] r.written []) (append-nil (told_of_all only world xs)) (Tells-more answers.tells tells));
     count = tt;
     lines = behind input (to_come q.ahead q.rest) xs _ _ answers.passes more (λ text p some.
         let begun : 0 < length p.rest = grind (arith, nat_tests) in

@@ -1,11 +1,11 @@
 -- What a task on a machine promises.
-use Rattle.std.proofs.Common.{◌≡◌, ◌≢◌, ℕ, ◌≤◌, Bool, true, false, inl, inr, arith, append-nil, ◌++◌, List, [], length, take, drop, Option, Some, None, IfSome, Result, Ok, Err, refl, sym, ap, ◌∙◌, subst}
+use Rattle.std.proofs.Common.{Bor, ◌≡◌, ◌≢◌, ℕ, ◌≤◌, Bool, true, false, inl, inr, arith, append-nil, ◌++◌, List, [], length, take, drop, Option, Some, None, IfSome, Result, Ok, Err, refl, sym, ap, ◌∙◌, subst}
 use Rattle.std.proofs.lemmas.List.{take-append-drop}
 use Rattle.std.specs.Io.KnownBytes.{Appends}
 use Rattle.own_model.specs.Listed.{Listed, start_list_of}
 use Rattle.own_model.specs.StartList.{StartList, Boots, entries_of}
 use Rattle.own_model.specs.Text.{lines_of}
-use Rattle.own_model.specs.Transcript.{transcript}
+use Rattle.own_model.specs.Transcript.{told_after}
 use Rattle.own_model.specs.AccountList.{account_list_text}
 use Rattle.own_model.specs.World.{World, start_world, world_running}
 use Rattle.own_model.proofs.BalanceLemmas.{totals, lines_balanced}
@@ -16,7 +16,9 @@ use Rattle.init_core.specs.declared.fault.BootFault.{BootFault}
 use Rattle.init_core.specs.declared.fault.BootFault.TheVariants.{NoMemory}
 use Rattle.std.proofs.lemmas.List.Elements.{All-nil}
 use Rattle.scenario_run.specs.Lines.{AreReadable, longest_read}
-use Rattle.scenario_run.specs.Program.{IsMachine, IsDone, FailsFor, StopsScenario, TotalsAre, boot_fault, ok_line, scenario_text}
+use Rattle.scenario_run.specs.Program.{IsAnswered, IsBoundedFor, IsMachine, IsDone, FailsFor, StopsScenario, TotalsAre, boot_fault, lines_run, ok_line, scenario_text}
+use Rattle.scenario_run.specs.Runs.{Completes}
+use Rattle.std.specs.Option.{option_copied}
 use Rattle.scenario_run.specs.Stops.{Stops, AppendsPart}
 use Rattle.scenario_run.specs.declared.program.Failure.TheVariants as failure
 use Rattle.scenario_run.specs.declared.program.Task.{Task}
@@ -43,19 +45,17 @@ pub fault_of_list : (text : List ℕ) (listed : Listed) (fault : BootFault) → 
     (fault ≢ NoMemory → quota_fault listed ≡ Some fault) → fault ≢ NoMemory → boot_fault text ≡ Some fault
 fault_of_list text listed fault reads told other = rw reads (told other)
 
--- a scenario stopped where it did from the machine's start
-stops_from_start : (list : StartList) (world : World) → world ≡ start_world list → (accounts : Bool) (fault : RunFault) (max_lines : ℕ) (input rest written now_written : Option (List ℕ)) (failed : Bool) →
-    IfSome input (λ bytes. StopsScenario accounts fault max_lines world bytes rest failed written now_written) →
-    IfSome input (λ bytes. StopsScenario accounts fault max_lines (start_world list) bytes rest failed written now_written)
-stops_from_start list world starts accounts fault max_lines None rest written now_written failed stops = tt
-stops_from_start list world starts accounts fault max_lines (Some bytes) rest written now_written failed stops =
-    subst (λ w. StopsScenario accounts fault max_lines w bytes rest failed written now_written) starts stops
+-- a scenario from the machine's start
+from_start : (list : StartList) (world : World) → world ≡ start_world list → (P : World → List ℕ → Type 0) (input : Option (List ℕ)) →
+    IfSome input (λ bytes. P world bytes) → IfSome input (λ bytes. P (start_world list) bytes)
+from_start list world starts P None holds = tt
+from_start list world starts P (Some bytes) holds = subst (λ w. P w bytes) starts holds
 
 -- the totals of the account list are the machine's, whatever was answered
-totals_after : (list : StartList) → Boots list → (bytes : List ℕ) → TotalsAre list bytes
-totals_after list covered bytes =
-    totals list.pages list.caps (world_running (start_world list) (lines_of bytes))
-    (lines_balanced list.pages list.caps (start_world list) (lines_of bytes) (start_balanced_for list covered).balanced)
+totals_after : (list : StartList) → Boots list → (lines : List (List ℕ)) → TotalsAre list lines
+totals_after list covered lines =
+    totals list.pages list.caps (world_running (start_world list) lines)
+    (lines_balanced list.pages list.caps (start_world list) lines (start_balanced_for list covered).balanced)
 
 -- a text that is read as a list that boots
 module _ {text : List ℕ} {listed : Listed} (reads : list_in text ≡ Ok listed) (boots : Boots (start_list_of listed)) where
@@ -66,7 +66,12 @@ module _ {text : List ℕ} {listed : Listed} (reads : list_in text ≡ Ok listed
   pub done_check : (asked : Task) (input written now_written : Option (List ℕ)) (lines : ℕ) → asked ≡ task.Check →
       lines ≡ 0 → Appends written now_written ok_line → IsDone asked text input lines written now_written
   done_check asked input written now_written lines is none tells =
-      rw is (record { list = start_list_of listed; machine = machine; lines_are = none; readable = All-nil (λ line. length line ≤ longest_read); writes = tells; totals = totals_after (start_list_of listed) boots })
+      rw is (record {
+        list = start_list_of listed;
+        machine = machine;
+        done = record { counted = none; readable = All-nil (λ line. length line ≤ longest_read); tells = tells };
+        totals = totals_after (start_list_of listed) boots;
+      })
 
   -- or not all of it
   pub stopped_check : (asked : Task) (fault : RunFault) (max_lines : ℕ) (input rest written now_written : Option (List ℕ)) (failed : Bool) → asked ≡ task.Check →
@@ -75,26 +80,34 @@ module _ {text : List ℕ} {listed : Listed} (reads : list_in text ≡ Ok listed
 
   module _ {world : World} (starts : world ≡ start_world (start_list_of listed)) where
     -- the scenario is answered
-    pub done_run : (asked : Task) (accounts : Bool) (input written now_written : Option (List ℕ)) (lines : ℕ) → asked ≡ task.Run accounts →
-        IfSome input (λ bytes. lines ≡ length (lines_of bytes)) → IfSome input (λ bytes. AreReadable (lines_of bytes)) →
-        IfSome input (λ bytes. Appends written now_written (scenario_text accounts world bytes)) → IsDone asked text input lines written now_written
-    done_run asked accounts input written now_written lines is counts readable tells =
+    pub done_run : (asked : Task) (accounts : Bool) (only : Option (Bor (List ℕ))) (input written now_written : Option (List ℕ)) (lines : ℕ) → asked ≡ task.Run accounts only →
+        IfSome input (λ bytes. IsAnswered (scenario_text accounts (option_copied only) world bytes) bytes lines written now_written) → IsDone asked text input lines written now_written
+    done_run asked accounts only input written now_written lines is answered =
         rw is (record {
           list = start_list_of listed;
           machine = machine;
-          lines_are = counts;
-          readable = readable;
-          writes = subst (λ w. IfSome input (λ bytes. Appends written now_written (scenario_text accounts w bytes))) starts tells;
+          done = from_start (start_list_of listed) world starts (λ w bytes. IsAnswered (scenario_text accounts (option_copied only) w bytes) bytes lines written now_written) input answered;
           totals = totals_after (start_list_of listed) boots;
         })
 
     -- or it was stopped
-    pub stopped_run : (asked : Task) (accounts : Bool) (fault : RunFault) (max_lines : ℕ) (input rest written now_written : Option (List ℕ)) (failed : Bool) →
-        asked ≡ task.Run accounts →
-        IfSome input (λ bytes. StopsScenario accounts fault max_lines world bytes rest failed written now_written) →
+    pub stopped_run : (asked : Task) (accounts : Bool) (only : Option (Bor (List ℕ))) (fault : RunFault) (max_lines : ℕ) (input rest written now_written : Option (List ℕ)) (failed : Bool) →
+        asked ≡ task.Run accounts only →
+        IfSome input (λ bytes. StopsScenario accounts (option_copied only) fault max_lines world bytes rest failed written now_written) →
         FailsFor (failure.Run fault) asked text max_lines input rest failed written now_written
-    stopped_run asked accounts fault max_lines input rest written now_written failed is stops =
-        rw is (start_list_of listed, machine, stops_from_start (start_list_of listed) world starts accounts fault max_lines input rest written now_written failed stops)
+    stopped_run asked accounts only fault max_lines input rest written now_written failed is stops =
+        rw is (
+          start_list_of listed,
+          machine,
+          from_start (start_list_of listed) world starts (λ w bytes. StopsScenario accounts (option_copied only) fault max_lines w bytes rest failed written now_written) input stops,
+        )
+
+-- a scenario that was answered is within the bounds
+pub bounded_for : (asked : Task) (text : List ℕ) (max_lines lines : ℕ) (input : List ℕ) (written now_written : Option (List ℕ)) →
+    IsDone asked text (Some input) lines written now_written → lines ≤ max_lines → IsBoundedFor asked max_lines input
+bounded_for task.Check text max_lines lines input written now_written done few = tt
+bounded_for (task.Run accounts only) text max_lines lines input written now_written done few =
+    record { few = omega (arith, few, done.done.counted); readable = done.done.readable }
 
 -- ---- a scenario and its account list
 
@@ -103,43 +116,49 @@ pub listed_at_start : (list : StartList) (world : World) → world ≡ start_wor
 listed_at_start list world starts = ap (λ w. w.entries) starts
 
 -- a run is all that is told
-pub told_alone : (world : World) (input written now_written : Option (List ℕ)) →
-    IfSome input (λ bytes. Appends written now_written (transcript world.entries world.states bytes)) →
-    IfSome input (λ bytes. Appends written now_written (scenario_text false world bytes))
-told_alone world None written now_written tells = tt
-told_alone world (Some bytes) written now_written tells = subst (Appends written now_written) (sym (append-nil _)) tells
+pub told_alone : (accounts : Bool) (only : Option (List ℕ)) (world last : World) (lines : ℕ) (input written now_written : Option (List ℕ)) → accounts ≡ false →
+    IfSome input (λ bytes. Completes only lines world last bytes written now_written) →
+    IfSome input (λ bytes. IsAnswered (scenario_text accounts only world bytes) bytes lines written now_written)
+told_alone accounts only world last lines None written now_written unasked done = tt
+told_alone accounts only world last lines (Some bytes) written now_written unasked done =
+    rw unasked (record { counted = done.counted; readable = done.readable; tells = subst (Appends written now_written) (sym (append-nil _)) done.transcript })
 
 -- or the account list of the last states is told behind it
-pub told_with_list : (accounts : Bool) → accounts ≡ true → (world last : World) (input w w' w'' : Option (List ℕ)) → IfSome input (λ bytes. last ≡ world_running world (lines_of bytes)) →
-    IfSome input (λ bytes. Appends w w' (transcript world.entries world.states bytes)) → Appends w' w'' (account_list_text last) →
-    IfSome input (λ bytes. Appends w w'' (scenario_text accounts world bytes))
-told_with_list accounts asked world last None w w' w'' is tells lists = tt
-told_with_list accounts asked world last (Some bytes) w w' w'' is tells lists =
-    rw asked (Appends-more w w' w'' _ _ _ tells lists (ap (λ l. transcript world.entries world.states bytes ++ l) (ap account_list_text (sym is))))
+pub told_with_list : (accounts : Bool) → accounts ≡ true → (only : Option (List ℕ)) (world last : World) (lines : ℕ) (input w w' w'' : Option (List ℕ)) →
+    IfSome input (λ bytes. Completes only lines world last bytes w w') → Appends w' w'' (account_list_text last) →
+    IfSome input (λ bytes. IsAnswered (scenario_text accounts only world bytes) bytes lines w w'')
+told_with_list accounts asked only world last lines None w w' w'' done lists = tt
+told_with_list accounts asked only world last lines (Some bytes) w w' w'' done lists =
+    rw asked (record {
+      counted = done.counted;
+      readable = done.readable;
+      tells =
+          Appends-more w w' w'' _ _ _ done.transcript lists
+          (ap (λ l. told_after world.entries world.states [] (lines_run only bytes) ++ l) (ap account_list_text (sym done.world)));
+    })
 
 -- the run was stopped
-pub stopped_in_run : (world new : World) (accounts : Bool) (fault : RunFault) (max_lines : ℕ) (input rest written now_written : Option (List ℕ)) (failed : Bool) →
-    IfSome input (λ bytes. Stops fault max_lines world new bytes rest failed written now_written) →
-    IfSome input (λ bytes. StopsScenario accounts fault max_lines world bytes rest failed written now_written)
-stopped_in_run world new accounts fault max_lines None rest written now_written failed stops = tt
-stopped_in_run world new accounts fault max_lines (Some bytes) rest written now_written failed stops = inl (new, stops)
+pub stopped_in_run : (only : Option (List ℕ)) (world new : World) (accounts : Bool) (fault : RunFault) (max_lines : ℕ) (input rest written now_written : Option (List ℕ)) (failed : Bool) →
+    IfSome input (λ bytes. Stops only fault max_lines world new bytes rest failed written now_written) →
+    IfSome input (λ bytes. StopsScenario accounts only fault max_lines world bytes rest failed written now_written)
+stopped_in_run only world new accounts fault max_lines None rest written now_written failed stops = tt
+stopped_in_run only world new accounts fault max_lines (Some bytes) rest written now_written failed stops = inl (new, stops)
 
 -- or the account list behind it
-pub stopped_in_list : (world last : World) (accounts : Bool) (fault : RunFault) (max_lines lines : ℕ) (input rest w w' w'' : Option (List ℕ)) (failed : Bool) →
+pub stopped_in_list : (only : Option (List ℕ)) (world last : World) (accounts : Bool) (fault : RunFault) (max_lines lines : ℕ) (input rest w w' w'' : Option (List ℕ)) (failed : Bool) →
     accounts ≡ true → fault ≡ WriteFault → lines ≤ max_lines →
-    IfSome input (λ bytes. lines ≡ length (lines_of bytes)) → IfSome input (λ bytes. AreReadable (lines_of bytes)) → IfSome input (λ bytes. last ≡ world_running world (lines_of bytes)) →
-    IfSome input (λ bytes. Appends w w' (transcript world.entries world.states bytes)) → AppendsPart w' w'' (account_list_text last) →
-    IfSome input (λ bytes. StopsScenario accounts fault max_lines world bytes rest failed w w'')
-stopped_in_list world last accounts fault max_lines lines None rest w w' w'' failed asked fails few counts readable is tells part = tt
-stopped_in_list world last accounts fault max_lines lines (Some bytes) rest w w' w'' failed asked fails few counts readable is tells part = inr (record {
+    IfSome input (λ bytes. Completes only lines world last bytes w w') → AppendsPart w' w'' (account_list_text last) →
+    IfSome input (λ bytes. StopsScenario accounts only fault max_lines world bytes rest failed w w'')
+stopped_in_list only world last accounts fault max_lines lines None rest w w' w'' failed asked fails few done part = tt
+stopped_in_list only world last accounts fault max_lines lines (Some bytes) rest w w' w'' failed asked fails few done part = inr (record {
   asked = asked;
   fault_is = fails;
-  few = omega (arith, few, counts);
-  readable = readable;
+  few = omega (arith, few, done.counted);
+  readable = done.readable;
   part = part.part;
   left = part.left;
-  parts = ap account_list_text (sym is) ∙ part.parts;
-  grows = Appends-more w w' w'' _ _ _ tells part.grows refl;
+  parts = ap account_list_text (sym done.world) ∙ part.parts;
+  grows = Appends-more w w' w'' _ _ _ done.transcript part.grows refl;
 })
 
 pub ruleset tasks = (fault_of_text, fault_of_list, listed_at_start)

@@ -1,11 +1,14 @@
 -- What a world tells of lines, the world that they leave, and how far a run has come.
-use Rattle.std.specs.Prelude.{◌≡◌, ℕ, ◌<◌, ◌≤◌, Bool, true, false, List, [], ◌∷◌, ◌++◌, Option, IfSome, Result, Ok, Err, codes, length}
+use Rattle.std.specs.Prelude.{◌≡◌, ℕ, ◌<◌, ◌≤◌, Bool, true, false, List, [], ◌∷◌, ◌++◌, Option, Some, None, IfSome, Result, Ok, Err, codes, length}
 use Rattle.trade_base.specs.declared.refusal.Refusal.TheVariants.{BadLine}
-use Rattle.own_model.specs.Running.{told_now, told_running}
+use Rattle.std.specs.Str.{bytes_eq}
+use Rattle.own_model.specs.Call.{Spoken, spoken}
+use Rattle.own_model.specs.Running.{told_running}
+use Rattle.own_model.specs.SaidBy.{component_of, is_under, said_by}
 use Rattle.own_model.specs.Reply.Reply.{Refused}
 use Rattle.own_model.specs.Text.{lines_of}
-use Rattle.own_model.specs.Transcript.{heard, reply_line}
-use Rattle.own_model.specs.World.{World, world_after_heard, world_running}
+use Rattle.own_model.specs.Transcript.{Heard, heard_call, reply_line}
+use Rattle.own_model.specs.World.{World, world_running}
 use Rattle.scenario_run.specs.Gathered.{Tells}
 use Rattle.scenario_run.specs.Lines.{line_length, longest_read, to_come, AreReadable, HasRead, PassesSome, PassesLines}
 use Rattle.scenario_run.specs.Next.{TellsAt}
@@ -18,21 +21,32 @@ use Rattle.scenario_run.specs.declared.lines.LineFault.TheVariants.{Read, Write,
 abbrev pub bad_line : List ℕ
 bad_line = reply_line (codes "?") (Refused BadLine)
 
--- what is told of a line
-abbrev pub told_of : World → List ℕ → List ℕ
-told_of world line = told_now world.entries world.states (heard world.entries line)
+-- what is told of each line in turn, or of each of a name's lines alone
+abbrev pub told_of_all : Option (List ℕ) → World → List (List ℕ) → List ℕ
+told_of_all only world lines = told_running world.entries world.states (said_by only lines)
 
--- the world after a line
-abbrev pub after_one : World → List ℕ → World
-after_one world line = world_after_heard world (heard world.entries line)
+-- the world after these lines, or after a name's alone
+abbrev pub after_all : Option (List ℕ) → World → List (List ℕ) → World
+after_all only world lines = world_running world (said_by only lines)
 
--- what is told of each line in turn
-abbrev pub told_of_all : World → List (List ℕ) → List ℕ
-told_of_all world lines = told_running world.entries world.states lines
+-- what is told of a line that is no call: nothing, where a name's lines alone are answered
+abbrev pub told_of_none : Option (List ℕ) → List ℕ
+told_of_none None = bad_line
+told_of_none (Some name) = []
 
--- the world after these lines
-abbrev pub after_all : World → List (List ℕ) → World
-after_all world lines = world_running world lines
+-- a call under this name is answered
+abbrev pub is_meant : Option (List ℕ) → List ℕ → Bool
+is_meant None name = true
+is_meant (Some only) name = bytes_eq name only
+
+-- a line isn't a call under the name that is given
+abbrev pub IsUnsaid : Option (List ℕ) → List ℕ → Type 0
+IsUnsaid None line = ⊥
+IsUnsaid (Some name) line = is_under name (spoken line) ≡ false
+
+-- what a call under a name is to a world
+abbrev pub hears : World → Spoken → Heard
+hears world says = heard_call says (component_of world.entries says.name)
 
 -- a run between two lines: the world, what is still to come, and what was told
 pub record Point : Type 0 where
@@ -52,10 +66,10 @@ point world buffers rest written = record {
   gathered = buffers.gathered;
 }
 
--- these lines are answered; where the bytes to come are known, they are the first of them
-pub record Answers (lines : List (List ℕ)) (old new : Point) : Type 0 where
-  pub world : new.world ≡ after_all old.world lines
-  pub tells : Tells old.written old.gathered new.written new.gathered (told_of_all old.world lines)
+-- these lines are answered, or a name's alone and the others skipped; where the bytes to come are known, they are the first of them
+pub record Answers (only : Option (List ℕ)) (lines : List (List ℕ)) (old new : Point) : Type 0 where
+  pub world : new.world ≡ after_all only old.world lines
+  pub tells : Tells old.written old.gathered new.written new.gathered (told_of_all only old.world lines)
   pub passes : IfSome (to_come old.ahead old.rest) (λ text.
       PassesLines text (to_come new.ahead new.rest) lines)
   pub readable : AreReadable lines
@@ -74,19 +88,19 @@ HaltsFor Write answered text rest =
 HaltsFor Endless answered text rest = (answered ≡ []) × (longest_read < line_length text)
 
 -- a fault comes before a line is answered, or once it is
-pub record Halts (fault : LineFault) (old new : Point) : Type 0 where
+pub record Halts (only : Option (List ℕ)) (fault : LineFault) (old new : Point) : Type 0 where
   pub answered : List (List ℕ)
-  pub world : new.world ≡ after_all old.world answered
-  pub tells : TellsAt fault old.written old.gathered new.written (told_of_all old.world answered)
+  pub world : new.world ≡ after_all only old.world answered
+  pub tells : TellsAt fault old.written old.gathered new.written (told_of_all only old.world answered)
   pub lines : IfSome (to_come old.ahead old.rest) (λ text. HaltsFor fault answered text new.rest)
   pub readable : AreReadable answered
   pub one : length answered ≤ 1
 
 -- a line is answered, unless there is none or a fault comes
-abbrev pub AnswersNext : Result Bool LineFault → Point → Point → Type 0
-AnswersNext (Ok true) old new = (line : List ℕ) × Answers (line ∷ []) old new
-AnswersNext (Ok false) old new = Ended old new
-AnswersNext (Err fault) old new = Halts fault old new
+abbrev pub AnswersNext : Option (List ℕ) → Result Bool LineFault → Point → Point → Type 0
+AnswersNext only (Ok true) old new = (line : List ℕ) × Answers only (line ∷ []) old new
+AnswersNext only (Ok false) old new = Ended old new
+AnswersNext only (Err fault) old new = Halts only fault old new
 
 -- what is told before more is read is written
 abbrev pub ReadsOn : Point → Point → Type 0

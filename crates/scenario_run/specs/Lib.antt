@@ -8,4 +8,5 @@ pub mod Next
 pub mod Stops
 pub mod Answered
 pub mod Serves
+pub mod Runs
 pub mod Program

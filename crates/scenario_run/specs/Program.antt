@@ -1,11 +1,13 @@
 -- What the program does, from the text of its start list to the end of its task.
-use Rattle.std.specs.Prelude.{◌≡◌, ◌≢◌, ℕ, ◌*◌, ◌≤◌, ◌⊎◌, ◌++◌, ◌∷◌, Bool, true, false, List, [], codes, length, Option, Some, IfSome, Result, Ok, Err}
+use Rattle.std.specs.Prelude.{◌≡◌, ◌≢◌, ℕ, ◌*◌, ◌≤◌, ◌⊎◌, ◌++◌, ◌∷◌, Bool, true, false, List, [], codes, length, Option, Some, IfSome, Result, Ok, Err, ⊤}
 use Rattle.std.specs.Io.KnownBytes.{Appends}
 use Rattle.own_model.specs.AccountList.{account_list_text, total_line}
 use Rattle.own_model.specs.Listed.{Listed, start_list_of}
 use Rattle.own_model.specs.StartList.{StartList, Boots}
 use Rattle.own_model.specs.Text.{lines_of}
-use Rattle.own_model.specs.Transcript.{transcript}
+use Rattle.own_model.specs.Transcript.{told_after}
+use Rattle.own_model.specs.SaidBy.{said_by}
+use Rattle.std.specs.Option.{option_copied}
 use Rattle.own_model.specs.World.{World, start_world, world_running, all_ram, all_caps}
 use Rattle.init_core.specs.Boot.{quota_fault}
 use Rattle.init_core.specs.StartText.{list_in}
@@ -20,6 +22,12 @@ use Rattle.scenario_run.specs.declared.program.Task.TheVariants as task
 use Rattle.scenario_run.specs.declared.running.RunFault.{RunFault}
 use Rattle.scenario_run.specs.declared.running.RunFault.TheVariants.{WriteFault}
 use Rattle.scenario_run.specs.declared.running.Summary.{Summary}
+
+-- a task is what the options of the command line ask for
+abbrev pub AsksFor : Bool → Bool → Option (List ℕ) → Task → Type 0
+AsksFor check accounts only task.Check = check ≡ true
+AsksFor check accounts only (task.Run listed name) =
+    (check ≡ false) × (listed ≡ accounts) × (option_copied name ≡ only)
 
 -- a text is read as this start list, and the list boots
 pub record IsMachine (text : List ℕ) (list : StartList) : Type 0 where
@@ -40,7 +48,7 @@ boot_fault text = fault_of (list_in text)
 -- what a task reads: a check reads nothing
 abbrev pub read_for : Task → Option (List ℕ) → Option (List ℕ)
 read_for task.Check input = Some []
-read_for (task.Run accounts) input = input
+read_for (task.Run accounts only) input = input
 
 -- what a check tells of a machine
 abbrev pub ok_line : List ℕ
@@ -51,33 +59,54 @@ abbrev pub accounts_for : Bool → World → List ℕ
 accounts_for true world = account_list_text world
 accounts_for false world = []
 
--- what a world is asked and told: the transcript, and the account list of the last states
-abbrev pub scenario_text : Bool → World → List ℕ → List ℕ
-scenario_text accounts world input =
-    transcript world.entries world.states input ++ accounts_for accounts (world_running world (lines_of input))
+-- the lines of an input that are run: all, or a name's alone
+abbrev pub lines_run : Option (List ℕ) → List ℕ → List (List ℕ)
+lines_run only input = said_by only (lines_of input)
+
+-- what a world is asked and told: the transcript of the lines that are run, and the account list of the last states
+abbrev pub scenario_text : Bool → Option (List ℕ) → World → List ℕ → List ℕ
+scenario_text accounts only world input =
+    told_after world.entries world.states [] (lines_run only input)
+    ++ accounts_for accounts (world_running world (lines_run only input))
+
+-- an input was read to its end, and this text is told
+pub record IsAnswered (text input : List ℕ) (lines : ℕ) (written now_written : Option (List ℕ)) : Type 0 where
+  pub counted : lines ≡ length (lines_of input)
+  pub readable : AreReadable (lines_of input)
+  pub tells : Appends written now_written text
+
+-- an input has no more lines than are allowed, and none that is too long to be read
+pub record IsWithinBounds (max_lines : ℕ) (input : List ℕ) : Type 0 where
+  pub few : length (lines_of input) ≤ max_lines
+  pub readable : AreReadable (lines_of input)
+
+-- where a scenario was answered, it is within these bounds
+abbrev pub IsBoundedFor : Task → ℕ → List ℕ → Type 0
+IsBoundedFor task.Check max_lines input = ⊤
+IsBoundedFor (task.Run accounts only) max_lines input = IsWithinBounds max_lines input
 
 -- what a task writes
 abbrev pub written_for : Task → StartList → List ℕ → List ℕ
 written_for task.Check list input = ok_line
-written_for (task.Run accounts) list input = scenario_text accounts (start_world list) input
+written_for (task.Run accounts only) list input =
+    scenario_text accounts (option_copied only) (start_world list) input
 
--- the sums that an account list tells of the last states are the machine's
-abbrev pub TotalsAre : StartList → List ℕ → Type 0
-TotalsAre list input =
-    total_line (all_ram (world_running (start_world list) (lines_of input))) (all_caps (world_running (start_world list) (lines_of input)))
+-- the sums that an account list tells after any lines are the machine's
+abbrev pub TotalsAre : StartList → List (List ℕ) → Type 0
+TotalsAre list lines =
+    total_line (all_ram (world_running (start_world list) lines)) (all_caps (world_running (start_world list) lines))
     ≡ total_line (list.pages * 4096) list.caps
 
 -- a task was done to its end, on the machine of a text
 pub record IsDone (asked : Task) (text : List ℕ) (input : Option (List ℕ)) (lines : ℕ) (written now_written : Option (List ℕ)) : Type 0 where
   pub list : StartList
   pub machine : IsMachine text list
-  pub lines_are : IfSome (read_for asked input) (λ bytes. lines ≡ length (lines_of bytes))
-  pub readable : IfSome (read_for asked input) (λ bytes. AreReadable (lines_of bytes))
-  pub writes : IfSome (read_for asked input) (λ bytes. Appends written now_written (written_for asked list bytes))
-  pub totals : (bytes : List ℕ) → TotalsAre list bytes
+  pub done : IfSome (read_for asked input) (λ bytes.
+      IsAnswered (written_for asked list bytes) bytes lines written now_written)
+  pub totals : (lines : List (List ℕ)) → TotalsAre list lines
 
 -- a write of the account list failed, once all lines were answered and told
-pub record StopsList (accounts : Bool) (fault : RunFault) (max_lines : ℕ) (world : World) (input : List ℕ)
+pub record StopsList (accounts : Bool) (only : Option (List ℕ)) (fault : RunFault) (max_lines : ℕ) (world : World) (input : List ℕ)
     (written now_written : Option (List ℕ)) : Type 0 where
   pub asked : accounts ≡ true
   pub fault_is : fault ≡ WriteFault
@@ -85,23 +114,24 @@ pub record StopsList (accounts : Bool) (fault : RunFault) (max_lines : ℕ) (wor
   pub readable : AreReadable (lines_of input)
   pub part : List ℕ
   pub left : List ℕ
-  pub parts : account_list_text (world_running world (lines_of input)) ≡ part ++ left
-  pub grows : Appends written now_written (transcript world.entries world.states input ++ part)
+  pub parts : account_list_text (world_running world (lines_run only input)) ≡ part ++ left
+  pub grows : Appends written now_written
+      (told_after world.entries world.states [] (lines_run only input) ++ part)
 
 -- a scenario was stopped: its run, and then no account list is told, or the account list
-abbrev pub StopsScenario : Bool → RunFault → ℕ → World →
+abbrev pub StopsScenario : Bool → Option (List ℕ) → RunFault → ℕ → World →
     List ℕ → Option (List ℕ) → Bool → Option (List ℕ) → Option (List ℕ) → Type 0
-StopsScenario accounts fault max_lines world input rest failed written now_written =
-    ((new : World) × Stops fault max_lines world new input rest failed written now_written)
-    ⊎ StopsList accounts fault max_lines world input written now_written
+StopsScenario accounts only fault max_lines world input rest failed written now_written =
+    ((new : World) × Stops only fault max_lines world new input rest failed written now_written)
+    ⊎ StopsList accounts only fault max_lines world input written now_written
 
 -- a task that had begun was stopped by a fault: the run from the machine's start, or the one write of a check
 abbrev pub StopsTask : Task → RunFault → ℕ → StartList →
     List ℕ → Option (List ℕ) → Bool → Option (List ℕ) → Option (List ℕ) → Type 0
 StopsTask task.Check fault max_lines list input rest failed written now_written =
     (fault ≡ WriteFault) × AppendsPart written now_written ok_line
-StopsTask (task.Run accounts) fault max_lines list input rest failed written now_written =
-    StopsScenario accounts fault max_lines (start_world list) input rest failed written now_written
+StopsTask (task.Run accounts only) fault max_lines list input rest failed written now_written =
+    StopsScenario accounts (option_copied only) fault max_lines (start_world list) input rest failed written now_written
 
 -- a task failed: the text boots no machine, or the task was stopped on its machine
 abbrev pub FailsFor : Failure → Task → List ℕ → ℕ →

@@ -30,14 +30,15 @@ LeavesNone (Ok count) answered left max_lines input rest failed = left ≡ []
 LeavesNone (Err fault) answered left max_lines input rest failed =
     StopsFor fault answered left max_lines input rest failed
 
--- lines are answered to the end of the input or a fault; where the input is known, they are the first of it
-pub record Serves (result : Result ℕ RunFault) (max_lines : ℕ) (old new : World)
+-- lines are answered, or a name's alone and the others skipped, to the end of the input or a fault; where the input is
+-- known, they are the first of it
+pub record Serves (only : Option (List ℕ)) (result : Result ℕ RunFault) (max_lines : ℕ) (old new : World)
     (input rest : Option (List ℕ)) (failed : Bool) (written now_written : Option (List ℕ)) : Type 0 where
   pub answered : List (List ℕ)
-  pub world : new ≡ after_all old answered
-  pub told : WritesUnless result written now_written (told_of_all old answered)
+  pub world : new ≡ after_all only old answered
+  pub told : WritesUnless result written now_written (told_of_all only old answered)
   pub count : IfOk result (λ count. (count ≤ max_lines) × (length answered ≡ count))
   pub lines : IfSome input (λ text. (left : List (List ℕ)) × (lines_of text ≡ answered ++ left)
       × LeavesNone result answered left max_lines text rest failed)
   pub readable : AreReadable answered
-  pub keeps_up : KeepsUp (told_of_all old) answered input rest written now_written
+  pub keeps_up : KeepsUp (told_of_all only old) answered input rest written now_written

@@ -1,10 +1,10 @@
 -- When a run stops, and what it leaves.
 use Rattle.std.specs.Prelude.{◌≡◌, ℕ, ◌<◌, ◌≤◌, ◌⊎◌, Bool, true, false, List, [], ◌++◌, length, slice_index_or, Option, Some, Result, Ok, Err}
 use Rattle.std.specs.Io.KnownBytes.{Appends}
-use Rattle.own_model.specs.Running.{init_running}
+use Rattle.own_model.specs.SaidBy.{said_by}
 use Rattle.own_model.specs.Text.{lines_of}
 use Rattle.own_model.specs.Transcript.{told_after, calls_of, state_at, state_after}
-use Rattle.own_model.specs.World.{World}
+use Rattle.own_model.specs.World.{World, world_running}
 use Rattle.scenario_run.specs.Lines.{longest_read, AreReadable, HasRead, IsReadTo}
 use Rattle.scenario_run.specs.Reach.{KeepsUp}
 use Rattle.scenario_run.specs.declared.running.RunFault.{RunFault}
@@ -23,7 +23,7 @@ IsWritten ReadFault old new told = Appends old new told
 IsWritten WriteFault old new told = AppendsPart old new told
 IsWritten TooManyLines old new told = Appends old new told
 
--- why these lines of an input were answered and those left were not:
+-- why these lines of an input were answered or skipped and those left were not:
 -- the reader failed when just these had ended, or the next one is too long to be read to its end;
 -- the writer failed, and no line was answered that isn't allowed or wasn't read whole;
 -- or these are as many as are allowed, and one more began
@@ -36,8 +36,9 @@ StopsFor WriteFault answered left max_lines input rest failed =
 StopsFor TooManyLines answered left max_lines input rest failed =
     (length answered ≡ max_lines) × (0 < length left)
 
--- a run stopped at a fault: the first lines of its input were answered, each by its caller's own run
-pub record Stops (fault : RunFault) (max_lines : ℕ) (old new : World) (input : List ℕ)
+-- a run stopped at a fault: the first lines of its input were answered, each by its caller's own run; or a name's alone
+-- were, and the others skipped
+pub record Stops (only : Option (List ℕ)) (fault : RunFault) (max_lines : ℕ) (old new : World) (input : List ℕ)
     (rest : Option (List ℕ)) (failed : Bool) (written now_written : Option (List ℕ)) : Type 0 where
   pub answered : List (List ℕ)
   pub left : List (List ℕ)
@@ -45,12 +46,13 @@ pub record Stops (fault : RunFault) (max_lines : ℕ) (old new : World) (input :
   pub cause : StopsFor fault answered left max_lines input rest failed
   pub readable : AreReadable answered
   pub keeps_up :
-      KeepsUp (told_after old.entries old.states []) answered (Some input) rest written now_written
-  pub told : IsWritten fault written now_written (told_after old.entries old.states [] answered)
+      KeepsUp (λ lines. told_after old.entries old.states [] (said_by only lines)) answered
+      (Some input) rest written now_written
+  pub told : IsWritten fault written now_written (told_after old.entries old.states [] (said_by only answered))
   pub states : (component : ℕ) →
       state_at new.states component
-      ≡ state_after old.entries old.states (calls_of old.entries answered) component
-  pub init : new.init ≡ init_running old.entries old.init old.states answered
+      ≡ state_after old.entries old.states (calls_of old.entries (said_by only answered)) component
+  pub world : new ≡ world_running old (said_by only answered)
 
 -- a write failed
 abbrev pub is_write_fault : {T : Type 0} → Result T RunFault → Bool

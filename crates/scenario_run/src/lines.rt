@@ -66,8 +66,10 @@ impl Buffers {
         ensures told { TellsOrStops result
             (K.contents sink.old) self.old.gathered (K.contents sink.new) self.new.gathered [] }
         ensures empty { OnOk result (self.new.gathered ≡ []) }
-        ensures behind { ReadsBehind (λ _. longest_ahead) (to_come self.old.ahead (S.remaining source.old)) self.old.gathered
-            (K.contents sink.old) (S.remaining source.old) (K.contents sink.new) (S.remaining source.new) }
+        ensures behind { ReadsBehind (λ _. longest_ahead)
+            (to_come self.old.ahead (S.remaining source.old)) self.old.gathered
+            (K.contents sink.old) (S.remaining source.old)
+            (K.contents sink.new) (S.remaining source.new) }
         ensures reading { S.has_failed source.new ≡ is_read_fault result }
         ensures writing { K.has_failed sink.new ≡ is_write_fault result }
     {
@@ -91,8 +93,9 @@ impl Buffers {
         ensures next { FindsNextIn result
             self.old.ahead (S.remaining source.old) self.new.ahead (S.remaining source.new) }
         ensures ready { IfOk result (λ next. IsReady next self.new.ahead self.new.gathered) }
-        ensures behind { ReadsBehind reach (to_come self.old.ahead (S.remaining source.old)) self.old.gathered
-            (K.contents sink.old) (S.remaining source.old) (K.contents sink.new) (S.remaining source.new) }
+        ensures behind { ReadsBehind reach (to_come self.old.ahead (S.remaining source.old))
+            self.old.gathered (K.contents sink.old) (S.remaining source.old)
+            (K.contents sink.new) (S.remaining source.new) }
         ensures told { TellsOrStops result
             (K.contents sink.old) self.old.gathered (K.contents sink.new) self.new.gathered [] }
         ensures reading { S.has_failed source.new ≡ is_read_fault result }
@@ -125,9 +128,11 @@ impl Buffers {
     ) -> Result<bool, LineFault>
         requires reads { S.has_failed source.old ≡ false }
         requires writes { K.has_failed sink.old ≡ false }
-        ensures begins { BeginsIn result self.old.ahead (S.remaining source.old) (S.remaining source.new) }
-        ensures behind { ReadsBehind reach (to_come self.old.ahead (S.remaining source.old)) self.old.gathered
-            (K.contents sink.old) (S.remaining source.old) (K.contents sink.new) (S.remaining source.new) }
+        ensures begins { BeginsIn result
+            self.old.ahead (S.remaining source.old) (S.remaining source.new) }
+        ensures behind { ReadsBehind reach (to_come self.old.ahead (S.remaining source.old))
+            self.old.gathered (K.contents sink.old) (S.remaining source.old)
+            (K.contents sink.new) (S.remaining source.new) }
         ensures told { TellsOrStops result
             (K.contents sink.old) self.old.gathered (K.contents sink.new) [] [] }
         ensures reading { S.has_failed source.new ≡ is_read_fault result }
@@ -154,8 +159,9 @@ impl Buffers {
         ensures next { FindsNextIn result
             self.old.ahead (S.remaining source.old) self.new.ahead (S.remaining source.new) }
         ensures ready { IfOk result (λ next. IsReady next self.new.ahead self.new.gathered) }
-        ensures behind { ReadsBehind reach (to_come self.old.ahead (S.remaining source.old)) self.old.gathered
-            (K.contents sink.old) (S.remaining source.old) (K.contents sink.new) (S.remaining source.new) }
+        ensures behind { ReadsBehind reach (to_come self.old.ahead (S.remaining source.old))
+            self.old.gathered (K.contents sink.old) (S.remaining source.old)
+            (K.contents sink.new) (S.remaining source.new) }
         ensures told { TellsOrStops result
             (K.contents sink.old) self.old.gathered (K.contents sink.new) self.new.gathered [] }
         ensures reading { S.has_failed source.new ≡ is_read_fault result }

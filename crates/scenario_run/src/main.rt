@@ -28,8 +28,10 @@ use init_core::MACHINE_A;
 pub use input::Input;
 pub use line::read_line;
 pub use output::Output;
-pub use program::{Failure, MAX_LINES, Stopped, Task, boot_and_run, exit_status, run_bytes};
-pub use running::{RunFault, Summary, run};
+pub use program::{
+    Failure, MAX_LINES, Stopped, Task, boot_and_run, exit_status, run_bytes, task_of,
+};
+pub use running::{RunFault, Summary, run, run_only};
 use std::process::ExitCode;
 
 // The status is told to whoever called, and a failure on standard error.
@@ -52,14 +54,8 @@ fn refuse(rt: &HostRuntime, error: &Error) -> ExitCode {
 
 // Does what is asked on the machine of a file, or on the built-in machine.
 fn answer(rt: &HostRuntime, options: Options<'_>) -> ExitCode {
-    let task = if options.check() {
-        Task::Check
-    } else {
-        Task::Run {
-            accounts: options.accounts(),
-        }
-    };
-    match options.path() {
+    let task = task_of(&options);
+    match options.path {
         Some(path) => match read_config_at(rt, path) {
             Ok(text) => answer_on(rt, &text, task),
             Err(fault) => {
@@ -72,7 +68,7 @@ fn answer(rt: &HostRuntime, options: Options<'_>) -> ExitCode {
 }
 
 // Does a task on the machine of a text, over the standard streams.
-fn answer_on(rt: &HostRuntime, text: &[u8], task: Task) -> ExitCode {
+fn answer_on(rt: &HostRuntime, text: &[u8], task: Task<'_>) -> ExitCode {
     let mut reader = Input::new(rt.stdin());
     let mut writer = Output::new(rt.stdout());
     let ended = boot_and_run(rt.alloc(), text, task, &mut reader, &mut writer);

@@ -1,13 +1,13 @@
 //! The program's task: from the text of a start list to the end of a scenario.
 ghost use Rattle.std.specs.Prelude.{◌≡◌, ◌≤◌, length, Bool, IfOk, IfErr, IfSome, OnOk, Err, [], true};
+ghost use Rattle.std.specs.Option.{option_copied, option_map};
 ghost use Rattle.std.specs.Io.KnownBytes.{Appends};
 ghost use Rattle.own_model.specs.Listed.{start_list_of};
 ghost use Rattle.own_model.specs.StartList.{StartList as Machine, entries_of};
 ghost use Rattle.own_model.specs.Text.{lines_of};
 ghost use Rattle.init_core.specs.declared.fault.BootFault.{BootFault as Unbooted};
 ghost use Rattle.init_core.specs.declared.fault.BootFault.TheVariants.{NoMemory as NoRoom};
-ghost use Rattle.scenario_run.specs.Lines.{AreReadable};
-ghost use Rattle.scenario_run.specs.Program.{FailsFor, FailsIn, IsDone, IsMachine, StopsScenario, ok_line, scenario_text, status_of, written_for};
+ghost use Rattle.scenario_run.specs.Program.{AsksFor, FailsFor, FailsIn, IsAnswered, IsBoundedFor, IsDone, IsMachine, StopsScenario, ok_line, scenario_text, status_of, written_for};
 ghost use Rattle.scenario_run.specs.Stops.{AppendsPart, is_write_fault};
 ghost use Rattle.scenario_run.specs.declared.program.Failure.TheVariants.{Boot as Booting, Run as Running};
 ghost use Rattle.scenario_run.specs.declared.program.Task.TheVariants.{Check as Checking, Run as Answering};
@@ -17,7 +17,8 @@ use crate::account_list::write_accounts;
 use crate::device::{Sink, Source};
 use crate::gather::write_out;
 use crate::output::Output;
-use crate::running::{RunFault, Summary, run};
+use crate::running::{RunFault, Summary, run_said_by};
+use command_line::Options;
 use init_core::{BootFault, StartList, boot};
 use pd_core::{Core, Reply, Router};
 use std::alloc::Global;
@@ -32,11 +33,33 @@ const OK: &[u8] = b"ok\n";
 
 /// What is asked of a machine.
 #[derive(Clone, Copy, Debug, PartialEq, Eq)]
-pub enum Task {
+pub enum Task<'a> {
     /// That it boots. No scenario is read.
     Check,
     /// The answers to a scenario, and behind them the account list where it is asked for.
-    Run { accounts: bool },
+    Run {
+        /// Whether the account list is told.
+        accounts: bool,
+        /// The name whose lines alone are answered, if that is asked for.
+        only: Option<&'a [u8]>,
+    },
+}
+
+/// The task that the options of the command line ask for: a check where they ask for one, whatever else they say.
+pub fn task_of<'a>(options: &Options<'a>) -> Task<'a>
+    ensures { AsksFor options.now.check options.now.accounts
+        (option_map (λ name. name.now) options.now.only) result }
+{
+    if options.check {
+        return Task::Check;
+    }
+    Task::Run {
+        accounts: options.accounts,
+        only: match options.only {
+            Some(name) => Some(name.as_bytes()),
+            None => None,
+        },
+    }
 }
 
 /// Why a task was not done to its end.
@@ -75,19 +98,19 @@ impl From<NoMemory> for Failure {
 pub fn boot_and_run<S: Source, K: Sink>(
     alloc: Global,
     text: &[u8],
-    task: Task,
+    task: Task<'_>,
     reader: &mut S,
     writer: &mut K,
 ) -> Result<Summary, Failure>
-    ensures done { IfOk result (λ summary. IsDone task text.now (S.remaining reader.old) summary.lines
-        (K.contents writer.old) (K.contents writer.new)) }
+    ensures done { IfOk result (λ summary. IsDone task.entry text.now
+        (S.remaining reader.old) summary.lines (K.contents writer.old) (K.contents writer.new)) }
     ensures few { IfOk result (λ summary. summary.lines ≤ MAX_LINES) }
-    ensures fails { IfErr result (λ failure. FailsFor failure task text.now MAX_LINES
+    ensures fails { IfErr result (λ failure. FailsFor failure task.entry text.now MAX_LINES
         (S.remaining reader.old) (S.remaining reader.new) (S.has_failed reader.new)
         (K.contents writer.old) (K.contents writer.new)) }
     ensures unbooted { (fault : Unbooted) → result ≡ Err (Booting fault) →
         (reader.new ≡ reader.old) × (writer.new ≡ writer.old) }
-    ensures unread { task ≡ Checking → reader.new ≡ reader.old }
+    ensures unread { task.entry ≡ Checking → reader.new ≡ reader.old }
     ensures writing { result ≡ Err (Running Unwritten) → K.has_failed writer.new ≡ true }
 {
     let list = StartList::read(alloc, text)?;
@@ -97,9 +120,9 @@ pub fn boot_and_run<S: Source, K: Sink>(
             Ok(summary) => Ok(summary),
             Err(fault) => Err(Failure::Run(fault)),
         },
-        Task::Run { accounts } => {
+        Task::Run { accounts, only } => {
             let mut reply = Reply::boot(alloc)?;
-            match answer_scenario(&mut core, &list, &mut reply, accounts, reader, writer) {
+            match answer_scenario(&mut core, &list, &mut reply, accounts, only, reader, writer) {
                 Ok(summary) => Ok(summary),
                 Err(fault) => Err(Failure::Run(fault)),
             }
@@ -114,22 +137,22 @@ fn answer_scenario<R: Router + Drop, S: Source, K: Sink>(
     list: &StartList,
     reply: &mut Reply,
     accounts: bool,
+    only: Option<&[u8]>,
     reader: &mut S,
     writer: &mut K,
 ) -> Result<Summary, RunFault>
     requires listed { core.old.entries ≡ entries_of (start_list_of list.now) }
-    ensures lines { IfOk result (λ summary. IfSome (S.remaining reader.old) (λ input.
-        summary.lines ≡ length (lines_of input))) }
     ensures few { IfOk result (λ summary. summary.lines ≤ MAX_LINES) }
-    ensures readable { OnOk result (IfSome (S.remaining reader.old) (λ input. AreReadable (lines_of input))) }
-    ensures told { OnOk result (IfSome (S.remaining reader.old) (λ input.
-        Appends (K.contents writer.old) (K.contents writer.new) (scenario_text accounts core.old input))) }
+    ensures told { IfOk result (λ summary. IfSome (S.remaining reader.old) (λ input.
+        IsAnswered (scenario_text accounts (option_copied only.entry) core.old input)
+        input summary.lines (K.contents writer.old) (K.contents writer.new))) }
     ensures stops { IfErr result (λ fault. IfSome (S.remaining reader.old) (λ input.
-        StopsScenario accounts fault MAX_LINES core.old input (S.remaining reader.new) (S.has_failed reader.new)
+        StopsScenario accounts (option_copied only.entry) fault MAX_LINES core.old input
+        (S.remaining reader.new) (S.has_failed reader.new)
         (K.contents writer.old) (K.contents writer.new))) }
     ensures writing { K.has_failed writer.new ≡ is_write_fault result }
 {
-    match run(core, list, reply, reader, writer, MAX_LINES) {
+    match run_said_by(core, list, reply, only, reader, writer, MAX_LINES) {
         Ok(summary) => if accounts {
             match write_accounts(core, list, writer) {
                 Ok(()) => Ok(summary),
@@ -169,19 +192,21 @@ pub struct Stopped {
     pub written: Vec<u8>,
 }
 
-/// The transcript of a scenario on the machine of a start list's text, with the account list where it is asked for, or
-/// `ok` of a check. It fails where the text boots no
-/// machine, as `WriteFault` where the host has no room for the transcript, and where the scenario is out of bounds: as
+/// The transcript of a scenario on the machine of a start list's text, or of one name's lines alone, with the account list
+/// where it is asked for, or `ok` of a check. It fails where the text boots no machine, as `WriteFault` where the host has no room for the transcript, and where the scenario is out of bounds: as
 /// `ReadFault` at a line of more than 1,048,576 bytes, and as `TooManyLines` past `MAX_LINES` lines.
-pub fn run_bytes(alloc: Global, text: &[u8], task: Task, input: &[u8]) -> Result<Vec<u8>, Stopped>
+#[tactic(auto, using(crate::proofs::TaskLemmas::bounded_for))]
+pub fn run_bytes(
+    alloc: Global,
+    text: &[u8],
+    task: Task<'_>,
+    input: &[u8],
+) -> Result<Vec<u8>, Stopped>
     ensures written { IfOk result (λ written. (list : Machine) × IsMachine text.now list
-        × (written.items ≡ written_for task list input.now)) }
-    ensures few { OnOk result ((accounts : Bool) → task ≡ Answering accounts →
-        length (lines_of input.now) ≤ MAX_LINES) }
-    ensures readable { OnOk result ((accounts : Bool) → task ≡ Answering accounts →
-        AreReadable (lines_of input.now)) }
+        × (written.items ≡ written_for task.entry list input.now)) }
+    ensures bounded { OnOk result (IsBoundedFor task.entry MAX_LINES input.now) }
     ensures fails { IfErr result (λ stopped.
-        FailsIn stopped.failure task text.now MAX_LINES input.now stopped.written.items) }
+        FailsIn stopped.failure task.entry text.now MAX_LINES input.now stopped.written.items) }
 {
     let mut reader = input;
     let mut writer = Output::new(Vec::new(alloc));

@@ -1,21 +1,16 @@
 //! The run: lines are read, answered and written.
-ghost use Rattle.std.specs.Prelude.{◌≡◌, ℕ, ◌+◌, ◌≤◌, ◌||◌, List, true, false, length, take, drop, is_err, IfSome, IfOk, IfErr, OnOk, Err, if◌then◌else◌};
-ghost use Rattle.std.specs.Io.KnownBytes.{Appends};
+ghost use Rattle.std.specs.Prelude.{◌≡◌, ℕ, ◌+◌, ◌≤◌, ◌∷◌, [], ◌||◌, true, false, length, take, drop, is_err, IfSome, IfOk, IfErr, OnOk, Some, None};
+ghost use Rattle.std.specs.Option.{option_copied};
 ghost use Rattle.own_model.specs.Listed.{start_list_of};
-ghost use Rattle.own_model.specs.Running.{init_running};
-ghost use Rattle.own_model.specs.StartList.{StartList as Machine, entries_of};
-ghost use Rattle.own_model.specs.Text.{lines_of};
-ghost use Rattle.own_model.specs.Transcript.{transcript, calls_of, state_at, state_after};
-ghost use Rattle.own_model.specs.World.{IsBalanced, IsBalancedFor, world_running};
-ghost use Rattle.scenario_run.specs.Answered.{AnswersNext, ReadsOn, point, told_of, after_one, more_unless_failed};
+ghost use Rattle.own_model.specs.StartList.{entries_of};
+ghost use Rattle.scenario_run.specs.Answered.{AnswersNext, ReadsOn, after_all, point, told_of_all, more_unless_failed};
 ghost use Rattle.scenario_run.specs.Gathered.{TellsUnless};
-ghost use Rattle.scenario_run.specs.Lines.{AreReadable};
 ghost use Rattle.scenario_run.specs.Next.{is_read_fault, is_write_fault as is_line_write_fault};
+ghost use Rattle.scenario_run.specs.Runs.{Completes, FaultBefore, HasCause, KeepsWorld};
 ghost use Rattle.scenario_run.specs.Serves.{Serves, run_fault};
 ghost use Rattle.scenario_run.specs.Stops.{Stops, is_write_fault};
-ghost use Rattle.scenario_run.specs.declared.running.RunFault.TheVariants.{ReadFault, WriteFault};
 
-use crate::answering::{answer_line, answer_long_line};
+use crate::answering::{answer_line, answer_no_call};
 use crate::block::LONGEST_LINE;
 use crate::device::{DeviceFault, Sink, Source};
 use crate::lines::{Buffers, LineFault, Next};
@@ -26,7 +21,7 @@ use thiserror::Error;
 /// What a run did.
 #[derive(Clone, Copy, Debug, PartialEq, Eq)]
 pub struct Summary {
-    /// How many lines were answered.
+    /// How many lines were answered, or skipped where those of one name alone are answered.
     pub lines: u64,
 }
 
@@ -62,7 +57,6 @@ impl From<LineFault> for RunFault {
 /// What is written is the transcript: each call is answered as its caller's own run on its own part of the calls before
 /// it answers it, whatever other components called. At a fault the same holds of the lines answered by then; after a
 /// write that failed, a part of their transcript is written.
-#[tactic(auto, using(crate::proofs::Ending::endings))]
 pub fn run<R: Router + Drop, S: Source, K: Sink>(
     core: &mut Core<R>,
     list: &StartList,
@@ -72,35 +66,87 @@ pub fn run<R: Router + Drop, S: Source, K: Sink>(
     max_lines: u64,
 ) -> Result<Summary, RunFault>
     requires listed { core.old.entries ≡ entries_of (start_list_of list.now) }
-    ensures lines { IfOk result (λ summary. IfSome (S.remaining reader.old) (λ input.
-        summary.lines ≡ length (lines_of input))) }
     ensures few { IfOk result (λ summary. summary.lines ≤ max_lines) }
-    ensures readable { OnOk result (IfSome (S.remaining reader.old) (λ input. AreReadable (lines_of input))) }
-    ensures transcript { OnOk result (IfSome (S.remaining reader.old) (λ input.
-        Appends (K.contents writer.old) (K.contents writer.new)
-        (transcript core.old.entries core.old.states input))) }
-    ensures states { OnOk result (IfSome (S.remaining reader.old) (λ input. (component : ℕ) →
-        state_at core.new.states component ≡ state_after core.old.entries core.old.states
-        (calls_of core.old.entries (lines_of input)) component)) }
-    ensures entries { core.new.entries ≡ core.old.entries }
-    ensures init { OnOk result (IfSome (S.remaining reader.old) (λ input.
-        core.new.init ≡ init_running core.old.entries core.old.init core.old.states (lines_of input))) }
-    ensures world { OnOk result (IfSome (S.remaining reader.old) (λ input.
-        core.new ≡ world_running core.old (lines_of input))) }
-    ensures count { length core.new.states ≡ length core.old.states }
-    ensures balance { (pages caps : ℕ) → IsBalanced pages caps core.old → IsBalanced pages caps core.new }
-    ensures shares { (machine : Machine) → IsBalancedFor machine core.old → IsBalancedFor machine core.new }
+    ensures done { IfOk result (λ summary. IfSome (S.remaining reader.old) (λ input.
+        Completes None summary.lines core.old core.new input
+        (K.contents writer.old) (K.contents writer.new))) }
+    ensures keeps { KeepsWorld core.old core.new }
     ensures writing { K.has_failed writer.new ≡ is_write_fault result }
     ensures reading { OnOk result (S.has_failed reader.new ≡ false) }
     ensures stops { IfErr result (λ fault. IfSome (S.remaining reader.old) (λ input.
-        Stops fault max_lines core.old core.new input (S.remaining reader.new) (S.has_failed reader.new)
+        Stops None fault max_lines core.old core.new input
+        (S.remaining reader.new) (S.has_failed reader.new)
         (K.contents writer.old) (K.contents writer.new))) }
     ensures ok { IfErr result (λ fault. IfSome (S.remaining reader.old) (λ input.
-        S.has_failed reader.new ≡ false → K.has_failed writer.new ≡ false
-        → AreReadable (lines_of input)
-        → length (lines_of input) ≤ max_lines → ⊥)) }
+        HasCause input max_lines (S.has_failed reader.new) (K.has_failed writer.new))) }
     ensures before { (K.has_failed writer.old || S.has_failed reader.old) ≡ true →
-        (result ≡ Err (if K.has_failed writer.old then WriteFault else ReadFault))
+        FaultBefore result (S.has_failed reader.old) (K.has_failed writer.old)
+        × (core.new ≡ core.old) × (reader.new ≡ reader.old) × (writer.new ≡ writer.old) }
+{
+    run_said_by(core, list, reply, None, reader, writer, max_lines)
+}
+
+/// Answers the lines of one name alone: those of at most `LONGEST_LINE` bytes that `read_line` reads as calls under it.
+/// Every other line is counted, and skipped: nothing is told of it, and it is read no further than the name goes. All
+/// else is as in `run`, also where a line is skipped. What is written is the transcript of the name's lines alone, which
+/// is what a run of all lines tells of them (`own_model`'s `lines_stand_alone`).
+pub fn run_only<R: Router + Drop, S: Source, K: Sink>(
+    core: &mut Core<R>,
+    list: &StartList,
+    reply: &mut Reply,
+    only: &[u8],
+    reader: &mut S,
+    writer: &mut K,
+    max_lines: u64,
+) -> Result<Summary, RunFault>
+    requires listed { core.old.entries ≡ entries_of (start_list_of list.now) }
+    ensures few { IfOk result (λ summary. summary.lines ≤ max_lines) }
+    ensures done { IfOk result (λ summary. IfSome (S.remaining reader.old) (λ input.
+        Completes (Some only.now) summary.lines core.old core.new input
+        (K.contents writer.old) (K.contents writer.new))) }
+    ensures keeps { KeepsWorld core.old core.new }
+    ensures writing { K.has_failed writer.new ≡ is_write_fault result }
+    ensures reading { OnOk result (S.has_failed reader.new ≡ false) }
+    ensures stops { IfErr result (λ fault. IfSome (S.remaining reader.old) (λ input.
+        Stops (Some only.now) fault max_lines core.old core.new input
+        (S.remaining reader.new) (S.has_failed reader.new)
+        (K.contents writer.old) (K.contents writer.new))) }
+    ensures ok { IfErr result (λ fault. IfSome (S.remaining reader.old) (λ input.
+        HasCause input max_lines (S.has_failed reader.new) (K.has_failed writer.new))) }
+    ensures before { (K.has_failed writer.old || S.has_failed reader.old) ≡ true →
+        FaultBefore result (S.has_failed reader.old) (K.has_failed writer.old)
+        × (core.new ≡ core.old) × (reader.new ≡ reader.old) × (writer.new ≡ writer.old) }
+{
+    run_said_by(core, list, reply, Some(only), reader, writer, max_lines)
+}
+
+/// Answers all lines, or those of one name alone.
+#[tactic(auto, using(crate::proofs::Ending::endings))]
+pub(crate) fn run_said_by<R: Router + Drop, S: Source, K: Sink>(
+    core: &mut Core<R>,
+    list: &StartList,
+    reply: &mut Reply,
+    only: Option<&[u8]>,
+    reader: &mut S,
+    writer: &mut K,
+    max_lines: u64,
+) -> Result<Summary, RunFault>
+    requires listed { core.old.entries ≡ entries_of (start_list_of list.now) }
+    ensures few { IfOk result (λ summary. summary.lines ≤ max_lines) }
+    ensures done { IfOk result (λ summary. IfSome (S.remaining reader.old) (λ input.
+        Completes (option_copied only.entry) summary.lines core.old core.new input
+        (K.contents writer.old) (K.contents writer.new))) }
+    ensures keeps { KeepsWorld core.old core.new }
+    ensures writing { K.has_failed writer.new ≡ is_write_fault result }
+    ensures reading { OnOk result (S.has_failed reader.new ≡ false) }
+    ensures stops { IfErr result (λ fault. IfSome (S.remaining reader.old) (λ input.
+        Stops (option_copied only.entry) fault max_lines core.old core.new input
+        (S.remaining reader.new) (S.has_failed reader.new)
+        (K.contents writer.old) (K.contents writer.new))) }
+    ensures ok { IfErr result (λ fault. IfSome (S.remaining reader.old) (λ input.
+        HasCause input max_lines (S.has_failed reader.new) (K.has_failed writer.new))) }
+    ensures before { (K.has_failed writer.old || S.has_failed reader.old) ≡ true →
+        FaultBefore result (S.has_failed reader.old) (K.has_failed writer.old)
         × (core.new ≡ core.old) × (reader.new ≡ reader.old) × (writer.new ≡ writer.old) }
 {
     if writer.failed() {
@@ -109,17 +155,18 @@ pub fn run<R: Router + Drop, S: Source, K: Sink>(
     if reader.failed() {
         return Err(RunFault::ReadFault);
     }
-    match answer_all(core, list, reply, reader, writer, max_lines) {
+    match answer_all(core, list, reply, only, reader, writer, max_lines) {
         Ok(lines) => Ok(Summary { lines }),
         Err(fault) => Err(fault),
     }
 }
 
-// Answers line after line, and tells how many there were.
+// Answers line after line, and tells how many there were, also of those that were skipped.
 fn answer_all<R: Router + Drop, S: Source, K: Sink>(
     core: &mut Core<R>,
     list: &StartList,
     reply: &mut Reply,
+    only: Option<&[u8]>,
     reader: &mut S,
     writer: &mut K,
     max_lines: u64,
@@ -127,7 +174,7 @@ fn answer_all<R: Router + Drop, S: Source, K: Sink>(
     requires listed { core.old.entries ≡ entries_of (start_list_of list.now) }
     requires reads { S.has_failed reader.old ≡ false }
     requires writes { K.has_failed writer.old ≡ false }
-    ensures serves { Serves result max_lines core.old core.new
+    ensures serves { Serves (option_copied only.entry) result max_lines core.old core.new
         (S.remaining reader.old) (S.remaining reader.new) (S.has_failed reader.new)
         (K.contents writer.old) (K.contents writer.new) }
     ensures reading { OnOk result (S.has_failed reader.new ≡ false) }
@@ -135,7 +182,7 @@ fn answer_all<R: Router + Drop, S: Source, K: Sink>(
 {
     let mut buffers = Buffers::new();
     for count in 0..max_lines {
-        if !answer_next(core, list, reply, &mut buffers, reader, writer)? {
+        if !answer_next(core, list, reply, only, &mut buffers, reader, writer)? {
             return Ok(count);
         }
     }
@@ -150,6 +197,7 @@ fn answer_next<R: Router + Drop, S: Source, K: Sink>(
     core: &mut Core<R>,
     list: &StartList,
     reply: &mut Reply,
+    only: Option<&[u8]>,
     buffers: &mut Buffers,
     reader: &mut S,
     writer: &mut K,
@@ -157,7 +205,7 @@ fn answer_next<R: Router + Drop, S: Source, K: Sink>(
     requires listed { core.old.entries ≡ entries_of (start_list_of list.now) }
     requires reads { S.has_failed reader.old ≡ false }
     requires writes { K.has_failed writer.old ≡ false }
-    ensures next { AnswersNext result
+    ensures next { AnswersNext (option_copied only.entry) result
         (point core.old buffers.old (S.remaining reader.old) (K.contents writer.old))
         (point core.new buffers.new (S.remaining reader.new) (K.contents writer.new)) }
     ensures behind { ReadsOn
@@ -168,9 +216,9 @@ fn answer_next<R: Router + Drop, S: Source, K: Sink>(
 {
     match buffers.next_line(reader, writer)? {
         Next::Line(count) => {
-            more_unless_failed(answer_ahead(core, list, reply, buffers, count, writer))
+            more_unless_failed(answer_ahead(core, list, reply, only, buffers, count, writer))
         }
-        Next::TooLong => more_unless_failed(answer_long_line(&mut buffers.gathered, writer)),
+        Next::TooLong => { more_unless_failed(answer_no_call(only, &mut buffers.gathered, writer)) }
         Next::End => Ok(false),
     }
 }
@@ -180,6 +228,7 @@ fn answer_ahead<R: Router + Drop, K: Sink>(
     core: &mut Core<R>,
     list: &StartList,
     reply: &mut Reply,
+    only: Option<&[u8]>,
     buffers: &mut Buffers,
     count: usize,
     writer: &mut K,
@@ -188,14 +237,16 @@ fn answer_ahead<R: Router + Drop, K: Sink>(
     requires short { count ≤ LONGEST_LINE }
     requires listed { core.old.entries ≡ entries_of (start_list_of list.now) }
     requires writes { K.has_failed writer.old ≡ false }
-    ensures world { core.new ≡ after_one core.old (take count buffers.old.ahead) }
+    ensures world { core.new ≡ after_all (option_copied only.entry) core.old
+        (take count buffers.old.ahead ∷ []) }
     ensures passed { buffers.new.ahead ≡ drop (count + 1) buffers.old.ahead }
     ensures told { TellsUnless result (K.contents writer.old) buffers.old.gathered
-        (K.contents writer.new) buffers.new.gathered (told_of core.old (take count buffers.old.ahead)) }
+        (K.contents writer.new) buffers.new.gathered
+        (told_of_all (option_copied only.entry) core.old (take count buffers.old.ahead ∷ [])) }
     ensures failing { K.has_failed writer.new ≡ is_err result }
 {
     let line = &buffers.ahead.ahead()[..count];
-    let answered = answer_line(core, list, line, reply, &mut buffers.gathered, writer);
+    let answered = answer_line(core, list, only, line, reply, &mut buffers.gathered, writer);
     buffers.ahead.pass(count + 1);
     answered
 }

@@ -1,4 +1,5 @@
 //! Worked scenarios over readers and writers in memory, on the built-in machine and on others.
+mod alone;
 mod boots;
 mod bounds;
 mod configs;

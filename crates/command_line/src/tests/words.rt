@@ -66,9 +66,37 @@ fn words_that_are_read(rt: HostRuntime) -> Result<(), Fail> {
     ];
     for (words, check, accounts, path) in lines {
         let options = Options::read(alloc, words)?;
-        assert!(rt; options.check() == check, "{words:?}");
-        assert!(rt; options.accounts() == accounts, "{words:?}");
-        assert!(rt; options.path() == path, "{words:?}");
+        assert!(rt; options.check == check, "{words:?}");
+        assert!(rt; options.accounts == accounts, "{words:?}");
+        assert!(rt; options.path == path, "{words:?}");
+    }
+    Ok(())
+}
+
+#[test]
+fn name_alone_is_read(rt: HostRuntime) -> Result<(), Fail> {
+    let alloc = rt.alloc();
+    let lines: [(&[&str], Option<&str>); 6] = [
+        (&["scenario_run"], None),
+        (&["scenario_run", "--only", "alice"], Some("alice")),
+        (&["scenario_run", "--only=alice", "a.json"], Some("alice")),
+        (&["scenario_run", "a.json", "--only", ""], Some("")),
+        (
+            &["scenario_run", "--only", "alice quota"],
+            Some("alice quota"),
+        ),
+        (&["scenario_run", "--", "--only"], None),
+    ];
+    for (words, only) in lines {
+        let options = Options::read(alloc, words)?;
+        assert!(rt; options.only == only, "{words:?}");
+    }
+    for words in [
+        ["scenario_run", "--only"].as_slice(),
+        ["scenario_run", "--only", "a", "--only", "b"].as_slice(),
+    ] {
+        let refused = Options::read(alloc, words).err().ok_or("refused")?;
+        assert_eq!(rt; refused.exit_code(), 2, "{words:?}");
     }
     Ok(())
 }
@@ -144,6 +172,7 @@ fn help_fits_a_screen(rt: HostRuntime) -> Result<(), Fail> {
             "Usage: scenario_run [OPTIONS] [CONFIG]",
             "--check",
             "--accounts",
+            "--only <NAME>",
             "attach_at S A",
             "exit",
             "docs/FORMATS.md",
@@ -186,7 +215,7 @@ fn a_word_that_is_no_text_is_a_bad_line(rt: HostRuntime) -> Result<(), Fail> {
     let words = words_given(&(GivenWords(&good), alloc))?;
     assert!(rt; words.len() == 3);
     let options = Options::read(alloc, words.as_slice())?;
-    assert!(rt; options.check() && options.path() == Some(""));
+    assert!(rt; options.check && options.path == Some(""));
     let bad: [&[u8]; 3] = [b"scenario_run", b"--check", b"a\xffb"];
     let refused = words_given(&(GivenWords(&bad), alloc))
         .err()
@@ -213,7 +242,7 @@ fn refused_memory_is_told_as_such(rt: HostRuntime) {
     for _ in 0..2 {
         match Options::read(rt.alloc(), &["scenario_run", "--check", "a.json"]) {
             Ok(options) => {
-                assert!(rt; options.check() && options.path() == Some("a.json"));
+                assert!(rt; options.check && options.path == Some("a.json"));
             }
             Err(error) => {
                 assert!(rt; error.kind() == ErrorKind::OutOfMemory && !wanted);

@@ -158,8 +158,14 @@ fn boot_refuses_what_is_not_covered(rt: HostRuntime) -> Result<(), Fail> {
     )?;
     for task in [
         Task::Check,
-        Task::Run { accounts: false },
-        Task::Run { accounts: true },
+        Task::Run {
+            accounts: false,
+            only: None,
+        },
+        Task::Run {
+            accounts: true,
+            only: None,
+        },
     ] {
         let mut input = b"alice quota\n".as_slice();
         let mut sink = Output::new(Vec::new(rt.alloc()));

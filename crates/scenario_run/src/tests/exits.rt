@@ -59,20 +59,28 @@ const EXITS_LISTED: &[u8] =
 
 // What a scenario is told on the machine of a text, with the account list behind it.
 fn told_with_list(alloc: Global, text: &str, input: &[u8]) -> Result<Vec<u8>, Fail> {
-    let told = run_bytes(alloc, text.as_bytes(), Task::Run { accounts: true }, input)
-        .ok()
-        .ok_or("a run to its end")?;
+    let told = run_bytes(
+        alloc,
+        text.as_bytes(),
+        Task::Run {
+            accounts: true,
+            only: None,
+        },
+        input,
+    )
+    .ok()
+    .ok_or("a run to its end")?;
     Ok(told)
 }
 
+/// A script that has something of each kind exits.
+pub const EVERYTHING: &[u8] =
+    b"alice open LOG ram_quota=4K, cap_quota=2\nalice open File_system ram_quota=8K, cap_quota=3\n\
+    alice new 100\nalice quota\nalice exit\nalice quota\nbob quota\n";
+
 #[test]
 fn exit_returns_everything(rt: HostRuntime) -> Result<(), Fail> {
-    let told = told_with_list(
-        rt.alloc(),
-        MACHINE_A,
-        b"alice open LOG ram_quota=4K, cap_quota=2\nalice open File_system ram_quota=8K, cap_quota=3\n\
-          alice new 100\nalice quota\nalice exit\nalice quota\nbob quota\n",
-    )?;
+    let told = told_with_list(rt.alloc(), MACHINE_A, EVERYTHING)?;
     assert_eq!(rt;
         told.as_slice(),
         b"alice: cap 1\nalice: cap 2\nalice: at 0x100000010\nalice: ram 16384/53248 caps 1/11\nalice: ok\n\

@@ -80,9 +80,27 @@ fn failing_writer_is_a_write_fault(rt: HostRuntime) -> Result<(), Fail> {
 fn failing_writer_is_tried_once(rt: HostRuntime) -> Result<(), Fail> {
     let many = cap_quotas_cap(rt.alloc(), 400)?;
     for (task, input) in [
-        (Task::Run { accounts: false }, b"alice quota\n".as_slice()),
-        (Task::Run { accounts: false }, many.as_slice()),
-        (Task::Run { accounts: true }, b"".as_slice()),
+        (
+            Task::Run {
+                accounts: false,
+                only: None,
+            },
+            b"alice quota\n".as_slice(),
+        ),
+        (
+            Task::Run {
+                accounts: false,
+                only: None,
+            },
+            many.as_slice(),
+        ),
+        (
+            Task::Run {
+                accounts: true,
+                only: None,
+            },
+            b"".as_slice(),
+        ),
         (Task::Check, b"".as_slice()),
     ] {
         let mut writer = Refuser { writes: 0 };
@@ -294,7 +312,10 @@ fn a_million_lines_and_no_more(rt: HostRuntime) -> Result<(), Fail> {
         let ended = boot_and_run(
             rt.alloc(),
             MACHINE_A.as_bytes(),
-            Task::Run { accounts: false },
+            Task::Run {
+                accounts: false,
+                only: None,
+            },
             &mut source,
             &mut sink,
         );
@@ -323,7 +344,10 @@ fn bytes_stop_at_an_endless_line(rt: HostRuntime) -> Result<(), Fail> {
     match run_bytes(
         rt.alloc(),
         MACHINE_A.as_bytes(),
-        Task::Run { accounts: false },
+        Task::Run {
+            accounts: false,
+            only: None,
+        },
         &input,
     ) {
         Ok(_) => assert!(rt; false, "the line has 1,048,578 bytes"),

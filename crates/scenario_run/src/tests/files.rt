@@ -11,7 +11,7 @@ const DONATION: &[u8] = b"alice open File_system ram_quota=4K, cap_quota=2\n\
     alice upgrade 1 cap_quota=1\nalice call 1 CREATE a\nalice call 1 STAT\nalice quota\n";
 
 /// What it is answered.
-const DONATION_ANSWERED: &[u8] = b"alice: cap 1\nalice: ERR OUT_OF_RAM\nalice: ok\n\
+pub const DONATION_ANSWERED: &[u8] = b"alice: cap 1\nalice: ERR OUT_OF_RAM\nalice: ok\n\
     alice: ERR OUT_OF_CAPS\nalice: ok\nalice: OK\nalice: OK ram 8192/8192 caps 3/3\n\
     alice: ram 0/57344 caps 0/13\n";
 
@@ -61,12 +61,11 @@ fn with_neighbour(
     Ok(both)
 }
 
-#[test]
-fn neighbour_cannot_reach_the_transcript(rt: HostRuntime) -> Result<(), Fail> {
+/// What the session does, with a neighbour that asks for more than it has.
+pub fn beside_a_neighbour(alloc: Global) -> Result<Vec<u8>, AllocError> {
     let write = b"bob call 1 WRITE x 0 00".as_slice();
-    let refused = b"bob: ERR OUT_OF_CAPS".as_slice();
-    let input = with_neighbour(
-        rt.alloc(),
+    with_neighbour(
+        alloc,
         DONATION,
         [
             b"bob open File_system ram_quota=12K, cap_quota=3",
@@ -78,7 +77,13 @@ fn neighbour_cannot_reach_the_transcript(rt: HostRuntime) -> Result<(), Fail> {
             write,
             write,
         ],
-    )?;
+    )
+}
+
+#[test]
+fn neighbour_cannot_reach_the_transcript(rt: HostRuntime) -> Result<(), Fail> {
+    let refused = b"bob: ERR OUT_OF_CAPS".as_slice();
+    let input = beside_a_neighbour(rt.alloc())?;
     let transcript = with_neighbour(
         rt.alloc(),
         DONATION_ANSWERED,

@@ -25,7 +25,15 @@ pub(super) fn check_on<R: Abort + AllocGlobal>(
     input: &[u8],
     transcript: &[u8],
 ) -> Result<(), Fail> {
-    match run_bytes(rt.alloc(), text, Task::Run { accounts: false }, input) {
+    match run_bytes(
+        rt.alloc(),
+        text,
+        Task::Run {
+            accounts: false,
+            only: None,
+        },
+        input,
+    ) {
         Ok(written) => assert_eq!(rt; written.as_slice(), transcript),
         Err(stopped) => assert!(rt; false, "{:?}", stopped.failure),
     }
@@ -236,12 +244,16 @@ fn ram_is_refused_before_capabilities(rt: HostRuntime) -> Result<(), Fail> {
     check(&rt, &input, 21, &transcript)
 }
 
+/// A page of a script that has exited, and another script.
+pub const FREED_PAGE: &[u8] =
+    b"alice alloc 4096\nalice attach 1\nalice poke 0x10000000 736563726574\nalice free 1\n\
+    alice exit\nbob alloc 4096\nbob attach 1\nbob peek 0x10000000 8\n";
+
 #[test]
 fn freed_page_is_zero_for_the_next_owner(rt: HostRuntime) -> Result<(), Fail> {
     check(
         &rt,
-        b"alice alloc 4096\nalice attach 1\nalice poke 0x10000000 736563726574\nalice free 1\n\
-          alice exit\nbob alloc 4096\nbob attach 1\nbob peek 0x10000000 8\n",
+        FREED_PAGE,
         8,
         b"alice: cap 1\nalice: at 0x10000000\nalice: ok\nalice: ok\nalice: ok\n\
           bob: cap 1\nbob: at 0x10000000\nbob: data 0000000000000000\n",

@@ -77,25 +77,31 @@ fn texts_of_sessions_are_read(rt: HostRuntime) -> Result<(), Fail> {
     )
 }
 
-#[test]
-fn log_lines_are_cut_and_labelled(rt: HostRuntime) -> Result<(), Fail> {
-    let alloc = rt.alloc();
+/// Two scripts write to the log, lines of all kinds.
+pub fn labelled_lines(alloc: Global) -> Result<Vec<u8>, AllocError> {
     let mut input = Vec::from_slice(
         alloc,
         b"alice open LOG ram_quota=4K, cap_quota=2, label=\"main\"\nalice call 1 WRITE 6869\n\
           alice call 1 WRITE 0a62\nbob open LOG ram_quota=4K, cap_quota=2\nbob call 1 WRITE 07410a\n\
           bob call 1 WRITE 0\nbob call 1 WRITE ",
     )?;
+    for _ in 0..200 {
+        input.extend_from_slice(b"61")?;
+    }
+    input.extend_from_slice(b"\nbob call 1 WRITE 0a\nbob close 1\n")?;
+    Ok(input)
+}
+
+#[test]
+fn log_lines_are_cut_and_labelled(rt: HostRuntime) -> Result<(), Fail> {
+    let alloc = rt.alloc();
+    let input = labelled_lines(alloc)?;
     let mut transcript = Vec::from_slice(
         alloc,
         b"alice: cap 1\nalice: OK 2\n[alice -> main] hi\nalice: OK 2\nbob: cap 1\n[bob] .A\n\
           bob: OK 3\nbob: ERR BAD_REQUEST\n[bob] ",
     )?;
-    for _ in 0..200 {
-        input.extend_from_slice(b"61")?;
-        transcript.push(b'a')?;
-    }
-    input.extend_from_slice(b"\nbob call 1 WRITE 0a\nbob close 1\n")?;
+    transcript.resize(transcript.len() + 200, b'a')?;
     transcript.extend_from_slice(b"\nbob: OK 200\n[bob] \nbob: OK 1\nbob: ok\n")?;
     check(&rt, &input, 9, &transcript)
 }

@@ -12,10 +12,10 @@ returns-in-Check-clause-fails g c =
 
 pub returns-in-Ok-answer_scenario-clause-done : goal.returns-in-Ok-answer_scenario-clause-done
 returns-in-Ok-answer_scenario-clause-done g c =
-    done_run c.in_ok-list.ensures.ok c.in_ok-core.ensures.covered c.in_ok-core.ensures.started c.args.task c.in-Run.accounts _ _ _ _ c.in-Run.is
-    c.in-Ok-answer_scenario.ensures.lines c.in-Ok-answer_scenario.ensures.readable c.in-Ok-answer_scenario.ensures.told
+    done_run c.in_ok-list.ensures.ok c.in_ok-core.ensures.covered c.in_ok-core.ensures.started c.args.task c.in-Run.accounts c.in-Run.only _ _ _ _ c.in-Run.is
+    c.in-Ok-answer_scenario.ensures.told
 
 pub returns-clause-fails : goal.returns-clause-fails
 returns-clause-fails g c =
-    stopped_run c.in_ok-list.ensures.ok c.in_ok-core.ensures.covered c.in_ok-core.ensures.started c.args.task c.in-Run.accounts c.in-Err-answer_scenario.fault _ _ _ _ _ _ c.in-Run.is
+    stopped_run c.in_ok-list.ensures.ok c.in_ok-core.ensures.covered c.in_ok-core.ensures.started c.args.task c.in-Run.accounts c.in-Run.only c.in-Err-answer_scenario.fault _ _ _ _ _ _ c.in-Run.is
     c.in-Err-answer_scenario.ensures.stops

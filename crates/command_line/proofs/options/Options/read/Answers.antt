@@ -20,12 +20,20 @@ returns-clause-accounts g c =
     let rows = (c.in_ok-matches.ensures.matches (ap is_simple made)).0 in
     c.is_set-2.ensures ∙ ap (is_set (codes "accounts")) (rows ∙ ap (λ (app : App). matches_of app words) made)
 
+pub returns-clause-only : goal.returns-clause-only
+returns-clause-only g c =
+    let words = map g.S.AsStr.text c.args.words.now in
+    let made = c.in_ok-command.ensures in
+    let rows = (c.in_ok-matches.ensures.matches (ap is_simple made)).0 in
+    c.get_str.ensures ∙ first_value-rows (found_of c.in_ok-matches.matches) (codes "only")
+    ∙ ap (first_of (codes "only")) (rows ∙ ap (λ (app : App). matches_of app words) made)
+
 pub returns-clause-path : goal.returns-clause-path
 returns-clause-path g c =
     let words = map g.S.AsStr.text c.args.words.now in
     let made = c.in_ok-command.ensures in
     let rows = (c.in_ok-matches.ensures.matches (ap is_simple made)).0 in
-    c.get_str.ensures ∙ first_value-rows (found_of c.in_ok-matches.matches) (codes "config")
+    c.get_str-2.ensures ∙ first_value-rows (found_of c.in_ok-matches.matches) (codes "config")
     ∙ ap (first_of (codes "config")) (rows ∙ ap (λ (app : App). matches_of app words) made)
 
 pub returns-clause-refusals : goal.returns-clause-refusals
