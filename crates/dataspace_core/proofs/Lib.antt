@@ -10,6 +10,7 @@ pub mod RetainLemmas
 pub mod GapLemmas
 pub mod LaidOutLemmas
 pub mod MemoryLemmas
+pub mod CopyLemmas
 pub mod CapsLemmas
 pub mod PartLaws
 pub mod PokedLaws
