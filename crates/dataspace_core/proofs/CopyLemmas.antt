@@ -108,5 +108,5 @@ module _ (store : Store) (from to : ℕ) (apart : from ≢ to) (source : Exists 
         ∙ ap (λ (s : Space). record store { spaces = insert (copied done).spaces to (record { payer = s.payer; bytes = with_bytes s.bytes (b + length first) next }) }) target_space
         ∙ ap (λ (m : NatMap Space). record store { spaces = m }) (put_again store.spaces to _ _)
         ∙ ap (λ (bs : List ℕ). record store { spaces = insert store.spaces to (record { payer = (space_at store to).payer; bytes = bs }) })
-          (with_bytes-more (space_at store to).bytes b first next (omega (arith, long, more, room)))
+        (with_bytes-more (space_at store to).bytes b first next (omega (arith, long, more, room)))
         ∙ ap (with_bytes_at store to b) (range_more bytes a done size)

@@ -27,7 +27,7 @@ read-requires-clause-range c =
     let l = c.loop-done in
     let fits = piece_taken a.count l.done c.min-size.result (a.to_offset + l.done) l.buffer c.loop-done-test.true c.min-size.array_long c.min-size.ensures in
     let same = ap length (same_source a.self.now a.from.0 a.to.0 c.requires.apart c.requires.source c.requires.target a.from_offset a.to_offset a.count c.requires.there c.requires.room
-        l.self l.done c.min-size.result l.invariant.copied fits.0) in
+    l.self l.done c.min-size.result l.invariant.copied fits.0) in
     omega (arith, same, fits.0, fits.1, c.requires.there)
 
 pub write-requires-clause-exists : goal.write-requires-clause-exists
@@ -45,9 +45,9 @@ write-requires-clause-range c =
     let fits = piece_taken a.count l.done c.min-size.result (a.to_offset + l.done) l.buffer c.loop-done-test.true c.min-size.array_long c.min-size.ensures in
     let read = ap length (c.read.ensures ∙ ap (λ n. slice_range (space_at l.self a.from.0).bytes (a.from_offset + l.done) (a.from_offset + l.done + n)) fits.1) in
     let long = piece_long a.self.now a.from.0 a.to.0 c.requires.apart c.requires.source c.requires.target a.from_offset a.to_offset a.count c.requires.there c.requires.room
-        l.self l.done c.min-size.result l.invariant.copied fits.0 in
+    l.self l.done c.min-size.result l.invariant.copied fits.0 in
     let same = target_long a.self.now a.from.0 a.to.0 c.requires.apart c.requires.source c.requires.target a.from_offset a.to_offset a.count c.requires.there c.requires.room
-        l.self l.done c.min-size.result l.invariant.copied fits.0 in
+    l.self l.done c.min-size.result l.invariant.copied fits.0 in
     omega (arith, read, long, same, fits.0, c.requires.room)
 
 pub loop-done-preserved : goal.loop-done-preserved
