@@ -1,6 +1,7 @@
 //! Memory in dataspaces: each has pages that an account pays for.
 #![tactic(auto)]
 
+mod copy;
 mod dataspace;
 mod laws;
 mod memory;

@@ -41,6 +41,46 @@ fn free_between(memory: &mut Memory, middle: DsId, first: DsId, last: DsId)
     memory.free(middle);
 }
 
+/// Copies bytes of a dataspace to another. The first stays, and the second is as long as it was.
+fn copy(memory: &mut Memory, from: DsId, from_offset: u64, to: DsId, to_offset: u64, count: u64)
+    requires apart { from.0 ≢ to.0 }
+    requires source { Exists memory.old from.0 }
+    requires target { Exists memory.old to.0 }
+    requires there { from_offset + count ≤ length (space_at memory.old from.0).bytes }
+    requires room { to_offset + count ≤ length (space_at memory.old to.0).bytes }
+    ensures source { get memory.new.spaces from.0 ≡ get memory.old.spaces from.0 }
+    ensures target { Exists memory.new to.0 }
+    ensures size { length (space_at memory.new to.0).bytes ≡ length (space_at memory.old to.0).bytes }
+{
+    memory.copy(from, from_offset, to, to_offset, count);
+}
+
+#[test]
+fn copies_cross_page_borders_of_both(rt: HostRuntime) {
+    let mut memory = Memory::boot(rt.alloc(), 5, Caps(2), 1).expect(&rt, "memory for five pages");
+    let root = memory.root();
+    let from = memory.alloc(root, 8192).expect(&rt, "the root has it");
+    memory.write(from, 4094, &[1, 2, 3, 4]);
+    memory.write(from, 8188, &[5, 6, 7, 8]);
+    let to = memory.alloc(root, 12288).expect(&rt, "the root has it");
+    memory.write(to, 4090, &[9; 16]);
+    copy(&mut memory, from, 4093, to, 4092, 4099);
+    let mut buffer = [0; 8];
+    memory.read(to, 4090, &mut buffer);
+    assert_eq!(rt; buffer, [9, 9, 0, 1, 2, 3, 4, 0]);
+    memory.read(to, 8184, &mut buffer);
+    assert_eq!(rt; buffer, [0, 0, 0, 5, 6, 7, 8, 0]);
+    copy(&mut memory, from, 8192, to, 12288, 0);
+    copy(&mut memory, from, 8189, to, 12285, 3);
+    copy(&mut memory, from, 4095, to, 8190, 1);
+    memory.read(to, 12280, &mut buffer);
+    assert_eq!(rt; buffer, [0, 0, 0, 0, 0, 6, 7, 8]);
+    memory.read(to, 8184, &mut buffer);
+    assert_eq!(rt; buffer, [0, 0, 0, 5, 6, 7, 2, 0]);
+    memory.read(from, 8184, &mut buffer);
+    assert_eq!(rt; buffer, [0, 0, 0, 0, 5, 6, 7, 8]);
+}
+
 #[test]
 fn bytes_cross_a_page_border(rt: HostRuntime) {
     let mut memory = Memory::boot(rt.alloc(), 2, Caps(1), 1).expect(&rt, "memory for two pages");
