@@ -16,20 +16,20 @@ use Rattle.avl_alloc.specs.Holes.{Fits, key, by_key, heads, links}
 use Rattle.avl_alloc.specs.Fit.{IsPlaceOf}
 use Rattle.avl_alloc.specs.Found.{block_addr}
 use Rattle.avl_alloc.specs.Layout.{Laid, heap_of, sizes_of, bytes_of, hole_count, weigh_all, none, whole, IsChunk, AreChunks, IsLaidOut, IsSound, ChangesHoles}
-use Rattle.avl_alloc.specs.Site.{Site, heap_with, start_of, Stand, StandUsed, Turn}
+use Rattle.avl_alloc.specs.Context.{Context, heap_with, start_of, Stand, StandUsed, Turn}
 use Rattle.avl_tree.proofs.TreeLemmas.{one, high_bound}
 use Rattle.avl_alloc.proofs.WeightLemmas.{all-left, all-right, IsLong, AreLong, TidyAll, tidy_all, chunks_kept, chunks_long, chunks_apart, weigh_all-append, weigh_all-parts, weigh-site}
 use Rattle.avl_alloc.proofs.HoleLemmas.{within_above, with_word_same, with_word_other, fits_node, holds_kept, none_at_zero}
 use Rattle.avl_alloc.proofs.TurnLemmas.{outside}
 use Rattle.avl_alloc.proofs.FitLemmas.{found-best, holes_counted}
 use Rattle.avl_alloc.proofs.LayoutLemmas.{fits_one_more, heap_is, IsTold, laid_sound}
-use Rattle.avl_alloc.proofs.SiteLemmas.{chunks_length, sizes_few, site_open}
+use Rattle.avl_alloc.proofs.ContextLemmas.{chunks_length, sizes_few, site_open}
 use Rattle.avl_alloc.proofs.TakenLemmas.{below_digits, IsSpotOf, IfFound, best_spot, short_from, taken_is, taken_blocks}
 use Rattle.own_model.proofs.ListLemmas.{all_append}
 
 -- ---- a change in one place
 
-module _ (old new : BestFit) (w v : Words) (at : Site) (place : ℕ) (xs ys : List Block) (turn : Turn old new w v at place xs ys) where
+module _ (old new : BestFit) (w v : Words) (at : Context) (place : ℕ) (xs ys : List Block) (turn : Turn old new w v at place xs ys) where
   pub turn_heap : heap_of new v ≡ heap_with at ys
   turn_heap = heap_is new v (heap_with at ys) turn.stand.tree turn.stand.laid
 
@@ -37,7 +37,7 @@ module _ (old new : BestFit) (w v : Words) (at : Site) (place : ℕ) (xs ys : Li
   turn_sound blocks = laid_sound new v (heap_with at ys) turn.stand.tree turn.stand.laid blocks
 
 -- what a hole is to be changed to changes nothing but holes
-pub hole_changes : (old new : BestFit) (w v : Words) (at : Site) (place n : ℕ) (xs ys : List Block) → bytes_in xs ≡ n → Turn old new w v at place xs ys → ChangesHoles w v (heap_with at (Hole n ∷ []))
+pub hole_changes : (old new : BestFit) (w v : Words) (at : Context) (place n : ℕ) (xs ys : List Block) → bytes_in xs ≡ n → Turn old new w v at place xs ys → ChangesHoles w v (heap_with at (Hole n ∷ []))
 hole_changes old new w v at place n xs ys bytes turn q outside =
     let kept = rw (bytes, sym turn.stand.start) at (turn.kept q) in
     let one : bytes_in (Hole n ∷ []) ≡ n = omega arith in
@@ -59,7 +59,7 @@ same_few h k same = subst (λ z. hole_count z < 2 ^ binary_digits (hole_count h)
 pub record IsBestAt (fit : BestFit) (w : Words) (size place : ℕ) : Type 0 where
   pub hole : Spot
   pub best : best_hole size (holes_of (heap_of fit w)) ≡ Some hole
-  pub site : Site
+  pub site : Context
   pub is : heap_with site (Hole hole.size ∷ []) ≡ heap_of fit w
   pub chunk : length site.older ≡ hole.chunk
   pub offset : bytes_in site.left ≡ hole.offset
@@ -181,7 +181,7 @@ kept_before sizes bytes chunk =
 abbrev pub with_chunk : BestFit → ℕ → ℕ → BestFit
 with_chunk fit number bytes = record { root = fit.root; count = number + 1; sizes = slice_set fit.sizes number bytes }
 
-abbrev pub last_site : Heap → Site
+abbrev pub last_site : Heap → Context
 last_site heap = record { older = heap; left = []; right = []; newer = [] }
 
 -- the header of a new chunk was written, that of one used block

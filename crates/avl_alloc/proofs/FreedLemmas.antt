@@ -7,7 +7,7 @@ use Rattle.std.proofs.lemmas.List.{append_assoc}
 use Rattle.own_model.specs.Heap.{Block, Used, Hole, bytes_in, IsBlockSize, AreBlocks}
 use Rattle.own_model.specs.BestFit.{before, given_in, used_at, payload_at}
 use Rattle.avl_alloc.specs.declared.chunk.Block.{Block as BlockFound}
-use Rattle.avl_alloc.specs.Site.{gap, first_hole}
+use Rattle.avl_alloc.specs.Context.{gap, first_hole}
 use Rattle.avl_alloc.specs.Walk.{block_over, block_there}
 use Rattle.avl_alloc.proofs.HoleLemmas.{ltb-true, ltb-false}
 use Rattle.avl_alloc.proofs.WeightLemmas.{AreLong}

@@ -13,12 +13,12 @@ use Rattle.avl_alloc.specs.declared.chunk.Block.{Block as BlockFound}
 use Rattle.avl_alloc.specs.Words.{Words, place_at}
 use Rattle.avl_alloc.specs.Holes.{heads}
 use Rattle.avl_alloc.specs.Layout.{heap_of, hole_count, sizes_of, whole, kept_at, AreChunks, IsLaidOut, IsSound, ChangesHoles}
-use Rattle.avl_alloc.specs.Site.{Site, heap_with, Stand, Turn, gap, first_hole, start_of}
+use Rattle.avl_alloc.specs.Context.{Context, heap_with, Stand, Turn, gap, first_hole, start_of}
 use Rattle.avl_alloc.specs.Walk.{block_there}
 use Rattle.avl_alloc.proofs.HoleLemmas.{within_in, within_above}
 use Rattle.avl_alloc.proofs.WeightLemmas.{around-parts, weigh-site, AreLong, IsLong, all-right, laid_long}
 use Rattle.avl_alloc.proofs.LayoutLemmas.{sound_chunk, sound_missing, sound_told}
-use Rattle.avl_alloc.proofs.SiteLemmas.{chunks_length, site_clear}
+use Rattle.avl_alloc.proofs.ContextLemmas.{chunks_length, site_clear}
 use Rattle.avl_alloc.proofs.TurnLemmas.{stand_narrowed}
 use Rattle.avl_alloc.proofs.StandLemmas.{gap_bytes}
 use Rattle.avl_alloc.proofs.TakenLemmas.{heap_turned}
@@ -68,13 +68,13 @@ pub record IsUsedAt (fit : BestFit) (w : Words) (chunk offset : ℕ) (b : BlockF
   pub low : chunk < 64
   pub back : b.before ≤ offset
   pub last : place_at chunk 0 + get_or fit.sizes chunk 0 < 2 ^ 40
-  pub site : Site
+  pub site : Context
   pub behind : ℕ
   pub stand : Stand fit w site (place_at chunk 0 + offset - b.before) (gap b.before ++ Used b.size ∷ gap behind)
   pub is : heap_with site (gap b.before ++ Used b.size ∷ gap behind) ≡ heap_of fit w
   pub made : heap_with site (Hole (b.before + b.size + behind) ∷ []) ≡ given chunk offset (heap_of fit w)
   pub blocks : AllByRecursion AreBlocks (heap_with site (Hole (b.before + b.size + behind) ∷ []))
-  pub next : Site
+  pub next : Context
   pub rest : List Block
   pub next_stand : Stand fit w next (place_at chunk 0 + offset + b.size) rest
   pub first : first_hole rest ≡ behind
@@ -113,7 +113,7 @@ module _ (fit : BestFit) (w : Words) (chunk offset : ℕ) (b : BlockFound) (soun
       let long_right = (all-right IsLong (gap p) (Used n ∷ f.right) (all-right IsLong f.left (gap p ++ Used n ∷ f.right) long)).1 in
       let joined : gap p ++ Used n ∷ gap m ++ past ≡ gap p ++ Used n ∷ f.right = append_assoc (gap p) (Used n ∷ gap m) past ∙ ap (λ z. gap p ++ Used n ∷ z) (past_is f.right long_right) in
       let parts : f.left ++ (gap p ++ Used n ∷ gap m ++ past) ≡ blocks = ap (λ z. f.left ++ z) joined ∙ sym f.is in
-      let site : Site = record { older = older; left = f.left; right = past; newer = newer } in
+      let site : Context = record { older = older; left = f.left; right = past; newer = newer } in
       let is : heap_with site (gap p ++ Used n ∷ gap m) ≡ h = ap (λ z. older ++ z ∷ newer) parts ∙ split in
       let start : bytes_in f.left + p ≡ offset = omega (arith, f.start) in
       let bytes : bytes_in blocks ≡ bytes_in f.left + (p + (n + bytes_in f.right)) =
@@ -121,7 +121,7 @@ module _ (fit : BestFit) (w : Words) (chunk offset : ℕ) (b : BlockFound) (soun
       let here : offset - 0 + 0 ≡ offset = omega arith in
       let freed_blocks : given_in offset blocks ≡ f.left ++ Hole (p + n + m) ∷ past = ap (λ o. given_in o blocks) (sym here) ∙ f.given in
       let used_there : used_at offset blocks ≡ Some n = sym (used_start offset b used at ∙ used_some offset blocks b (sound_long fit w sound chunk) some) in
-      let whole : Site = record { older = older; left = f.left; right = []; newer = newer } in
+      let whole : Context = record { older = older; left = f.left; right = []; newer = newer } in
       let all : heap_with whole (gap p ++ Used n ∷ f.right) ≡ h =
       ap (λ z. older ++ (f.left ++ z) ∷ newer) (append-nil (gap p ++ Used n ∷ f.right)) ∙ ap (λ z. older ++ z ∷ newer) (sym f.is) ∙ split in
       let tail : gap p ++ Used n ∷ f.right ≡ gap p ++ Used n ∷ [] ++ (f.right ++ []) = simp (append_assoc, append-nil) in
@@ -238,7 +238,7 @@ payload_kept fit w sound chunk offset a n is q from to =
     let lt = filled_there h chunk offset (pair a n) is in
     let older : Heap = take chunk h in
     let number = length-take-le chunk h (omega arith) in
-    let site : Site = record { older = older; left = parts.0; right = parts.1; newer = drop (suc chunk) h } in
+    let site : Context = record { older = older; left = parts.0; right = parts.1; newer = drop (suc chunk) h } in
     let whole_heap : heap_with site (Used n ∷ []) ≡ h = ap (λ z. older ++ z ∷ drop (suc chunk) h) parts.2 ∙ chunk_split h chunk lt in
     let one : bytes_in (Used n ∷ []) ≡ n = omega arith in
     let clear = site_clear w (sizes_of fit) site (Used n ∷ []) n one (subst (AreChunks w 0 (sizes_of fit)) (sym whole_heap) told.laid.chunks) place in

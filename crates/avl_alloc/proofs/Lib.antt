@@ -2,7 +2,7 @@ pub mod HoleLemmas
 pub mod WalkLemmas
 pub mod WeightLemmas
 pub mod LayoutLemmas
-pub mod SiteLemmas
+pub mod ContextLemmas
 pub mod TurnLemmas
 pub mod StandLemmas
 pub mod TakenLemmas

@@ -11,36 +11,36 @@ use Rattle.avl_tree.specs.Tree.{Tree, high, inserted, removed}
 use Rattle.avl_tree.specs.View.{AreNodes, Becomes, Stands, IsNew}
 use Rattle.avl_alloc.specs.Holes.{key, view_of, hole_plan, Fits}
 use Rattle.avl_alloc.specs.Layout.{Laid, weigh, none, bytes_of, hole_count}
-use Rattle.avl_alloc.specs.Site.{Site, heap_with, start_of, Stand, Turn, AreUsed, StandUsed, gap, filled, first_hole}
+use Rattle.avl_alloc.specs.Context.{Context, heap_with, start_of, Stand, Turn, AreUsed, StandUsed, gap, filled, first_hole}
 use Rattle.avl_tree.proofs.TreeLemmas.{one, high_bound}
 use Rattle.avl_alloc.proofs.HoleLemmas.{with_word_same, with_word_other, node_place, fits_node}
 use Rattle.avl_alloc.proofs.FitLemmas.{holes_counted}
 use Rattle.avl_alloc.proofs.WeightLemmas.{weigh-append, weigh-site}
-use Rattle.avl_alloc.proofs.SiteLemmas.{laid_right, site_open, site_node}
+use Rattle.avl_alloc.proofs.ContextLemmas.{laid_right, site_open, site_node}
 use Rattle.avl_alloc.proofs.TurnLemmas.{used_none, used_least, outside, narrowed, heap_narrowed, stand_narrowed, turn_then, turn_widened, taken_out, put-node, put-stands, put-new, put_in, rewritten}
 use Rattle.own_model.proofs.BlockLemmas.{bytes-append}
 
 -- there is room for a node at the place, and further on
-pub stand_node : (fit : BestFit) (w : Words) (at : Site) (place : ℕ) (xs : List Block) (real : ℕ → ℕ) (k p : ℕ) → Stand fit w at place xs → Fits (bytes_of fit) real →
+pub stand_node : (fit : BestFit) (w : Words) (at : Context) (place : ℕ) (xs : List Block) (real : ℕ → ℕ) (k p : ℕ) → Stand fit w at place xs → Fits (bytes_of fit) real →
     k % 16 ≡ 0 → k + 48 ≤ bytes_in xs → place + k ≡ p → IsNode real p
 stand_node fit w at place xs real k p stand fits step room there =
     let start = stand.start in
     fits_node (bytes_of fit) real p fits (site_node fit w at xs k p (site_open fit w at xs stand.tree stand.laid) step room (omega arith))
 
-pub stand_laid : (fit : BestFit) (w : Words) (at : Site) (place : ℕ) (xs : List Block) → Stand fit w at place xs → Laid w place xs
+pub stand_laid : (fit : BestFit) (w : Words) (at : Context) (place : ℕ) (xs : List Block) → Stand fit w at place xs → Laid w place xs
 stand_laid fit w at place xs stand = subst (λ p. Laid w p xs) stand.start (site_open fit w at xs stand.tree stand.laid).laid
 
 pub first_place : (real : ℕ → ℕ) (place : ℕ) → IsNode real place → IsPlace real place
 first_place real place node = subst (IsPlace real) (omega arith) (node_place real place 0 node (omega arith) (omega arith))
 
 -- the tree of few holes is low
-pub stand_low : (fit : BestFit) (w : Words) (at : Site) (place : ℕ) (xs : List Block) (b : ℕ) → (stand : Stand fit w at place xs) → hole_count (heap_with at xs) < 2 ^ b → high stand.tree ≤ 2 * b + 1
+pub stand_low : (fit : BestFit) (w : Words) (at : Context) (place : ℕ) (xs : List Block) (b : ℕ) → (stand : Stand fit w at place xs) → hole_count (heap_with at xs) < 2 ^ b → high stand.tree ≤ 2 * b + 1
 stand_low fit w at place xs b stand few =
     high_bound stand.tree stand.laid.stands.balanced b (omega (arith, holes_counted (heap_with at xs), stand.laid.same one))
 
 -- ---- a hole taken out
 
-pub take_out_turn : (fit : BestFit) (w u v : Words) (at : Site) (place n root : ℕ) → Stand fit w at place (Hole n ∷ []) →
+pub take_out_turn : (fit : BestFit) (w u v : Words) (at : Context) (place n root : ℕ) → Stand fit w at place (Hole n ∷ []) →
     ((t : Tree) → Stands hole_plan (view_of w) t fit.root → Becomes hole_plan (view_of w) (view_of u) (removed (key place n) t) root) → v ≡ with_word u (place + 8) 1 →
     Turn fit (record fit { root = root }) w v at place (Hole n ∷ []) (Used n ∷ [])
 take_out_turn fit w u v at place n root stand made is =
@@ -52,7 +52,7 @@ take_out_turn fit w u v at place n root stand made is =
 
 -- ---- used blocks made a hole
 
-module _ (fit : BestFit) (w x : Words) (at : Site) (place : ℕ) (xs : List Block) (n : ℕ) (stand : StandUsed fit w at place xs n)
+module _ (fit : BestFit) (w x : Words) (at : Context) (place : ℕ) (xs : List Block) (n : ℕ) (stand : StandUsed fit w at place xs n)
     (is : x ≡ with_word (with_word w place n) (place + 8) 0) where
   headed_is : x ≡ with_word (with_word w (start_of at) n) (start_of at + 8) 0
   headed_is = rw (sym stand.stand.start) at is
@@ -75,7 +75,7 @@ module _ (fit : BestFit) (w x : Words) (at : Site) (place : ℕ) (xs : List Bloc
 
 -- ---- a used block cut
 
-pub split_turn : (fit : BestFit) (w x v : Words) (at : Site) (place n m : ℕ) → Stand fit w at place (Used (n + m) ∷ []) → IsBlockSize n → IsBlockSize m →
+pub split_turn : (fit : BestFit) (w x v : Words) (at : Context) (place n m : ℕ) → Stand fit w at place (Used (n + m) ∷ []) → IsBlockSize n → IsBlockSize m →
     x ≡ with_word (with_word w place n) (place + 8) 1 → v ≡ with_word (with_word x (place + n) m) (place + n + 8) 1 →
     Turn fit fit w v at place (Used (n + m) ∷ []) (Used n ∷ Used m ∷ [])
 split_turn fit w x v at place n m stand size size' is is' =
@@ -117,12 +117,12 @@ split_turn fit w x v at place n m stand size size' is is' =
 
 -- ---- by their headers
 
-pub used_node : (fit : BestFit) (w : Words) (at : Site) (place : ℕ) (xs : List Block) (n : ℕ) (real : ℕ → ℕ) → StandUsed fit w at place xs n → Fits (bytes_of fit) real → IsNode real place
+pub used_node : (fit : BestFit) (w : Words) (at : Context) (place : ℕ) (xs : List Block) (n : ℕ) (real : ℕ → ℕ) → StandUsed fit w at place xs n → Fits (bytes_of fit) real → IsNode real place
 used_node fit w at place xs n real stand fits =
     subst (IsNode real) stand.stand.start
     (fits_node (bytes_of fit) real (start_of at) fits (put-node fit w at xs n stand.stand.tree stand.stand.laid stand.used stand.total stand.some))
 
-module _ (fit : BestFit) (w : Words) (at : Site) (place : ℕ) where
+module _ (fit : BestFit) (w : Words) (at : Context) (place : ℕ) where
   pub behind_node : (xs : List Block) (real : ℕ → ℕ) → Stand fit w at place xs → Fits (bytes_of fit) real → bytes_in xs ≢ 0 → IsNode real place
   behind_node xs real stand fits some =
       stand_node fit w at place xs real 0 place stand fits (omega arith) (omega (arith, used_least w place xs (stand_laid fit w at place xs stand) (omega arith))) (omega arith)
@@ -157,39 +157,39 @@ filled_some n some = let test : (n == 0) ≡ false = grind (arith, nat_tests) in
 -- ---- counts
 
 -- a change to fewer holes leaves fewer in the heap
-pub holes_less : (at : Site) (xs ys : List Block) → bytes_in ys ≡ bytes_in xs → weigh none one (start_of at) ys ≤ weigh none one (start_of at) xs →
+pub holes_less : (at : Context) (xs ys : List Block) → bytes_in ys ≡ bytes_in xs → weigh none one (start_of at) ys ≤ weigh none one (start_of at) xs →
     hole_count (heap_with at ys) ≤ hole_count (heap_with at xs)
 holes_less at xs ys bytes less =
     omega (arith, holes_counted (heap_with at ys), holes_counted (heap_with at xs), weigh-site none one at xs, rw bytes at (weigh-site none one at ys))
 
-pub holes_narrowed : (at : Site) (xs ys all zs : List Block) → all ≡ xs ++ (zs ++ ys) → hole_count (heap_with (narrowed at xs ys) zs) ≡ hole_count (heap_with at all)
+pub holes_narrowed : (at : Context) (xs ys all zs : List Block) → all ≡ xs ++ (zs ++ ys) → hole_count (heap_with (narrowed at xs ys) zs) ≡ hole_count (heap_with at all)
 holes_narrowed at xs ys all zs is = ap hole_count (heap_narrowed at xs ys zs ∙ sym (ap (heap_with at) is))
 
 -- blocks end within the places
-pub stand_end : (fit : BestFit) (w : Words) (at : Site) (place : ℕ) (xs : List Block) → Stand fit w at place xs → place + bytes_in xs < 2 ^ 40
+pub stand_end : (fit : BestFit) (w : Words) (at : Context) (place : ℕ) (xs : List Block) → Stand fit w at place xs → place + bytes_in xs < 2 ^ 40
 stand_end fit w at place xs stand =
     let there = site_open fit w at xs stand.tree stand.laid in
     let start = stand.start in
     omega (arith, there.low, there.total, there.short)
 
 -- the memory has the chunks as before
-pub turn_fits : (a b : BestFit) (w v : Words) (at : Site) (place : ℕ) (xs ys : List Block) (real : ℕ → ℕ) → Turn a b w v at place xs ys → Fits (bytes_of a) real → Fits (bytes_of b) real
+pub turn_fits : (a b : BestFit) (w v : Words) (at : Context) (place : ℕ) (xs ys : List Block) (real : ℕ → ℕ) → Turn a b w v at place xs ys → Fits (bytes_of a) real → Fits (bytes_of b) real
 turn_fits a b w v at place xs ys real turn fits = subst (λ sizes. (chunk : ℕ) → slice_index sizes chunk ≤ real chunk) (sym turn.sizes) fits
 
 -- ---- a hole taken for a block
 
-pub hole_size : (fit : BestFit) (w : Words) (at : Site) (place n whole : ℕ) → Stand fit w at place (Hole n ∷ []) → whole ≡ w place → n ≡ whole
+pub hole_size : (fit : BestFit) (w : Words) (at : Context) (place n whole : ℕ) → Stand fit w at place (Hole n ∷ []) → whole ≡ w place → n ≡ whole
 hole_size fit w at place n whole stand read = let laid = stand_laid fit w at place (Hole n ∷ []) stand in sym (read ∙ laid.0.size)
 
-pub take_turn : (a b : BestFit) (w x v : Words) (at : Site) (place n whole : ℕ) → Stand a w at place (Hole n ∷ []) → whole ≡ w place → x ≡ w →
-    ((site : Site) → Stand a x site place (Hole whole ∷ []) → Turn a b x v site place (Hole whole ∷ []) (Used whole ∷ [])) →
+pub take_turn : (a b : BestFit) (w x v : Words) (at : Context) (place n whole : ℕ) → Stand a w at place (Hole n ∷ []) → whole ≡ w place → x ≡ w →
+    ((site : Context) → Stand a x site place (Hole whole ∷ []) → Turn a b x v site place (Hole whole ∷ []) (Used whole ∷ [])) →
     Turn a b w v at place (Hole n ∷ []) (Used n ∷ [])
 take_turn a b w x v at place n whole stand read same turn =
     let size = hole_size a w at place n whole stand read in
     let turn' = rw (same, ← size) at (turn at) in
     turn' stand
 
-module _ (a b : BestFit) (w u : Words) (at : Site) (place n size left : ℕ) (bytes : n ≡ size + left) (turn : Turn a b w u at place (Hole n ∷ []) (Used n ∷ [])) where
+module _ (a b : BestFit) (w u : Words) (at : Context) (place n size left : ℕ) (bytes : n ≡ size + left) (turn : Turn a b w u at place (Hole n ∷ []) (Used n ∷ [])) where
   -- all of it, where what is left is less than a block
   pub cut_whole : left < 48 → Turn a b w u at place (Hole n ∷ []) (cut size n)
   cut_whole less =
@@ -218,7 +218,7 @@ module _ (a b : BestFit) (w u : Words) (at : Site) (place n size left : ℕ) (by
 
     -- what is left made a hole
     pub cut_turn : (c : BestFit) (v : Words) →
-        ((site : Site) (blocks : List Block) → StandUsed b x site (place + size) blocks left → Turn b c x v site (place + size) blocks (Hole left ∷ [])) →
+        ((site : Context) (blocks : List Block) → StandUsed b x site (place + size) blocks left → Turn b c x v site (place + size) blocks (Hole left ∷ [])) →
         Turn a c w v at place (Hole n ∷ []) (cut size n)
     cut_turn c v put =
         let last = turn_widened at (Used size ∷ []) [] b c x v place (place + size) (Used size ∷ Used left ∷ []) (Used size ∷ Hole left ∷ []) (Used left ∷ []) (Hole left ∷ []) refl refl parts.stand.start
@@ -234,8 +234,8 @@ module _ (a b : BestFit) (w u : Words) (at : Site) (place n size left : ℕ) (by
 -- ---- a block given back
 
 pub clear_some : (a b : BestFit) (w v : Words) (place n : ℕ) → 0 < n →
-    ((at : Site) → Stand a w at place (Hole n ∷ []) → Turn a b w v at place (Hole n ∷ []) (Used n ∷ [])) →
-    (at : Site) → Stand a w at place (gap n) → Turn a b w v at place (gap n) (filled n)
+    ((at : Context) → Stand a w at place (Hole n ∷ []) → Turn a b w v at place (Hole n ∷ []) (Used n ∷ [])) →
+    (at : Context) → Stand a w at place (gap n) → Turn a b w v at place (gap n) (filled n)
 clear_some a b w v place n some turn at stand =
     subst (λ z. Turn a b w v at place z (filled n)) (sym (gap_some n some)) (subst (λ z. Turn a b w v at place (Hole n ∷ []) z) (sym (filled_some n some))
     (turn at (subst (Stand a w at place) (gap_some n some) stand)))
@@ -257,7 +257,7 @@ used_append [] ys used used' = used'
 used_append (Used n ∷ xs) ys used used' = used_append xs ys used used'
 used_append (Hole n ∷ xs) ys used used' = absurd used
 
-module _ (a : BestFit) (w : Words) (at : Site) (place p n m : ℕ) (stand : Stand a w at place (gap p ++ Used n ∷ gap m)) where
+module _ (a : BestFit) (w : Words) (at : Context) (place p n m : ℕ) (stand : Stand a w at place (gap p ++ Used n ∷ gap m)) where
   pub given_end : place + p + n + m < 2 ^ 40
   given_end = omega (arith, stand_end a w at place (gap p ++ Used n ∷ gap m) stand, bytes-append (gap p) (Used n ∷ gap m), gap_bytes p, gap_bytes m)
 

@@ -10,7 +10,7 @@ use Rattle.own_model.specs.BestFit.{Spot, holes_in, holes_from, holes_of, comes_
 use Rattle.avl_alloc.specs.Fit.{AreShort}
 use Rattle.avl_alloc.specs.Words.{Words}
 use Rattle.avl_alloc.specs.Layout.{AreChunks}
-use Rattle.avl_alloc.specs.Site.{Site, heap_with}
+use Rattle.avl_alloc.specs.Context.{Context, heap_with}
 use Rattle.avl_alloc.proofs.WeightLemmas.{AreLong, all-left, all-right, laid_long}
 use Rattle.own_model.proofs.BlockLemmas.{bytes-append}
 use Rattle.own_model.proofs.ListLemmas.{all_append}
@@ -56,7 +56,7 @@ best_found P size (x ∷ rest) all =
 
 -- a hole of a heap is a part of it
 pub record IsSpotOf (heap : Heap) (x : Spot) : Type 0 where
-  pub site : Site
+  pub site : Context
   pub is : heap_with site (Hole x.size ∷ []) ≡ heap
   pub chunk : length site.older ≡ x.chunk
   pub offset : bytes_in site.left ≡ x.offset
@@ -130,7 +130,7 @@ taken_in_there size n (b ∷ left) right long =
     let on : size_of b + bytes_in left - size_of b ≡ bytes_in left = omega arith in
     simp (test, on) (ap (λ rest. b ∷ rest) (taken_in_there size n left right long.1))
 
-pub taken_is : (size n : ℕ) (at : Site) → AreLong at.left → slice_set (heap_with at (Hole n ∷ [])) (length at.older) (taken_in size (bytes_in at.left) (chunk_of (heap_with at (Hole n ∷ [])) (length at.older))) ≡ heap_with at (cut size n)
+pub taken_is : (size n : ℕ) (at : Context) → AreLong at.left → slice_set (heap_with at (Hole n ∷ [])) (length at.older) (taken_in size (bytes_in at.left) (chunk_of (heap_with at (Hole n ∷ [])) (length at.older))) ≡ heap_with at (cut size n)
 taken_is size n at long =
     let blocks = at.left ++ Hole n ∷ at.right in
     let there : chunk_of (heap_with at (Hole n ∷ [])) (length at.older) ≡ blocks = get_or-append_seam at.older blocks at.newer [] in
@@ -169,7 +169,7 @@ blocks_turned (Hole n ∷ left) xs ys starts turn are =
     hole_before n (left ++ ys) rest.0 (starts_turned left xs ys starts rest.1) (blocks_turned left xs ys starts turn rest.2)
 
 -- a chunk's change keeps the heap's blocks where it keeps the chunk's
-pub heap_turned : (at : Site) (xs ys : List Block) → (AreBlocks (at.left ++ (xs ++ at.right)) → AreBlocks (at.left ++ (ys ++ at.right))) →
+pub heap_turned : (at : Context) (xs ys : List Block) → (AreBlocks (at.left ++ (xs ++ at.right)) → AreBlocks (at.left ++ (ys ++ at.right))) →
     AllByRecursion AreBlocks (heap_with at xs) → AllByRecursion AreBlocks (heap_with at ys)
 heap_turned at xs ys turn all =
     let here = all-right AreBlocks at.older ((at.left ++ (xs ++ at.right)) ∷ at.newer) all in
@@ -187,7 +187,7 @@ cut_blocks size n right sized le are =
           (sized, hole_before (n - size) right (record { least = grind (arith, nat_tests); even = omega arith }) rest.1 rest.2)
     ] refl
 
-pub taken_blocks : (size n : ℕ) (at : Site) → IsBlockSize size → size ≤ n → AllByRecursion AreBlocks (heap_with at (Hole n ∷ [])) → AllByRecursion AreBlocks (heap_with at (cut size n))
+pub taken_blocks : (size n : ℕ) (at : Context) → IsBlockSize size → size ≤ n → AllByRecursion AreBlocks (heap_with at (Hole n ∷ [])) → AllByRecursion AreBlocks (heap_with at (cut size n))
 taken_blocks size n at sized le =
     heap_turned at (Hole n ∷ []) (cut size n)
     (blocks_turned at.left (Hole n ∷ at.right) (cut size n ++ at.right) (λ starts. absurd starts) (cut_blocks size n at.right sized le))

@@ -9,14 +9,14 @@ use Rattle.avl_tree.specs.Tree.{Tree, root_of, tally, is_at, inserted, removed, 
 use Rattle.avl_tree.specs.View.{AreNodes, Holds, Becomes, Stands, IsNew}
 use Rattle.avl_alloc.specs.Holes.{key, by_key, view_of, hole_plan, heads, links, cover}
 use Rattle.avl_alloc.specs.Layout.{Laid, weigh, none, whole, sizes_of, bytes_of, weigh_holes, IsLaidOut}
-use Rattle.avl_alloc.specs.Site.{Site, heap_with, start_of, around, Stand, Turn, AreUsed}
+use Rattle.avl_alloc.specs.Context.{Context, heap_with, start_of, around, Stand, Turn, AreUsed}
 use Rattle.avl_tree.proofs.TreeLemmas.{one, tally-inserted, tally-removed_le, inserted-grows, removed-shrinks, high_bound}
 use Rattle.avl_tree.proofs.OrderLemmas.{same-same, tally-removed, inserted-ordered, removed-ordered, widened}
 use Rattle.avl_tree.proofs.ViewLemmas.{nodes_in}
 use Rattle.avl_tree.proofs.GrowLemmas.{nodes_with}
 use Rattle.avl_alloc.proofs.HoleLemmas.{within_in, within_below, with_word_same, with_word_other, holds_kept, cover_is, rank_there}
 use Rattle.avl_alloc.proofs.WeightLemmas.{weigh-append, weigh-parts, weigh-site, weigh-whole, around-parts, node_whole, tidy_in, laid_long, few_holes, within_mono}
-use Rattle.avl_alloc.proofs.SiteLemmas.{IsOpen, site_open, site_node, IsClear, site_clear, site_turned, sizes_few, laid_even}
+use Rattle.avl_alloc.proofs.ContextLemmas.{IsOpen, site_open, site_node, IsClear, site_clear, site_turned, sizes_few, laid_even}
 use Rattle.own_model.proofs.BlockLemmas.{bytes-append}
 
 -- used blocks have no holes
@@ -38,7 +38,7 @@ outside p n q k lt none is = omega (arith, within_in p (p + n) q (omega arith) (
 -- ---- a part changed
 
 -- a part of a heap that is laid out, so many bytes long
-module _ (fit : BestFit) (w : Words) (at : Site) (xs : List Block) (n : ℕ) (t : Tree) (is : IsLaidOut fit w (heap_with at xs) t) (total : bytes_in xs ≡ n) where
+module _ (fit : BestFit) (w : Words) (at : Context) (xs : List Block) (n : ℕ) (t : Tree) (is : IsLaidOut fit w (heap_with at xs) t) (total : bytes_in xs ≡ n) where
   part-clear : (q : ℕ) → IsClear q at n
   part-clear q = site_clear w (sizes_of fit) at xs n total is.chunks q
 
@@ -88,7 +88,7 @@ module _ (fit : BestFit) (w : Words) (at : Site) (xs : List Block) (n : ℕ) (t 
 
 -- ---- a hole taken out
 
-module _ (fit : BestFit) (w u : Words) (at : Site) (n root : ℕ) (t : Tree) (is : IsLaidOut fit w (heap_with at (Hole n ∷ [])) t)
+module _ (fit : BestFit) (w u : Words) (at : Context) (n root : ℕ) (t : Tree) (is : IsLaidOut fit w (heap_with at (Hole n ∷ [])) t)
     (made : Becomes hole_plan (view_of w) (view_of u) (removed (key (start_of at) n) t) root) where
   taken-open : IsOpen fit w at (Hole n ∷ [])
   taken-open = site_open fit w at (Hole n ∷ []) t is
@@ -132,7 +132,7 @@ module _ (fit : BestFit) (w u : Words) (at : Site) (n root : ℕ) (t : Tree) (is
 
 -- ---- used blocks made a hole
 
-module _ (fit : BestFit) (w : Words) (at : Site) (xs : List Block) (n : ℕ) (t : Tree) (is : IsLaidOut fit w (heap_with at xs) t)
+module _ (fit : BestFit) (w : Words) (at : Context) (xs : List Block) (n : ℕ) (t : Tree) (is : IsLaidOut fit w (heap_with at xs) t)
     (used : AreUsed xs) (total : bytes_in xs ≡ n) (some : 0 < n) where
   put-open : IsOpen fit w at xs
   put-open = site_open fit w at xs t is
@@ -228,7 +228,7 @@ module _ (fit : BestFit) (w : Words) (at : Site) (xs : List Block) (n : ℕ) (t 
 -- ---- a used block cut
 
 -- used blocks in the place of others, by their headers
-pub rewritten : (fit : BestFit) (w v : Words) (at : Site) (xs ys : List Block) (n : ℕ) (t : Tree) → IsLaidOut fit w (heap_with at xs) t → AreUsed xs → AreUsed ys →
+pub rewritten : (fit : BestFit) (w v : Words) (at : Context) (xs ys : List Block) (n : ℕ) (t : Tree) → IsLaidOut fit w (heap_with at xs) t → AreUsed xs → AreUsed ys →
     bytes_in xs ≡ n → bytes_in ys ≡ n → Laid v (start_of at) ys → ((q : ℕ) → within (start_of at) (start_of at + n) q ≡ 0 → v q ≡ w q) →
     Turn fit fit w v at (start_of at) xs ys
 rewritten fit w v at xs ys n t is used used' total total' laid same =
@@ -240,7 +240,7 @@ rewritten fit w v at xs ys n t is used used' total total' laid same =
 -- ---- put together
 
 -- one change after another
-pub turn_then : (a b c : BestFit) (w u v : Words) (at : Site) (p : ℕ) (xs ys zs : List Block) → Turn a b w u at p xs ys → Turn b c u v at p ys zs → Turn a c w v at p xs zs
+pub turn_then : (a b c : BestFit) (w u v : Words) (at : Context) (p : ℕ) (xs ys zs : List Block) → Turn a b w u at p xs ys → Turn b c u v at p ys zs → Turn a c w v at p xs zs
 turn_then a b c w u v at p xs ys zs first second = record {
   bytes = second.bytes ∙ first.bytes;
   stand = second.stand;
@@ -249,10 +249,10 @@ turn_then a b c w u v at p xs ys zs first second = record {
 }
 
 -- a part of a part: with so many blocks more on its left, and on its right
-abbrev pub narrowed : Site → List Block → List Block → Site
+abbrev pub narrowed : Context → List Block → List Block → Context
 narrowed at xs ys = record { older = at.older; left = at.left ++ xs; right = ys ++ at.right; newer = at.newer }
 
-module _ (at : Site) (xs ys : List Block) where
+module _ (at : Context) (xs ys : List Block) where
   start_narrowed : start_of (narrowed at xs ys) ≡ start_of at + bytes_in xs
   start_narrowed = omega (arith, bytes-append at.left xs)
 

@@ -6,7 +6,7 @@ use Rattle.own_model.specs.Heap.{Block, Used, Hole, size_of, bytes_in, Heap}
 use Rattle.avl_alloc.specs.Words.{Words, place_at, within}
 use Rattle.avl_alloc.specs.Holes.{heads, links}
 use Rattle.avl_alloc.specs.Layout.{Laid, weigh, weigh_all, none, whole, AreChunks}
-use Rattle.avl_alloc.specs.Site.{Site, heap_with, start_of, around}
+use Rattle.avl_alloc.specs.Context.{Context, heap_with, start_of, around}
 use Rattle.avl_tree.proofs.TreeLemmas.{one}
 use Rattle.avl_alloc.proofs.HoleLemmas.{within_in}
 
@@ -25,7 +25,7 @@ module _ (u h : ℕ → ℕ → ℕ) where
       rw there (omega (arith, weigh_all-append (number + 1) xs ys))
 
   -- a heap weighs what a part of it weighs and what is around
-  pub weigh-site : (at : Site) (xs : List Block) → weigh_all u h 0 (heap_with at xs) ≡ around u h at (bytes_in xs) + weigh u h (start_of at) xs
+  pub weigh-site : (at : Context) (xs : List Block) → weigh_all u h 0 (heap_with at xs) ≡ around u h at (bytes_in xs) + weigh u h (start_of at) xs
   weigh-site at xs =
       let all = weigh_all-append 0 at.older ((at.left ++ (xs ++ at.right)) ∷ at.newer) in
       let left = weigh-append (place_at (length at.older) 0) at.left (xs ++ at.right) in
@@ -45,7 +45,7 @@ module _ (u h : ℕ → ℕ → ℕ) where
   weigh_all-parts number [] = refl
   weigh_all-parts number (x ∷ xs) = omega (arith, weigh-parts (place_at number 0) x, weigh_all-parts (number + 1) xs)
 
-  pub around-parts : (at : Site) (n : ℕ) → around u h at n ≡ around u none at n + around none h at n
+  pub around-parts : (at : Context) (n : ℕ) → around u h at n ≡ around u none at n + around none h at n
   around-parts at n =
       omega (arith, weigh_all-parts 0 at.older, weigh-parts (place_at (length at.older) 0) at.left, weigh-parts (start_of at + n) at.right, weigh_all-parts (length at.older + 1) at.newer)
 
@@ -126,7 +126,7 @@ all-right P (x ∷ xs) ys all = all-right P xs ys all.1
 
 -- ---- around a part of a heap
 
-pub tidy_around : (q : ℕ) (at : Site) (xs : List Block) (n : ℕ) → AllByRecursion AreLong (heap_with at xs) →
+pub tidy_around : (q : ℕ) (at : Context) (xs : List Block) (n : ℕ) → AllByRecursion AreLong (heap_with at xs) →
     AreTidy (around (heads q) none at n) (around (whole q) none at n) (around none (heads q) at n) (around none (links q) at n) (around none (whole q) at n)
 tidy_around q at xs n long =
     let chunk = at.left ++ (xs ++ at.right) in

@@ -1,7 +1,7 @@
 pub mod Words
 pub mod Holes
 pub mod Layout
-pub mod Site
+pub mod Context
 pub mod Walk
 pub mod Fit
 pub mod Found

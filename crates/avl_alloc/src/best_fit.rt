@@ -5,7 +5,7 @@ ghost use Rattle.own_model.specs.Heap.{Block as ModelBlock, Used, Hole, bytes_in
 ghost use Rattle.own_model.specs.BestFit.{block_size, best_hole, holes_of, chunk_of, cut, taken, used_at, given, payload_at, binary_digits};
 ghost use Rattle.avl_alloc.specs.Holes.{Fits};
 ghost use Rattle.avl_alloc.specs.Layout.{heap_of, sizes_of, bytes_of, hole_count, IsSound, ChangesHoles};
-ghost use Rattle.avl_alloc.specs.Site.{Site, heap_with, Stand, Turn, gap, filled, first_hole, StandUsed};
+ghost use Rattle.avl_alloc.specs.Context.{Context, heap_with, Stand, StandSomewhere, StandUsed, Turn, Turns, LoadsFew, gap, filled, first_hole};
 ghost use Rattle.avl_alloc.specs.Walk.{block_there};
 ghost use Rattle.avl_alloc.specs.Found.{used_block, block_addr};
 
@@ -111,12 +111,8 @@ impl BestFit {
             M.loads memory.new ≤ M.loads memory.old + 256 * (binary_digits holes + 2) }
     {
         let size = block_bytes(bytes);
-        let place = find(
-            &Holes::<M>::new(),
-            memory,
-            self.root,
-            HoleKey { size, place: 0 },
-        );
+        let key = HoleKey { size, place: 0 };
+        let place = find(&Holes::<M>::new(), memory, self.root, key);
         if place == 0 {
             return None;
         }
@@ -135,7 +131,8 @@ impl BestFit {
         ensures block { let blocks = chunk_of (heap_of self.old (M.word memory.old)) addr.chunk in
             result ≡ used_at addr.offset blocks }
         ensures heap { let old = heap_of self.old (M.word memory.old) in
-            OnSome result (heap_of self.new (M.word memory.new) ≡ given addr.chunk addr.offset old) }
+            OnSome result
+            (heap_of self.new (M.word memory.new) ≡ given addr.chunk addr.offset old) }
         ensures sound { IsSound self.new (M.word memory.new) }
         ensures sizes { sizes_of self.new ≡ sizes_of self.old }
         ensures others { let new = heap_of self.new (M.word memory.new) in
@@ -144,7 +141,8 @@ impl BestFit {
         ensures unchanged { IfNone result (self.new ≡ self.old) }
         ensures rest { M.rest memory.new ≡ M.rest memory.old }
         ensures loads { let old = heap_of self.old (M.word memory.old) in
-            M.loads memory.new ≤ M.loads memory.old + 256 * (binary_digits (hole_count old) + 2) + 4 * length (chunk_of old addr.chunk) }
+            M.loads memory.new ≤ M.loads memory.old + 256 * (binary_digits (hole_count old) + 2)
+            + 4 * length (chunk_of old addr.chunk) }
     {
         let block = self.reach(memory, addr)?;
         if !block.used || block.offset != addr.offset {
@@ -212,14 +210,19 @@ impl BestFit {
     /// Takes the hole at a place for a block of `size` bytes. What is left stays a hole, unless it is
     /// less than a block.
     fn take<M: WordMemory>(&mut self, memory: &mut M, place: u64, size: u64)
-        requires stand { (at : Site) × (n : ℕ) × Stand self.old (M.word memory.old) at place (Hole n ∷ []) × (size ≤ n) }
+        requires stand { (at : Context) × (n : ℕ) ×
+            Stand self.old (M.word memory.old) at place (Hole n ∷ []) × (size ≤ n) }
         requires size { IsBlockSize size }
         requires fits { Fits (bytes_of self.old) (M.bytes (M.rest memory.old)) }
-        ensures turn { (at : Site) (n : ℕ) → Stand self.old (M.word memory.old) at place (Hole n ∷ []) → size ≤ n →
-            Turn self.old self.new (M.word memory.old) (M.word memory.new) at place (Hole n ∷ []) (cut size n) }
+        ensures turn { (at : Context) (n : ℕ) →
+            Stand self.old (M.word memory.old) at place (Hole n ∷ []) → size ≤ n →
+            Turn self.old self.new (M.word memory.old) (M.word memory.new) at place (Hole n ∷ [])
+            (cut size n) }
         ensures rest { M.rest memory.new ≡ M.rest memory.old }
-        ensures loads { (at : Site) (n b : ℕ) → Stand self.old (M.word memory.old) at place (Hole n ∷ []) → size ≤ n →
-            hole_count (heap_with at (Hole n ∷ [])) < 2 ^ b → M.loads memory.new ≤ M.loads memory.old + 120 * b + 61 }
+        ensures loads { (at : Context) (n b : ℕ) →
+            Stand self.old (M.word memory.old) at place (Hole n ∷ []) → size ≤ n →
+            hole_count (heap_with at (Hole n ∷ [])) < 2 ^ b →
+            M.loads memory.new ≤ M.loads memory.old + 120 * b + 61 }
     {
         let whole = load(memory, place);
         self.take_out(memory, place, whole);
@@ -240,15 +243,15 @@ impl BestFit {
         size: u64,
         behind: u64,
     )
-        requires stand { (at : Site) × Stand self.old (M.word memory.old) at place (gap before ++ Used size ∷ gap behind) }
+        requires stand { StandSomewhere self.old (M.word memory.old) place
+            (gap before ++ Used size ∷ gap behind) }
         requires fits { Fits (bytes_of self.old) (M.bytes (M.rest memory.old)) }
-        ensures turn { (at : Site) → Stand self.old (M.word memory.old) at place (gap before ++ Used size ∷ gap behind) →
-            Turn self.old self.new (M.word memory.old) (M.word memory.new) at place
+        ensures turn { Turns self.old self.new (M.word memory.old) (M.word memory.new) place
             (gap before ++ Used size ∷ gap behind) (Hole (before + size + behind) ∷ []) }
         ensures rest { M.rest memory.new ≡ M.rest memory.old }
-        ensures loads { (at : Site) (b : ℕ) → Stand self.old (M.word memory.old) at place (gap before ++ Used size ∷ gap behind) →
-            hole_count (heap_with at (gap before ++ Used size ∷ gap behind)) < 2 ^ b →
-            M.loads memory.new ≤ M.loads memory.old + 180 * b + 90 }
+        ensures loads { LoadsFew self.old (M.word memory.old) place
+            (gap before ++ Used size ∷ gap behind) 180 90
+            (M.loads memory.old) (M.loads memory.new) }
     {
         self.clear(memory, place, before);
         self.clear(memory, place + before + size, behind);
@@ -257,13 +260,13 @@ impl BestFit {
 
     /// Makes the hole of so many bytes at a place a used block. No bytes are no hole.
     fn clear<M: WordMemory>(&mut self, memory: &mut M, place: u64, size: u64)
-        requires stand { (at : Site) × Stand self.old (M.word memory.old) at place (gap size) }
+        requires stand { StandSomewhere self.old (M.word memory.old) place (gap size) }
         requires fits { Fits (bytes_of self.old) (M.bytes (M.rest memory.old)) }
-        ensures turn { (at : Site) → Stand self.old (M.word memory.old) at place (gap size) →
-            Turn self.old self.new (M.word memory.old) (M.word memory.new) at place (gap size) (filled size) }
+        ensures turn { Turns self.old self.new (M.word memory.old) (M.word memory.new) place
+            (gap size) (filled size) }
         ensures rest { M.rest memory.new ≡ M.rest memory.old }
-        ensures loads { (at : Site) (b : ℕ) → Stand self.old (M.word memory.old) at place (gap size) →
-            hole_count (heap_with at (gap size)) < 2 ^ b → M.loads memory.new ≤ M.loads memory.old + 60 * b + 30 }
+        ensures loads { LoadsFew self.old (M.word memory.old) place (gap size)
+            60 30 (M.loads memory.old) (M.loads memory.new) }
     {
         if size > 0 {
             self.take_out(memory, place, size);
@@ -272,31 +275,27 @@ impl BestFit {
 
     /// Takes the hole at a place out of the tree and makes it a used block.
     fn take_out<M: WordMemory>(&mut self, memory: &mut M, place: u64, size: u64)
-        requires stand { (at : Site) × Stand self.old (M.word memory.old) at place (Hole size ∷ []) }
+        requires stand { StandSomewhere self.old (M.word memory.old) place (Hole size ∷ []) }
         requires fits { Fits (bytes_of self.old) (M.bytes (M.rest memory.old)) }
-        ensures turn { (at : Site) → Stand self.old (M.word memory.old) at place (Hole size ∷ []) →
-            Turn self.old self.new (M.word memory.old) (M.word memory.new) at place (Hole size ∷ []) (Used size ∷ []) }
+        ensures turn { Turns self.old self.new (M.word memory.old) (M.word memory.new) place
+            (Hole size ∷ []) (Used size ∷ []) }
         ensures rest { M.rest memory.new ≡ M.rest memory.old }
-        ensures loads { (at : Site) (b : ℕ) → Stand self.old (M.word memory.old) at place (Hole size ∷ []) →
-            hole_count (heap_with at (Hole size ∷ [])) < 2 ^ b → M.loads memory.new ≤ M.loads memory.old + 60 * b + 30 }
+        ensures loads { LoadsFew self.old (M.word memory.old) place (Hole size ∷ [])
+            60 30 (M.loads memory.old) (M.loads memory.new) }
     {
-        self.root = remove(
-            &Holes::<M>::new(),
-            memory,
-            self.root,
-            HoleKey { size, place },
-        );
+        let key = HoleKey { size, place };
+        self.root = remove(&Holes::<M>::new(), memory, self.root, key);
         set_state(memory, place, USED);
     }
 
     /// Cuts the used block at a place in two.
     fn split<M: WordMemory>(&self, memory: &mut M, place: u64, size: u64, left: u64)
-        requires stand { (at : Site) × Stand self.now (M.word memory.old) at place (Used (size + left) ∷ []) }
+        requires stand { StandSomewhere self.now (M.word memory.old) place
+            (Used (size + left) ∷ []) }
         requires size { IsBlockSize size }
         requires left { IsBlockSize left }
         requires fits { Fits (bytes_of self.now) (M.bytes (M.rest memory.old)) }
-        ensures turn { (at : Site) → Stand self.now (M.word memory.old) at place (Used (size + left) ∷ []) →
-            Turn self.now self.now (M.word memory.old) (M.word memory.new) at place
+        ensures turn { Turns self.now self.now (M.word memory.old) (M.word memory.new) place
             (Used (size + left) ∷ []) (Used size ∷ Used left ∷ []) }
         ensures rest { M.rest memory.new ≡ M.rest memory.old }
         ensures loads { M.loads memory.new ≡ M.loads memory.old }
@@ -307,32 +306,32 @@ impl BestFit {
 
     /// Makes used blocks side by side, of so many bytes together, one hole, and enters it in the tree.
     fn put_in<M: WordMemory>(&mut self, memory: &mut M, place: u64, size: u64)
-        requires stand { (at : Site) × (blocks : List ModelBlock) ×
+        requires stand { (at : Context) × (blocks : List ModelBlock) ×
             StandUsed self.old (M.word memory.old) at place blocks size }
         requires fits { Fits (bytes_of self.old) (M.bytes (M.rest memory.old)) }
-        ensures turn { (at : Site) (blocks : List ModelBlock) → StandUsed self.old (M.word memory.old) at place blocks size →
-            Turn self.old self.new (M.word memory.old) (M.word memory.new) at place blocks (Hole size ∷ []) }
-        ensures rest { M.rest memory.new ≡ M.rest memory.old }
-        ensures loads { (at : Site) (blocks : List ModelBlock) (b : ℕ) →
+        ensures turn { (at : Context) (blocks : List ModelBlock) →
             StandUsed self.old (M.word memory.old) at place blocks size →
-            hole_count (heap_with at blocks) < 2 ^ b → M.loads memory.new ≤ M.loads memory.old + 60 * b + 30 }
+            Turn self.old self.new (M.word memory.old) (M.word memory.new) at place blocks
+            (Hole size ∷ []) }
+        ensures rest { M.rest memory.new ≡ M.rest memory.old }
+        ensures loads { (at : Context) (blocks : List ModelBlock) (b : ℕ) →
+            StandUsed self.old (M.word memory.old) at place blocks size →
+            hole_count (heap_with at blocks) < 2 ^ b →
+            M.loads memory.new ≤ M.loads memory.old + 60 * b + 30 }
     {
         set_header(memory, place, size, HOLE);
-        self.root = insert(
-            &Holes::<M>::new(),
-            memory,
-            self.root,
-            HoleKey { size, place },
-            place,
-        );
+        let key = HoleKey { size, place };
+        self.root = insert(&Holes::<M>::new(), memory, self.root, key, place);
     }
 
     /// The size of the hole at a place, or 0 where a used block stands there or the chunk is at its end.
     fn hole_behind<M: WordMemory>(&self, memory: &mut M, place: u64, end: u64) -> u64
-        requires stand { (at : Site) × (blocks : List ModelBlock) × Stand self.now (M.word memory.old) at place blocks ×
+        requires stand { (at : Context) × (blocks : List ModelBlock) ×
+            Stand self.now (M.word memory.old) at place blocks ×
             (end ≡ place + bytes_in blocks) }
         requires fits { Fits (bytes_of self.now) (M.bytes (M.rest memory.old)) }
-        ensures hole { (at : Site) (blocks : List ModelBlock) → Stand self.now (M.word memory.old) at place blocks →
+        ensures hole { (at : Context) (blocks : List ModelBlock) →
+            Stand self.now (M.word memory.old) at place blocks →
             end ≡ place + bytes_in blocks → result ≡ first_hole blocks }
         ensures words { M.word memory.new ≡ M.word memory.old }
         ensures rest { M.rest memory.new ≡ M.rest memory.old }

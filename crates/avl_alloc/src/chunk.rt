@@ -38,7 +38,8 @@ pub struct Block {
 /// Writes a header.
 pub fn set_header<M: WordMemory>(memory: &mut M, place: u64, size: u64, state: u64)
     requires { IsNode (M.bytes (M.rest memory.old)) place }
-    ensures words { M.word memory.new ≡ with_word (with_word (M.word memory.old) place size) (place + 8) state }
+    ensures words { M.word memory.new ≡ with_word (with_word (M.word memory.old) place size)
+        (place + 8) state }
     ensures rest { M.rest memory.new ≡ M.rest memory.old }
     ensures loads { M.loads memory.new ≡ M.loads memory.old }
 {
@@ -59,7 +60,8 @@ pub fn set_state<M: WordMemory>(memory: &mut M, place: u64, state: u64)
 /// The size of the hole at a place, or 0 where a used block stands there.
 pub fn hole_at<M: WordMemory>(memory: &mut M, place: u64) -> u64
     requires { IsNode (M.bytes (M.rest memory.old)) place }
-    ensures size { result ≡ (if M.word memory.old (place + 8) == 0 then M.word memory.old place else 0) }
+    ensures size { result
+        ≡ (if M.word memory.old (place + 8) == 0 then M.word memory.old place else 0) }
     ensures words { M.word memory.new ≡ M.word memory.old }
     ensures rest { M.rest memory.new ≡ M.rest memory.old }
     ensures loads { M.loads memory.new ≤ M.loads memory.old + 2 }

@@ -27,23 +27,28 @@ pub fn blocks_lie_apart()
 /// No payload of a used block has a word that the heap keeps for itself.
 pub fn payloads_are_free()
     ensures { (fit : BestFit) (words : ℕ → ℕ) → IsSound fit words →
-        (chunk offset from size : ℕ) → payload_at 0 offset (chunk_of (heap_of fit words) chunk) ≡ Some (from, size) →
-        (byte : ℕ) → from + 16 ≤ byte → byte < from + size → kept_at (place_at chunk byte) (heap_of fit words) ≡ 0 }
+        (chunk offset from size : ℕ) →
+        payload_at 0 offset (chunk_of (heap_of fit words) chunk) ≡ Some (from, size) →
+        (byte : ℕ) → from + 16 ≤ byte → byte < from + size →
+        kept_at (place_at chunk byte) (heap_of fit words) ≡ 0 }
 {}
 
 /// No two holes are neighbours, and each block has a block's size.
 pub fn holes_are_joined()
-    ensures { (fit : BestFit) (words : ℕ → ℕ) → IsSound fit words → AllByRecursion AreBlocks (heap_of fit words) }
+    ensures { (fit : BestFit) (words : ℕ → ℕ) → IsSound fit words →
+        AllByRecursion AreBlocks (heap_of fit words) }
 {}
 
 /// The blocks of each chunk are its bytes together.
 pub fn chunks_have_sizes()
-    ensures { (fit : BestFit) (words : ℕ → ℕ) → IsSound fit words → map bytes_in (heap_of fit words) ≡ sizes_of fit }
+    ensures { (fit : BestFit) (words : ℕ → ℕ) → IsSound fit words →
+        map bytes_in (heap_of fit words) ≡ sizes_of fit }
 {}
 
 /// The hole that is found in a tree of a heap's holes is the best one by the definition.
 pub fn best_hole_is_found()
-    ensures { (size up : ℕ) (heap : Heap) (t : Tree) → AreShort (holes_of heap) → IsOrdered 0 t up → tally (is_at 0) t ≡ 0 →
+    ensures { (size up : ℕ) (heap : Heap) (t : Tree) → AreShort (holes_of heap) →
+        IsOrdered 0 t up → tally (is_at 0) t ≡ 0 →
         ((weight : ℕ → ℕ → ℕ) → tally weight t ≡ weigh_holes (by_key weight) heap) →
         IsPlaceOf (found (key 0 size) t) (best_hole size (holes_of heap)) }
 {}

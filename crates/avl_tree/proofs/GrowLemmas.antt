@@ -5,16 +5,12 @@ use Rattle.std.proofs.lemmas.Bool.Decides.{nat_tests}
 use Rattle.avl_tree.specs.declared.node.Limb.{Limb}
 use Rattle.avl_tree.specs.declared.node.Step.TheVariants.{Left, Here, Right}
 use Rattle.avl_tree.specs.Tree.{Tree, Leaf, Node, root_of, high, tally, is_at, ranked, forked, balanced, inserted}
-use Rattle.avl_tree.specs.View.{View, Plan, covered, IsStep, Holds, AreNodes, Stands, IsNew}
+use Rattle.avl_tree.specs.View.{View, Plan, covered, IsStep, Holds, AreNodes, Stands, IsNew, LacksNode}
 use Rattle.avl_tree.specs.Made.{IsLeftNew, IsRightNew, Forms, Reforms}
 use Rattle.avl_tree.proofs.TreeLemmas.{tally-inserted, inserted-grows}
 use Rattle.avl_tree.proofs.ViewLemmas.{nodes_in, leaf_is}
 use Rattle.avl_tree.proofs.NewLemmas.{opened, left_stands, right_stands, left_new, left_made, right_new, right_made}
 use Rattle.avl_tree.proofs.StepLemmas.{LeftAsks, RightAsks, LeftMakes, RightMakes, step_left, step_right, step_here, level_more}
-
--- what a call on a subtree asks
-abbrev pub GrowAsks : {Rest : Type 0} → (ℕ → Type 0) → Plan → View Rest → ℕ → ℕ → ℕ → Type 0
-GrowAsks IsNode plan w root a k = (t : Tree) × Stands plan w t root × IsNew plan w t a k × AreNodes IsNode t × IsNode a
 
 -- nodes with one more are nodes
 pub nodes_with : (IsNode : ℕ → Type 0) (a k : ℕ) (t u : Tree) → AreNodes IsNode t → IsNode a → ((x : ℕ) → tally (is_at x) u ≡ is_at x a k + tally (is_at x) t) → AreNodes IsNode u
@@ -43,12 +39,12 @@ module _ {Rest : Type 0} (plan : Plan) (w : View Rest) (a k : ℕ) where
 
   module _ (root : ℕ) (some : root ≢ 0) (child : ℕ) where
     module _ (IsNode : ℕ → Type 0) where
-      pub grow-left_asks : IsStep w k root (Left child) → (t : Tree) → Stands plan w t root → IsNew plan w t a k → AreNodes IsNode t → IsNode a → GrowAsks IsNode plan w child a k
-      grow-left_asks is = opened plan w root (λ t. IsNew plan w t a k → AreNodes IsNode t → IsNode a → GrowAsks IsNode plan w child a k) some
+      pub grow-left_asks : IsStep w k root (Left child) → (t : Tree) → Stands plan w t root → IsNew plan w t a k → AreNodes IsNode t → IsNode a → LacksNode IsNode plan w child a k
+      grow-left_asks is = opened plan w root (λ t. IsNew plan w t a k → AreNodes IsNode t → IsNode a → LacksNode IsNode plan w child a k) some
           (λ l s h r stands new nodes one. (l, left_stands plan w l root s h r stands child (step_left plan w k l root s h r stands child is).1, left_of_new l root s h r new, nodes_in IsNode l (Node l root s h r) (λ x. omega arith) nodes, one))
 
-      pub grow-right_asks : IsStep w k root (Right child) → (t : Tree) → Stands plan w t root → IsNew plan w t a k → AreNodes IsNode t → IsNode a → GrowAsks IsNode plan w child a k
-      grow-right_asks is = opened plan w root (λ t. IsNew plan w t a k → AreNodes IsNode t → IsNode a → GrowAsks IsNode plan w child a k) some
+      pub grow-right_asks : IsStep w k root (Right child) → (t : Tree) → Stands plan w t root → IsNew plan w t a k → AreNodes IsNode t → IsNode a → LacksNode IsNode plan w child a k
+      grow-right_asks is = opened plan w root (λ t. IsNew plan w t a k → AreNodes IsNode t → IsNode a → LacksNode IsNode plan w child a k) some
           (λ l s h r stands new nodes one. (r, right_stands plan w l root s h r stands child (step_right plan w k l root s h r stands child is).2, right_of_new l root s h r new, nodes_in IsNode r (Node l root s h r) (λ x. omega arith) nodes, one))
 
     -- what an insertion makes

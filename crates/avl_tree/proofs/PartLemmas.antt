@@ -8,7 +8,7 @@ use Rattle.avl_tree.specs.Made.{IsLimb, IsTold, IsLeftNew, IsSlope, Forms, Refor
 use Rattle.avl_tree.proofs.TreeLemmas.{tally-balanced, tally-rest_of, rest_of-shrinks}
 use Rattle.avl_tree.proofs.ViewLemmas.{holds_apart, changes_none, changes_then, nodes_in, height_is}
 use Rattle.avl_tree.proofs.NewLemmas.{opened, left_stands, right_stands, left_new, left_made}
-use Rattle.avl_tree.proofs.StepLemmas.{Asks, LeftAsks, LeftMakes, level_more}
+use Rattle.avl_tree.proofs.StepLemmas.{LeftAsks, LeftMakes, level_more}
 
 -- a tree that has a root has a node
 leaf_none : {Rest : Type 0} (w : View Rest) (t : Tree) → Holds w t → root_of t ≡ 0 → t ≡ Leaf

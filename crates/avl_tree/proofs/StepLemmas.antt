@@ -6,7 +6,7 @@ use Rattle.avl_tree.specs.declared.node.Limb.{Limb}
 use Rattle.avl_tree.specs.declared.node.Step.{Step}
 use Rattle.avl_tree.specs.declared.node.Step.TheVariants.{Left, Here, Right}
 use Rattle.avl_tree.specs.Tree.{Tree, Leaf, Node, root_of, high, tally, is_at, ranked, forked, balanced, inserted, removed, joined, first_of, rest_of, found, or_else, IsBalanced}
-use Rattle.avl_tree.specs.View.{View, Plan, covered, IsStep, AreNodes, Stands, Becomes, height_at}
+use Rattle.avl_tree.specs.View.{View, Plan, covered, IsStep, AreNodes, Stands, HasTree, Becomes, height_at}
 use Rattle.avl_tree.specs.Made.{IsLeftNew, IsRightNew, Forms, Reforms, root_told}
 use Rattle.avl_tree.proofs.TreeLemmas.{tally-inserted, tally-removed_le, inserted-grows, removed-shrinks, tally-balanced}
 use Rattle.avl_tree.proofs.TurnLemmas.{ltb-true, ltb-false}
@@ -16,10 +16,6 @@ use Rattle.avl_tree.proofs.NewLemmas.{opened, left_stands, right_stands, left_ne
 -- so many loads at one level more
 pub level_more : (c m n : ℕ) → m + 1 ≤ n → c * m + c ≤ c * n
 level_more c m n le = grind (arith)
-
--- what a call on a subtree asks
-abbrev pub Asks : {Rest : Type 0} → (ℕ → Type 0) → Plan → View Rest → ℕ → Type 0
-Asks IsNode plan w root = (t : Tree) × Stands plan w t root × AreNodes IsNode t
 
 -- what a tree's other left tree asks, and its other right tree
 abbrev pub LeftAsks : {Rest : Type 0} → (ℕ → Type 0) → Plan → View Rest → ℕ → Option Limb → Type 0
@@ -70,12 +66,12 @@ module _ {Rest : Type 0} (plan : Plan) (w : View Rest) where
     module _ (IsNode : ℕ → Type 0) where
       -- ---- a node less
 
-      pub prune-left_asks : (child : ℕ) → IsStep w k root (Left child) → (t : Tree) → Stands plan w t root → AreNodes IsNode t → Asks IsNode plan w child
-      prune-left_asks child is = opened plan w root (λ t. AreNodes IsNode t → Asks IsNode plan w child) some
+      pub prune-left_asks : (child : ℕ) → IsStep w k root (Left child) → (t : Tree) → Stands plan w t root → AreNodes IsNode t → HasTree IsNode plan w child
+      prune-left_asks child is = opened plan w root (λ t. AreNodes IsNode t → HasTree IsNode plan w child) some
           (λ l s h r stands nodes. (l, left_stands plan w l root s h r stands child (step_left k l root s h r stands child is).1, nodes_in IsNode l (Node l root s h r) (λ a. omega arith) nodes))
 
-      pub prune-right_asks : (child : ℕ) → IsStep w k root (Right child) → (t : Tree) → Stands plan w t root → AreNodes IsNode t → Asks IsNode plan w child
-      prune-right_asks child is = opened plan w root (λ t. AreNodes IsNode t → Asks IsNode plan w child) some
+      pub prune-right_asks : (child : ℕ) → IsStep w k root (Right child) → (t : Tree) → Stands plan w t root → AreNodes IsNode t → HasTree IsNode plan w child
+      prune-right_asks child is = opened plan w root (λ t. AreNodes IsNode t → HasTree IsNode plan w child) some
           (λ l s h r stands nodes. (r, right_stands plan w l root s h r stands child (step_right k l root s h r stands child is).2, nodes_in IsNode r (Node l root s h r) (λ a. omega arith) nodes))
 
     -- what a removal makes

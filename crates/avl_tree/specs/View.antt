@@ -68,6 +68,15 @@ pub record IsNew {Rest : Type 0} (plan : Plan) (view : View Rest) (t : Tree) (a 
   pub fresh : tally (ranked s) t ≡ 0
   pub apart : (q : ℕ) → plan.cover q a + covered plan q t ≤ 1
 
+-- a tree stands at a root
+abbrev pub HasTree : {Rest : Type 0} → (ℕ → Type 0) → Plan → View Rest → ℕ → Type 0
+HasTree IsNode plan view root = (t : Tree) × Stands plan view t root × AreNodes IsNode t
+
+-- a tree stands there that has not this node nor its rank
+abbrev pub LacksNode : {Rest : Type 0} → (ℕ → Type 0) → Plan → View Rest → ℕ → ℕ → ℕ → Type 0
+LacksNode IsNode plan view root a s =
+    (t : Tree) × Stands plan view t root × IsNew plan view t a s × AreNodes IsNode t × IsNode a
+
 -- nothing has changed but the links of a tree's nodes
 pub record ChangesLinks {Rest : Type 0} (plan : Plan) (old new : View Rest) (t : Tree) : Type 0 where
   pub links : (b : ℕ) → ((q : ℕ) → plan.cover q b + covered plan q t ≤ 1) → new.links b ≡ old.links b

@@ -4,14 +4,16 @@ ghost use Rattle.avl_tree.specs.Tree.{Tree, high, tally, found, inserted, remove
 
 /// A balanced tree with less than `2 ^ n` nodes is no higher than `2 * n + 1`.
 pub fn trees_are_low()
-    ensures { (t : Tree) → IsBalanced t → (n : ℕ) → tally (λ _ _. 1) t < 2 ^ n → high t ≤ 2 * n + 1 }
+    ensures { (t : Tree) → IsBalanced t → (n : ℕ) → tally (λ _ _. 1) t < 2 ^ n →
+        high t ≤ 2 * n + 1 }
 {}
 
 /// A node more of a rank of its own, and a node less, leave the ranks in order.
 pub fn order_is_kept()
     ensures inserted { (low a s up : ℕ) (t : Tree) → low ≤ s → s < up → tally (ranked s) t ≡ 0 →
         IsOrdered low t up → IsOrdered low (inserted a s t) up }
-    ensures removed { (low s up : ℕ) (t : Tree) → IsOrdered low t up → IsOrdered low (removed s t) up }
+    ensures removed { (low s up : ℕ) (t : Tree) → IsOrdered low t up →
+        IsOrdered low (removed s t) up }
 {}
 
 /// The nodes after an insertion are those before, and the new one: by any weight.
@@ -22,11 +24,13 @@ pub fn insertion_adds_one()
 
 /// The nodes after a removal are those before, without that of the rank: by any weight.
 pub fn removal_takes_one()
-    ensures { (weight : ℕ → ℕ → ℕ) (a s up : ℕ) (t : Tree) → IsOrdered 0 t up → 1 ≤ tally (same a s) t →
+    ensures { (weight : ℕ → ℕ → ℕ) (a s up : ℕ) (t : Tree) → IsOrdered 0 t up →
+        1 ≤ tally (same a s) t →
         tally weight (removed s t) + weight a s ≡ tally weight t }
 {}
 
 /// What is found is the first node of at least the rank, where no node is number 0.
 pub fn found_node_is_first()
-    ensures { (s up : ℕ) (t : Tree) → IsOrdered 0 t up → tally (is_at 0) t ≡ 0 → IsFirst s t (found s t) }
+    ensures { (s up : ℕ) (t : Tree) → IsOrdered 0 t up → tally (is_at 0) t ≡ 0 →
+        IsFirst s t (found s t) }
 {}

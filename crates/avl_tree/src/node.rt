@@ -76,7 +76,8 @@ pub trait Nodes {
     /// Gives a node other links. Nothing else changes.
     fn set_links(&self, memory: &mut Self::Memory, node: u64, links: Links)
         requires { IsNode (around self.now memory.old) node }
-        ensures links { IsRelinked plan (view self.now memory.old) (view self.now memory.new) node links }
+        ensures links { IsRelinked plan (view self.now memory.old)
+            (view self.now memory.new) node links }
         ensures around { around self.now memory.new ≡ around self.now memory.old }
         ensures loads { loads memory.new ≡ loads memory.old };
 }

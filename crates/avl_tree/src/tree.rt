@@ -1,7 +1,7 @@
 //! The search tree. A tree is named by its root, and the tree without a node by 0.
 ghost use Rattle.std.specs.Prelude.{◌≡◌, ◌≢◌, ℕ, ◌+◌, ◌*◌, ◌≤◌};
 ghost use Rattle.avl_tree.specs.Tree.{Tree, Node, high, found, inserted, removed, joined, first_of, rest_of};
-ghost use Rattle.avl_tree.specs.View.{Holds, Stands, AreNodes, IsNew, Becomes};
+ghost use Rattle.avl_tree.specs.View.{Stands, AreNodes, IsNew, HasTree, LacksNode, Becomes};
 ghost use Rattle.avl_tree.specs.Made.{Forms, Reforms, root_told};
 
 use super::limb::{NO_LIMB, fork, limb_now, limb_of};
@@ -10,9 +10,10 @@ use super::turns::{balance, with_left, with_right};
 
 /// The first node whose key doesn't come before this one, or 0 where there is none.
 pub fn find<N: Nodes>(nodes: &N, memory: &mut N::Memory, root: u64, key: N::Key) -> u64
-    requires { (t : Tree) × Stands N.plan (N.view nodes.now memory.old) t root ×
-        AreNodes (N.IsNode (N.around nodes.now memory.old)) t }
-    ensures found { (t : Tree) → Stands N.plan (N.view nodes.now memory.old) t root → result ≡ found (N.rank key) t }
+    requires { HasTree (N.IsNode (N.around nodes.now memory.old)) N.plan
+        (N.view nodes.now memory.old) root }
+    ensures found { (t : Tree) → Stands N.plan (N.view nodes.now memory.old) t root →
+        result ≡ found (N.rank key) t }
     ensures view { N.view nodes.now memory.new ≡ N.view nodes.now memory.old }
     ensures around { N.around nodes.now memory.new ≡ N.around nodes.now memory.old }
     ensures loads { (t : Tree) → Stands N.plan (N.view nodes.now memory.old) t root →
@@ -35,12 +36,12 @@ pub fn find<N: Nodes>(nodes: &N, memory: &mut N::Memory, root: u64, key: N::Key)
 
 /// Enters a node in the tree, and answers the root of what the tree then is.
 pub fn insert<N: Nodes>(nodes: &N, memory: &mut N::Memory, root: u64, key: N::Key, node: u64) -> u64
-    requires { (t : Tree) × Stands N.plan (N.view nodes.now memory.old) t root ×
-        IsNew N.plan (N.view nodes.now memory.old) t node (N.rank key) ×
-        AreNodes (N.IsNode (N.around nodes.now memory.old)) t × N.IsNode (N.around nodes.now memory.old) node }
+    requires { LacksNode (N.IsNode (N.around nodes.now memory.old)) N.plan
+        (N.view nodes.now memory.old) root node (N.rank key) }
     ensures made { (t : Tree) → Stands N.plan (N.view nodes.now memory.old) t root →
         IsNew N.plan (N.view nodes.now memory.old) t node (N.rank key) →
-        Becomes N.plan (N.view nodes.now memory.old) (N.view nodes.now memory.new) (inserted node (N.rank key) t) result }
+        Becomes N.plan (N.view nodes.now memory.old) (N.view nodes.now memory.new)
+        (inserted node (N.rank key) t) result }
     ensures around { N.around nodes.now memory.new ≡ N.around nodes.now memory.old }
     ensures loads { (t : Tree) → Stands N.plan (N.view nodes.now memory.old) t root →
         IsNew N.plan (N.view nodes.now memory.old) t node (N.rank key) →
@@ -51,10 +52,11 @@ pub fn insert<N: Nodes>(nodes: &N, memory: &mut N::Memory, root: u64, key: N::Ke
 
 /// Takes the node of a key out of the tree, if there is one, and answers the root of what is left.
 pub fn remove<N: Nodes>(nodes: &N, memory: &mut N::Memory, root: u64, key: N::Key) -> u64
-    requires { (t : Tree) × Stands N.plan (N.view nodes.now memory.old) t root ×
-        AreNodes (N.IsNode (N.around nodes.now memory.old)) t }
+    requires { HasTree (N.IsNode (N.around nodes.now memory.old)) N.plan
+        (N.view nodes.now memory.old) root }
     ensures made { (t : Tree) → Stands N.plan (N.view nodes.now memory.old) t root →
-        Becomes N.plan (N.view nodes.now memory.old) (N.view nodes.now memory.new) (removed (N.rank key) t) result }
+        Becomes N.plan (N.view nodes.now memory.old) (N.view nodes.now memory.new)
+        (removed (N.rank key) t) result }
     ensures around { N.around nodes.now memory.new ≡ N.around nodes.now memory.old }
     ensures loads { (t : Tree) → Stands N.plan (N.view nodes.now memory.old) t root →
         N.loads memory.new ≤ N.loads memory.old + 10 * (N.cost * high t) }
@@ -80,12 +82,12 @@ fn grow<N: Nodes>(
     key: N::Key,
     node: u64,
 ) -> Option<Limb>
-    requires { (t : Tree) × Stands N.plan (N.view nodes.now memory.old) t root ×
-        IsNew N.plan (N.view nodes.now memory.old) t node (N.rank key) ×
-        AreNodes (N.IsNode (N.around nodes.now memory.old)) t × N.IsNode (N.around nodes.now memory.old) node }
+    requires { LacksNode (N.IsNode (N.around nodes.now memory.old)) N.plan
+        (N.view nodes.now memory.old) root node (N.rank key) }
     ensures made { (t : Tree) → Stands N.plan (N.view nodes.now memory.old) t root →
         IsNew N.plan (N.view nodes.now memory.old) t node (N.rank key) →
-        Reforms N.plan (N.view nodes.now memory.old) (N.view nodes.now memory.new) t (inserted node (N.rank key) t) result }
+        Reforms N.plan (N.view nodes.now memory.old) (N.view nodes.now memory.new) t
+        (inserted node (N.rank key) t) result }
     ensures around { N.around nodes.now memory.new ≡ N.around nodes.now memory.old }
     ensures loads { (t : Tree) → Stands N.plan (N.view nodes.now memory.old) t root →
         IsNew N.plan (N.view nodes.now memory.old) t node (N.rank key) →
@@ -109,10 +111,11 @@ fn grow<N: Nodes>(
 
 /// Takes the node of a key out of the tree of a root, and tells the tree as `grow` does.
 fn prune<N: Nodes>(nodes: &N, memory: &mut N::Memory, root: u64, key: N::Key) -> Option<Limb>
-    requires { (t : Tree) × Stands N.plan (N.view nodes.now memory.old) t root ×
-        AreNodes (N.IsNode (N.around nodes.now memory.old)) t }
+    requires { HasTree (N.IsNode (N.around nodes.now memory.old)) N.plan
+        (N.view nodes.now memory.old) root }
     ensures made { (t : Tree) → Stands N.plan (N.view nodes.now memory.old) t root →
-        Reforms N.plan (N.view nodes.now memory.old) (N.view nodes.now memory.new) t (removed (N.rank key) t) result }
+        Reforms N.plan (N.view nodes.now memory.old) (N.view nodes.now memory.new) t (removed
+        (N.rank key) t) result }
     ensures around { N.around nodes.now memory.new ≡ N.around nodes.now memory.old }
     ensures loads { (t : Tree) → Stands N.plan (N.view nodes.now memory.old) t root →
         N.loads memory.new ≤ N.loads memory.old + 10 * (N.cost * high t) }
@@ -135,12 +138,16 @@ fn prune<N: Nodes>(nodes: &N, memory: &mut N::Memory, root: u64, key: N::Key) ->
 
 /// One tree of the two below a node.
 fn join<N: Nodes>(nodes: &N, memory: &mut N::Memory, node: u64) -> Limb
-    requires { (l : Tree) × (s h : ℕ) × (r : Tree) × Stands N.plan (N.view nodes.now memory.old) (Node l node s h r) node ×
+    requires { (l : Tree) × (s h : ℕ) × (r : Tree) ×
+        Stands N.plan (N.view nodes.now memory.old) (Node l node s h r) node ×
         AreNodes (N.IsNode (N.around nodes.now memory.old)) (Node l node s h r) }
-    ensures made { (l : Tree) (s h : ℕ) (r : Tree) → Stands N.plan (N.view nodes.now memory.old) (Node l node s h r) node →
-        Forms N.plan (N.view nodes.now memory.old) (N.view nodes.now memory.new) (joined l r) result }
+    ensures made { (l : Tree) (s h : ℕ) (r : Tree) →
+        Stands N.plan (N.view nodes.now memory.old) (Node l node s h r) node →
+        Forms N.plan (N.view nodes.now memory.old) (N.view nodes.now memory.new)
+        (joined l r) result }
     ensures around { N.around nodes.now memory.new ≡ N.around nodes.now memory.old }
-    ensures loads { (l : Tree) (s h : ℕ) (r : Tree) → Stands N.plan (N.view nodes.now memory.old) (Node l node s h r) node →
+    ensures loads { (l : Tree) (s h : ℕ) (r : Tree) →
+        Stands N.plan (N.view nodes.now memory.old) (Node l node s h r) node →
         N.loads memory.new ≤ N.loads memory.old + 10 * (N.cost * high r) + 9 * N.cost }
 {
     let links = nodes.links(memory, node);
@@ -167,9 +174,11 @@ struct Parted {
 fn part_first<N: Nodes>(nodes: &N, memory: &mut N::Memory, root: u64) -> Parted
     requires { (t : Tree) × Stands N.plan (N.view nodes.now memory.old) t root ×
         AreNodes (N.IsNode (N.around nodes.now memory.old)) t × (root ≢ 0) }
-    ensures first { (t : Tree) → Stands N.plan (N.view nodes.now memory.old) t root → result.first ≡ (first_of t).0 }
+    ensures first { (t : Tree) → Stands N.plan (N.view nodes.now memory.old) t root →
+        result.first ≡ (first_of t).0 }
     ensures made { (t : Tree) → Stands N.plan (N.view nodes.now memory.old) t root →
-        Reforms N.plan (N.view nodes.now memory.old) (N.view nodes.now memory.new) t (rest_of t) result.rest }
+        Reforms N.plan (N.view nodes.now memory.old) (N.view nodes.now memory.new) t
+        (rest_of t) result.rest }
     ensures around { N.around nodes.now memory.new ≡ N.around nodes.now memory.old }
     ensures loads { (t : Tree) → Stands N.plan (N.view nodes.now memory.old) t root →
         N.loads memory.new ≤ N.loads memory.old + 10 * (N.cost * high t) }

@@ -15,10 +15,13 @@ pub(crate) fn balance<N: Nodes>(
     node: u64,
     right: Limb,
 ) -> Limb
-    requires { (l : Tree) × (s : ℕ) × (r : Tree) × IsSlope N.plan (N.view nodes.now memory.old) l node s r left right ×
+    requires { (l : Tree) × (s : ℕ) × (r : Tree) ×
+        IsSlope N.plan (N.view nodes.now memory.old) l node s r left right ×
         AreNodes (N.IsNode (N.around nodes.now memory.old)) (Node l node s 0 r) }
-    ensures made { (l : Tree) (s : ℕ) (r : Tree) → IsSlope N.plan (N.view nodes.now memory.old) l node s r left right →
-        Forms N.plan (N.view nodes.now memory.old) (N.view nodes.now memory.new) (balanced l node s r) result }
+    ensures made { (l : Tree) (s : ℕ) (r : Tree) →
+        IsSlope N.plan (N.view nodes.now memory.old) l node s r left right →
+        Forms N.plan (N.view nodes.now memory.old) (N.view nodes.now memory.new)
+        (balanced l node s r) result }
     ensures around { N.around nodes.now memory.new ≡ N.around nodes.now memory.old }
     ensures loads { N.loads memory.new ≤ N.loads memory.old + 6 * N.cost }
 {
@@ -39,11 +42,15 @@ fn turn_right<N: Nodes>(
     node: u64,
     right: Limb,
 ) -> Limb
-    requires { (l : Tree) × (s : ℕ) × (r : Tree) × IsSlope N.plan (N.view nodes.now memory.old) l node s r left right ×
-        (high l ≡ high r + 2) × AreNodes (N.IsNode (N.around nodes.now memory.old)) (Node l node s 0 r) }
-    ensures made { (l : Tree) (s : ℕ) (r : Tree) → IsSlope N.plan (N.view nodes.now memory.old) l node s r left right →
+    requires { (l : Tree) × (s : ℕ) × (r : Tree) ×
+        IsSlope N.plan (N.view nodes.now memory.old) l node s r left right ×
+        (high l ≡ high r + 2) × AreNodes (N.IsNode (N.around nodes.now memory.old))
+        (Node l node s 0 r) }
+    ensures made { (l : Tree) (s : ℕ) (r : Tree) →
+        IsSlope N.plan (N.view nodes.now memory.old) l node s r left right →
         high l ≡ high r + 2 →
-        Forms N.plan (N.view nodes.now memory.old) (N.view nodes.now memory.new) (turned_right l node s r) result }
+        Forms N.plan (N.view nodes.now memory.old) (N.view nodes.now memory.new)
+        (turned_right l node s r) result }
     ensures around { N.around nodes.now memory.new ≡ N.around nodes.now memory.old }
     ensures loads { N.loads memory.new ≤ N.loads memory.old + 6 * N.cost }
 {
@@ -67,11 +74,15 @@ fn turn_left<N: Nodes>(
     node: u64,
     right: Limb,
 ) -> Limb
-    requires { (l : Tree) × (s : ℕ) × (r : Tree) × IsSlope N.plan (N.view nodes.now memory.old) l node s r left right ×
-        (high r ≡ high l + 2) × AreNodes (N.IsNode (N.around nodes.now memory.old)) (Node l node s 0 r) }
-    ensures made { (l : Tree) (s : ℕ) (r : Tree) → IsSlope N.plan (N.view nodes.now memory.old) l node s r left right →
+    requires { (l : Tree) × (s : ℕ) × (r : Tree) ×
+        IsSlope N.plan (N.view nodes.now memory.old) l node s r left right ×
+        (high r ≡ high l + 2) × AreNodes (N.IsNode (N.around nodes.now memory.old))
+        (Node l node s 0 r) }
+    ensures made { (l : Tree) (s : ℕ) (r : Tree) →
+        IsSlope N.plan (N.view nodes.now memory.old) l node s r left right →
         high r ≡ high l + 2 →
-        Forms N.plan (N.view nodes.now memory.old) (N.view nodes.now memory.new) (turned_left l node s r) result }
+        Forms N.plan (N.view nodes.now memory.old) (N.view nodes.now memory.new)
+        (turned_left l node s r) result }
     ensures around { N.around nodes.now memory.new ≡ N.around nodes.now memory.old }
     ensures loads { N.loads memory.new ≤ N.loads memory.old + 6 * N.cost }
 {
@@ -95,7 +106,8 @@ pub(crate) fn with_left<N: Nodes>(
     node: u64,
     left: Option<Limb>,
 ) -> Option<Limb>
-    requires { (l l' : Tree) × (s h : ℕ) × (r : Tree) × IsLeftNew N.plan (N.view nodes.now memory.old) l l' node s h r left ×
+    requires { (l l' : Tree) × (s h : ℕ) × (r : Tree) ×
+        IsLeftNew N.plan (N.view nodes.now memory.old) l l' node s h r left ×
         AreNodes (N.IsNode (N.around nodes.now memory.old)) (Node l' node s h r) }
     ensures made { (l l' : Tree) (s h : ℕ) (r : Tree) →
         IsLeftNew N.plan (N.view nodes.now memory.old) l l' node s h r left →
@@ -118,7 +130,8 @@ pub(crate) fn with_right<N: Nodes>(
     node: u64,
     right: Option<Limb>,
 ) -> Option<Limb>
-    requires { (l : Tree) × (s h : ℕ) × (r r' : Tree) × IsRightNew N.plan (N.view nodes.now memory.old) l node s h r r' right ×
+    requires { (l : Tree) × (s h : ℕ) × (r r' : Tree) ×
+        IsRightNew N.plan (N.view nodes.now memory.old) l node s h r r' right ×
         AreNodes (N.IsNode (N.around nodes.now memory.old)) (Node l node s h r') }
     ensures made { (l : Tree) (s h : ℕ) (r r' : Tree) →
         IsRightNew N.plan (N.view nodes.now memory.old) l node s h r r' right →

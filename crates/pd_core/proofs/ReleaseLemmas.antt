@@ -90,7 +90,7 @@ module _ (s : ℕ) (first second : Result Answer Refusal) {old mid new : Store} 
   both_leave plain =
       let was = own_at all_sessions old before in
       let left = free_leaves s was (get was.selectors s) refl (names_plain sound s plain)
-          (λ session bytes. holds_no_buffer _ _ _ _ _ sound.own all_sessions s session bytes) in
+      (λ session bytes. holds_no_buffer _ _ _ _ _ sound.own all_sessions s session bytes) in
       let then_left : (get (own_at all_sessions mid between).selectors s ≡ None) ⊎ (get (own_at all_sessions mid between).selectors s ≡ Some AnRpcObject)
       = subst (λ (b : OwnState). (get b.selectors s ≡ None) ⊎ (get b.selectors s ≡ Some AnRpcObject)) (sym mid_own) left in
       let none = ap (λ (b : OwnState). get b.selectors s) new_own ∙ capfree_leaves s (own_at all_sessions mid between) then_left in

@@ -1,6 +1,6 @@
 use Rattle.std.proofs.Common.{subst, ◌<◌, ◌^◌}
 use Rattle.avl_alloc.specs.Layout.{hole_count}
-use Rattle.avl_alloc.specs.Site.{heap_with, Stand}
+use Rattle.avl_alloc.specs.Context.{heap_with, Stand}
 use Rattle.avl_alloc.proofs.StandLemmas.{gap_some, clear_some}
 use Rattle.avl_alloc.proofs.best_fit.BestFit.clear.Goals as goal
 

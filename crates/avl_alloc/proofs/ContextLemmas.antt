@@ -9,7 +9,7 @@ use Rattle.avl_alloc.specs.Words.{Words, place_at, within, IsNode}
 use Rattle.avl_tree.specs.Tree.{Tree}
 use Rattle.avl_alloc.specs.Holes.{heads, links}
 use Rattle.avl_alloc.specs.Layout.{Laid, weigh_all, none, whole, sizes_of, bytes_of, IsChunk, AreChunks, IsLaidOut}
-use Rattle.avl_alloc.specs.Site.{Site, heap_with, start_of, around}
+use Rattle.avl_alloc.specs.Context.{Context, heap_with, start_of, around}
 use Rattle.avl_alloc.proofs.LayoutLemmas.{chunk_there}
 use Rattle.avl_alloc.proofs.WeightLemmas.{weigh-site, weigh-whole, around-parts, within_le, tidy_around, laid_kept, chunks_kept, chunks_long, chunks_apart}
 use Rattle.own_model.proofs.BlockLemmas.{bytes-append}
@@ -48,14 +48,14 @@ sizes_few fit few sized = let most : length (sizes_of fit) ≡ fit.count = grind
 
 -- ---- what is known of a part
 
-pub record IsOpen (fit : BestFit) (w : Words) (at : Site) (xs : List Block) : Type 0 where
+pub record IsOpen (fit : BestFit) (w : Words) (at : Context) (xs : List Block) : Type 0 where
   pub laid : Laid w (start_of at) xs
   pub low : length at.older < 64
   pub total : bytes_in at.left + bytes_in xs + bytes_in at.right ≡ bytes_of fit (length at.older)
   pub short : bytes_of fit (length at.older) ≤ 2 ^ 32
   pub even : bytes_in at.left % 16 ≡ 0
 
-pub site_open : (fit : BestFit) (w : Words) (at : Site) (xs : List Block) (t : Tree) → IsLaidOut fit w (heap_with at xs) t → IsOpen fit w at xs
+pub site_open : (fit : BestFit) (w : Words) (at : Context) (xs : List Block) (t : Tree) → IsLaidOut fit w (heap_with at xs) t → IsOpen fit w at xs
 site_open fit w at xs t is =
     let n : ℕ = length at.older in
     let blocks = at.left ++ (xs ++ at.right) in
@@ -78,7 +78,7 @@ site_open fit w at xs t is =
     }
 
 -- at its start there is room for a node, and further on
-pub site_node : (fit : BestFit) (w : Words) (at : Site) (xs : List Block) (k place : ℕ) → IsOpen fit w at xs → k % 16 ≡ 0 → k + 48 ≤ bytes_in xs → start_of at + k ≡ place → IsNode (bytes_of fit) place
+pub site_node : (fit : BestFit) (w : Words) (at : Context) (xs : List Block) (k place : ℕ) → IsOpen fit w at xs → k % 16 ≡ 0 → k + 48 ≤ bytes_in xs → start_of at + k ≡ place → IsNode (bytes_of fit) place
 site_node fit w at xs k place is step room at_place =
     let n : ℕ = length at.older in
     let low = is.low in
@@ -96,12 +96,12 @@ site_node fit w at xs k place is step room at_place =
     }
 
 -- what lies around a part, and that it lies around
-pub record IsClear (q : ℕ) (at : Site) (n : ℕ) : Type 0 where
+pub record IsClear (q : ℕ) (at : Context) (n : ℕ) : Type 0 where
   pub used : around (heads q) none at n ≤ around (whole q) none at n
   pub holes : around none (heads q) at n + around none (links q) at n ≤ around none (whole q) at n
   pub apart : around (whole q) none at n + around none (whole q) at n + within (start_of at) (start_of at + n) q ≤ 1
 
-pub site_clear : (w : Words) (sizes : List ℕ) (at : Site) (xs : List Block) (n : ℕ) → bytes_in xs ≡ n → AreChunks w 0 sizes (heap_with at xs) → (q : ℕ) → IsClear q at n
+pub site_clear : (w : Words) (sizes : List ℕ) (at : Context) (xs : List Block) (n : ℕ) → bytes_in xs ≡ n → AreChunks w 0 sizes (heap_with at xs) → (q : ℕ) → IsClear q at n
 site_clear w sizes at xs n bytes are q =
     let tidy = tidy_around q at xs n (chunks_long w 0 sizes (heap_with at xs) are) in
     let all = chunks_apart w q 0 sizes (heap_with at xs) are in
@@ -133,7 +133,7 @@ chunks_turned w v number n (size ∷ sizes) (b ∷ older) newer c d at turn same
 )
 
 -- blocks of as many bytes in the place of others
-pub site_turned : (w v : Words) (sizes : List ℕ) (at : Site) (xs ys : List Block) → bytes_in ys ≡ bytes_in xs → Laid v (start_of at) ys →
+pub site_turned : (w v : Words) (sizes : List ℕ) (at : Context) (xs ys : List Block) → bytes_in ys ≡ bytes_in xs → Laid v (start_of at) ys →
     ((q : ℕ) → 1 ≤ around (heads q) (heads q) at (bytes_in xs) → v q ≡ w q) → AreChunks w 0 sizes (heap_with at xs) → AreChunks v 0 sizes (heap_with at ys)
 site_turned w v sizes at xs ys bytes laid same are =
     let n : ℕ = length at.older in
