@@ -88,6 +88,10 @@ impl<M: WordMemory> Nodes for Holes<M> {
         Links { left, right, high }
     }
 
+    fn high(&self, memory: &mut M, node: u64) -> u64 {
+        load(memory, node + HIGH)
+    }
+
     fn set_links(&self, memory: &mut M, node: u64, links: Links) {
         store(memory, node + LEFT, links.left);
         store(memory, node + RIGHT, links.right);

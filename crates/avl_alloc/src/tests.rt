@@ -302,7 +302,7 @@ fn a_call_after_many_holes_loads_few_words(rt: HostRuntime) {
     let words = vec![in rt.alloc(); 7; CHUNK_WORDS].expect(&rt, "memory for a chunk");
     let most = most_loads::<Brand>(&rt, Blank::new(1), words);
     assert!(rt; most <= 3584);
-    assert_eq!(rt; most, 92);
+    assert_eq!(rt; most, 76);
 }
 
 #[test]

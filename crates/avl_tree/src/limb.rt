@@ -21,11 +21,8 @@ pub(crate) fn limb_of<N: Nodes>(nodes: &N, memory: &mut N::Memory, root: u64) ->
     if root == 0 {
         return NO_LIMB;
     }
-    let links = nodes.links(memory, root);
-    Limb {
-        root,
-        high: links.high,
-    }
+    let high = nodes.high(memory, root);
+    Limb { root, high }
 }
 
 /// A tree that has come in the place of the one with this root; `None` where its root and height

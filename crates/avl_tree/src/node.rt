@@ -73,6 +73,14 @@ pub trait Nodes {
         ensures around { around self.now memory.new ≡ around self.now memory.old }
         ensures loads { loads memory.new ≤ loads memory.old + cost };
 
+    /// The height of the tree below and with a node.
+    fn high(&self, memory: &mut Self::Memory, node: u64) -> u64
+        requires { IsNode (around self.now memory.old) node }
+        ensures high { result ≡ ((view self.now memory.old).links node).high }
+        ensures view { view self.now memory.new ≡ view self.now memory.old }
+        ensures around { around self.now memory.new ≡ around self.now memory.old }
+        ensures loads { loads memory.new ≤ loads memory.old + cost };
+
     /// Gives a node other links. Nothing else changes.
     fn set_links(&self, memory: &mut Self::Memory, node: u64, links: Links)
         requires { IsNode (around self.now memory.old) node }
