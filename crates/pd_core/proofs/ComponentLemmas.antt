@@ -1,5 +1,5 @@
 -- A component that is a script; the accounts of components; and what a plain call keeps of the memory.
-use Rattle.std.proofs.Common.{◌≡◌, ◌≢◌, ℕ, List, ◌∙◌, Some, IsSome, unwrap_or, refl, sym, ap, subst}
+use Rattle.std.proofs.Common.{◌≡◌, ℕ, List, ◌∙◌, Some, IsSome, unwrap_or, refl, sym, ap, subst}
 use Rattle.std.specs.Prelude.{Option}
 use Rattle.own_model.specs.Account.{Account, opened}
 use Rattle.own_model.specs.NatMap.{total}
@@ -14,7 +14,7 @@ use Rattle.own_model.specs.Routes.{Rule}
 use Rattle.pd_core.specs.Call.{model_call, IsPlain}
 use Rattle.pd_core.specs.declared.call.Call.{Call}
 use Rattle.own_model.specs.OwnStep.{own_step, script_step}
-use Rattle.dataspace_core.specs.Store.{Store, part, account_of, account_in, accounts_in, ram_limits_in, caps_limits_in, IsOpenIn, PartBecomes}
+use Rattle.dataspace_core.specs.Store.{Store, part, account_of, account_in, accounts_in, caps_limits_in, IsOpenIn, PartBecomes}
 use Rattle.pd_core.specs.declared.script.Script.{Script}
 use Rattle.trade_base.specs.declared.id.AccountId.{AccountId}
 use Rattle.pd_core.specs.Own.{Sessions, own_of, own_at}

@@ -1,5 +1,5 @@
 -- An exit in the core: the closes of all sessions, and then the end.
-use Rattle.std.proofs.Common.{◌≡◌, ℕ, ◌+◌, ◌<◌, ◌≤◌, false, true, List, [], ◌∷◌, Option, None, Some, Ok, Err, is_some, length, get_or, set, refl, sym, ap, subst, ◌∙◌, inl, inr, arith}
+use Rattle.std.proofs.Common.{◌≡◌, ℕ, ◌+◌, ◌<◌, ◌≤◌, false, true, List, [], Option, None, Some, Ok, Err, is_some, length, get_or, set, refl, sym, ap, subst, ◌∙◌, inl, inr, arith}
 use Rattle.std.proofs.lemmas.Bool.{cases_lt}
 use Rattle.std.proofs.lemmas.Option.{none-some, same_Some}
 use Rattle.std.proofs.lemmas.List.{get_or-map, length-map}
@@ -12,9 +12,8 @@ use Rattle.trade_base.specs.declared.id.SessionId.{SessionId}
 use Rattle.trade_base.specs.declared.refusal.Refusal.{Refusal}
 use Rattle.trade_base.specs.declared.refusal.Refusal.TheVariants.{Gone as IsGone, InvalidSession, NotAScript}
 use Rattle.own_model.specs.Call.Call.{Close, Exit}
-use Rattle.own_model.specs.Donation.{raised}
 use Rattle.own_model.specs.OwnState.{OwnState, session_named}
-use Rattle.own_model.specs.OwnStep.{Outcome, own_step, refused, gone_state}
+use Rattle.own_model.specs.OwnStep.{Outcome, own_step, refused}
 use Rattle.own_model.specs.Reply.{reply_text, log_text}
 use Rattle.own_model.specs.Reply.Reply.{Done, Refused}
 use Rattle.own_model.specs.Routes.{Rule}
@@ -26,7 +25,7 @@ use Rattle.cap_space.specs.declared.cap.Cap.{Cap}
 use Rattle.dataspace_core.specs.Store.{Store, root_in, ram_limits_in, caps_limits_in, ClosesPart}
 use Rattle.server_frame.specs.Told.{Told}
 use Rattle.pd_core.specs.Answer.{told_alone}
-use Rattle.pd_core.specs.Component.{kind_of, served_by, service_of, payer_of, caps_in, caps_of, own_in, own, NamesItsSessions}
+use Rattle.pd_core.specs.Component.{kind_of, payer_of, caps_in, caps_of, own_in, own, NamesItsSessions}
 use Rattle.pd_core.specs.Core.{Rules, roles_of, entries_of, rows_at, sessions_in, world_of, IsCore}
 use Rattle.pd_core.specs.Exit.{IsScriptRole, places_told, HasSelectorsTo, HasClosedAt, ClosesTo}
 use Rattle.pd_core.specs.Own.{Sessions, own_of}
@@ -37,7 +36,7 @@ use Rattle.pd_core.specs.declared.component.Component.{Component}
 use Rattle.pd_core.specs.declared.component.Role.{Role}
 use Rattle.pd_core.specs.declared.component.Role.TheVariants.{Script as AScript, Log as ALog, Files as AFiles, Gone as AGone}
 use Rattle.pd_core.proofs.ExitLemmas.{IsAlone, world_alone, core_alone, leads_alone, kind_of_script}
-use Rattle.pd_core.proofs.ExitWorldLemmas.{IsGoneFrom, closed_at_first, closed_more, gone_world, exit_outcome}
+use Rattle.pd_core.proofs.ExitWorldLemmas.{closed_at_first, closed_more, gone_world, exit_outcome}
 use Rattle.pd_core.proofs.QuotaLemmas.{found_in, session_at_place}
 use Rattle.pd_core.proofs.WorldLemmas.{one_of, length-entries, entries_at, refused_goes, role_at}
 

@@ -1,5 +1,5 @@
 -- A component goes that has no session any more: the change that it makes to the core, and the world that it leaves.
-use Rattle.std.proofs.Common.{◌≡◌, ◌≢◌, ℕ, ◌<◌, List, None, Some, is_some, length, map, get_or, set, refl, sym, ap, subst, ◌∙◌, inl, inr}
+use Rattle.std.proofs.Common.{◌≡◌, ◌≢◌, ℕ, ◌<◌, List, None, Some, is_some, length, get_or, set, refl, sym, ap, subst, ◌∙◌, inl, inr}
 use Rattle.std.proofs.lemmas.Bool.{cases_eq}
 use Rattle.std.proofs.lemmas.Option.{none-some}
 use Rattle.std.proofs.lemmas.List.{get_or-map}
@@ -7,16 +7,13 @@ use Rattle.trade_base.specs.declared.id.SessionId.{SessionId}
 use Rattle.own_model.specs.OwnState.{OwnState}
 use Rattle.std.specs.FinMap.{get, empty}
 use Rattle.std.specs.Prelude.{◌⊎◌}
-use Rattle.own_model.specs.Account.{Account}
 use Rattle.own_model.specs.Donation.{raised}
 use Rattle.own_model.specs.NatMap.{NatMap}
 use Rattle.own_model.specs.OwnStep.{gone_state}
 use Rattle.own_model.specs.Session.{Labelled}
 use Rattle.own_model.specs.StartList.Kind.{Script as AScriptKind}
 use Rattle.own_model.specs.Transcript.{nothing, state_at}
-use Rattle.own_model.specs.World.{World}
 use Rattle.own_model.proofs.NatMapLemmas.{before_remove, get-empty, get-remove_other}
-use Rattle.region_map.specs.Regions.{Regions}
 use Rattle.dataspace_core.specs.Share.{share_in}
 use Rattle.dataspace_core.specs.Store.{Store, Part, part, account_of, account_in, parents_in, root_in, ram_limits_in, caps_limits_in, IsChildIn, IsLeafIn, ClosesPart}
 use Rattle.dataspace_core.proofs.PartLaws.{account_of-part, open_in_part}
@@ -37,7 +34,7 @@ use Rattle.pd_core.proofs.ComponentLemmas.{pays_is, pays_script}
 use Rattle.dataspace_core.proofs.RoomLaws.{room_after_exit}
 use Rattle.pd_core.proofs.HeldLemmas.{same_place, not_place, not_session, no_place, pays_alone, held_by}
 use Rattle.pd_core.proofs.RoleLemmas.{Leaves, role_left, rows_left}
-use Rattle.pd_core.proofs.WorldLemmas.{same_leads, Face, face_of, SameFaces, face_set, world_changed, role_at, role_set, role_kept}
+use Rattle.pd_core.proofs.WorldLemmas.{same_leads, SameFaces, face_set, world_changed, role_at, role_set, role_kept}
 
 -- ---- a role that is a script's
 

@@ -1,17 +1,14 @@
 -- What follows of the accounts and the sessions of a sound core.
-use Rattle.std.proofs.Common.{◌≡◌, ◌≢◌, ℕ, Some, is_some, refl, sym, ap, subst, ◌∙◌, inl, inr}
-use Rattle.std.proofs.lemmas.Bool.{cases_eq}
+use Rattle.std.proofs.Common.{◌≡◌, ◌≢◌, ℕ, Some, is_some, refl, sym, ap, subst, ◌∙◌}
 use Rattle.std.proofs.lemmas.Option.{none-some, same_Some}
 use Rattle.std.specs.FinMap.{get}
 use Rattle.std.specs.Option.{option_map}
-use Rattle.std.specs.Prelude.{Option, None, IsSome}
-use Rattle.own_model.specs.NatMap.{NatMap}
+use Rattle.std.specs.Prelude.{Option, None}
 use Rattle.own_model.specs.Session.{Labelled}
-use Rattle.own_model.proofs.NatMapLemmas.{get-empty}
-use Rattle.dataspace_core.specs.Store.{Store, part, root_in, IsOpenIn, IsChildIn}
+use Rattle.dataspace_core.specs.Store.{Store, root_in, IsOpenIn, IsChildIn}
 use Rattle.dataspace_core.proofs.PartLaws.{open_in_part}
 use Rattle.server_frame.specs.Frame.{Row}
-use Rattle.pd_core.specs.Component.{Pays, caps_in, rows_in}
+use Rattle.pd_core.specs.Component.{Pays, caps_in}
 use Rattle.pd_core.specs.Core.{Roles, rows_at, sessions_in, Owner, Owns, NamesAccount, IsSoundCore}
 use Rattle.pd_core.specs.Core.Owner.{Init, Place, SessionAt}
 use Rattle.pd_core.specs.Own.{HasSessions}

@@ -18,7 +18,6 @@ pub mod SessionGoesLemmas
 pub mod SessionOpenLemmas
 pub mod OwnLemmas
 pub mod ScriptLemmas
-pub mod SessionRowLemmas
 pub mod SlicedLemmas
 pub mod AccountLemmas
 pub mod RegionCallLemmas

@@ -1,5 +1,5 @@
 -- A plain call of a component: the change that it makes to the core, and that it goes as the model's.
-use Rattle.std.proofs.Common.{◌≡◌, ◌≢◌, ℕ, ◌<◌, List, [], Some, is_some, false, get_or, length, set, refl, sym, ap, subst, ◌∙◌, inl, inr}
+use Rattle.std.proofs.Common.{◌≡◌, ℕ, ◌<◌, List, [], Some, is_some, false, get_or, length, set, refl, sym, ap, subst, ◌∙◌, inl, inr}
 use Rattle.std.proofs.lemmas.Bool.{cases_eq}
 use Rattle.std.proofs.lemmas.List.{set-get_or}
 use Rattle.std.specs.FinMap.{get}
@@ -7,20 +7,18 @@ use Rattle.std.specs.Option.{option_map}
 use Rattle.std.specs.Prelude.{IsSome}
 use Rattle.own_model.specs.Call.{Call, is_exit}
 use Rattle.own_model.specs.NatMap.{NatMap}
-use Rattle.own_model.specs.OwnStep.{Outcome, own_step}
+use Rattle.own_model.specs.OwnStep.{own_step}
 use Rattle.own_model.specs.Routes.{Rule}
 use Rattle.own_model.specs.Session.{Labelled}
-use Rattle.own_model.specs.StartList.{Entry}
-use Rattle.dataspace_core.specs.Store.{Store, Part, part, root_in, IsOpenIn}
+use Rattle.dataspace_core.specs.Store.{Store, Part, part, root_in}
 use Rattle.dataspace_core.proofs.PartLaws.{open_in_part, part_open}
-use Rattle.region_map.specs.Regions.{Regions}
 use Rattle.server_frame.specs.Frame.{Row}
 use Rattle.server_frame.specs.Told.{Told as Written}
 use Rattle.server_frame.proofs.FrameLaws.{stays_of_others}
 use Rattle.pd_core.specs.Answer.{Told, told, told_of}
 use Rattle.pd_core.specs.Component.{Pays, entry_of, payer_of, service_of, caps_in, places_in, rows_in, own_in, own, NamesItsSessions, IsSoundRole, IsSound, Keeps}
-use Rattle.pd_core.specs.Core.{Rules, Roles, roles_of, rows_at, sessions_in, Owner, Owns, NamesAccount, IsCore}
-use Rattle.pd_core.specs.Core.Owner.{Init, Place}
+use Rattle.pd_core.specs.Core.{Rules, Roles, roles_of, rows_at, sessions_in, Owns, NamesAccount, IsCore}
+use Rattle.pd_core.specs.Core.Owner.{Place}
 use Rattle.pd_core.specs.Exit.{refusal_of, IsScriptRole}
 use Rattle.pd_core.specs.Own.{Sessions}
 use Rattle.pd_core.specs.SessionCalls.{Goes}
@@ -30,10 +28,10 @@ use Rattle.pd_core.specs.declared.component.Component.{Component}
 use Rattle.pd_core.specs.declared.component.Role.{Role}
 use Rattle.pd_core.specs.declared.component.Role.TheVariants.{Script as AScript, Log as ALog, Files as AFiles, Gone as AGone}
 use Rattle.pd_core.proofs.ChangeLemmas.{ChangesCore, Follows}
-use Rattle.pd_core.proofs.ComponentLemmas.{pays_is, pays_script, part_becomes, same_caps, same_room}
-use Rattle.pd_core.proofs.HeldLemmas.{same_place, not_place, no_place, pays_alone, pays_no_init, held_by}
+use Rattle.pd_core.proofs.ComponentLemmas.{pays_script, part_becomes, same_caps, same_room}
+use Rattle.pd_core.proofs.HeldLemmas.{same_place, no_place, pays_alone, pays_no_init, held_by}
 use Rattle.pd_core.proofs.RoleLemmas.{Leaves, role_left, rows_left}
-use Rattle.pd_core.proofs.WorldLemmas.{Face, face_of, face_set, goes, outcome_is, places_kept, stays_goes, role_at, role_set, role_kept, same_init, same_leads}
+use Rattle.pd_core.proofs.WorldLemmas.{face_of, face_set, goes, places_kept, stays_goes, role_at, role_set, role_kept, same_init}
 
 -- a role makes calls or is refused
 by_refusal : (role : Role) (X : Type 0) → (IsScriptRole role → X) → (IsSome (refusal_of role) → X) → X

@@ -1,5 +1,5 @@
 -- What a call leaves of the roles whose accounts it doesn't touch.
-use Rattle.std.proofs.Common.{◌≡◌, ℕ, ◌∙◌, Some, refl, sym, ap, is_some, arith}
+use Rattle.std.proofs.Common.{◌≡◌, ℕ, false, ◌∙◌, Some, refl, sym, ap, is_some, arith}
 use Rattle.std.specs.Prelude.{Option, None}
 use Rattle.std.specs.Option.{option_map}
 use Rattle.std.specs.FinMap.{get, empty}
@@ -9,17 +9,21 @@ use Rattle.trade_base.specs.declared.id.SessionId.{SessionId}
 use Rattle.own_model.specs.NatMap.{NatMap}
 use Rattle.own_model.specs.OwnHeap.{no_heap}
 use Rattle.own_model.specs.Session.{Labelled}
-use Rattle.own_model.proofs.NatMapLemmas.{same}
+use Rattle.own_model.specs.OwnState.Object.{OpenSession}
+use Rattle.own_model.proofs.NatMapLemmas.{same, picked_alike}
+use Rattle.cap_space.specs.declared.cap.Cap.{Cap}
+use Rattle.cap_space.specs.declared.cap.Cap.TheVariants.{Dataspace, RpcObject, Session, Buffer}
 use Rattle.slab_map.specs.SlabMap.{map_of}
 use Rattle.slab_map.proofs.SlabMap.{get-map_of, get-map_of_at}
 use Rattle.region_map.specs.Regions.{Regions}
 use Rattle.dataspace_core.specs.Share.{Share}
-use Rattle.dataspace_core.specs.Store.{Store, Part, part, ram_limits_in, caps_limits_in}
+use Rattle.dataspace_core.specs.Store.{Store, Part, part, account_of, ram_limits_in, caps_limits_in}
 use Rattle.server_frame.specs.Frame.{Row, row_of, sessions_of}
 use Rattle.server_frame.specs.declared.server.Session.{Session as Kept}
 use Rattle.server_frame.proofs.FrameLemmas.{Stays, row_stays}
 use Rattle.server_frame.proofs.FrameLaws.{server_stays}
-use Rattle.pd_core.specs.Own.{Sessions, no_sessions, own_of}
+use Rattle.pd_core.specs.Own.{Sessions, no_sessions, object_of, regions_of, own_of, own_at, own_heap_at, sliced_at, part_at}
+use Rattle.pd_core.specs.declared.script.Script.{Script}
 use Rattle.pd_core.specs.Sessions.{log_value, IsLogKept, files_value, IsFilesKept}
 use Rattle.pd_core.specs.Sound.{session_at}
 use Rattle.pd_core.specs.Component.{Pays, caps_in, rows_in, own_in, IsSoundServer, IsSoundRole}
@@ -29,7 +33,30 @@ use Rattle.pd_core.specs.Core.{Roles, Owner, Owns}
 use Rattle.pd_core.specs.Core.Owner.{Place, SessionAt}
 use Rattle.pd_core.proofs.ChangeLemmas.{AgreeOn, Follows}
 use Rattle.pd_core.proofs.ScriptLemmas.{stays_elsewhere}
-use Rattle.pd_core.proofs.SessionRowLemmas.{own_alike}
+
+-- ---- a script under other sessions
+
+-- what a script has is the same under sessions that agree on those that its selectors name
+named_alike : (S S' : Sessions) (p : Part) (cap : Cap) → ((server : ℕ) (session : SessionId) → cap ≡ Session server session → S' server session.0 ≡ S server session.0) → object_of S' p cap ≡ object_of S p cap
+named_alike S S' p (Dataspace ds) agrees = refl
+named_alike S S' p RpcObject agrees = refl
+named_alike S S' p (Buffer space session) agrees = refl
+named_alike S S' p (Session server session) agrees = ap (option_map OpenSession) (agrees server session refl)
+
+module _ (S S' : Sessions) (script : Script) (agrees : (q server : ℕ) (session : SessionId) → get script.caps.caps q ≡ Some (Session server session) → S' server session.0 ≡ S server session.0) where
+  pub own_alike : (store : Store) → own_at S' store script ≡ own_at S store script
+  unfolding own_of
+  own_alike store i = record {
+    account = account_of (part_at store script);
+    selectors = picked_alike (object_of S' (part_at store script)) (object_of S (part_at store script)) script.caps.caps
+        (λ q cap there. named_alike S S' (part_at store script) cap (λ server session is. agrees q server session (there ∙ ap Some is))) i;
+    regions = regions_of script.caps.caps script.regions.user;
+    heap = own_heap_at store script;
+    sliced = sliced_at store script;
+    gone = false;
+  }
+
+-- ---- a server's table
 
 -- what is read of an option stays where each value's reading does
 read_alike : {T X : Type 0} (f g : T → X) (o : Option T) → ((x : T) → o ≡ Some x → g x ≡ f x) → option_map g o ≡ option_map f o

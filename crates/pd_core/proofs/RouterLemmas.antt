@@ -1,23 +1,17 @@
 -- Where the routes of components lead.
-use Rattle.std.proofs.Common.{◌≡◌, ℕ, ◌<◌, ◌≤◌, List, [], Option, None, Some, Err, length, map, get_or, set, refl, sym, ap, subst, ◌∙◌, inl, inr, arith}
+use Rattle.std.proofs.Common.{◌≡◌, ℕ, ◌<◌, List, Option, None, Some, Err, length, map, get_or, refl, sym, ap, ◌∙◌, inl, inr, arith}
 use Rattle.std.proofs.lemmas.Bool.{cases_lt}
 use Rattle.std.proofs.lemmas.Option.{none-some, same_Some}
 use Rattle.std.proofs.lemmas.List.{get_or-map, get_or_past, length-map}
-use Rattle.std.proofs.Math.Seq.{map-set_same}
 use Rattle.std.specs.Option.{option_map}
-use Rattle.trade_base.specs.declared.id.SessionId.{SessionId}
 use Rattle.trade_base.specs.declared.refusal.Refusal.TheVariants.{ServiceDenied}
-use Rattle.own_model.specs.Routes.{Rule, Service, provider}
+use Rattle.own_model.specs.Routes.{Service, provider}
 use Rattle.own_model.specs.Session.{wish, wish_in, wish_of}
 use Rattle.own_model.specs.SessionArgs.{Arguments, arguments_of}
-use Rattle.own_model.specs.StartList.{Entry}
-use Rattle.dataspace_core.specs.Store.{Store}
-use Rattle.pd_core.specs.Component.{entry_of, served_by, service_of, StaysServer}
+use Rattle.pd_core.specs.Component.{service_of}
 use Rattle.pd_core.specs.Core.{Rules}
-use Rattle.pd_core.specs.SessionCalls.{Agrees, Leads, service_at, with_session, without_selector}
+use Rattle.pd_core.specs.SessionCalls.{Agrees, Leads, service_at}
 use Rattle.pd_core.specs.declared.component.Component.{Component}
-use Rattle.pd_core.specs.declared.component.Role.{Role}
-use Rattle.pd_core.specs.declared.component.Role.TheVariants.{Script as AScript, Log as ALog, Files as AFiles, Gone as AGone}
 
 -- ---- where a component is led
 

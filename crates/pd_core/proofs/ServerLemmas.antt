@@ -7,7 +7,6 @@ use Rattle.std.specs.FinMap.{get, empty}
 use Rattle.slab.specs.Slab.{Slab, ContainsKey}
 use Rattle.slab.specs.Slab as slab
 use Rattle.trade_base.specs.declared.id.AccountId.{AccountId}
-use Rattle.trade_base.specs.declared.id.SessionId.{SessionId}
 use Rattle.own_model.specs.Account.{Fits}
 use Rattle.own_model.specs.OwnHeap.{no_heap}
 use Rattle.own_model.specs.Session.{Labelled}
@@ -77,21 +76,6 @@ paid_in store (AScript script) works id row there = absurd (none-some row (sym (
 paid_in store (ALog account server) works id row there = row_paid log_value IsLogKept server.sessions store server.map works id row there
 paid_in store (AFiles account server) works id row there = row_paid files_value IsFilesKept server.sessions store server.map works id row there
 paid_in store AGone works id row there = absurd (none-some row (sym (get-empty id) ∙ there))
-
--- two sessions of a server have two accounts
-keys_differ : {T : Type 0} (value : T → Share → Labelled) (kept : T → Share → Type 0) (sessions : Slab (Kept T)) (store : Store) (regions : Regions) → IsServer kept sessions store regions →
-    (a b : ℕ) (row next : Row Labelled) → get (sessions_of value sessions store regions) a ≡ Some row → get (sessions_of value sessions store regions) b ≡ Some next → row.key ≡ next.key → a ≡ b
-keys_differ value kept sessions store regions server a b row next there at e =
-    let one = row_is value sessions store regions a row there in
-    let two = row_is value sessions store regions b next at in
-    server.apart a b one.session two.session one.there two.there (ap (λ (r : Row Labelled). r.key) one.is ∙ e ∙ sym (ap (λ (r : Row Labelled). r.key) two.is))
-
-pub keys_differ_in : (store : Store) (role : Role) → Works store role → (a b : ℕ) (row next : Row Labelled) → get (rows_in store role) a ≡ Some row → get (rows_in store role) b ≡ Some next →
-    row.key ≡ next.key → a ≡ b
-keys_differ_in store (AScript script) works a b row next there at e = absurd (none-some row (sym (get-empty a) ∙ there))
-keys_differ_in store (ALog account server) works a b row next there at e = keys_differ log_value IsLogKept server.sessions store server.map works a b row next there at e
-keys_differ_in store (AFiles account server) works a b row next there at e = keys_differ files_value IsFilesKept server.sessions store server.map works a b row next there at e
-keys_differ_in store AGone works a b row next there at e = absurd (none-some row (sym (get-empty a) ∙ there))
 
 -- ---- servers
 

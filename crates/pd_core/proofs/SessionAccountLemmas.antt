@@ -1,8 +1,8 @@
 -- Calls of a session between a script and a server: what they require follows from the core, and what they change is one
 -- session.
-use Rattle.std.proofs.Common.{◌≡◌, ◌≢◌, ℕ, ◌+◌, ◌<◌, ◌≤◌, List, Some, is_some, unwrap_or, refl, sym, ap, subst, ◌∙◌, arith}
+use Rattle.std.proofs.Common.{◌≡◌, ◌≢◌, ℕ, ◌+◌, ◌<◌, ◌≤◌, Some, is_some, unwrap_or, refl, sym, ap, subst, ◌∙◌, arith}
 use Rattle.std.specs.FinMap.{get, insert, remove}
-use Rattle.std.specs.Prelude.{Option, None, IfSome, IsSome}
+use Rattle.std.specs.Prelude.{Option, None, IfSome}
 use Rattle.std.specs.Option.{option_map}
 use Rattle.std.proofs.lemmas.Option.{none-some, same_Some}
 use Rattle.trade_base.specs.declared.id.SessionId.{SessionId}
@@ -15,11 +15,11 @@ use Rattle.own_model.specs.Session.{session_account, donation_refusal, Labelled}
 use Rattle.own_model.proofs.NatMapLemmas.{apart_from_free, some_of, value_at, get-insert_same, get-insert_other, get-remove_same, get-remove_other, before_remove}
 use Rattle.own_model.proofs.SessionLemmas.{donation_covered, large_enough}
 use Rattle.own_model.proofs.Totals.{total-remove, total_le, total-picked, total-insert_same}
-use Rattle.cap_space.specs.Space.{without_cap, with_cap}
+use Rattle.cap_space.specs.Space.{without_cap}
 use Rattle.cap_space.specs.declared.cap.Cap.{Cap}
 use Rattle.cap_space.specs.declared.cap.Cap.TheVariants.{Dataspace, RpcObject, Session, Buffer}
 use Rattle.dataspace_core.specs.Room.{IsOuter}
-use Rattle.dataspace_core.specs.Store.{Store, Part, part, root_in, account_in, account_of, accounts_in, parents_in, room_in, ram_limits_in, IsChildIn, IsOpenIn, PartBecomes, RaisesPart, ClosesPart}
+use Rattle.dataspace_core.specs.Store.{Store, Part, part, account_in, account_of, accounts_in, parents_in, room_in, ram_limits_in, IsChildIn, IsOpenIn, PartBecomes, RaisesPart, ClosesPart}
 use Rattle.dataspace_core.proofs.LimitLaws.{accounts_after}
 use Rattle.dataspace_core.proofs.PartLaws.{account_of-part, open_in_part, part_open}
 use Rattle.dataspace_core.proofs.RoomLaws.{limits_moved, limits_opened, room_for_one_more, room_is_taken, room_is_raised, room_stays, room_is_given_back}
@@ -27,13 +27,12 @@ use Rattle.server_frame.specs.Frame.{OpensSession, ServesSession, Row}
 use Rattle.server_frame.specs.Session.{Served}
 use Rattle.server_frame.proofs.PlaceLaws.{opens_an_account}
 use Rattle.server_frame.proofs.RowLaws.{IsNoRows}
-use Rattle.pd_core.specs.Component.{Pays, caps_in, places_in, rows_in, own_in, IsSessionOf, NamesItsSessions, HasPlace, IsSoundRole}
+use Rattle.pd_core.specs.Component.{places_in, rows_in, own_in, IsSessionOf, NamesItsSessions, HasPlace, IsSoundRole}
 use Rattle.pd_core.specs.Core.{Roles, rows_at, sessions_in, Owner, Owns}
 use Rattle.pd_core.specs.Core.Owner.{Place, SessionAt}
 use Rattle.pd_core.specs.Own.{object_of, own_of, part_at}
 use Rattle.pd_core.specs.Sessions.{row_session, NamesSession}
 use Rattle.pd_core.specs.Sound.{session_at, session_weight, IsSoundScript}
-use Rattle.pd_core.specs.declared.component.Role.{Role}
 use Rattle.pd_core.specs.declared.component.Role.TheVariants.{Script as AScript}
 use Rattle.pd_core.specs.declared.script.Script.{Script}
 use Rattle.pd_core.proofs.HeldLemmas.{no_place, owned_open, owns_row, pays_no_init, row_paid as paid_row}

@@ -1,5 +1,5 @@
 -- A call of one session: what it changes, and that the core changes by that.
-use Rattle.std.proofs.Common.{◌≡◌, ◌≢◌, false, true, ℕ, ◌<◌, ◌≤◌, List, length, get_or, Some, is_some, refl, sym, ap, subst, ◌∙◌, inl, inr, arith}
+use Rattle.std.proofs.Common.{◌≡◌, ◌≢◌, false, true, ℕ, ◌<◌, List, length, get_or, Some, is_some, refl, sym, ap, subst, ◌∙◌, inl, inr, arith}
 use Rattle.std.specs.FinMap.{get, empty}
 use Rattle.std.specs.List.{flat_map}
 use Rattle.std.specs.Option.{option_map}
@@ -13,20 +13,18 @@ use Rattle.own_model.specs.NatMap.{NatMap}
 use Rattle.own_model.specs.OwnHeap.{no_heap}
 use Rattle.own_model.specs.OwnStep.{Outcome, own_step, entry_step}
 use Rattle.own_model.specs.Reply.{Reply, LogLine, reply_text, log_text}
-use Rattle.own_model.specs.Session.{Session as AnOpenSession, Labelled}
-use Rattle.own_model.specs.StartList.{Entry}
+use Rattle.own_model.specs.Session.{Labelled}
 use Rattle.own_model.proofs.NatMapLemmas.{some_of}
 use Rattle.cap_space.specs.declared.cap.Cap.{Cap}
 use Rattle.dataspace_core.specs.Room.{HasRoom}
 use Rattle.dataspace_core.specs.Share.{share_in}
-use Rattle.dataspace_core.specs.Store.{Store, Part, part, root_in, parents_in, ram_limits_in, caps_limits_in, IsOpenIn, IsChildIn, IsLeafIn}
+use Rattle.dataspace_core.specs.Store.{Store, Part, part, root_in, parents_in, ram_limits_in, caps_limits_in, IsChildIn}
 use Rattle.dataspace_core.proofs.PartLaws.{open_in_part, part_open}
-use Rattle.region_map.specs.Regions.{Regions}
 use Rattle.server_frame.specs.Frame.{Row}
 use Rattle.server_frame.specs.Session.{holding}
 use Rattle.server_frame.specs.Told.{Told}
-use Rattle.pd_core.specs.Component.{Pays, entry_of, kind_of, payer_in, payer_of, served_by, caps_in, places_in, rows_in, own_in, own, NamesItsSessions, HasPlaces, IsSoundRole, StaysServer}
-use Rattle.pd_core.specs.Core.{Rules, Roles, roles_of, rows_at, sessions_in, Owner, Owns, NamesAccount, IsSoundCore, IsCore}
+use Rattle.pd_core.specs.Component.{Pays, entry_of, kind_of, payer_in, payer_of, served_by, places_in, rows_in, own_in, NamesItsSessions, HasPlaces, IsSoundRole, StaysServer}
+use Rattle.pd_core.specs.Core.{Rules, Roles, roles_of, rows_at, sessions_in, Owner, Owns, NamesAccount, IsSoundCore}
 use Rattle.pd_core.specs.Core.Owner.{Init, Place, SessionAt}
 use Rattle.pd_core.specs.Own.{Sessions, no_sessions, own_of, own_at}
 use Rattle.pd_core.specs.Sessions.{row_session, AgreeBut, DoesSession}

@@ -1,6 +1,6 @@
 -- A call of a session that a selector names, or that is opened: the components after it, and that it goes as the model's.
-use Rattle.std.proofs.Common.{◌≡◌, ◌≢◌, false, true, ℕ, ◌<◌, List, [], Option, None, Some, Ok, Result, is_some, length, get_or, set, refl, sym, ap, subst, ◌∙◌}
-use Rattle.std.proofs.lemmas.List.{get_or-set_other, length-set}
+use Rattle.std.proofs.Common.{◌≡◌, ◌≢◌, false, true, ℕ, ◌<◌, List, [], Option, None, Some, Ok, is_some, length, get_or, set, refl, sym, ap, subst, ◌∙◌}
+use Rattle.std.proofs.lemmas.List.{length-set}
 use Rattle.std.proofs.lemmas.Option.{none-some, same_Some}
 use Rattle.std.specs.FinMap.{get, insert, remove}
 use Rattle.std.specs.Option.{option_map}
@@ -9,7 +9,6 @@ use Rattle.trade_base.specs.declared.id.SessionId.{SessionId}
 use Rattle.trade_base.specs.declared.refusal.Refusal.{Refusal}
 use Rattle.trade_base.specs.declared.refusal.Refusal.TheVariants.{BadArgs}
 use Rattle.own_model.specs.Account.{Account, shortage}
-use Rattle.own_model.specs.Call.{Call}
 use Rattle.own_model.specs.Call.Call.{Upgrade, CallSession, Close}
 use Rattle.own_model.specs.Donation.{raised}
 use Rattle.own_model.specs.NatMap.{NatMap}
@@ -23,14 +22,14 @@ use Rattle.own_model.proofs.LimitLemmas.{serve_keeps}
 use Rattle.own_model.proofs.NatMapLemmas.{get-empty, get-insert_same}
 use Rattle.cap_space.specs.Space.{without_cap}
 use Rattle.cap_space.specs.declared.cap.Cap.{Cap}
-use Rattle.cap_space.specs.declared.cap.Cap.TheVariants.{Dataspace, RpcObject, Session}
-use Rattle.dataspace_core.specs.Store.{Store, account_in, ram_limits_in, ClosesPart, RaisesPart}
+use Rattle.cap_space.specs.declared.cap.Cap.TheVariants.{Dataspace, RpcObject, Session, Buffer}
+use Rattle.dataspace_core.specs.Store.{Store, account_in, ClosesPart, RaisesPart}
 use Rattle.server_frame.specs.Frame.{Row, ServesSession}
 use Rattle.server_frame.specs.Session.{service_step}
 use Rattle.server_frame.specs.Told.{Told}
 use Rattle.pd_core.specs.Answer.{told_alone}
-use Rattle.pd_core.specs.Component.{entry_of, kind_of, served_by, caps_in, rows_in, rows_of, own, own_in, IsSoundRole, Serves, StaysServer}
-use Rattle.pd_core.specs.Core.{Rules, Roles, roles_of, rows_at, sessions_in, IsCore}
+use Rattle.pd_core.specs.Component.{entry_of, kind_of, served_by, caps_in, rows_in, rows_of, own_in, IsSoundRole, Serves, StaysServer}
+use Rattle.pd_core.specs.Core.{Rules, roles_of, sessions_in, IsCore}
 use Rattle.pd_core.specs.Own.{Sessions, own_of, own_at}
 use Rattle.pd_core.specs.Sessions.{row_session, NamesSession}
 use Rattle.pd_core.specs.SessionCalls.{Goes, named_in, without_selector}
@@ -46,7 +45,7 @@ use Rattle.pd_core.proofs.SessionChangeLemmas.{AreTwo, ReplacesTwo, session_goes
 use Rattle.pd_core.proofs.SessionDoneLemmas.{closes_done, upgrades_done, serves_done, upgrade_unread, upgrade_refused}
 use Rattle.pd_core.proofs.SessionOwnLemmas.{is_step}
 use Rattle.pd_core.proofs.SessionRefusedLemmas.{named_script}
-use Rattle.pd_core.proofs.WorldLemmas.{Face, face_of, SameFaces, face_set, place_of, refused_goes, role_at, role_set, role_kept}
+use Rattle.pd_core.proofs.WorldLemmas.{face_of, face_set, place_of, refused_goes, role_at, role_set, role_kept}
 
 -- a role with a session serves
 serving_role : (store : Store) (role : Role) (id : ℕ) (row : Row Labelled) → get (rows_in store role) id ≡ Some row → IsSome (served_by role)
@@ -60,6 +59,7 @@ cap_of : (o : Option Cap) (named : ℕ × SessionId) → session_at o ≡ Some n
 cap_of None named is = absurd (none-some named is)
 cap_of (Some (Dataspace ds)) named is = absurd (none-some named is)
 cap_of (Some RpcObject) named is = absurd (none-some named is)
+cap_of (Some (Buffer space session)) named is = absurd (none-some named is)
 cap_of (Some (Session server session)) named is =
     let same = same_Some (server, session) named is in ap (λ (p : ℕ × SessionId). Some (Session p.0 p.1)) same
 

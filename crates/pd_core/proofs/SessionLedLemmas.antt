@@ -1,26 +1,23 @@
 -- A session that the component at a place asks for: the server that it is led to, and how it goes.
-use Rattle.std.proofs.Common.{◌≡◌, ℕ, ◌<◌, List, [], length, get_or, set, is_some, Option, None, Some, Ok, refl, sym, ap, subst, ◌∙◌}
+use Rattle.std.proofs.Common.{◌≡◌, ℕ, ◌<◌, List, [], length, get_or, set, is_some, None, Some, Ok, refl, sym, ap, subst, ◌∙◌}
 use Rattle.std.proofs.lemmas.List.{get_or_default, get_or-set_other}
 use Rattle.std.specs.FinMap.{get}
 use Rattle.std.specs.Option.{option_map}
-use Rattle.std.specs.Prelude.{IsSome}
 use Rattle.trade_base.specs.declared.id.Selector.{Selector}
 use Rattle.trade_base.specs.declared.id.SessionId.{SessionId}
 use Rattle.trade_base.specs.declared.refusal.Refusal.{Refusal}
 use Rattle.own_model.specs.Call.Call.{Open}
-use Rattle.own_model.specs.NatMap.{NatMap}
 use Rattle.own_model.specs.OwnState.{new_selector}
-use Rattle.own_model.specs.OwnStep.{own_step, entry_step, refused, unless, opened_by, session_opened}
+use Rattle.own_model.specs.OwnStep.{own_step, refused, unless, opened_by, session_opened}
 use Rattle.own_model.specs.Reply.{reply_text}
 use Rattle.own_model.specs.Reply.Reply.{Selected, Refused}
 use Rattle.own_model.specs.Routes.{Service, provider}
 use Rattle.own_model.specs.Session.{Wish, donation_refusal, label_with, state_at_first, wish, wish_in, wish_of, Labelled}
 use Rattle.own_model.specs.SessionArgs.{Arguments, arguments_of}
-use Rattle.own_model.proofs.NatMapLemmas.{get-insert_same}
 use Rattle.own_model.proofs.NewSelector.{new_selector_free}
-use Rattle.dataspace_core.specs.Store.{Store, account_in, ram_limits_in}
+use Rattle.dataspace_core.specs.Store.{Store, account_in}
 use Rattle.dataspace_core.proofs.PartLaws.{account_of-part}
-use Rattle.server_frame.specs.Frame.{Row, OpensSession}
+use Rattle.server_frame.specs.Frame.{OpensSession}
 use Rattle.server_frame.proofs.RowLaws.{IsNoRows}
 use Rattle.pd_core.specs.Answer.{told_alone}
 use Rattle.pd_core.specs.Component.{entry_of, kind_of, served_by, caps_of, caps_in, rows_in, rows_of, service_of, own_in, HasPlace, IsSoundRole, Admits, StaysServer}
@@ -34,12 +31,12 @@ use Rattle.pd_core.specs.declared.script.Script.{Script}
 use Rattle.pd_core.proofs.HeldLemmas.{names_open as all_open}
 use Rattle.pd_core.proofs.PlainLemmas.{face_is}
 use Rattle.pd_core.proofs.RouterLemmas.{led_to_service}
-use Rattle.pd_core.proofs.SessionAccountLemmas.{payer_open, no_session, has_place, has_room, script_sound, names_open, new_alone, new_row, changes_opened}
+use Rattle.pd_core.proofs.SessionAccountLemmas.{payer_open, no_session, has_place, has_room, script_sound, names_open, new_alone, changes_opened}
 use Rattle.pd_core.proofs.SessionChangeLemmas.{AreTwo, ReplacesTwo, two_places, sessions_agree, now_there, step_goes}
-use Rattle.pd_core.proofs.SessionGoesLemmas.{caller_within, host_within, kept_put}
+use Rattle.pd_core.proofs.SessionGoesLemmas.{kept_put}
 use Rattle.pd_core.proofs.SessionOpenLemmas.{OpensFor, opens_for, script_with, has_place as has_selector}
 use Rattle.pd_core.proofs.SessionOwnLemmas.{is_step}
-use Rattle.pd_core.proofs.WorldLemmas.{Face, face_of, SameFaces, face_set, refused_goes, role_at}
+use Rattle.pd_core.proofs.WorldLemmas.{face_of, SameFaces, face_set, refused_goes, role_at}
 
 -- the component at a place is a script that asks for a session with these arguments, and is led to a place
 pub record IsLed (rules : Rules) (leads : Leads) (store : Store) (components : List Component) (i s : ℕ) (d : Component) (script : Script) (service text : List ℕ) (args : Arguments) : Type 0 where

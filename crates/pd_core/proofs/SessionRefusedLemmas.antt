@@ -1,40 +1,33 @@
 -- A call of a session that is refused before its session is looked at.
-use Rattle.std.proofs.Common.{set, ◌≡◌, ◌≢◌, false, true, is_some, ℕ, ◌<◌, List, Option, None, Some, Ok, Err, Result, length, map, get_or, refl, sym, ap, subst, ◌∙◌, inl, inr, arith}
-use Rattle.std.proofs.lemmas.Bool.{cases_lt}
+use Rattle.std.proofs.Common.{set, ◌≡◌, ◌≢◌, ℕ, ◌<◌, List, Option, None, Some, Ok, Err, Result, length, get_or, refl, sym, ap, subst, ◌∙◌}
 use Rattle.std.proofs.lemmas.Option.{none-some, same_Some}
-use Rattle.std.proofs.lemmas.List.{get_or_default, get_or-set_other, set-get_or, get_or-map, get_or_past, length-map}
-use Rattle.std.specs.FinMap.{get, empty}
-use Rattle.std.specs.List.{flat_map}
+use Rattle.std.proofs.lemmas.List.{set-get_or}
+use Rattle.std.specs.FinMap.{get}
 use Rattle.std.specs.Option.{ok_or, option_map, option_and_then, option_or}
 use Rattle.std.specs.Result.{result_ok, result_err}
-use Rattle.std.specs.Prelude.{IsErrAnd, IsSome}
+use Rattle.std.specs.Prelude.{IsErrAnd}
 use Rattle.trade_base.specs.declared.id.SessionId.{SessionId}
 use Rattle.trade_base.specs.declared.refusal.Refusal.{Refusal}
 use Rattle.trade_base.specs.declared.refusal.Refusal.TheVariants.{InvalidSession, NotAScript, Gone, BadArgs}
 use Rattle.own_model.specs.Call.{Call}
 use Rattle.own_model.specs.Call.Call.{Open, Upgrade, CallSession, Close}
-use Rattle.own_model.specs.NatMap.{NatMap}
 use Rattle.own_model.specs.OwnState.{OwnState, session_named}
 use Rattle.own_model.specs.OwnState.Object.{Dataspace as ADataspace}
 use Rattle.own_model.specs.OwnStep.{own_step, entry_step, gone_state, refused, opened_by, upgraded_by, session_called, session_closed}
-use Rattle.own_model.specs.Reply.{reply_text, log_text}
+use Rattle.own_model.specs.Reply.{reply_text}
 use Rattle.own_model.specs.Reply.Reply.{Refused}
 use Rattle.own_model.specs.Routes.{Rule}
 use Rattle.own_model.specs.StartList.{Entry}
-use Rattle.own_model.specs.Session.{wish, wish_in, Labelled}
+use Rattle.own_model.specs.Session.{wish, wish_in}
 use Rattle.own_model.specs.SessionArgs.{Arguments, arguments_of}
-use Rattle.own_model.specs.Transcript.{state_at}
-use Rattle.own_model.specs.World.{World, with_state}
-use Rattle.own_model.proofs.BalanceLemmas.{with_state_same}
-use Rattle.own_model.proofs.NatMapLemmas.{get-picked, get-empty}
+use Rattle.own_model.proofs.NatMapLemmas.{get-picked}
 use Rattle.cap_space.specs.declared.cap.Cap.{Cap}
-use Rattle.cap_space.specs.declared.cap.Cap.TheVariants.{Dataspace, RpcObject, Session}
+use Rattle.cap_space.specs.declared.cap.Cap.TheVariants.{Dataspace, RpcObject, Session, Buffer}
 use Rattle.dataspace_core.specs.Store.{Store, Part}
-use Rattle.server_frame.specs.Frame.{Row}
 use Rattle.server_frame.specs.Told.{Told}
 use Rattle.pd_core.specs.Answer.{told_alone, reply_of}
 use Rattle.pd_core.specs.declared.answer.Answer.{Answer}
-use Rattle.pd_core.specs.Component.{entry_of, kind_of, served_by, payer_of, caps_in, caps_of, rows_in, rows_of, own_in, own, IsSessionOf, NamesItsSessions}
+use Rattle.pd_core.specs.Component.{kind_of, own_in}
 use Rattle.pd_core.specs.Core.{Rules, roles_of, sessions_in, IsCore}
 use Rattle.pd_core.specs.Exit.{refusal_of}
 use Rattle.pd_core.specs.Own.{Sessions, object_of, own_of, own_at, part_at}
@@ -77,6 +70,7 @@ no_object : (S : Sessions) (part : Part) (o : Option Cap) → session_at o ≡ N
 no_object S part None none = refl
 no_object S part (Some (Dataspace ds)) none = no_space (get part.spaces ds.0)
 no_object S part (Some RpcObject) none = refl
+no_object S part (Some (Buffer space session)) none = refl
 no_object S part (Some (Session server session)) none = absurd (none-some (server, session) (sym none))
 
 unnamed : (S : Sessions) (store : Store) (script : Script) (selector : ℕ) → session_at (get script.caps.caps selector) ≡ None →

@@ -1,33 +1,32 @@
 -- The components of a core as a world: what is seen of them, and the world that a change of the core leaves.
-use Rattle.std.proofs.Common.{◌≡◌, ◌≢◌, ℕ, ◌<◌, ◌≤◌, List, [], ◌∷◌, Some, None, false, length, map, get_or, set, refl, sym, ap, subst, ◌∙◌, inl, inr, arith, length-set, get_or-set_other}
+use Rattle.std.proofs.Common.{◌≡◌, ◌≢◌, ℕ, ◌<◌, ◌≤◌, List, [], ◌∷◌, None, false, length, map, get_or, set, refl, sym, ap, subst, ◌∙◌, inl, inr, arith, length-set, get_or-set_other}
 use Rattle.std.proofs.Math.ListN.{get_or-map as each-map}
 use Rattle.std.proofs.Math.Seq.{map-set_same}
 use Rattle.std.proofs.lemmas.Bool.{cases_eq, cases_lt}
 use Rattle.std.proofs.lemmas.Grind.{get_or-set_at}
-use Rattle.std.proofs.lemmas.List.{map-set, get_or-map, get_or_past, ext_get_or, length-map, set-get_or}
+use Rattle.std.proofs.lemmas.List.{map-set, get_or-map, get_or_past, ext_get_or, length-map}
 use Rattle.std.proofs.lemmas.List.FromFn.{get_or-enumerate_from, length-enumerate_from}
-use Rattle.std.specs.List.{All, enumerate_from, flat_map}
+use Rattle.std.specs.List.{enumerate_from, flat_map}
 use Rattle.std.specs.Option.{option_map}
 use Rattle.std.specs.Prelude.{IfSome, Option}
 use Rattle.own_model.specs.Call.{Call, is_exit}
 use Rattle.own_model.specs.Limits.{caps_limits}
-use Rattle.own_model.specs.OwnState.{OwnState}
 use Rattle.own_model.specs.OwnStep.{Outcome, own_step, refused}
 use Rattle.own_model.specs.Reply.{reply_text, log_text}
 use Rattle.own_model.specs.Reply.Reply.{Refused}
-use Rattle.own_model.specs.Routes.{Rule, Service}
+use Rattle.own_model.specs.Routes.{Service}
 use Rattle.own_model.specs.StartList.{Entry, Kind}
 use Rattle.own_model.specs.Transcript.{nobody, nothing, entry_at, state_at}
 use Rattle.own_model.specs.World.{World, with_state, outcome_at}
 use Rattle.own_model.proofs.BalanceLemmas.{with_state_same, world_on}
 use Rattle.own_model.proofs.LimitLemmas.{limits_move}
-use Rattle.dataspace_core.specs.Store.{Store, Part, part, root_in, account_in, account_of}
+use Rattle.dataspace_core.specs.Store.{Store, part, root_in, account_in, account_of}
 use Rattle.dataspace_core.proofs.PartLaws.{account_of-part}
 use Rattle.server_frame.specs.Told.{Told}
 use Rattle.trade_base.specs.declared.refusal.Refusal.{Refusal}
 use Rattle.pd_core.specs.Answer.{told_alone}
 use Rattle.pd_core.specs.Component.{entry_of, kind_of, served_by, service_of, places_in, own_in, own, HasPlaces}
-use Rattle.pd_core.specs.Core.{Roles, roles_of, Rules, entries_of, sessions_in, world_of, IsCore}
+use Rattle.pd_core.specs.Core.{roles_of, Rules, entries_of, sessions_in, world_of, IsCore}
 use Rattle.pd_core.specs.Own.{Sessions}
 use Rattle.pd_core.specs.SessionCalls.{Agrees, Answers, Goes, Leads, service_at}
 use Rattle.pd_core.specs.declared.component.Component.{Component}

@@ -1,5 +1,5 @@
 -- A call of a session in the core: what it requires of the components, and what it does to the world.
-use Rattle.std.specs.Prelude.{◌≡◌, ℕ, ◌<◌, ◌≤◌, List, length, map, get_or, Option, Some, None, IsSome, Result, Err}
+use Rattle.std.specs.Prelude.{◌≡◌, ℕ, ◌<◌, ◌≤◌, List, length, map, get_or, Option, Some, None, Result, Err}
 use Rattle.std.specs.FinMap.{get, len}
 use Rattle.std.specs.List.{All, flat_map}
 use Rattle.std.specs.Option.{ok_or, option_map}
@@ -22,10 +22,6 @@ use Rattle.pd_core.specs.Sound.{session_at}
 use Rattle.pd_core.specs.declared.component.Role.{Role}
 use Rattle.pd_core.specs.declared.component.Role.TheVariants.{Script, Log, Files, Gone as GoneRole}
 use Rattle.pd_core.specs.declared.component.Component.{Component}
-
--- a component serves sessions
-abbrev pub IsServing : Component → Type 0
-IsServing component = IsSome (service_of component)
 
 -- the place of the component that serves what the component at a place asks for: a service by its name, with a given label
 abbrev pub Leads : Type 0

@@ -1,6 +1,6 @@
 -- A close more.
 use Rattle.std.proofs.Common.{◌+◌, refl}
-use Rattle.pd_core.proofs.ExitCallLemmas.{closes_at_first, closes_on}
+use Rattle.pd_core.proofs.ExitCallLemmas.{closes_on}
 use Rattle.pd_core.proofs.exiting.close_all.Goals as goal
 
 pub loop-place-preserved : goal.loop-place-preserved

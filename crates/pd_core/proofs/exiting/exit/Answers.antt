@@ -1,5 +1,5 @@
 -- A refused exit changes nothing; else all sessions are closed, and then the script ends.
-use Rattle.std.proofs.Common.{rules, sym, subst}
+use Rattle.std.proofs.Common.{subst}
 use Rattle.pd_core.specs.Component.{IsSoundRole}
 use Rattle.pd_core.proofs.ExitCallLemmas.{alone_after, exit_goes, exit_refused_goes}
 use Rattle.pd_core.proofs.ExitLemmas.{alone_child, alone_leaf}

@@ -1,5 +1,5 @@
 -- Calls of sessions do what they promise; any other is the component's alone.
-use Rattle.std.proofs.Common.{rules, arith, subst, ◌≡◌, false, get_or, ap, refl}
+use Rattle.std.proofs.Common.{rules, arith, subst, ◌≡◌, false, ap, refl}
 use Rattle.std.proofs.lemmas.Grind.{common_steps}
 use Rattle.own_model.specs.Call.{is_exit}
 use Rattle.pd_core.specs.Call.{model_call}

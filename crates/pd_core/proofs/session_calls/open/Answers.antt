@@ -1,5 +1,5 @@
 -- A refused call changes nothing; else a session is opened.
-use Rattle.std.proofs.Common.{◌≡◌, rules, arith, length, get_or, Err, ap, refl, sym, subst, ◌∙◌}
+use Rattle.std.proofs.Common.{rules, arith, length, get_or, Err, ap, refl, sym, ◌∙◌}
 use Rattle.trade_base.specs.declared.refusal.Refusal.TheVariants.{ServiceDenied}
 use Rattle.own_model.specs.Call.Call.{Open}
 use Rattle.own_model.specs.Session.{label_with}

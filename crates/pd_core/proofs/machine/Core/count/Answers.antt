@@ -5,7 +5,7 @@ use Rattle.std.specs.Box.{boxed_slice_items}
 use Rattle.own_model.specs.World.{World}
 use Rattle.pd_core.specs.Component.{own}
 use Rattle.pd_core.specs.Core.{sessions_in}
-use Rattle.pd_core.proofs.CoreLemmas.{length-entries}
+use Rattle.pd_core.proofs.WorldLemmas.{length-entries}
 use Rattle.pd_core.proofs.machine.Core.count.Goals as goal
 
 pub returns-clause-entries : goal.returns-clause-entries
