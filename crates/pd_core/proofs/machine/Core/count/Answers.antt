@@ -4,7 +4,7 @@ use Rattle.std.proofs.lemmas.List.{length-map}
 use Rattle.std.specs.Box.{boxed_slice_items}
 use Rattle.own_model.specs.World.{World}
 use Rattle.pd_core.specs.Component.{own}
-use Rattle.pd_core.specs.Core.{sessions_in}
+use Rattle.pd_core.specs.Core.{roles_of, sessions_in}
 use Rattle.pd_core.proofs.WorldLemmas.{length-entries}
 use Rattle.pd_core.proofs.machine.Core.count.Goals as goal
 
@@ -18,5 +18,5 @@ pub returns-clause-states : goal.returns-clause-states
 returns-clause-states g c =
     let items = boxed_slice_items c.self.inside.components in
     ap length c.as_slice.ensures.value
-    ∙ sym (length-map items (own (sessions_in c.self.inside.memory items) c.self.inside.memory))
+    ∙ sym (length-map items (own (sessions_in c.self.inside.memory (roles_of items)) c.self.inside.memory))
     ∙ ap (λ (w : World). length w.states) c.self.view_is
