@@ -138,7 +138,9 @@ impl CapSpace {
     /// tells it. It changes nothing where there is none. It looks at each selector in turn.
     pub fn take_buffer(&mut self, space: DsId) -> Option<Selector>
         ensures found { IfSome result (λ s. IsTrue (is_buffer space.0 (get self.old.caps s.0))) }
-        ensures first { IfSome result (λ s. (other : ℕ) → other < s.0 → IsFalse (is_buffer space.0 (get self.old.caps other))) }
+        ensures first { IfSome result
+            (λ s. (other : ℕ) → other < s.0
+            → IsFalse (is_buffer space.0 (get self.old.caps other))) }
         ensures gone { IfSome result (λ s. self.new ≡ without_cap self.old s.0) }
         ensures none { IfNone result ((s : ℕ) → IsFalse (is_buffer space.0 (get self.old.caps s))) }
         ensures same { IfNone result (self.new ≡ self.old) }
@@ -151,7 +153,8 @@ impl CapSpace {
     // The least selector of a buffer that has this dataspace.
     fn buffer(&self, space: DsId) -> Option<u32>
         ensures found { IfSome result (λ s. IsTrue (is_buffer space.0 (get self.now.caps s))) }
-        ensures first { IfSome result (λ s. (other : ℕ) → other < s → IsFalse (is_buffer space.0 (get self.now.caps other))) }
+        ensures first { IfSome result
+            (λ s. (other : ℕ) → other < s → IsFalse (is_buffer space.0 (get self.now.caps other))) }
         ensures none { IfNone result ((s : ℕ) → IsFalse (is_buffer space.0 (get self.now.caps s))) }
     {
         let places = self.slots.len();
@@ -183,7 +186,8 @@ impl CapSpace {
     pub fn places(&self) -> usize
         ensures count { result ≡ self.now.places }
         ensures most { result ≤ 4096 }
-        ensures within { (selector : ℕ) → IsSome (get self.now.caps selector) → (1 ≤ selector) × (selector ≤ self.now.places) }
+        ensures within { (selector : ℕ) → IsSome (get self.now.caps selector) → (1 ≤ selector)
+            × (selector ≤ self.now.places) }
     {
         self.slots.len()
     }

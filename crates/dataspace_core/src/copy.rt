@@ -16,10 +16,13 @@ impl Memory {
         requires there { from_offset + count ≤ length (space_at self.old from.0).bytes }
         requires room { to_offset + count ≤ length (space_at self.old to.0).bytes }
         ensures copied { let bytes = (space_at self.old from.0).bytes in
-            self.new ≡ with_bytes_at self.old to.0 to_offset (slice_range bytes from_offset (from_offset + count)) }
+            self.new ≡ with_bytes_at self.old to.0 to_offset
+            (slice_range bytes from_offset (from_offset + count)) }
         ensures part { let payer = (space_at self.old to.0).payer in
-            let bytes = slice_range (space_at self.old from.0).bytes from_offset (from_offset + count) in
-            PartBecomes payer (part_with_bytes (part payer self.old) to.0 to_offset bytes) self.old self.new }
+            let bytes = slice_range (space_at self.old from.0).bytes from_offset
+            (from_offset + count) in
+            PartBecomes payer
+            (part_with_bytes (part payer self.old) to.0 to_offset bytes) self.old self.new }
     {
         // Both ends are sizes, so no offset before them is past 64 bits.
         let _source_end = self.size(from);

@@ -67,7 +67,8 @@ impl Memory {
         requires some { 1 ≤ accounts }
         requires few { accounts ≤ 4096 }
         ensures fresh { IfOk result (λ memory.
-            memory ≡ fresh_store (root_in memory) pages caps.0 (room_in memory + 1) (places_in memory)) }
+            memory ≡ fresh_store (root_in memory) pages caps.0 (room_in memory + 1)
+            (places_in memory)) }
         ensures places { IfOk result (λ memory. accounts ≤ room_in memory + 1) }
     {
         let pool = Pool::boot(alloc, pages)?;
@@ -94,7 +95,8 @@ impl Memory {
         ensures ok { IfOk result (λ ds. self.new ≡ with_space self.old ds.0 account.0 bytes) }
         ensures fresh { IfOk result (λ ds. get self.old.spaces ds.0 ≡ None) }
         ensures part { IfOk result (λ ds.
-            PartBecomes account.0 (part_with_space (part account.0 self.old) ds.0 bytes) self.old self.new) }
+            PartBecomes account.0
+            (part_with_space (part account.0 self.old) ds.0 bytes) self.old self.new) }
         ensures err { OnErr result (self.new ≡ self.old) }
         ensures paid { IfOk result (λ _.
             len (part account.0 self.new).spaces ≤ (account_in self.new account.0).caps_used) }
@@ -173,7 +175,8 @@ impl Memory {
         requires exists { Exists self.now ds.0 }
         requires aligned { offset % 8 ≡ 0 }
         requires range { offset + 8 ≤ length (space_at self.now ds.0).bytes }
-        ensures { result ≡ word_of (slice_range (space_at self.now ds.0).bytes offset (offset + 8)) }
+        ensures { result
+            ≡ word_of (slice_range (space_at self.now ds.0).bytes offset (offset + 8)) }
     {
         let run = space_under(&self.spaces, ds).run;
         load_run(&self.pool, &self.table, run, offset as usize)
@@ -201,11 +204,13 @@ impl Memory {
         ensures refusal { result_err result ≡ shortage (account_in self.old account.0) 0 1 }
         ensures only { IfErr result (λ refusal. refusal ≡ OutOfCaps) }
         ensures ok { OnOk result (
-            self.new ≡ with_account_in self.old account.0 (charged (account_in self.old account.0) 0 1)) }
+            self.new ≡ with_account_in self.old account.0
+            (charged (account_in self.old account.0) 0 1)) }
         ensures part { OnOk result (
             PartBecomes account.0 (charged_part (part account.0 self.old) 1) self.old self.new) }
         ensures err { OnErr result (self.new ≡ self.old) }
-        ensures paid { len (part account.0 self.new).spaces ≤ (account_in self.new account.0).caps_used }
+        ensures paid { len (part account.0 self.new).spaces
+            ≤ (account_in self.new account.0).caps_used }
     {
         self.books.charge(account, Ram(0), Caps(1))
     }
@@ -213,10 +218,14 @@ impl Memory {
     /// Credits an account with one capability. It must use more capabilities than it pays for dataspaces.
     pub fn credit_cap(&mut self, account: AccountId)
         requires open { IsOpenIn self.old account.0 }
-        requires spare { len (part account.0 self.old).spaces < (account_in self.old account.0).caps_used }
-        ensures credited { self.new ≡ with_account_in self.old account.0 (credited (account_in self.old account.0) 0 1) }
-        ensures part { PartBecomes account.0 (credited_part (part account.0 self.old) 1) self.old self.new }
-        ensures paid { len (part account.0 self.new).spaces ≤ (account_in self.new account.0).caps_used }
+        requires spare { len (part account.0 self.old).spaces
+            < (account_in self.old account.0).caps_used }
+        ensures credited { self.new
+            ≡ with_account_in self.old account.0 (credited (account_in self.old account.0) 0 1) }
+        ensures part { PartBecomes account.0
+            (credited_part (part account.0 self.old) 1) self.old self.new }
+        ensures paid { len (part account.0 self.new).spaces
+            ≤ (account_in self.new account.0).caps_used }
     {
         self.books.credit(account, Ram(0), Caps(1));
     }
@@ -238,10 +247,12 @@ impl Memory {
         requires parent { IsOpenIn self.old parent.0 }
         requires room { 0 < room_in self.old }
         ensures refusal { result_err result ≡ shortage (account_in self.old parent.0) ram.0 caps.0 }
-        ensures ok { IfOk result (λ child. self.new ≡ with_child_in self.old parent.0 child.0 ram.0 caps.0) }
+        ensures ok { IfOk result
+            (λ child. self.new ≡ with_child_in self.old parent.0 child.0 ram.0 caps.0) }
         ensures fresh { IfOk result (λ child. get (accounts_in self.old) child.0 ≡ None) }
         ensures leaf { IfOk result (λ child. IsLeafIn self.new child.0) }
-        ensures part { IfOk result (λ child. OpensPart parent.0 child.0 ram.0 caps.0 self.old self.new) }
+        ensures part { IfOk result
+            (λ child. OpensPart parent.0 child.0 ram.0 caps.0 self.old self.new) }
         ensures err { OnErr result (self.new ≡ self.old) }
         ensures ram_moved { ram_limits_in self.new ≡ ram_limits_in self.old }
         ensures caps_moved { caps_limits_in self.new ≡ caps_limits_in self.old }

@@ -113,7 +113,8 @@ pub(crate) fn store_run(pool: &mut Pool, table: &Vec<PageNo>, run: Run, offset: 
     requires run { IsRun pool.old table.now.items run.start run.count }
     requires aligned { offset % 8 ≡ 0 }
     requires range { offset + 8 ≤ run.count * 4096 }
-    ensures { IsWritten pool.old pool.new table.now.items run.start run.count offset (word_bytes word) }
+    ensures { IsWritten pool.old pool.new table.now.items run.start run.count offset
+        (word_bytes word) }
 {
     let page = table[run.start + offset / PAGE_BYTES];
     pool.store(page, offset % PAGE_BYTES, word);

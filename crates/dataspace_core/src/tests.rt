@@ -24,7 +24,8 @@ fn store(memory: &mut Memory, ds: DsId, offset: u64, word: u64)
     requires aligned { offset % 8 ≡ 0 }
     requires range { offset + 8 ≤ length (space_at memory.old ds.0).bytes }
     ensures exists { Exists memory.new ds.0 }
-    ensures size { length (space_at memory.new ds.0).bytes ≡ length (space_at memory.old ds.0).bytes }
+    ensures size { length (space_at memory.new ds.0).bytes
+        ≡ length (space_at memory.old ds.0).bytes }
 {
     memory.store_word(ds, offset, word);
 }
@@ -50,7 +51,8 @@ fn copy(memory: &mut Memory, from: DsId, from_offset: u64, to: DsId, to_offset: 
     requires room { to_offset + count ≤ length (space_at memory.old to.0).bytes }
     ensures source { get memory.new.spaces from.0 ≡ get memory.old.spaces from.0 }
     ensures target { Exists memory.new to.0 }
-    ensures size { length (space_at memory.new to.0).bytes ≡ length (space_at memory.old to.0).bytes }
+    ensures size { length (space_at memory.new to.0).bytes
+        ≡ length (space_at memory.old to.0).bytes }
 {
     memory.copy(from, from_offset, to, to_offset, count);
 }

@@ -40,9 +40,12 @@ impl FileSession {
     ) -> Result<(), FileError>
         requires furnished { IsFurnished self.old.heap sliced.now memory.old map.old }
         requires files { HasFiles self.old (stock self.old.heap sliced.now memory.old map.old) }
-        ensures serves { Serves (served_in (Create name.now) self.old (stock self.old.heap sliced.now memory.old map.old)) (done_reply result)
+        ensures serves { Serves
+            (served_in (Create name.now) self.old
+            (stock self.old.heap sliced.now memory.old map.old)) (done_reply result)
             self.old self.new (stock self.new.heap sliced.now memory.new map.new) }
-        ensures keeps { KeepsSession sliced.now self.new.heap sliced.now memory.old memory.new map.old map.new }
+        ensures keeps { KeepsSession sliced.now self.new.heap sliced.now
+            memory.old memory.new map.old map.new }
     {
         if !is_name(name) {
             return Err(FileError::BadName);
@@ -72,9 +75,12 @@ impl FileSession {
         requires few { length bytes.now ≤ 4096 }
         requires furnished { IsFurnished self.old.heap sliced.old memory.old map.old }
         requires files { HasFiles self.old (stock self.old.heap sliced.old memory.old map.old) }
-        ensures serves { Serves (served_in (Write name.now offset bytes.now) self.old (stock self.old.heap sliced.old memory.old map.old)) (counted_reply result)
+        ensures serves { Serves
+            (served_in (Write name.now offset bytes.now) self.old
+            (stock self.old.heap sliced.old memory.old map.old)) (counted_reply result)
             self.old self.new (stock self.new.heap sliced.new memory.new map.new) }
-        ensures keeps { KeepsSession sliced.old self.new.heap sliced.new memory.old memory.new map.old map.new }
+        ensures keeps { KeepsSession sliced.old self.new.heap sliced.new
+            memory.old memory.new map.old map.new }
     {
         let found = self
             .find(sliced, memory, map, name)
@@ -104,9 +110,12 @@ impl FileSession {
     ) -> Result<(), FileError>
         requires furnished { IsFurnished self.old.heap sliced.old memory.old map.old }
         requires files { HasFiles self.old (stock self.old.heap sliced.old memory.old map.old) }
-        ensures serves { Serves (served_in (Clear name.now) self.old (stock self.old.heap sliced.old memory.old map.old)) (done_reply result)
+        ensures serves { Serves
+            (served_in (Clear name.now) self.old
+            (stock self.old.heap sliced.old memory.old map.old)) (done_reply result)
             self.old self.new (stock self.new.heap sliced.new memory.new map.new) }
-        ensures keeps { KeepsSession sliced.old self.new.heap sliced.new memory.old memory.new map.old map.new }
+        ensures keeps { KeepsSession sliced.old self.new.heap sliced.new
+            memory.old memory.new map.old map.new }
     {
         let found = self
             .find(sliced, memory, map, name)
@@ -125,9 +134,12 @@ impl FileSession {
     ) -> Result<(), FileError>
         requires furnished { IsFurnished self.old.heap sliced.old memory.old map.old }
         requires files { HasFiles self.old (stock self.old.heap sliced.old memory.old map.old) }
-        ensures serves { Serves (served_in (Drop name.now) self.old (stock self.old.heap sliced.old memory.old map.old)) (done_reply result)
+        ensures serves { Serves
+            (served_in (Drop name.now) self.old (stock self.old.heap sliced.old memory.old map.old))
+            (done_reply result)
             self.old self.new (stock self.new.heap sliced.new memory.new map.new) }
-        ensures keeps { KeepsSession sliced.old self.new.heap sliced.new memory.old memory.new map.old map.new }
+        ensures keeps { KeepsSession sliced.old self.new.heap sliced.new
+            memory.old memory.new map.old map.new }
     {
         let found = self
             .find(sliced, memory, map, name)
@@ -157,10 +169,12 @@ impl FileSession {
     )
         requires furnished { IsFurnished self.old.heap sliced.now memory.old map.now }
         requires files { HasFiles self.old (stock self.old.heap sliced.now memory.old map.now) }
-        requires fresh { IsFresh self.old.first (stock self.old.heap sliced.now memory.old map.now).nodes address }
+        requires fresh { IsFresh self.old.first
+            (stock self.old.heap sliced.now memory.old map.now).nodes address }
         requires name { length name.now ≤ 32 }
         ensures files { let old = stock self.old.heap sliced.now memory.old map.now in
-            files_in self.new (stock self.new.heap sliced.now memory.new map.now) ≡ record (files_in self.old old) {
+            files_in self.new (stock self.new.heap sliced.now memory.new map.now)
+            ≡ record (files_in self.old old) {
               files = (files_in self.old old).files ++ record {
                 name = name.now;
                 bytes = [];
@@ -169,9 +183,11 @@ impl FileSession {
               } ∷ [];
             } }
         ensures kept { HasFiles self.new (stock self.new.heap sliced.now memory.new map.now) }
-        ensures account { (stock self.new.heap sliced.now memory.new map.now).account ≡ (stock self.old.heap sliced.now memory.old map.now).account }
+        ensures account { (stock self.new.heap sliced.now memory.new map.now).account
+            ≡ (stock self.old.heap sliced.now memory.old map.now).account }
         ensures label { self.new.label ≡ self.old.label }
-        ensures keeps { KeepsSession sliced.now self.new.heap sliced.now memory.old memory.new map.now map.now }
+        ensures keeps { KeepsSession sliced.now self.new.heap sliced.now
+            memory.old memory.new map.now map.now }
     {
         let node = Node {
             next: 0,
@@ -195,13 +211,17 @@ impl FileSession {
         address: u64,
     )
         requires furnished { IsFurnished self.old.heap sliced.now memory.old map.now }
-        requires there { holder ≢ 0 → HasBytes (stock self.old.heap sliced.now memory.old map.now).nodes.payloads holder 0 64 }
+        requires there { holder ≢ 0
+            → HasBytes
+            (stock self.old.heap sliced.now memory.old map.now).nodes.payloads holder 0 64 }
         ensures links { LinksTo self.old.first holder address self.new.first
-            (stock self.old.heap sliced.now memory.old map.now).nodes (stock self.new.heap sliced.now memory.new map.now).nodes }
+            (stock self.old.heap sliced.now memory.old map.now).nodes
+            (stock self.new.heap sliced.now memory.new map.now).nodes }
         ensures rest { let new = stock self.new.heap sliced.now memory.new map.now in
             new ≡ record (stock self.old.heap sliced.now memory.old map.now) { nodes = new.nodes } }
         ensures same { self.new ≡ record self.old { first = self.new.first } }
-        ensures keeps { KeepsSession sliced.now self.new.heap sliced.now memory.old memory.new map.now map.now }
+        ensures keeps { KeepsSession sliced.now self.new.heap sliced.now
+            memory.old memory.new map.now map.now }
     {
         if holder == 0 {
             self.first = address;
@@ -224,13 +244,18 @@ impl FileSession {
     ) -> Result<u64, FileError>
         requires furnished { IsFurnished self.old.heap sliced.old memory.old map.old }
         requires files { HasFiles self.old (stock self.old.heap sliced.old memory.old map.old) }
-        requires found { Finds self.old (stock self.old.heap sliced.old memory.old map.old) found.node.name.items found }
+        requires found { Finds self.old
+            (stock self.old.heap sliced.old memory.old map.old) found.node.name.items found }
         requires low { offset ≤ found.node.size }
         requires longer { found.node.size < offset + length bytes.now }
         requires few { length bytes.now ≤ 4096 }
-        ensures serves { Serves (served_in (Write found.node.name.items offset bytes.now) self.old (stock self.old.heap sliced.old memory.old map.old))
-            (counted_reply result) self.old self.new (stock self.new.heap sliced.new memory.new map.new) }
-        ensures keeps { KeepsSession sliced.old self.new.heap sliced.new memory.old memory.new map.old map.new }
+        ensures serves { Serves
+            (served_in (Write found.node.name.items offset bytes.now) self.old
+            (stock self.old.heap sliced.old memory.old map.old))
+            (counted_reply result) self.old self.new
+            (stock self.new.heap sliced.new memory.new map.new) }
+        ensures keeps { KeepsSession sliced.old self.new.heap sliced.new
+            memory.old memory.new map.old map.new }
     {
         ram_fits(sliced, memory);
         let size = offset
@@ -255,20 +280,27 @@ impl FileSession {
         size: u64,
     )
         requires furnished { IsFurnished self.old.heap sliced.old memory.old map.old }
-        requires found { Finds self.old (stock self.old.heap sliced.old memory.old map.old) found.node.name.items found }
-        requires content { 0 < size → HasContent (stock self.old.heap sliced.old memory.old map.old).contents
+        requires found { Finds self.old
+            (stock self.old.heap sliced.old memory.old map.old) found.node.name.items found }
+        requires content { 0 < size
+            → HasContent (stock self.old.heap sliced.old memory.old map.old).contents
             (record (node_value found.node) { content = content; size = size }) }
-        requires own { 0 < size → IsOwn self.old.first (stock self.old.heap sliced.old memory.old map.old).nodes content }
+        requires own { 0 < size
+            → IsOwn self.old.first
+            (stock self.old.heap sliced.old memory.old map.old).nodes content }
         ensures files { let old = stock self.old.heap sliced.old memory.old map.old in
-            files_in self.new (stock self.new.heap sliced.new memory.new map.new) ≡ record (files_in self.old old) {
-              files = rewritten found.node.name.items (take size (payload_in old.contents content)) (files_in self.old old).files;
+            files_in self.new (stock self.new.heap sliced.new memory.new map.new)
+            ≡ record (files_in self.old old) {
+              files = rewritten found.node.name.items (take size (payload_in old.contents content))
+                  (files_in self.old old).files;
             } }
         ensures kept { HasFiles self.new (stock self.new.heap sliced.new memory.new map.new) }
         ensures account { let old = stock self.old.heap sliced.old memory.old map.old in
             (stock self.new.heap sliced.new memory.new map.new).account
             ≡ content_credited (file_at old.nodes old.contents found.address) old.account }
         ensures label { self.new.label ≡ self.old.label }
-        ensures keeps { KeepsSession sliced.old self.new.heap sliced.new memory.old memory.new map.old map.new }
+        ensures keeps { KeepsSession sliced.old self.new.heap sliced.new
+            memory.old memory.new map.old map.new }
     {
         let Found { address, node, .. } = found;
         let mut node = node;
@@ -309,12 +341,14 @@ fn copy_front(
     count: u64,
 )
     requires furnished { IsFurnished heap.now sliced.now memory.old map.now }
-    requires source { 0 < count → HasBytes (stock heap.now sliced.now memory.old map.now).contents from 0 count }
+    requires source { 0 < count
+        → HasBytes (stock heap.now sliced.now memory.old map.now).contents from 0 count }
     requires target { HasBytes (stock heap.now sliced.now memory.old map.now).contents to 0 count }
     requires apart { 0 < count → from ≢ to }
     ensures copied { stock heap.now sliced.now memory.new map.now
         ≡ content_copied from to count (stock heap.now sliced.now memory.old map.now) }
-    ensures keeps { KeepsSession sliced.now heap.now sliced.now memory.old memory.new map.now map.now }
+    ensures keeps { KeepsSession sliced.now heap.now sliced.now
+        memory.old memory.new map.now map.now }
 {
     if count > 0 {
         copy_content(heap, sliced, memory, map, from, to, count);

@@ -29,11 +29,15 @@ pub(crate) fn take_content(
     bytes: u64,
 ) -> Result<u64, Refusal>
     requires furnished { IsFurnished heap.now sliced.old memory.old map.old }
-    ensures refusal { result_err result ≡ sliced_refusal bytes (stock heap.now sliced.old memory.old map.old).account }
+    ensures refusal { result_err result
+        ≡ sliced_refusal bytes (stock heap.now sliced.old memory.old map.old).account }
     ensures taken { IfOk result (λ address.
-        stock heap.now sliced.new memory.new map.new ≡ content_taken bytes address (stock heap.now sliced.old memory.old map.old)) }
-    ensures free { IfOk result (λ address. get (stock heap.now sliced.old memory.old map.old).contents address ≡ None) }
-    ensures keeps { KeepsSession sliced.old heap.now sliced.new memory.old memory.new map.old map.new }
+        stock heap.now sliced.new memory.new map.new
+        ≡ content_taken bytes address (stock heap.now sliced.old memory.old map.old)) }
+    ensures free { IfOk result
+        (λ address. get (stock heap.now sliced.old memory.old map.old).contents address ≡ None) }
+    ensures keeps { KeepsSession sliced.old heap.now sliced.new
+        memory.old memory.new map.old map.new }
     ensures memory_err { OnErr result (memory.new ≡ memory.old) }
     ensures map_err { OnErr result (map.new ≡ map.old) }
     ensures err { OnErr result (sliced.new ≡ sliced.old) }
@@ -52,8 +56,10 @@ pub(crate) fn give_content(
 )
     requires furnished { IsFurnished heap.now sliced.old memory.old map.old }
     requires there { IsSome (get (stock heap.now sliced.old memory.old map.old).contents address) }
-    ensures given { stock heap.now sliced.new memory.new map.new ≡ content_given address (stock heap.now sliced.old memory.old map.old) }
-    ensures keeps { KeepsSession sliced.old heap.now sliced.new memory.old memory.new map.old map.new }
+    ensures given { stock heap.now sliced.new memory.new map.new
+        ≡ content_given address (stock heap.now sliced.old memory.old map.old) }
+    ensures keeps { KeepsSession sliced.old heap.now sliced.new
+        memory.old memory.new map.old map.new }
 {
     let _ = heap;
     let _ = sliced.free(memory, map, address);
@@ -70,8 +76,10 @@ pub(crate) fn read_content(
     buffer: &mut [u8],
 )
     requires furnished { IsFurnished heap.now sliced.now memory.now map.now }
-    requires there { HasBytes (stock heap.now sliced.now memory.now map.now).contents address offset (length buffer.old) }
-    ensures { let content = payload_in (stock heap.now sliced.now memory.now map.now).contents address in
+    requires there { HasBytes (stock heap.now sliced.now memory.now map.now).contents address offset
+        (length buffer.old) }
+    ensures { let content = payload_in
+        (stock heap.now sliced.now memory.now map.now).contents address in
         buffer.new ≡ slice_range content offset (offset + length buffer.old) }
 {
     if buffer.is_empty() {
@@ -100,10 +108,12 @@ pub(crate) fn write_content(
     bytes: &[u8],
 )
     requires furnished { IsFurnished heap.now sliced.now memory.old map.now }
-    requires there { HasBytes (stock heap.now sliced.now memory.old map.now).contents address offset (length bytes.now) }
+    requires there { HasBytes (stock heap.now sliced.now memory.old map.now).contents address offset
+        (length bytes.now) }
     ensures written { stock heap.now sliced.now memory.new map.now
         ≡ content_written address offset bytes.now (stock heap.now sliced.now memory.old map.now) }
-    ensures keeps { KeepsSession sliced.now heap.now sliced.now memory.old memory.new map.now map.now }
+    ensures keeps { KeepsSession sliced.now heap.now sliced.now
+        memory.old memory.new map.now map.now }
 {
     if bytes.is_empty() {
         return;
@@ -131,12 +141,14 @@ pub(crate) fn copy_content(
     count: u64,
 )
     requires furnished { IsFurnished heap.now sliced.now memory.old map.now }
-    requires source { HasBytes (stock heap.now sliced.now memory.old map.now).contents from 0 count }
+    requires source { HasBytes
+        (stock heap.now sliced.now memory.old map.now).contents from 0 count }
     requires target { HasBytes (stock heap.now sliced.now memory.old map.now).contents to 0 count }
     requires apart { from ≢ to }
     ensures copied { stock heap.now sliced.now memory.new map.now
         ≡ content_copied from to count (stock heap.now sliced.now memory.old map.now) }
-    ensures keeps { KeepsSession sliced.now heap.now sliced.now memory.old memory.new map.now map.now }
+    ensures keeps { KeepsSession sliced.now heap.now sliced.now
+        memory.old memory.new map.now map.now }
 {
     let mut buffer = [0; PIECE];
     let mut done = 0;
@@ -160,7 +172,8 @@ fn find_content(
     count: u64,
 ) -> (DsId, u64)
     requires furnished { IsFurnished heap.now sliced.now memory.now map.now }
-    requires there { HasBytes (stock heap.now sliced.now memory.now map.now).contents address offset count }
+    requires there { HasBytes
+        (stock heap.now sliced.now memory.now map.now).contents address offset count }
     requires some { 1 ≤ count }
     ensures { FindsContent sliced.now memory.now map.now result.0.0 result.1 address offset count }
 {

@@ -24,8 +24,11 @@ impl FileSession {
     ) -> Option<Found>
         requires furnished { IsFurnished self.now.heap sliced.now memory.old map.now }
         requires files { HasFiles self.now (stock self.now.heap sliced.now memory.old map.now) }
-        ensures some { IfSome result (Finds self.now (stock self.now.heap sliced.now memory.old map.now) name.now) }
-        ensures none { IfNone result (file_named name.now (files_in self.now (stock self.now.heap sliced.now memory.old map.now)) ≡ None) }
+        ensures some { IfSome result
+            (Finds self.now (stock self.now.heap sliced.now memory.old map.now) name.now) }
+        ensures none { IfNone result
+            (file_named name.now
+            (files_in self.now (stock self.now.heap sliced.now memory.old map.now)) ≡ None) }
         ensures memory { memory.new ≡ memory.old }
     {
         let mut previous = 0;
@@ -56,7 +59,9 @@ impl FileSession {
         requires furnished { IsFurnished self.now.heap sliced.now memory.old map.now }
         requires files { HasFiles self.now (stock self.now.heap sliced.now memory.old map.now) }
         ensures name { option_map (λ node. node.name.items) result
-            ≡ option_map (λ (file : File). file.name) (slice_get (files_in self.now (stock self.now.heap sliced.now memory.old map.now)).files place) }
+            ≡ option_map (λ (file : File). file.name)
+            (slice_get
+            (files_in self.now (stock self.now.heap sliced.now memory.old map.now)).files place) }
         ensures memory { memory.new ≡ memory.old }
     {
         let mut left = place;

@@ -45,8 +45,10 @@ pub(crate) fn end_nodes(
     requires furnished { IsFurnished heap.old sliced.now memory.old map.old }
     ensures blocks { HasBlocksAlone (holding_of sliced.now memory.new map.new) }
     ensures session { IsSessionHeap sliced.now memory.new map.new }
-    ensures ram { (account_in memory.new (payer_of sliced.now)).ram_limit ≡ (account_in memory.old (payer_of sliced.now)).ram_limit }
-    ensures caps { (account_in memory.new (payer_of sliced.now)).caps_limit ≡ (account_in memory.old (payer_of sliced.now)).caps_limit }
+    ensures ram { (account_in memory.new (payer_of sliced.now)).ram_limit
+        ≡ (account_in memory.old (payer_of sliced.now)).ram_limit }
+    ensures caps { (account_in memory.new (payer_of sliced.now)).caps_limit
+        ≡ (account_in memory.old (payer_of sliced.now)).caps_limit }
     ensures others { KeepsOthers (payer_of sliced.now) memory.old memory.new map.old map.new }
 {
     let _ = sliced;

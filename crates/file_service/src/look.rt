@@ -25,7 +25,8 @@ impl FileSession {
     ) -> Result<u64, FileError>
         requires furnished { IsFurnished self.now.heap sliced.now memory.old map.now }
         requires files { HasFiles self.now (stock self.now.heap sliced.now memory.old map.now) }
-        ensures told { IsTold (Size name.now) (counted_reply result) self.now (stock self.now.heap sliced.now memory.old map.now) }
+        ensures told { IsTold (Size name.now) (counted_reply result) self.now
+            (stock self.now.heap sliced.now memory.old map.now) }
         ensures memory { memory.new ≡ memory.old }
     {
         let found = self

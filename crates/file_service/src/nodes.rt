@@ -34,8 +34,10 @@ pub(crate) fn take_node(
     ensures refusal { let old = stock heap.old sliced.now memory.old map.old in
         result_err result ≡ heap_refusal node_size old.nodes.shape old.account }
     ensures taken { IfOk result (λ address.
-        TakesNode address (stock heap.old sliced.now memory.old map.old) (stock heap.new sliced.now memory.new map.new)) }
-    ensures keeps { KeepsSession sliced.now heap.new sliced.now memory.old memory.new map.old map.new }
+        TakesNode address (stock heap.old sliced.now memory.old map.old)
+        (stock heap.new sliced.now memory.new map.new)) }
+    ensures keeps { KeepsSession sliced.now heap.new sliced.now
+        memory.old memory.new map.old map.new }
     ensures memory_err { OnErr result (memory.new ≡ memory.old) }
     ensures map_err { OnErr result (map.new ≡ map.old) }
     ensures err { OnErr result (heap.new ≡ heap.old) }
@@ -53,9 +55,12 @@ pub(crate) fn give_node(
     address: u64,
 )
     requires furnished { IsFurnished heap.old sliced.now memory.old map.old }
-    requires there { IsSome (get (stock heap.old sliced.now memory.old map.old).nodes.payloads address) }
-    ensures given { GivesNode address (stock heap.old sliced.now memory.old map.old) (stock heap.new sliced.now memory.new map.new) }
-    ensures keeps { KeepsSession sliced.now heap.new sliced.now memory.old memory.new map.old map.new }
+    requires there { IsSome
+        (get (stock heap.old sliced.now memory.old map.old).nodes.payloads address) }
+    ensures given { GivesNode address (stock heap.old sliced.now memory.old map.old)
+        (stock heap.new sliced.now memory.new map.new) }
+    ensures keeps { KeepsSession sliced.now heap.new sliced.now
+        memory.old memory.new map.old map.new }
 {
     let _ = sliced;
     let _ = heap.free(memory, map, address);
@@ -70,8 +75,11 @@ pub(crate) fn load_node(
     address: u64,
 ) -> Node
     requires furnished { IsFurnished heap.now sliced.now memory.old map.now }
-    requires there { HasBytes (stock heap.now sliced.now memory.old map.now).nodes.payloads address 0 64 }
-    ensures value { value_of result ≡ node_of (payload_in (stock heap.now sliced.now memory.old map.now).nodes.payloads address) }
+    requires there { HasBytes
+        (stock heap.now sliced.now memory.old map.now).nodes.payloads address 0 64 }
+    ensures value { value_of result
+        ≡ node_of
+        (payload_in (stock heap.now sliced.now memory.old map.now).nodes.payloads address) }
     ensures node { IsNode (value_of result) }
     ensures memory { memory.new ≡ memory.old }
 {
@@ -91,12 +99,18 @@ pub(crate) fn store_node(
     node: &Node,
 )
     requires furnished { IsFurnished heap.now sliced.now memory.old map.now }
-    requires there { HasBytes (stock heap.now sliced.now memory.old map.now).nodes.payloads address 0 64 }
+    requires there { HasBytes
+        (stock heap.now sliced.now memory.old map.now).nodes.payloads address 0 64 }
     ensures stored { stock heap.now sliced.now memory.new map.now
-        ≡ node_stored address (bytes_of (value_of node.now)) (stock heap.now sliced.now memory.old map.now) }
-    ensures back { node_of (payload_in (stock heap.now sliced.now memory.new map.now).nodes.payloads address) ≡ value_of node.now }
-    ensures there { HasBytes (stock heap.now sliced.now memory.new map.now).nodes.payloads address 0 64 }
-    ensures keeps { KeepsSession sliced.now heap.now sliced.now memory.old memory.new map.now map.now }
+        ≡ node_stored address (bytes_of (value_of node.now))
+        (stock heap.now sliced.now memory.old map.now) }
+    ensures back { node_of
+        (payload_in (stock heap.now sliced.now memory.new map.now).nodes.payloads address)
+        ≡ value_of node.now }
+    ensures there { HasBytes
+        (stock heap.now sliced.now memory.new map.now).nodes.payloads address 0 64 }
+    ensures keeps { KeepsSession sliced.now heap.now sliced.now
+        memory.old memory.new map.now map.now }
 {
     put_bytes(heap, sliced, memory, map, address, &node.to_bytes());
 }
@@ -111,14 +125,19 @@ fn put_bytes(
     bytes: &[u8],
 )
     requires furnished { IsFurnished heap.now sliced.now memory.old map.now }
-    requires there { HasBytes (stock heap.now sliced.now memory.old map.now).nodes.payloads address 0 64 }
+    requires there { HasBytes
+        (stock heap.now sliced.now memory.old map.now).nodes.payloads address 0 64 }
     requires some { 1 ≤ length bytes.now }
     requires few { length bytes.now ≤ 64 }
-    ensures stored { stock heap.now sliced.now memory.new map.now ≡ node_stored address bytes.now (stock heap.now sliced.now memory.old map.now) }
+    ensures stored { stock heap.now sliced.now memory.new map.now
+        ≡ node_stored address bytes.now (stock heap.now sliced.now memory.old map.now) }
     ensures back { (node : FileNode) → IsNode node → bytes.now ≡ bytes_of node →
-        node_of (payload_in (stock heap.now sliced.now memory.new map.now).nodes.payloads address) ≡ node }
-    ensures there { HasBytes (stock heap.now sliced.now memory.new map.now).nodes.payloads address 0 64 }
-    ensures keeps { KeepsSession sliced.now heap.now sliced.now memory.old memory.new map.now map.now }
+        node_of (payload_in (stock heap.now sliced.now memory.new map.now).nodes.payloads address)
+        ≡ node }
+    ensures there { HasBytes
+        (stock heap.now sliced.now memory.new map.now).nodes.payloads address 0 64 }
+    ensures keeps { KeepsSession sliced.now heap.now sliced.now
+        memory.old memory.new map.now map.now }
 {
     let (ds, offset) = find_node(heap, sliced, memory, map, address, bytes.len() as u64);
     memory.write(ds, offset, bytes);
@@ -134,7 +153,8 @@ fn find_node(
     count: u64,
 ) -> (DsId, u64)
     requires furnished { IsFurnished heap.now sliced.now memory.old map.now }
-    requires there { HasBytes (stock heap.now sliced.now memory.old map.now).nodes.payloads address 0 64 }
+    requires there { HasBytes
+        (stock heap.now sliced.now memory.old map.now).nodes.payloads address 0 64 }
     requires some { 1 ≤ count }
     requires few { count ≤ 64 }
     ensures found { FindsNode heap.now memory.old map.now result.0.0 result.1 address count }

@@ -91,10 +91,17 @@ fn answer(
     requires files { HasFiles session.old (stock session.old.heap heap.old memory.old map.old) }
     requires reply { reply.old ≡ nothing_told }
     ensures text { let old = stock session.old.heap heap.old memory.old map.old in
-        reply.new ≡ record nothing_told { text = (file_served (files_in session.old old) old.account request.now).reply } }
+        reply.new
+        ≡ record nothing_told {
+          text =
+              (file_served (files_in session.old old) old.account request.now).reply;
+        } }
     ensures leaves { let old = stock session.old.heap heap.old memory.old map.old in
-        Leaves (file_served (files_in session.old old) old.account request.now) session.old session.new (stock session.new.heap heap.new memory.new map.new) }
-    ensures keeps { KeepsSession heap.old session.new.heap heap.new memory.old memory.new map.old map.new }
+        Leaves (file_served
+        (files_in session.old old) old.account request.now) session.old session.new
+        (stock session.new.heap heap.new memory.new map.new) }
+    ensures keeps { KeepsSession heap.old session.new.heap heap.new
+        memory.old memory.new map.old map.new }
 {
     match FileRequest::read(request) {
         None => FileReply::Refused(FileError::BadRequest).write(reply),
@@ -144,9 +151,13 @@ fn write(
     requires few { length hex.now ≤ 2 * MOST_WRITTEN }
     requires furnished { IsFurnished session.old.heap heap.old memory.old map.old }
     requires files { HasFiles session.old (stock session.old.heap heap.old memory.old map.old) }
-    ensures serves { Serves (served_in (Write file.now offset (hex_bytes hex.now)) session.old (stock session.old.heap heap.old memory.old map.old))
-        (counted_reply result) session.old session.new (stock session.new.heap heap.new memory.new map.new) }
-    ensures keeps { KeepsSession heap.old session.new.heap heap.new memory.old memory.new map.old map.new }
+    ensures serves { Serves
+        (served_in (Write file.now offset (hex_bytes hex.now)) session.old
+        (stock session.old.heap heap.old memory.old map.old))
+        (counted_reply result) session.old session.new
+        (stock session.new.heap heap.new memory.new map.new) }
+    ensures keeps { KeepsSession heap.old session.new.heap heap.new
+        memory.old memory.new map.old map.new }
 {
     let mut buffer = [0; MOST_WRITTEN];
     let bytes = &mut buffer[..hex.len() / 2];

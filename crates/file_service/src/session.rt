@@ -39,7 +39,8 @@ impl FileSession {
     /// A session without files.
     pub(crate) fn open(account: AccountId, label: &[u8]) -> FileSession
         requires { length label.now ≤ LONGEST_LABEL }
-        ensures first { (share : Share) → HasBlocksAlone share → value_of result share ≡ record { label = label.now; state = state_at_first Files } }
+        ensures first { (share : Share) → HasBlocksAlone share
+            → value_of result share ≡ record { label = label.now; state = state_at_first Files } }
         ensures kept { (share : Share) → HasBlocksAlone share → IsSession result share }
     {
         let mut copy = ArrayVec::new();

@@ -40,7 +40,8 @@ impl Heap {
             growth_refusal bytes (shape_in self.old (part_at self.old memory.old))
             (account_in memory.old (payer_of self.old)) }
         ensures grows { OnOk result (
-            Grows self.old self.new (growth_at bytes self.old memory.old) memory.old memory.new map.old map.new) }
+            Grows self.old self.new
+            (growth_at bytes self.old memory.old) memory.old memory.new map.old map.new) }
         ensures sound { IsSound self.new memory.new map.new }
         ensures others { KeepsShares (payer_of self.old) memory.old memory.new
             map.old.heap map.old.tags map.new.heap map.new.tags }
@@ -75,7 +76,8 @@ impl Heap {
         requires short { bytes ≤ 2 ^ 20 }
         requires next_some { 1 ≤ next }
         requires next_most { next ≤ 64 }
-        ensures refusal { result_err result ≡ shortage (account_in memory.old (payer_of self.old)) (page_of bytes) 1 }
+        ensures refusal { result_err result
+            ≡ shortage (account_in memory.old (payer_of self.old)) (page_of bytes) 1 }
         ensures grows { OnOk result (
             Grows self.old self.new (record { bytes = page_of bytes; next = next })
             memory.old memory.new map.old map.new) }

@@ -139,7 +139,8 @@ impl Heap {
     ) -> Result<u64, Refusal>
         requires sound { IsSound self.old memory.old map.old }
         requires large { LEAST_LARGE ≤ bytes }
-        ensures refusal { result_err result ≡ alloc_refusal bytes (account_in memory.old (payer_of self.old)) }
+        ensures refusal { result_err result
+            ≡ alloc_refusal bytes (account_in memory.old (payer_of self.old)) }
         ensures taken { IfOk result (λ address.
             TakesLarge self.old self.new bytes address memory.old memory.new map.old map.new) }
         ensures sound { IsSound self.new memory.new map.new }
@@ -188,7 +189,8 @@ impl Heap {
     fn take_small(&mut self, memory: &mut Memory, map: &RegionMap, bytes: u64) -> Option<u64>
         requires sound { IsSound self.old memory.old map.now }
         requires small { bytes < LEAST_LARGE }
-        ensures found { is_some result ≡ is_some (hole_for bytes (shape_in self.old (part_at self.old memory.old))) }
+        ensures found { is_some result
+            ≡ is_some (hole_for bytes (shape_in self.old (part_at self.old memory.old))) }
         ensures taken { (hole : Spot) → IfSome result (λ address.
             hole_for bytes (shape_in self.old (part_at self.old memory.old)) ≡ Some hole →
             TakesSmall self.old self.new bytes hole address memory.old memory.new map.now map.now) }
@@ -211,7 +213,8 @@ impl Heap {
         ensures cleared { (n : ℕ) → IsUsed self.now memory.old block n →
             Clears self.now result (n - HEADER) memory.old memory.new map.now }
         ensures sound { IsSound self.now memory.new map.now }
-        ensures around { around (keys_in self.now) memory.new ≡ around (keys_in self.now) memory.old }
+        ensures around { around (keys_in self.now) memory.new
+            ≡ around (keys_in self.now) memory.old }
     {
         let _ = map;
         let chunk = self.chunks[block.chunk];
@@ -224,14 +227,18 @@ impl Heap {
     fn take_hole(&mut self, memory: &mut Memory, map: &RegionMap, bytes: u64) -> Option<BlockAddr>
         requires sound { IsSound self.old memory.old map.now }
         requires small { bytes < LEAST_LARGE }
-        ensures found { result ≡ option_map block_addr (hole_for bytes (shape_in self.old (part_at self.old memory.old))) }
-        ensures taken { (hole : Spot) → hole_for bytes (shape_in self.old (part_at self.old memory.old)) ≡ Some hole →
+        ensures found { result
+            ≡ option_map block_addr
+            (hole_for bytes (shape_in self.old (part_at self.old memory.old))) }
+        ensures taken { (hole : Spot)
+            → hole_for bytes (shape_in self.old (part_at self.old memory.old)) ≡ Some hole →
             TakesHole self.old self.new bytes hole memory.old memory.new map.now }
         ensures sound { IsSound self.new memory.new map.now }
         ensures others { KeepsShares (payer_of self.old) memory.old memory.new
             map.now.heap map.now.tags map.now.heap map.now.tags }
         ensures payer { payer_of self.new ≡ payer_of self.old }
-        ensures around { around (keys_in self.old) memory.new ≡ around (keys_in self.old) memory.old }
+        ensures around { around (keys_in self.old) memory.new
+            ≡ around (keys_in self.old) memory.old }
         ensures none { IfNone result (memory.new ≡ memory.old) }
         ensures unchanged { IfNone result (self.new ≡ self.old) }
     {

@@ -37,8 +37,10 @@ impl Heap {
     ) -> Option<(DsId, u64)>
         requires sound { IsSound self.now memory.old map.now }
         requires some { 1 ≤ count }
-        ensures some { IfSome result (λ found. HoldsRange self.now memory.old map.now found.0.0 found.1 address count) }
-        ensures none { IfNone result (block_found (heap_at self.now memory.old map.now).payloads address count ≡ None) }
+        ensures some { IfSome result
+            (λ found. HoldsRange self.now memory.old map.now found.0.0 found.1 address count) }
+        ensures none { IfNone result
+            (block_found (heap_at self.now memory.old map.now).payloads address count ≡ None) }
         ensures memory { memory.new ≡ memory.old }
     {
         match self.site(memory, map, address)? {
@@ -53,8 +55,10 @@ impl Heap {
     pub fn payload_at(&self, memory: &Memory, map: &RegionMap, address: u64) -> (DsId, u64)
         requires sound { IsSound self.now memory.now map.now }
         requires there { IsSome (get (heap_at self.now memory.now map.now).payloads address) }
-        ensures { (payload : List ℕ) (count : ℕ) → get (heap_at self.now memory.now map.now).payloads address ≡ Some payload →
-            1 ≤ count → count ≤ length payload → HoldsRange self.now memory.now map.now result.0.0 result.1 address count }
+        ensures { (payload : List ℕ) (count : ℕ)
+            → get (heap_at self.now memory.now map.now).payloads address ≡ Some payload →
+            1 ≤ count → count ≤ length payload
+            → HoldsRange self.now memory.now map.now result.0.0 result.1 address count }
     {
         let _ = memory;
         let (start, ds, _) = map.heap_region(address).unwrap();
@@ -64,9 +68,12 @@ impl Heap {
     // Where an address lies. A region is this heap's by who pays for its dataspace, and by the number kept with it.
     pub(crate) fn site(&self, memory: &Memory, map: &RegionMap, address: u64) -> Option<Site>
         requires { IsSound self.now memory.now map.now }
-        ensures some { IfSome result (LiesAt self.now (share_at (payer_of self.now) memory.now map.now) address) }
-        ensures none { IfNone result (LiesOutside self.now (share_at (payer_of self.now) memory.now map.now) address) }
-        ensures free { IfNone result (get (heap_at self.now memory.now map.now).payloads address ≡ None) }
+        ensures some { IfSome result
+            (LiesAt self.now (share_at (payer_of self.now) memory.now map.now) address) }
+        ensures none { IfNone result
+            (LiesOutside self.now (share_at (payer_of self.now) memory.now map.now) address) }
+        ensures free { IfNone result
+            (get (heap_at self.now memory.now map.now).payloads address ≡ None) }
     {
         let (start, ds, tag) = map.heap_region(address)?;
         if tag > LARGE || !self.pays(memory, ds) {
@@ -101,8 +108,10 @@ impl Heap {
         requires sound { IsSound self.now memory.old map.now }
         requires some { 1 ≤ count }
         requires lies { LiesInChunk self.now address at.chunk at.offset }
-        ensures some { IfSome result (λ found. HoldsRange self.now memory.old map.now found.0.0 found.1 address count) }
-        ensures none { IfNone result (block_found (heap_at self.now memory.old map.now).payloads address count ≡ None) }
+        ensures some { IfSome result
+            (λ found. HoldsRange self.now memory.old map.now found.0.0 found.1 address count) }
+        ensures none { IfNone result
+            (block_found (heap_at self.now memory.old map.now).payloads address count ≡ None) }
         ensures memory { memory.new ≡ memory.old }
     {
         let _ = map;
@@ -126,9 +135,12 @@ impl Heap {
     ) -> Option<(DsId, u64)>
         requires sound { IsSound self.now memory.now map.now }
         requires some { 1 ≤ count }
-        requires lies { LiesInLarge (share_at (payer_of self.now) memory.now map.now) address start ds.0 }
-        ensures some { IfSome result (λ found. HoldsRange self.now memory.now map.now found.0.0 found.1 address count) }
-        ensures none { IfNone result (block_found (heap_at self.now memory.now map.now).payloads address count ≡ None) }
+        requires lies { LiesInLarge
+            (share_at (payer_of self.now) memory.now map.now) address start ds.0 }
+        ensures some { IfSome result
+            (λ found. HoldsRange self.now memory.now map.now found.0.0 found.1 address count) }
+        ensures none { IfNone result
+            (block_found (heap_at self.now memory.now map.now).payloads address count ≡ None) }
     {
         let _ = map;
         let offset = address - start;

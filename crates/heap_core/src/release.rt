@@ -31,13 +31,18 @@ impl Heap {
         address: u64,
     ) -> Result<(), Refusal>
         requires { IsSound self.old memory.old map.old }
-        ensures refusal { result_err result ≡ free_refusal (heap_at self.old memory.old map.old) address }
-        ensures small { OnOk result (get (heap_at self.old memory.old map.old).large address ≡ None →
+        ensures refusal { result_err result
+            ≡ free_refusal (heap_at self.old memory.old map.old) address }
+        ensures small { OnOk result
+            (get (heap_at self.old memory.old map.old).large address ≡ None →
             GivesSmall self.old self.new address memory.old memory.new map.old map.new) }
-        ensures large { (size : ℕ) → OnOk result (get (heap_at self.old memory.old map.old).large address ≡ Some size →
+        ensures large { (size : ℕ)
+            → OnOk result (get (heap_at self.old memory.old map.old).large address ≡ Some size →
             GivesLarge self.old self.new address memory.old memory.new map.old map.new) }
         ensures sound { IsSound self.new memory.new map.new }
-        ensures others { KeepsShares (payer_of self.old) memory.old memory.new map.old.heap map.old.tags map.new.heap map.new.tags }
+        ensures others { KeepsShares
+            (payer_of self.old) memory.old memory.new
+            map.old.heap map.old.tags map.new.heap map.new.tags }
         ensures payer { payer_of self.new ≡ payer_of self.old }
         ensures memory_err { OnErr result (memory.new ≡ memory.old) }
         ensures map_err { OnErr result (map.new ≡ map.old) }
@@ -55,7 +60,9 @@ impl Heap {
         requires { IsSound self.old memory.old map.old }
         ensures given { GivesAll self.old self.new memory.old memory.new map.old map.new }
         ensures sound { IsSound self.new memory.new map.new }
-        ensures others { KeepsShares (payer_of self.old) memory.old memory.new map.old.heap map.old.tags map.new.heap map.new.tags }
+        ensures others { KeepsShares
+            (payer_of self.old) memory.old memory.new
+            map.old.heap map.old.tags map.new.heap map.new.tags }
         ensures payer { payer_of self.new ≡ payer_of self.old }
     {
         self.end_large(memory, map);
@@ -80,7 +87,8 @@ impl Heap {
     fn large_ds(&self, memory: &Memory, map: &RegionMap, start: u64) -> DsId
         requires sound { IsSound self.now memory.now map.now }
         requires there { 1 ≤ times_in self.now.large.items start }
-        ensures { LiesInLarge (share_at (payer_of self.now) memory.now map.now) start start result.0 }
+        ensures { LiesInLarge
+            (share_at (payer_of self.now) memory.now map.now) start start result.0 }
     {
         let _ = memory;
         let (_, ds, _) = map.heap_region(start).unwrap();
@@ -112,11 +120,15 @@ impl Heap {
     ) -> Result<(), Refusal>
         requires sound { IsSound self.old memory.old map.now }
         requires lies { LiesInChunk self.old address at.chunk at.offset }
-        ensures refusal { result_err result ≡ free_refusal (heap_at self.old memory.old map.now) address }
-        ensures small { OnOk result (GivesSmall self.old self.new address memory.old memory.new map.now map.now) }
+        ensures refusal { result_err result
+            ≡ free_refusal (heap_at self.old memory.old map.now) address }
+        ensures small { OnOk result
+            (GivesSmall self.old self.new address memory.old memory.new map.now map.now) }
         ensures is_small { get (heap_at self.old memory.old map.now).large address ≡ None }
         ensures sound { IsSound self.new memory.new map.now }
-        ensures others { KeepsShares (payer_of self.old) memory.old memory.new map.now.heap map.now.tags map.now.heap map.now.tags }
+        ensures others { KeepsShares
+            (payer_of self.old) memory.old memory.new
+            map.now.heap map.now.tags map.now.heap map.now.tags }
         ensures payer { payer_of self.new ≡ payer_of self.old }
         ensures memory_err { OnErr result (memory.new ≡ memory.old) }
         ensures err { OnErr result (self.new ≡ self.old) }
@@ -147,12 +159,18 @@ impl Heap {
         address: u64,
     ) -> Result<(), Refusal>
         requires sound { IsSound self.old memory.old map.old }
-        requires lies { LiesInLarge (share_at (payer_of self.old) memory.old map.old) address start ds.0 }
-        ensures refusal { result_err result ≡ free_refusal (heap_at self.old memory.old map.old) address }
-        ensures large { OnOk result (GivesLarge self.old self.new address memory.old memory.new map.old map.new) }
-        ensures is_large { OnOk result (IsSome (get (heap_at self.old memory.old map.old).large address)) }
+        requires lies { LiesInLarge
+            (share_at (payer_of self.old) memory.old map.old) address start ds.0 }
+        ensures refusal { result_err result
+            ≡ free_refusal (heap_at self.old memory.old map.old) address }
+        ensures large { OnOk result
+            (GivesLarge self.old self.new address memory.old memory.new map.old map.new) }
+        ensures is_large { OnOk result
+            (IsSome (get (heap_at self.old memory.old map.old).large address)) }
         ensures sound { IsSound self.new memory.new map.new }
-        ensures others { KeepsShares (payer_of self.old) memory.old memory.new map.old.heap map.old.tags map.new.heap map.new.tags }
+        ensures others { KeepsShares
+            (payer_of self.old) memory.old memory.new
+            map.old.heap map.old.tags map.new.heap map.new.tags }
         ensures payer { payer_of self.new ≡ payer_of self.old }
         ensures memory_err { OnErr result (memory.new ≡ memory.old) }
         ensures map_err { OnErr result (map.new ≡ map.old) }
@@ -179,9 +197,12 @@ impl Heap {
         ensures fit { self.new.fit ≡ self.old.fit }
         ensures left { let start = slice_index self.old.large.items index in
             let account = payer_of self.old in
-            large_regions (share_at account memory.new map.new) ≡ remove (large_regions (share_at account memory.old map.old)) start }
+            large_regions (share_at account memory.new map.new)
+            ≡ remove (large_regions (share_at account memory.old map.old)) start }
         ensures sound { IsSound self.new memory.new map.new }
-        ensures others { KeepsShares (payer_of self.old) memory.old memory.new map.old.heap map.old.tags map.new.heap map.new.tags }
+        ensures others { KeepsShares
+            (payer_of self.old) memory.old memory.new
+            map.old.heap map.old.tags map.new.heap map.new.tags }
         ensures payer { payer_of self.new ≡ payer_of self.old }
     {
         let start = self.large.swap_remove(index);

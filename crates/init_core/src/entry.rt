@@ -91,7 +91,8 @@ impl Entry {
     /// The entry that a value is, after those before it.
     pub(crate) fn read(alloc: Global, before: &[Entry], value: &Value) -> Result<Entry, BootFault>
         ensures ok { IfOk result (λ entry. entry_of before.now (view value.now) ≡ Ok entry) }
-        ensures err { IfErr result (λ fault. fault ≢ NoMemory → entry_of before.now (view value.now) ≡ Err fault) }
+        ensures err { IfErr result
+            (λ fault. fault ≢ NoMemory → entry_of before.now (view value.now) ≡ Err fault) }
     {
         if !value.is_object() {
             return Err(BootFault::BadConfig(Field::Start));
@@ -212,7 +213,8 @@ fn no_binary(text: &str) -> BootFault
 /// another value than a list of at most that service.
 #[tactic(auto, using(crate::proofs::MemberLemmas::elements_of_items))]
 fn provided(binary: Binary, member: Option<&Value>) -> Option<bool>
-    ensures { result ≡ provided (model_binary binary) (option_map (λ value. view value.now) member.entry) }
+    ensures { result
+        ≡ provided (model_binary binary) (option_map (λ value. view value.now) member.entry) }
 {
     let Some(value) = member else {
         return Some(false);
@@ -265,8 +267,10 @@ fn read_route(alloc: Global, member: Option<&Value>) -> Result<Option<Vec<Rule>>
 
 /// The entries that a list of values is.
 pub(crate) fn read_entries(alloc: Global, values: &[Value]) -> Result<Vec<Entry>, BootFault>
-    ensures ok { IfOk result (λ entries. entries_after [] (map view values.now) ≡ Ok entries.items) }
-    ensures err { IfErr result (λ fault. fault ≢ NoMemory → entries_after [] (map view values.now) ≡ Err fault) }
+    ensures ok { IfOk result
+        (λ entries. entries_after [] (map view values.now) ≡ Ok entries.items) }
+    ensures err { IfErr result
+        (λ fault. fault ≢ NoMemory → entries_after [] (map view values.now) ≡ Err fault) }
     ensures len { IfOk result (λ entries. vec_len entries ≡ length values.now) }
 {
     let mut entries = Vec::new(alloc);

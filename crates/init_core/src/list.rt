@@ -71,7 +71,8 @@ impl StartList {
     /// The start list that a value is, or why it is none.
     fn of_value(alloc: Global, value: &Value) -> Result<StartList, BootFault>
         ensures ok { IfOk result (λ list. list_of (view value.now) ≡ Ok list) }
-        ensures err { IfErr result (λ fault. fault ≢ NoMemory → list_of (view value.now) ≡ Err fault) }
+        ensures err { IfErr result
+            (λ fault. fault ≢ NoMemory → list_of (view value.now) ≡ Err fault) }
     {
         let machine = machine_of(value)?;
         let pages = whole_at(machine, "pages", SMALLEST, LARGEST).ok_or(BootFault::BadConfig(
@@ -131,8 +132,10 @@ impl StartList {
     /// The name of a component by its number.
     pub fn name(&self, component: usize) -> &[u8]
         requires { component < length self.now.entries }
-        ensures value { option_map (λ entry. entry.name) (slice_get self.now.entries component) ≡ Some result.now }
-        ensures listed { result.now ≡ (entry_at (entries_of (start_list_of self.now)) component).name }
+        ensures value { option_map (λ entry. entry.name) (slice_get self.now.entries component)
+            ≡ Some result.now }
+        ensures listed { result.now
+            ≡ (entry_at (entries_of (start_list_of self.now)) component).name }
     {
         self.entries[component].name()
     }
@@ -140,7 +143,9 @@ impl StartList {
     /// The number of the component of a name, if there is one.
     pub fn find(&self, name: &[u8]) -> Option<usize>
         ensures value { result ≡ position (λ entry. bytes_eq entry.name name.now) self.now.entries }
-        ensures listed { result ≡ position (λ entry. bytes_eq entry.name name.now) (entries_of (start_list_of self.now)) }
+        ensures listed { result
+            ≡ position (λ entry. bytes_eq entry.name name.now)
+            (entries_of (start_list_of self.now)) }
     {
         place_of(self.entries.as_slice(), name)
     }
@@ -182,7 +187,8 @@ fn read_json(alloc: Global, text: &[u8]) -> Result<Value, BootFault>
 
 /// The machine of a start list.
 fn machine_of(list: &Value) -> Result<&Value, BootFault>
-    ensures { result_map_both (λ machine. view machine.now) (λ fault. fault) result ≡ machine_of (view list.now) }
+    ensures { result_map_both (λ machine. view machine.now) (λ fault. fault) result
+        ≡ machine_of (view list.now) }
 {
     match list.get("machine") {
         Some(machine) if machine.is_object() => Ok(machine),
@@ -192,8 +198,11 @@ fn machine_of(list: &Value) -> Result<&Value, BootFault>
 
 /// The rules for those without a route of their own: none without the member.
 fn read_default_route(alloc: Global, member: Option<&Value>) -> Result<Vec<Rule>, BootFault>
-    ensures ok { IfOk result (λ rules. default_route (option_map (λ value. view value.now) member.entry) ≡ Some rules.items) }
-    ensures refused { IfErr result (λ fault. fault ≢ NoMemory → fault ≡ BadConfig Field.DefaultRoute) }
+    ensures ok { IfOk result
+        (λ rules. default_route (option_map (λ value. view value.now) member.entry)
+        ≡ Some rules.items) }
+    ensures refused { IfErr result
+        (λ fault. fault ≢ NoMemory → fault ≡ BadConfig Field.DefaultRoute) }
     ensures none { IfErr result (λ fault. fault ≢ NoMemory
         → default_route (option_map (λ value. view value.now) member.entry) ≡ None) }
 {

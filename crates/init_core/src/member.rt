@@ -62,7 +62,8 @@ pub(crate) fn whole_at(object: &Value, key: &str, low: u32, high: u32) -> Option
 
 /// The text of a member that may be missing. It is `None` where the member is there and isn't a text.
 pub(crate) fn text_if_told<'v>(object: &'v Value, key: &str) -> Option<Option<&'v str>>
-    ensures { option_map (option_map (λ text. text.now)) result ≡ text_if_told (get key.now (view object.now)) }
+    ensures { option_map (option_map (λ text. text.now)) result
+        ≡ text_if_told (get key.now (view object.now)) }
 {
     match object.get(key) {
         Some(value) => Some(Some(value.as_str()?)),
@@ -72,7 +73,8 @@ pub(crate) fn text_if_told<'v>(object: &'v Value, key: &str) -> Option<Option<&'
 
 /// The list that a value is, if it is one of at most 32 elements.
 pub(crate) fn short_list(value: &Value) -> Option<&Vec<Value>>
-    ensures value { option_map (λ list. map view list.now.items) result ≡ short_list (view value.now) }
+    ensures value { option_map (λ list. map view list.now.items) result
+        ≡ short_list (view value.now) }
     ensures len { IfSome result (λ list. vec_len list.now ≤ LONGEST_LIST) }
 {
     let list = value.as_array()?;

@@ -198,8 +198,10 @@ fn target_named(
     any: Option<&Value>,
     parent: Option<&Value>,
 ) -> Option<Target>
-    ensures { option_map model_target result ≡ target_named (option_map (λ value. view value.now) child.entry)
-        (option_map (λ value. view value.now) any.entry) (option_map (λ value. view value.now) parent.entry) }
+    ensures { option_map model_target result
+        ≡ target_named (option_map (λ value. view value.now) child.entry)
+        (option_map (λ value. view value.now) any.entry)
+        (option_map (λ value. view value.now) parent.entry) }
 {
     match (child, any, parent) {
         (Some(child), None, None) => Some(Target::Child(name_of(child)?)),
@@ -211,7 +213,8 @@ fn target_named(
 
 /// The rules that a value lists, if it is a list of at most 32 rules.
 pub(crate) fn read_rules(alloc: Global, value: &Value) -> Result<Option<Vec<Rule>>, AllocError>
-    ensures { IfOk result (λ rules. option_map (λ list. list.items) rules ≡ rules_of (view value.now)) }
+    ensures { IfOk result
+        (λ rules. option_map (λ list. list.items) rules ≡ rules_of (view value.now)) }
 {
     let Some(list) = short_list(value) else {
         return Ok(None);

@@ -67,7 +67,8 @@ fn start(
 ) -> Result<(), BootFault>
     requires place { place < length list.now.entries }
     requires so_far { HasStarted list.now memory.old components.old.items place }
-    ensures started { OnOk result (HasStarted list.now memory.new components.new.items (place + 1)) }
+    ensures started { OnOk result
+        (HasStarted list.now memory.new components.new.items (place + 1)) }
     ensures fault { IfErr result (λ fault. fault ≢ NoMemory → quota_fault list.now ≡ Some fault) }
 {
     let entry = &list.entries()[place];

@@ -24,7 +24,8 @@ impl<'a> RouteTable<'a> {
 }
 
 impl<'a> Router for RouteTable<'a> {
-    ghost rules = { λ table client. own_rules table.list.now.entries (rules_for table.list.now client) };
+    ghost rules = { λ table client.
+        own_rules table.list.now.entries (rules_for table.list.now client) };
 
     ghost leads = { λ table client service label. route_of table.list.now client service label };
 

@@ -24,8 +24,13 @@ impl LogService {
     /// bytes finish go to the reply, and what they leave of a line stays with the session.
     pub fn answer(&self, session: &mut LogSession, request: &[u8], reply: &mut Reply)
         requires { reply.old ≡ nothing_told }
-        ensures session { session.new ≡ record session.old { partial = (log_served session.old.partial request.now).partial } }
-        ensures lines { reply.new.lines ≡ lines_text session.old.label (log_served session.old.partial request.now).lines }
+        ensures session { session.new
+            ≡ record session.old {
+              partial =
+                  (log_served session.old.partial request.now).partial;
+            } }
+        ensures lines { reply.new.lines
+            ≡ lines_text session.old.label (log_served session.old.partial request.now).lines }
         ensures text { reply.new.text ≡ (log_served session.old.partial request.now).reply }
     {
         match LogRequest::read(request) {

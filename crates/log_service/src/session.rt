@@ -57,7 +57,8 @@ impl LogSession {
     #[inline(never)]
     pub(crate) fn write(&mut self, hex: &[u8], reply: &mut Reply)
         requires hex { bytes_of_hex hex.now ≡ Some (hex_bytes hex.now) }
-        requires room { length reply.old.lines + LONGEST_LINE + MOST_ADDED * length (hex_bytes hex.now) ≤ MOST_LINES }
+        requires room { length reply.old.lines + LONGEST_LINE + MOST_ADDED * length
+            (hex_bytes hex.now) ≤ MOST_LINES }
         ensures { Writes self.old reply.old (hex_bytes hex.now) self.new reply.new }
     {
         let _ = &self.line;
@@ -74,7 +75,8 @@ impl LogSession {
 
     /// Writes bytes. Lines that they finish go to the reply.
     fn write_bytes(&mut self, bytes: &[u8], reply: &mut Reply)
-        requires { length reply.old.lines + length self.old.partial + MOST_ADDED * length bytes.now ≤ MOST_LINES }
+        requires { length reply.old.lines + length self.old.partial + MOST_ADDED * length bytes.now
+            ≤ MOST_LINES }
         ensures { Writes self.old reply.old bytes.now self.new reply.new }
     {
         let _ = &self.line;
@@ -88,7 +90,8 @@ impl LogSession {
     /// run, so a byte costs next to nothing.
     fn write_some(&mut self, bytes: &[u8], reply: &mut Reply) -> usize
         requires some { 0 < length bytes.now }
-        requires room { length reply.old.lines + length self.old.partial + MOST_ADDED * length bytes.now ≤ MOST_LINES }
+        requires room { length reply.old.lines + length self.old.partial
+            + MOST_ADDED * length bytes.now ≤ MOST_LINES }
         ensures some { 0 < result }
         ensures within { result ≤ length bytes.now }
         ensures writes { Writes self.old reply.old (take result bytes.now) self.new reply.new }
@@ -122,10 +125,16 @@ fn add_run(line: &mut ArrayVec<u8, LONGEST_LINE>, run: &[u8])
 
 /// Adds a line to the reply, and leaves it empty.
 fn finish(label: &[u8], line: &mut ArrayVec<u8, LONGEST_LINE>, reply: &mut Reply)
-    requires { length reply.old.lines + (length label.now + array_vec_len line.old + 4) ≤ MOST_LINES }
+    requires { length reply.old.lines + (length label.now + array_vec_len line.old + 4)
+        ≤ MOST_LINES }
     ensures line { line.new.items ≡ [] }
-    ensures reply { reply.new ≡ record reply.old { lines = reply.old.lines ++ log_text (record { label = label.now; text = line.old.items }) } }
-    ensures len { length reply.new.lines ≡ length reply.old.lines + (length label.now + array_vec_len line.old + 4) }
+    ensures reply { reply.new
+        ≡ record reply.old {
+          lines = reply.old.lines
+              ++ log_text (record { label = label.now; text = line.old.items });
+        } }
+    ensures len { length reply.new.lines
+        ≡ length reply.old.lines + (length label.now + array_vec_len line.old + 4) }
 {
     reply.add_line(label, line);
     line.clear();

@@ -34,24 +34,41 @@ pub fn buffers_are_charged()
 /// A buffer is made, filled by its client, put into a file and filled from one, given back and made again: then it is zero.
 /// What a file doesn't have of a range leaves the buffer there as it was.
 pub fn buffer_is_shared_with_its_session()
-    ensures shared { turns_of 40960 6 (Asks (OfBuffer (Make 0)) ∷ Asks (OfFiles (Create (codes "a"))) ∷ Asks (OfBuffer (Put (codes "a") 0 0 1))
-        ∷ Asks (OfBuffer (Make 5000)) ∷ Asks (OfBuffer (Make 1)) ∷ Asks (OfFiles Stat) ∷ Pokes 8190 (codes "hi")
-        ∷ Asks (OfBuffer (Put (codes "a") 0 8190 2)) ∷ Asks (OfBuffer (Put (codes "a") 2 8190 3)) ∷ Asks (OfFiles (Read (codes "a") 0 9))
-        ∷ Asks (OfBuffer (Get (codes "a") 1 0 9)) ∷ Peeks 0 2 ∷ Asks (OfBuffer GiveBack) ∷ Asks (OfBuffer GiveBack)
+    ensures shared { turns_of 40960 6
+        (Asks (OfBuffer (Make 0)) ∷ Asks (OfFiles (Create (codes "a")))
+        ∷ Asks (OfBuffer (Put (codes "a") 0 0 1))
+        ∷ Asks (OfBuffer (Make 5000)) ∷ Asks (OfBuffer (Make 1)) ∷ Asks (OfFiles Stat)
+        ∷ Pokes 8190 (codes "hi")
+        ∷ Asks (OfBuffer (Put (codes "a") 0 8190 2)) ∷ Asks (OfBuffer (Put (codes "a") 2 8190 3))
+        ∷ Asks (OfFiles (Read (codes "a") 0 9))
+        ∷ Asks (OfBuffer (Get (codes "a") 1 0 9)) ∷ Peeks 0 2 ∷ Asks (OfBuffer GiveBack)
+        ∷ Asks (OfBuffer GiveBack)
         ∷ Asks (OfBuffer (Make 1)) ∷ Peeks 0 1 ∷ [])
         ≡ codes "ERR INVALID_SIZE\nOK\nERR NO_BUFFER\nOK cap \nERR EXISTS\nOK ram 28672/40960 caps 4/6\nOK 2\nERR BAD_RANGE\nOK 6869\nOK 1\n6900\nOK\nERR NO_BUFFER\nOK cap \n00\n" }
-    ensures order { turns_of 24576 5 (Asks (OfBuffer (Make 0)) ∷ Asks (OfBuffer (Make 1)) ∷ Asks (OfBuffer (Make 0))
-        ∷ Asks (OfBuffer (Make 18446744073709547521)) ∷ Asks (OfBuffer (Make 18446744073709547520)) ∷ Asks (OfFiles (Create (codes "a")))
-        ∷ Asks (OfBuffer (Put (codes "b") 9 9 9999)) ∷ Asks (OfBuffer (Put (codes "a") 1 9 9999)) ∷ Asks (OfBuffer (Put (codes "a") 0 9 9999))
-        ∷ Asks (OfBuffer (Put (codes "a") 0 18446744073709551615 18446744073709551615)) ∷ Asks (OfBuffer (Put (codes "a") 0 0 1))
-        ∷ Asks (OfBuffer (Put (codes "a") 0 4096 0)) ∷ Asks (OfBuffer (Put (codes "a") 0 4097 0)) ∷ Asks (OfFiles (Size (codes "a")))
-        ∷ Asks (OfBuffer GiveBack) ∷ Asks (OfBuffer (Put (codes "a") 1 0 0)) ∷ Asks (OfBuffer (Put (codes "a") 0 0 0)) ∷ [])
+    ensures order { turns_of 24576 5
+        (Asks (OfBuffer (Make 0)) ∷ Asks (OfBuffer (Make 1)) ∷ Asks (OfBuffer (Make 0))
+        ∷ Asks (OfBuffer (Make 18446744073709547521)) ∷ Asks (OfBuffer (Make 18446744073709547520))
+        ∷ Asks (OfFiles (Create (codes "a")))
+        ∷ Asks (OfBuffer (Put (codes "b") 9 9 9999)) ∷ Asks (OfBuffer (Put (codes "a") 1 9 9999))
+        ∷ Asks (OfBuffer (Put (codes "a") 0 9 9999))
+        ∷ Asks (OfBuffer (Put (codes "a") 0 18446744073709551615 18446744073709551615))
+        ∷ Asks (OfBuffer (Put (codes "a") 0 0 1))
+        ∷ Asks (OfBuffer (Put (codes "a") 0 4096 0)) ∷ Asks (OfBuffer (Put (codes "a") 0 4097 0))
+        ∷ Asks (OfFiles (Size (codes "a")))
+        ∷ Asks (OfBuffer GiveBack) ∷ Asks (OfBuffer (Put (codes "a") 1 0 0))
+        ∷ Asks (OfBuffer (Put (codes "a") 0 0 0)) ∷ [])
         ≡ codes "ERR INVALID_SIZE\nOK cap \nERR INVALID_SIZE\nERR INVALID_SIZE\nERR EXISTS\nOK\nERR NOT_FOUND\nERR GAP\nERR BAD_RANGE\nERR BAD_RANGE\nERR OUT_OF_RAM\nOK 0\nERR BAD_RANGE\nOK 0\nOK\nERR GAP\nERR NO_BUFFER\n" }
-    ensures kept { turns_of 28672 6 (Asks (OfFiles (Create (codes "a"))) ∷ Asks (OfFiles (Write (codes "a") 0 (codes "xyz"))) ∷ Asks (OfBuffer (Make 1))
-        ∷ Pokes 0 (codes "abcdef") ∷ Asks (OfBuffer (Get (codes "a") 1 1 4)) ∷ Peeks 0 6 ∷ Asks (OfBuffer (Get (codes "a") 3 0 4096)) ∷ Peeks 0 6
-        ∷ Asks (OfBuffer (Get (codes "a") 0 4093 4)) ∷ Asks (OfBuffer (Get (codes "a") 0 4094 2)) ∷ Peeks 4092 4 ∷ [])
+    ensures kept { turns_of 28672 6
+        (Asks (OfFiles (Create (codes "a"))) ∷ Asks (OfFiles (Write (codes "a") 0 (codes "xyz")))
+        ∷ Asks (OfBuffer (Make 1))
+        ∷ Pokes 0 (codes "abcdef") ∷ Asks (OfBuffer (Get (codes "a") 1 1 4)) ∷ Peeks 0 6
+        ∷ Asks (OfBuffer (Get (codes "a") 3 0 4096)) ∷ Peeks 0 6
+        ∷ Asks (OfBuffer (Get (codes "a") 0 4093 4)) ∷ Asks (OfBuffer (Get (codes "a") 0 4094 2))
+        ∷ Peeks 4092 4 ∷ [])
         ≡ codes "OK\nOK 3\nOK cap \nOK 2\n61797a646566\nOK 0\n61797a646566\nERR BAD_RANGE\nOK 2\n00007879\n" }
-    ensures bytes { turns_of 8192 3 (Asks (OfBuffer (Make 4097)) ∷ Asks (OfBuffer (Make 4096)) ∷ Asks (OfFiles Stat) ∷ [])
+    ensures bytes { turns_of 8192 3
+        (Asks (OfBuffer (Make 4097)) ∷ Asks (OfBuffer (Make 4096)) ∷ Asks (OfFiles Stat) ∷ [])
         ≡ codes "ERR OUT_OF_RAM\nOK cap \nOK ram 8192/8192 caps 3/3\n" }
-    ensures capability { turns_of 8192 2 (Asks (OfBuffer (Make 1)) ∷ Asks (OfFiles Stat) ∷ []) ≡ codes "ERR OUT_OF_CAPS\nOK ram 4096/8192 caps 2/2\n" }
+    ensures capability { turns_of 8192 2 (Asks (OfBuffer (Make 1)) ∷ Asks (OfFiles Stat) ∷ [])
+        ≡ codes "ERR OUT_OF_CAPS\nOK ram 4096/8192 caps 2/2\n" }
 {}

@@ -15,7 +15,8 @@ pub fn empty_budget_is_told()
 pub fn exits_are_told()
     ensures gone { told_by_a (codes "alice exit\nalice quota\nalice exit\nbob quota\n")
         ≡ codes "alice: ok\nalice: Gone\nalice: Gone\nbob: ram 0/65536 caps 0/16\n" }
-    ensures refused { told_by_a (codes "log exit\nalice exit \nalice exit 1\n") ≡ codes "log: Not_a_script\n?: Bad_line\n?: Bad_line\n" }
+    ensures refused { told_by_a (codes "log exit\nalice exit \nalice exit 1\n")
+        ≡ codes "log: Not_a_script\n?: Bad_line\n?: Bad_line\n" }
 {}
 
 /// An empty line is a line, one that is too long is no call, and the last line needs no end.
@@ -26,13 +27,15 @@ pub fn lines_end_and_overflow()
 
 /// A call of 8192 bytes is read, and one of a byte more is none.
 pub fn longest_line_is_read()
-    ensures longest { told_by_a (codes "alice alloc " ++ replicate 8180 48) ≡ codes "alice: Invalid_size\n" }
+    ensures longest { told_by_a (codes "alice alloc " ++ replicate 8180 48)
+        ≡ codes "alice: Invalid_size\n" }
     ensures longer { told_by_a (codes "alice alloc " ++ replicate 8181 48) ≡ codes "?: Bad_line\n" }
 {}
 
 /// Addresses and hex are read in either case, and the arguments of a form are parted by exactly one space.
 pub fn arguments_are_read()
-    ensures address { form_of (codes "detach 0xABCDEFabcdef0123") ≡ Some (Detach 0xabcdefabcdef0123) }
+    ensures address { form_of (codes "detach 0xABCDEFabcdef0123")
+        ≡ Some (Detach 0xabcdefabcdef0123) }
     ensures zeros { form_of (codes "peek 0x0000000000000010 0001") ≡ Some (Peek 16 1) }
     ensures at { form_of (codes "attach_at 7 0x10") ≡ Some (AttachAt 7 16) }
     ensures bytes { form_of (codes "poke 0x0 00fFa9") ≡ Some (Poke 0 (0 ∷ 255 ∷ 169 ∷ [])) }
@@ -40,42 +43,53 @@ pub fn arguments_are_read()
     ensures heap_payload { form_of (codes "del 0x100000010") ≡ Some (Del 0x100000010) }
     ensures block { form_of (codes "snew 0256") ≡ Some (Snew 256) }
     ensures payload { form_of (codes "sdel 0x100000020") ≡ Some (Sdel 0x100000020) }
-    ensures addresses { told_by_a (codes "alice detach 0X10\nalice detach 0x\nalice detach 10\nalice detach 0x1g\nalice detach 0x00000000000000001\n")
+    ensures addresses { told_by_a
+        (codes "alice detach 0X10\nalice detach 0x\nalice detach 10\nalice detach 0x1g\nalice detach 0x00000000000000001\n")
         ≡ codes "?: Bad_line\n?: Bad_line\n?: Bad_line\n?: Bad_line\n?: Bad_line\n" }
-    ensures hex { told_by_a (codes "alice poke 0x0 a\nalice poke 0x0 ag\nalice poke 0x0 \nalice poke 0x0\n")
+    ensures hex { told_by_a
+        (codes "alice poke 0x0 a\nalice poke 0x0 ag\nalice poke 0x0 \nalice poke 0x0\n")
         ≡ codes "?: Bad_line\n?: Bad_line\n?: Bad_line\n?: Bad_line\n" }
-    ensures spaces { told_by_a (codes "alice peek 0x0  1\nalice peek 0x0 1 \nalice peek 0x0\nalice capalloc \nalice attach\n")
+    ensures spaces { told_by_a
+        (codes "alice peek 0x0  1\nalice peek 0x0 1 \nalice peek 0x0\nalice capalloc \nalice attach\n")
         ≡ codes "?: Bad_line\n?: Bad_line\n?: Bad_line\n?: Bad_line\n?: Bad_line\n" }
 {}
 
 /// A session is asked for by a service's name, and else named by a selector; what stands after a space then is a text, and
 /// may be empty or left out.
 pub fn session_calls_are_read()
-    ensures arguments { form_of (codes "open LOG ram_quota=4K, cap_quota=2") ≡ Some (Open (codes "LOG") (codes "ram_quota=4K, cap_quota=2")) }
+    ensures arguments { form_of (codes "open LOG ram_quota=4K, cap_quota=2")
+        ≡ Some (Open (codes "LOG") (codes "ram_quota=4K, cap_quota=2")) }
     ensures spaces { form_of (codes "open LOG  x ") ≡ Some (Open (codes "LOG") (codes " x ")) }
     ensures nothing { form_of (codes "open Nic") ≡ Some (Open (codes "Nic") []) }
     ensures empty { form_of (codes "open Nic ") ≡ Some (Open (codes "Nic") []) }
     ensures more { form_of (codes "upgrade 007 x") ≡ Some (Upgrade 7 (codes "x")) }
     ensures no_more { form_of (codes "upgrade 7") ≡ Some (Upgrade 7 []) }
-    ensures request { form_of (codes "call 1 WRITE 6869") ≡ Some (CallSession 1 (codes "WRITE 6869")) }
+    ensures request { form_of (codes "call 1 WRITE 6869")
+        ≡ Some (CallSession 1 (codes "WRITE 6869")) }
     ensures no_request { form_of (codes "call 4294967297 ") ≡ Some (CallSession 4294967297 []) }
     ensures close { form_of (codes "close 0") ≡ Some (Close 0) }
-    ensures services { told_by_a (codes "alice open\nalice open \nalice open a/b\nalice open  LOG\n")
+    ensures services { told_by_a
+        (codes "alice open\nalice open \nalice open a/b\nalice open  LOG\n")
         ≡ codes "?: Bad_line\n?: Bad_line\n?: Bad_line\n?: Bad_line\n" }
-    ensures selectors { told_by_a (codes "alice upgrade\nalice upgrade x\nalice call \nalice call -1 WRITE\nalice close\nalice close 1 \n")
+    ensures selectors { told_by_a
+        (codes "alice upgrade\nalice upgrade x\nalice call \nalice call -1 WRITE\nalice close\nalice close 1 \n")
         ≡ codes "?: Bad_line\n?: Bad_line\n?: Bad_line\n?: Bad_line\n?: Bad_line\n?: Bad_line\n" }
 {}
 
 /// A name that no entry has, a server, forms and numbers outside the grammar, and sizes that no budget covers are refused.
 pub fn lines_and_names_are_refused()
-    ensures names { told_by_a (codes "carol quota\nlog quota\n") ≡ codes "carol: Unknown_component\nlog: Not_a_script\n" }
+    ensures names { told_by_a (codes "carol quota\nlog quota\n")
+        ≡ codes "carol: Unknown_component\nlog: Not_a_script\n" }
     ensures forms { told_by_a (codes "alice frob\nalice quota \nalice alloc 18446744073709551616\n")
         ≡ codes "?: Bad_line\n?: Bad_line\n?: Bad_line\n" }
-    ensures sizes { told_by_a (codes "alice alloc 18446744073709551615\nalice alloc 18446744073709547520\n")
+    ensures sizes { told_by_a
+        (codes "alice alloc 18446744073709551615\nalice alloc 18446744073709547520\n")
         ≡ codes "alice: Invalid_size\nalice: Out_of_ram\n" }
-    ensures heap { told_by_a (codes "alice new 0\nalice new 18446744073709547521\nalice new 18446744073709547520\nalice new 65537\nalice new 65535\n")
+    ensures heap { told_by_a
+        (codes "alice new 0\nalice new 18446744073709547521\nalice new 18446744073709547520\nalice new 65537\nalice new 65535\n")
         ≡ codes "alice: Invalid_size\nalice: Invalid_size\nalice: Out_of_ram\nalice: Out_of_ram\nalice: Out_of_ram\n" }
-    ensures sliced { told_by_a (codes "alice snew 0\nalice snew 18446744073709547489\nalice snew 18446744073709547488\nalice snew 65505\n")
+    ensures sliced { told_by_a
+        (codes "alice snew 0\nalice snew 18446744073709547489\nalice snew 18446744073709547488\nalice snew 65505\n")
         ≡ codes "alice: Invalid_size\nalice: Invalid_size\nalice: Out_of_ram\nalice: Out_of_ram\n" }
 {}
 

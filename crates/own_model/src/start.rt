@@ -24,7 +24,10 @@ pub fn machine_a_boots()
 
 /// Machine A's routes lead each of the two services to its server, whatever the label, and no other service anywhere.
 pub fn services_are_routed()
-    ensures log { provider (own_rules machine_a.entries machine_a.default_route) (codes "LOG") (codes "main") ≡ Some Service.Log }
-    ensures files { provider (own_rules machine_a.entries machine_a.default_route) (codes "File_system") (codes "main") ≡ Some Service.Files }
-    ensures others { provider (own_rules machine_a.entries machine_a.default_route) (codes "Nic") (codes "main") ≡ None }
+    ensures log { provider (own_rules machine_a.entries machine_a.default_route) (codes "LOG")
+        (codes "main") ≡ Some Service.Log }
+    ensures files { provider (own_rules machine_a.entries machine_a.default_route)
+        (codes "File_system") (codes "main") ≡ Some Service.Files }
+    ensures others { provider (own_rules machine_a.entries machine_a.default_route) (codes "Nic")
+        (codes "main") ≡ None }
 {}

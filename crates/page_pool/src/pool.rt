@@ -130,7 +130,8 @@ impl Pool {
         requires taken { IsTrue (is_taken self.old page.0) }
         requires aligned { offset % 8 ≡ 0 }
         requires range { offset + 8 ≤ 4096 }
-        ensures written { let bytes = with_bytes (page_bytes self.old page.0) offset (word_bytes word) in
+        ensures written { let bytes = with_bytes (page_bytes self.old page.0) offset
+            (word_bytes word) in
             self.new ≡ slice_set self.old page.0 (Some bytes) }
         ensures size { length (page_bytes self.old page.0) ≡ 4096 }
         ensures count { free_count self.new ≡ free_count self.old }

@@ -9,7 +9,8 @@ use std::process::Abort;
 #[tactic(auto, using(crate::proofs::PageLaws::page_laws))]
 fn take_and_fill(rt: &impl Abort, pool: &mut Pool) -> PageNo
     ensures taken { IsTrue (is_taken pool.new result.0) }
-    ensures others { (page : ℕ) → IsTrue (is_taken pool.old page) → IsTrue (is_taken pool.new page) }
+    ensures others { (page : ℕ) → IsTrue (is_taken pool.old page)
+        → IsTrue (is_taken pool.new page) }
     ensures apart { (page : ℕ) → IsTrue (is_taken pool.old page) → page ≢ result.0 }
 {
     let page = pool.take().expect(rt, "a free page");
@@ -36,7 +37,8 @@ fn take_sixteen(rt: &impl Abort, pool: &mut Pool) -> [usize; 16]
 #[tactic(auto, using(crate::proofs::PageLaws::page_laws))]
 fn give_sixteen(pool: &mut Pool, pages: &[usize; 16])
     requires taken { (k : ℕ) → k < 16 → IsTrue (is_taken pool.old (slice_index pages.now k)) }
-    requires apart { (j k : ℕ) → j < k → k < 16 → slice_index pages.now j ≢ slice_index pages.now k }
+    requires apart { (j k : ℕ) → j < k → k < 16
+        → slice_index pages.now j ≢ slice_index pages.now k }
 {
     for k in 0..8 {
         pool.give(PageNo(pages[2 * k]));

@@ -38,7 +38,8 @@ impl<R: Router + Drop> Model for Core<R> {
     ghost use Rattle.pd_core.specs.SessionCalls.{Agrees};
     ghost use Rattle.std.specs.Box.{boxed_slice_items};
 
-    ghost view = { λ core. world_of (R.rules core.routes) core.memory (boxed_slice_items core.components) };
+    ghost view = { λ core.
+        world_of (R.rules core.routes) core.memory (boxed_slice_items core.components) };
 
     ghost invariant = { λ core. IsCore core.memory (boxed_slice_items core.components)
         × Agrees (R.rules core.routes) (R.leads core.routes) (boxed_slice_items core.components) };

@@ -65,7 +65,8 @@ impl Script {
         requires call { IsWellFormed call }
         requires plain { IsPlain call }
         requires no_peek { (address count : ℕ) → call ≢ Peek address count }
-        ensures outcome { Does (model_call call.entry) result memory.old self.old memory.new self.new }
+        ensures outcome { Does
+            (model_call call.entry) result memory.old self.old memory.new self.new }
         ensures keeps { Keeps memory.old self.old memory.new self.new }
     {
         match call {

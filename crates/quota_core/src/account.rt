@@ -22,7 +22,13 @@ impl Model for Account {
 
     ghost Value = { Limited };
 
-    ghost view = { λ a. record { ram_limit = a.ram_limit; ram_used = a.ram_used; caps_limit = a.caps_limit; caps_used = a.caps_used } };
+    ghost view = { λ a.
+        record {
+          ram_limit = a.ram_limit;
+          ram_used = a.ram_used;
+          caps_limit = a.caps_limit;
+          caps_used = a.caps_used;
+        } };
 
     ghost invariant = { λ a. (a.ram_used ≤ a.ram_limit) × (a.caps_used ≤ a.caps_limit) };
 }

@@ -78,7 +78,8 @@ impl Books {
         requires parent { IsOpen self.old parent.0 }
         requires room { 0 < self.old.room }
         ensures refusal { result_err result ≡ shortage (account_at self.old parent.0) ram.0 caps.0 }
-        ensures ok { IfOk result (λ child. self.new ≡ with_child self.old parent.0 child.0 ram.0 caps.0) }
+        ensures ok { IfOk result
+            (λ child. self.new ≡ with_child self.old parent.0 child.0 ram.0 caps.0) }
         ensures fresh { IfOk result (λ child. get self.old.accounts child.0 ≡ None) }
         ensures leaf { IfOk result (λ child. HasNoChild self.new child.0) }
         ensures err { OnErr result (self.new ≡ self.old) }
@@ -132,12 +133,18 @@ impl Books {
     // Takes so much out of an account's limits.
     fn part_with(&mut self, account: AccountId, ram: Ram, caps: Caps) -> Result<Account, Refusal>
         requires { IsOpen self.old account.0 }
-        ensures refusal { result_err result ≡ shortage (account_at self.old account.0) ram.0 caps.0 }
-        ensures ok { OnOk result (self.new ≡ with_account self.old account.0 (parted_with (account_at self.old account.0) ram.0 caps.0)) }
+        ensures refusal { result_err result
+            ≡ shortage (account_at self.old account.0) ram.0 caps.0 }
+        ensures ok { OnOk result
+            (self.new
+            ≡ with_account self.old account.0
+            (parted_with (account_at self.old account.0) ram.0 caps.0)) }
         ensures part { IfOk result (λ part. part ≡ opened ram.0 caps.0) }
         ensures err { OnErr result (self.new ≡ self.old) }
-        ensures ram { IfOk result (λ part. ram_limits self.new + part.ram_limit ≡ ram_limits self.old) }
-        ensures caps { IfOk result (λ part. caps_limits self.new + part.caps_limit ≡ caps_limits self.old) }
+        ensures ram { IfOk result
+            (λ part. ram_limits self.new + part.ram_limit ≡ ram_limits self.old) }
+        ensures caps { IfOk result
+            (λ part. caps_limits self.new + part.caps_limit ≡ caps_limits self.old) }
         ensures few_ram { ram_limits self.old < 2 ^ 64 }
         ensures few_caps { caps_limits self.old < 2 ^ 32 }
     {
@@ -150,7 +157,8 @@ impl Books {
         requires ram { ram_limits self.old + limits.ram_limit < 2 ^ 64 }
         requires caps { caps_limits self.old + limits.caps_limit < 2 ^ 32 }
         ensures raised { self.new
-            ≡ with_account self.old account.0 (raised (account_at self.old account.0) limits.ram_limit limits.caps_limit) }
+            ≡ with_account self.old account.0
+            (raised (account_at self.old account.0) limits.ram_limit limits.caps_limit) }
         ensures ram { ram_limits self.new ≡ ram_limits self.old + limits.ram_limit }
         ensures caps { caps_limits self.new ≡ caps_limits self.old + limits.caps_limit }
     {
@@ -162,8 +170,12 @@ impl Books {
     /// It is refused with `OutOfRam` where less RAM of the limit is free, and else with `OutOfCaps` where fewer capabilities are.
     pub fn charge(&mut self, account: AccountId, ram: Ram, caps: Caps) -> Result<(), Refusal>
         requires { IsOpen self.old account.0 }
-        ensures refusal { result_err result ≡ shortage (account_at self.old account.0) ram.0 caps.0 }
-        ensures ok { OnOk result (self.new ≡ with_account self.old account.0 (charged (account_at self.old account.0) ram.0 caps.0)) }
+        ensures refusal { result_err result
+            ≡ shortage (account_at self.old account.0) ram.0 caps.0 }
+        ensures ok { OnOk result
+            (self.new
+            ≡ with_account self.old account.0
+            (charged (account_at self.old account.0) ram.0 caps.0)) }
         ensures err { OnErr result (self.new ≡ self.old) }
     {
         self.entries[account.0].account.charge(ram, caps)
@@ -174,7 +186,9 @@ impl Books {
         requires open { IsOpen self.old account.0 }
         requires ram_used { ram.0 ≤ (account_at self.old account.0).ram_used }
         requires caps_used { caps.0 ≤ (account_at self.old account.0).caps_used }
-        ensures { self.new ≡ with_account self.old account.0 (credited (account_at self.old account.0) ram.0 caps.0) }
+        ensures { self.new
+            ≡ with_account self.old account.0
+            (credited (account_at self.old account.0) ram.0 caps.0) }
     {
         self.entries[account.0].account.credit(ram, caps);
     }

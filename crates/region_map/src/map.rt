@@ -44,7 +44,15 @@ impl Model for RegionMap {
 
     ghost coded = { coded_regions };
 
-    ghost view = { λ m. record { user = m.user.regions; most = m.user.most; heap = m.heap.regions; tags = m.heap.tags; heap_most = m.heap.most; pages = m.pages } };
+    ghost view = { λ m.
+        record {
+          user = m.user.regions;
+          most = m.user.most;
+          heap = m.heap.regions;
+          tags = m.heap.tags;
+          heap_most = m.heap.most;
+          pages = m.pages;
+        } };
 
     ghost invariant = { λ m. AreWindows m.user m.heap m.pages };
 }
@@ -76,13 +84,16 @@ impl RegionMap {
         requires some { 1 ≤ pages }
         requires few { pages ≤ self.old.pages }
         ensures refusal { result_err result ≡ attach_refusal self.old.most self.old.user pages }
-        ensures gap { IfOk result (λ address. first_gap user_low user_high self.old.user pages ≡ Some address) }
-        ensures attached { IfOk result (λ address. self.new ≡ attached self.old ds.0 pages address) }
+        ensures gap { IfOk result
+            (λ address. first_gap user_low user_high self.old.user pages ≡ Some address) }
+        ensures attached { IfOk result
+            (λ address. self.new ≡ attached self.old ds.0 pages address) }
         ensures free { IfOk result (λ address. get self.old.user address ≡ None) }
         ensures err { OnErr result (self.new ≡ self.old) }
 
         // What the first gap is.
-        ensures least { IsFirstGap user_low user_high self.old.user pages (first_gap user_low user_high self.old.user pages) }
+        ensures least { IsFirstGap user_low user_high self.old.user pages
+            (first_gap user_low user_high self.old.user pages) }
     {
         if self.user.is_full() {
             return Err(Refusal::TooManyRegions);
@@ -98,7 +109,8 @@ impl RegionMap {
     pub fn attach_at(&mut self, ds: DsId, pages: u64, address: u64) -> Result<u64, Refusal>
         requires some { 1 ≤ pages }
         requires few { pages ≤ self.old.pages }
-        ensures refusal { result_err result ≡ attach_at_refusal self.old.most self.old.user pages address }
+        ensures refusal { result_err result
+            ≡ attach_at_refusal self.old.most self.old.user pages address }
         ensures attached { OnOk result (self.new ≡ attached self.old ds.0 pages address) }
         ensures address { IfOk result (λ told. told ≡ address) }
         ensures free { OnOk result (get self.old.user address ≡ None) }
@@ -182,7 +194,8 @@ impl RegionMap {
 
     /// The heap region that holds an address: its start, its dataspace, and the number kept with it.
     pub fn heap_region(&self, address: u64) -> Option<(u64, DsId, u64)>
-        ensures found { option_map (λ region. (region.0, region.1.0, region.2)) result ≡ heap_found self.now address }
+        ensures found { option_map (λ region. (region.0, region.1.0, region.2)) result
+            ≡ heap_found self.now address }
         ensures sound { AreSound self.now }
     {
         let row = self.heap.holding(address, 1)?;
@@ -193,7 +206,8 @@ impl RegionMap {
     /// range starts.
     pub fn resolve(&self, address: u64, length: u64) -> Option<(DsId, u64)>
         requires { 1 ≤ length }
-        ensures found { option_map (λ found. (found.0.0, found.1)) result ≡ either_resolved self.now address length }
+        ensures found { option_map (λ found. (found.0.0, found.1)) result
+            ≡ either_resolved self.now address length }
         ensures sound { AreSound self.now }
     {
         match self.resolve_user(address, length) {
@@ -205,7 +219,8 @@ impl RegionMap {
     /// The same of the user window alone.
     pub fn resolve_user(&self, address: u64, length: u64) -> Option<(DsId, u64)>
         requires { 1 ≤ length }
-        ensures found { option_map (λ found. (found.0.0, found.1)) result ≡ resolved self.now.user address length }
+        ensures found { option_map (λ found. (found.0.0, found.1)) result
+            ≡ resolved self.now.user address length }
         ensures sound { AreSound self.now }
     {
         resolve_in(&self.user, address, length)
@@ -215,7 +230,8 @@ impl RegionMap {
 /// The same of a table.
 fn resolve_in(table: &Table, address: u64, length: u64) -> Option<(DsId, u64)>
     requires { 1 ≤ length }
-    ensures { option_map (λ found. (found.0.0, found.1)) result ≡ resolved table.now.regions address length }
+    ensures { option_map (λ found. (found.0.0, found.1)) result
+        ≡ resolved table.now.regions address length }
 {
     let row = table.holding(address, length)?;
     Some((row.ds, address - row.start))

@@ -103,7 +103,8 @@ impl Packed {
 
     /// Once the row at a place is taken out.
     pub fn without_row(self, at: usize, row: Row) -> Packed
-        ensures { (low : ℕ) (rows : List AnyRow) → at < length rows → row ≡ slice_index_or rows at row
+        ensures { (low : ℕ) (rows : List AnyRow) → at < length rows
+            → row ≡ slice_index_or rows at row
             → AreKnown low self rows → AreKnown low result (remove rows at) }
     {
         if at < self.count {

@@ -35,7 +35,14 @@ impl Model for Table {
 
     ghost coded = { coded_window };
 
-    ghost view = { λ t. record { low = t.low; high = t.high; regions = map_of region_of t.rows.items; tags = map_of tag_of t.rows.items; most = vec_capacity t.rows } };
+    ghost view = { λ t.
+        record {
+          low = t.low;
+          high = t.high;
+          regions = map_of region_of t.rows.items;
+          tags = map_of tag_of t.rows.items;
+          most = vec_capacity t.rows;
+        } };
 
     ghost invariant = { λ t. IsKept t.low t.high t.rows.items t.packed };
 }
@@ -96,7 +103,9 @@ impl Table {
     /// Whether an address is a multiple of a page, and so many pages from it on lie within the window.
     fn is_within(&self, pages: u64, address: u64) -> bool
         requires { pages ≤ 4096 }
-        ensures within { result ≡ (address % 4096 == 0 && (nat_le self.now.low address && nat_le (address + pages * 4096) self.now.high)) }
+        ensures within { result
+            ≡ (address % 4096 == 0 &&
+            (nat_le self.now.low address && nat_le (address + pages * 4096) self.now.high)) }
         ensures small { self.now.high ≤ 2 ^ 40 }
     {
         address % PAGE == 0
@@ -124,7 +133,8 @@ impl Table {
         requires some { 1 ≤ pages }
         requires few { pages ≤ 4096 }
         requires room { nat_le self.old.most (len self.old.regions) ≡ false }
-        requires place { can_stand self.old.low self.old.high self.old.regions pages address ≡ true }
+        requires place { can_stand self.old.low self.old.high self.old.regions pages address
+            ≡ true }
         ensures added { self.new ≡ window_with self.old ds.0 pages tag address }
         ensures free { get self.old.regions address ≡ None }
         ensures sound { IsWindow self.new }
@@ -140,7 +150,8 @@ impl Table {
     /// Puts a row in its place.
     fn put(&mut self, row: Row)
         requires room { nat_le self.old.most (len self.old.regions) ≡ false }
-        requires place { can_stand self.old.low self.old.high self.old.regions row.pages row.start ≡ true }
+        requires place { can_stand self.old.low self.old.high self.old.regions row.pages row.start
+            ≡ true }
         ensures added { self.new ≡ window_with self.old row.ds.0 row.pages row.tag row.start }
         ensures free { get self.old.regions row.start ≡ None }
         ensures sound { IsWindow self.new }
@@ -184,7 +195,8 @@ impl Table {
     /// The one row whose region holds the whole range.
     pub fn holding(&self, address: u64, length: u64) -> Option<Row>
         requires { 1 ≤ length }
-        ensures found { option_map (λ row. (row.start, region_of row)) result ≡ region_at self.now.regions address length }
+        ensures found { option_map (λ row. (row.start, region_of row)) result
+            ≡ region_at self.now.regions address length }
         ensures tagged { IfSome result (λ row. get self.now.tags row.start ≡ Some row.tag) }
     {
         let row = last_to(&self.rows, address)?;

@@ -27,7 +27,12 @@ impl Model for Buffer {
 
     ghost Value = { Written };
 
-    ghost view = { λ buffer. record { text = take buffer.len (boxed_slice_items buffer.bytes); size = boxed_slice_len buffer.bytes } };
+    ghost view = { λ buffer.
+        record {
+          text = take buffer.len
+              (boxed_slice_items buffer.bytes);
+          size = boxed_slice_len buffer.bytes;
+        } };
 
     ghost invariant = { λ buffer. buffer.len ≤ boxed_slice_len buffer.bytes };
 }

@@ -121,7 +121,8 @@ impl<'a> Found<'a> {
 
 /// The RAM that is known after a pair, of which the first with its key tells it.
 fn ram_with(known: Option<Ram>, pair: Pair<'_>) -> Option<Option<Ram>>
-    ensures { option_map ram_in result ≡ known_after (ram_in known) (codes "ram_quota") ram_of (model_pair pair.entry) }
+    ensures { option_map ram_in result
+        ≡ known_after (ram_in known) (codes "ram_quota") ram_of (model_pair pair.entry) }
 {
     if known.is_none() && pair.key == b"ram_quota".as_slice() {
         Some(Some(read_ram(pair.value)?))
@@ -132,7 +133,8 @@ fn ram_with(known: Option<Ram>, pair: Pair<'_>) -> Option<Option<Ram>>
 
 /// The capabilities that are known after a pair, of which the first with their key tells them.
 fn caps_with(known: Option<Caps>, pair: Pair<'_>) -> Option<Option<Caps>>
-    ensures { option_map caps_in result ≡ known_after (caps_in known) (codes "cap_quota") caps_of (model_pair pair.entry) }
+    ensures { option_map caps_in result
+        ≡ known_after (caps_in known) (codes "cap_quota") caps_of (model_pair pair.entry) }
 {
     if known.is_none() && pair.key == b"cap_quota".as_slice() {
         Some(Some(read_caps(pair.value)?))

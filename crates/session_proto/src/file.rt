@@ -55,7 +55,8 @@ impl<'a> FileRequest<'a> {
 
 /// The request of a form, with what stands after the form and a space as its arguments.
 fn request_from<'a>(form: &[u8], arguments: Option<&'a [u8]>) -> Option<FileRequest<'a>>
-    ensures request { option_map model_request result ≡ request_of form.now (option_copied arguments.entry) }
+    ensures request { option_map model_request result
+        ≡ request_of form.now (option_copied arguments.entry) }
     ensures hex { IfSome result HasHex }
 {
     if form == b"CREATE".as_slice() {

@@ -82,7 +82,8 @@ impl<'a> FileReply<'a> {
     /// Appends the text of a reply to another, where there is room for it.
     pub fn write(self, reply: &mut Reply)
         requires { length reply.old.text + room_for self ≤ 2100 }
-        ensures { reply.new ≡ record reply.old { text = reply.old.text ++ file_reply (model_reply self.entry) } }
+        ensures { reply.new
+            ≡ record reply.old { text = reply.old.text ++ file_reply (model_reply self.entry) } }
     {
         match self {
             FileReply::Done => reply.add_text(b"OK"),
@@ -124,7 +125,8 @@ fn add_bytes(reply: &mut Reply, bytes: &[u8])
 /// Appends use and limit of RAM and of capabilities.
 fn add_shares(reply: &mut Reply, shares: Shares)
     requires { length reply.old.text + 100 ≤ 2100 }
-    ensures { reply.new ≡ record reply.old { text = reply.old.text ++ quota_text (account_of shares) } }
+    ensures { reply.new
+        ≡ record reply.old { text = reply.old.text ++ quota_text (account_of shares) } }
 {
     reply.add_text(b"ram ");
     add_share(reply, shares.ram_used.0, shares.ram_limit.0);
@@ -139,7 +141,8 @@ fn add_shares(reply: &mut Reply, shares: Shares)
 /// Appends a use and a limit.
 fn add_share(reply: &mut Reply, used: u64, limit: u64)
     requires { length reply.old.text + 41 ≤ 2100 }
-    ensures added { reply.new ≡ record reply.old { text = reply.old.text ++ share_text used limit } }
+    ensures added { reply.new
+        ≡ record reply.old { text = reply.old.text ++ share_text used limit } }
     ensures len { length reply.new.text ≤ length reply.old.text + 41 }
 {
     reply.add_number(used);

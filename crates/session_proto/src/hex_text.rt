@@ -9,7 +9,8 @@ use text_read::read_hex;
 /// The hexadecimal digits of a text, or none where there is no text. It is `None` where a text isn't the digits of one
 /// or more bytes.
 pub(crate) fn hex_or_nothing(text: Option<&[u8]>) -> Option<&[u8]>
-    ensures bytes { option_map hex_bytes (option_copied result) ≡ hex_or_nothing (option_copied text.entry) }
+    ensures bytes { option_map hex_bytes (option_copied result)
+        ≡ hex_or_nothing (option_copied text.entry) }
     ensures hex { IfSome result (λ hex. IsSome (bytes_of_hex hex.now)) }
 {
     match text {

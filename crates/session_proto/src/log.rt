@@ -20,7 +20,8 @@ pub struct LogRequest<'a> {
 impl<'a> LogRequest<'a> {
     /// The request that a text is, or `None` where it is none.
     pub fn read(text: &'a [u8]) -> Option<LogRequest<'a>>
-        ensures bytes { IfSome result (λ request. log_request text.now ≡ Some (hex_bytes request.hex.now)) }
+        ensures bytes { IfSome result
+            (λ request. log_request text.now ≡ Some (hex_bytes request.hex.now)) }
         ensures hex { IfSome result (λ request. IsSome (bytes_of_hex request.hex.now)) }
         ensures none { IfNone result (log_request text.now ≡ None) }
     {

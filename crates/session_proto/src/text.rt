@@ -56,7 +56,8 @@ pub(crate) fn split_at_equals(text: &[u8]) -> (&[u8], &[u8])
 
 /// A text up to its first comma that doesn't stand within quotes, and what stands after that, if there is one.
 pub(crate) fn split_piece(text: &[u8]) -> (&[u8], Option<&[u8]>)
-    ensures pieces { pieces_of false text.now ≡ result.0.now ∷ pieces_after (option_copied result.1) }
+    ensures pieces { pieces_of false text.now
+        ≡ result.0.now ∷ pieces_after (option_copied result.1) }
     ensures shorter { IfSome result.1 (λ rest. length rest.now < length text.now) }
 {
     let end = piece_len(text);

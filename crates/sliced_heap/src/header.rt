@@ -46,7 +46,8 @@ pub fn store(memory: &mut Memory, account: AccountId, ds: DsId, field: u64, word
     requires aligned { field % 8 ≡ 0 }
     requires within { field + 8 ≤ HEADER }
     ensures becomes { PartBecomes account.0 (part account.0 memory.new) memory.old memory.new }
-    ensures stored { IsStored ds.0 field word (part account.0 memory.old) (part account.0 memory.new) }
+    ensures stored { IsStored ds.0 field word (part account.0 memory.old)
+        (part account.0 memory.new) }
 {
     let _ = account;
     memory.store_word(ds, field, word)

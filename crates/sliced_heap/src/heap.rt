@@ -33,7 +33,8 @@ impl SlicedHeap {
     /// the account yet.
     pub fn new(account: AccountId) -> SlicedHeap
         ensures payer { payer_of result ≡ account.0 }
-        ensures sound { (store : Store) (regions : Regions) → IsOpenIn store account.0 → MapsMemory store regions →
+        ensures sound { (store : Store) (regions : Regions) → IsOpenIn store account.0
+            → MapsMemory store regions →
             HasNoBlocks (share_at account.0 store regions) → IsSound result store regions }
     {
         SlicedHeap { account, first: 0 }
@@ -58,7 +59,8 @@ impl SlicedHeap {
         bytes: u64,
     ) -> Result<u64, Refusal>
         requires { IsSound self.old memory.old map.old }
-        ensures refusal { result_err result ≡ sliced_refusal bytes (account_in memory.old (payer_of self.old)) }
+        ensures refusal { result_err result
+            ≡ sliced_refusal bytes (account_in memory.old (payer_of self.old)) }
         ensures taken { IfOk result (λ address.
             TakesBlock (payer_of self.old) bytes address memory.old memory.new map.old map.new) }
         ensures sound { IsSound self.new memory.new map.new }
@@ -83,7 +85,8 @@ impl SlicedHeap {
         address: u64,
     ) -> Result<(), Refusal>
         requires { IsSound self.old memory.old map.old }
-        ensures refusal { result_err result ≡ free_refusal (blocks_at (payer_of self.old) memory.old map.old) address }
+        ensures refusal { result_err result
+            ≡ free_refusal (blocks_at (payer_of self.old) memory.old map.old) address }
         ensures given { OnOk result (
             GivesBlock (payer_of self.old) address memory.old memory.new map.old map.new) }
         ensures sound { IsSound self.new memory.new map.new }
@@ -112,8 +115,10 @@ impl SlicedHeap {
         requires sound { IsSound self.now memory.now map.now }
         requires some { 1 ≤ count }
         ensures some { IfSome result (λ found.
-            HoldsRange (share_at (payer_of self.now) memory.now map.now) found.0.0 found.1 address count) }
-        ensures none { IfNone result (block_found (blocks_at (payer_of self.now) memory.now map.now) address count ≡ None) }
+            HoldsRange
+            (share_at (payer_of self.now) memory.now map.now) found.0.0 found.1 address count) }
+        ensures none { IfNone result
+            (block_found (blocks_at (payer_of self.now) memory.now map.now) address count ≡ None) }
     {
         let (start, ds) = self.block_at(memory, map, address)?;
         let offset = address - start;
@@ -142,8 +147,10 @@ impl SlicedHeap {
     fn block_at(&self, memory: &Memory, map: &RegionMap, address: u64) -> Option<(u64, DsId)>
         requires { IsSound self.now memory.now map.now }
         ensures some { IfSome result (λ block.
-            HoldsAddress (share_at (payer_of self.now) memory.now map.now) block.0 block.1.0 address) }
-        ensures none { IfNone result (NoneHolds (share_at (payer_of self.now) memory.now map.now) address) }
+            HoldsAddress
+            (share_at (payer_of self.now) memory.now map.now) block.0 block.1.0 address) }
+        ensures none { IfNone result
+            (NoneHolds (share_at (payer_of self.now) memory.now map.now) address) }
     {
         let (start, ds, tag) = map.heap_region(address)?;
         if !self.owns(memory, ds, tag) {
@@ -158,7 +165,8 @@ impl SlicedHeap {
         ensures some { IfSome result (λ block.
             IsBlockAt (share_at (payer_of self.now) memory.now map.now) block.0 block.1.0) }
         ensures start { IfSome result (λ block. address ≡ block.0 + header) }
-        ensures none { IfNone result (get (blocks_at (payer_of self.now) memory.now map.now) address ≡ None) }
+        ensures none { IfNone result
+            (get (blocks_at (payer_of self.now) memory.now map.now) address ≡ None) }
     {
         let start = address.checked_sub(HEADER)?;
         let (first, ds) = self.block_at(memory, map, start)?;
@@ -172,7 +180,8 @@ impl SlicedHeap {
     fn give_back(&mut self, memory: &mut Memory, map: &mut RegionMap, start: u64, ds: DsId)
         requires sound { IsSound self.old memory.old map.old }
         requires block { IsBlockAt (share_at (payer_of self.old) memory.old map.old) start ds.0 }
-        ensures given { GivesBlock (payer_of self.old) (start + header) memory.old memory.new map.old map.new }
+        ensures given { GivesBlock (payer_of self.old)
+            (start + header) memory.old memory.new map.old map.new }
         ensures sound { IsSound self.new memory.new map.new }
         ensures others { KeepsOthers (payer_of self.old) memory.old memory.new map.old map.new }
         ensures payer { payer_of self.new ≡ payer_of self.old }
@@ -185,7 +194,8 @@ impl SlicedHeap {
     // Whether a heap region is a block of this heap: by who pays for its dataspace, and by the number kept with it.
     fn owns(&self, memory: &Memory, ds: DsId, tag: u64) -> bool
         requires { Exists memory.now ds.0 }
-        ensures { result ≡ (tag == sliced_tag && (space_at memory.now ds.0).payer == payer_of self.now) }
+        ensures { result
+            ≡ (tag == sliced_tag && (space_at memory.now ds.0).payer == payer_of self.now) }
     {
         tag == SLICED && memory.payer(ds) == self.account
     }
@@ -195,7 +205,8 @@ impl SlicedHeap {
         requires sound { IsSound self.old memory.old map.old }
         requires small { ds.0 + 1 < 2 ^ 64 }
         requires can { CanEnter (payer_of self.old) ds.0 pages memory.old map.old }
-        ensures enters { Enters (payer_of self.old) ds.0 pages result memory.old memory.new map.old map.new }
+        ensures enters { Enters
+            (payer_of self.old) ds.0 pages result memory.old memory.new map.old map.new }
         ensures sound { IsSound self.new memory.new map.new }
         ensures others { KeepsOthers (payer_of self.old) memory.old memory.new map.old map.new }
         ensures payer { payer_of self.new ≡ payer_of self.old }

@@ -16,7 +16,8 @@ pub fn put_first(memory: &mut Memory, account: AccountId, first: u64, ds: DsId, 
     requires apart { first ≢ link_to ds.0 }
     ensures link { result ≡ link_to ds.0 }
     ensures becomes { PartBecomes account.0 (part account.0 memory.new) memory.old memory.new }
-    ensures put { PutFirst first ds.0 start (part account.0 memory.old) (part account.0 memory.new) }
+    ensures put { PutFirst first ds.0 start (part account.0 memory.old)
+        (part account.0 memory.new) }
     ensures headers { (blocks : List ℕ) → is_listed blocks ds.0 ≡ true →
         ((b : ℕ) → first ≡ link_to b → is_listed blocks b ≡ true) →
         HeadersChange blocks (part account.0 memory.old) (part account.0 memory.new) }
@@ -32,14 +33,19 @@ pub fn put_first(memory: &mut Memory, account: AccountId, first: u64, ds: DsId, 
 /// Links the blocks before and after a block to each other. It tells the link to the first block that is left.
 pub fn take_out(memory: &mut Memory, account: AccountId, first: u64, ds: DsId) -> u64
     requires header { HasHeader (part account.0 memory.old) ds.0 }
-    requires next { (b : ℕ) → next_in (part account.0 memory.old) ds.0 ≡ link_to b → HasHeader (part account.0 memory.old) b }
-    requires previous { (b : ℕ) → previous_in (part account.0 memory.old) ds.0 ≡ link_to b → HasHeader (part account.0 memory.old) b }
-    ensures link { let p = part account.0 memory.old in result ≡ cond (0 == previous_in p ds.0) (next_in p ds.0) first }
+    requires next { (b : ℕ) → next_in (part account.0 memory.old) ds.0 ≡ link_to b
+        → HasHeader (part account.0 memory.old) b }
+    requires previous { (b : ℕ) → previous_in (part account.0 memory.old) ds.0 ≡ link_to b
+        → HasHeader (part account.0 memory.old) b }
+    ensures link { let p = part account.0 memory.old in result
+        ≡ cond (0 == previous_in p ds.0) (next_in p ds.0) first }
     ensures becomes { PartBecomes account.0 (part account.0 memory.new) memory.old memory.new }
     ensures out { TakenOut ds.0 (part account.0 memory.old) (part account.0 memory.new) }
     ensures headers { (blocks : List ℕ) →
-        ((b : ℕ) → next_in (part account.0 memory.old) ds.0 ≡ link_to b → is_listed blocks b ≡ true) →
-        ((b : ℕ) → previous_in (part account.0 memory.old) ds.0 ≡ link_to b → is_listed blocks b ≡ true) →
+        ((b : ℕ) → next_in (part account.0 memory.old) ds.0 ≡ link_to b
+        → is_listed blocks b ≡ true) →
+        ((b : ℕ) → previous_in (part account.0 memory.old) ds.0 ≡ link_to b
+        → is_listed blocks b ≡ true) →
         HeadersChange blocks (part account.0 memory.old) (part account.0 memory.new) }
 {
     let next = load(memory, account, ds, NEXT);
@@ -66,7 +72,8 @@ fn link_back(memory: &mut Memory, account: AccountId, link: u64, back: u64)
 fn link_ahead(memory: &mut Memory, account: AccountId, link: u64, ahead: u64)
     requires { (b : ℕ) → link ≡ link_to b → HasHeader (part account.0 memory.old) b }
     ensures becomes { PartBecomes account.0 (part account.0 memory.new) memory.old memory.new }
-    ensures linked { LinkedAhead link ahead (part account.0 memory.old) (part account.0 memory.new) }
+    ensures linked { LinkedAhead link ahead (part account.0 memory.old)
+        (part account.0 memory.new) }
     ensures headers { (blocks : List ℕ) → ((b : ℕ) → link ≡ link_to b → is_listed blocks b ≡ true) →
         HeadersChange blocks (part account.0 memory.old) (part account.0 memory.new) }
 {

@@ -34,7 +34,8 @@ impl Model for Machine {
     ghost view = { λ m. m.client.0 };
 
     ghost invariant = { λ m.
-        Admits (λ session share. HasBlocksAlone share) m.server.sessions m.client.0 2049 m.memory m.server.map };
+        Admits (λ session share.
+        HasBlocksAlone share) m.server.sessions m.client.0 2049 m.memory m.server.map };
 }
 
 impl Machine {
