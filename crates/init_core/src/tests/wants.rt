@@ -67,6 +67,7 @@ fn check_boots(
     client: usize,
     leads: Option<usize>,
 ) {
+    assert!(rt; client < list.count());
     assert_eq!(rt; route(list, client, b"File_system", b""), leads);
     let first = made(rt, boot(alloc, list));
     let second = made(rt, boot(alloc, list));
