@@ -1,0 +1,16 @@
+-- The limits of what so many selectors name are added up, and each session's fit 64 bits.
+use Rattle.std.proofs.Common.{◌≡◌, ◌+◌, ◌*◌, ◌^◌, ◌≤◌}
+use Rattle.own_model.proofs.KeySums.{sum_below}
+use Rattle.own_model.specs.Limits.{ram_with, caps_with}
+use Rattle.own_model.specs.Transcript.{state_at}
+use Rattle.scenario.proofs.account_sums.sum_of.Given as goal
+
+abbrev pub invariant-loop-selector : goal.invariant-loop-selector
+invariant-loop-selector g l =
+    let s = state_at l.core.states l.component in
+    record {
+      ram : l.sums.ram ≡ s.account.ram_limit + sum_below ram_with s.selectors l.selector;
+      caps : l.sums.caps ≡ s.account.caps_limit + sum_below caps_with s.selectors l.selector;
+      ram_fits : l.sums.ram ≤ (l.selector + 1) * 2 ^ 64;
+      caps_fits : l.sums.caps ≤ (l.selector + 1) * 2 ^ 64;
+    }

@@ -1,0 +1,59 @@
+-- The next line as far as the bytes ahead show it.
+use Rattle.std.proofs.Common.{[], arith}
+use Rattle.std.proofs.lemmas.Result.{err_from_is_err_and}
+use Rattle.scenario.proofs.FaultLemmas.{told_at, told_then}
+use Rattle.scenario.proofs.GatheredLemmas.{Tells-more}
+use Rattle.scenario.proofs.LineLemmas.{line_length-kept}
+use Rattle.scenario.proofs.ReachLemmas.{behind_long, behind_passed, behind_wider, block_within, writes_at, writes_or_stops}
+use Rattle.scenario.specs.Reach.{longest_ahead, reach}
+use Rattle.scenario.proofs.ToCome.{Passes-kept, begins_with_line, no_line}
+use Rattle.scenario.proofs.lines.Buffers.next_line.Goals as goal
+
+pub returns-then-seen-len-clause-next : goal.returns-then-seen-len-clause-next
+returns-then-seen-len-clause-next g c =
+    begins_with_line _ _ _ _ c.loop-seen.invariant.come c.line_length-seen.ensures.value (omega arith)
+
+pub returns-then-seen-gt-LONGEST_LINE-clause-told : goal.returns-then-seen-gt-LONGEST_LINE-clause-told
+returns-then-seen-gt-LONGEST_LINE-clause-told g c = told_then _ _ _ _ c.loop-seen.invariant.told c.pass_long_line.ensures.told
+
+pub returns-in_err-read_more-clause-next : goal.returns-in_err-read_more-clause-next
+returns-in_err-read_more-clause-next g c =
+    let p = err_from_is_err_and c.from_residual.result c.from_residual.ensures.1 in
+    rw (p.1, p.2) (no_line _ _ _ _ _ _ _ c.loop-seen.invariant.come (omega arith) c.in_err-read_more.ensures.grows)
+
+pub returns-in_err-read_more-clause-told : goal.returns-in_err-read_more-clause-told
+returns-in_err-read_more-clause-told g c =
+    let p = err_from_is_err_and c.from_residual.result c.from_residual.ensures.1 in
+    rw (p.1, p.2) (told_at (g.K.Sink.contents c.read_more.new.sink) [] c.in_err-read_more.field-0.0 c.loop-seen.invariant.told c.in_err-read_more.ensures.told)
+
+pub loop-seen-preserved : goal.loop-seen-preserved
+loop-seen-preserved g c = record {
+  seen = omega (arith, line_length-kept c.loop-seen.self.ahead c.read_more.new.self.ahead c.in_ok-read_more.ensures.grows.kept);
+  come = Passes-kept _ _ _ _ c.loop-seen.invariant.come c.in_ok-read_more.ensures.grows.come;
+  told = Tells-more c.loop-seen.invariant.told c.in_ok-read_more.ensures.told;
+  behind =
+      behind_passed _ _ _ _ 0 0 _ (omega arith) c.loop-seen.invariant.come c.loop-seen.invariant.told c.loop-seen.invariant.behind
+      (record { out = c.in_ok-read_more.ensures.told.out; grows = c.in_ok-read_more.ensures.told.grows }) c.in_ok-read_more.ensures.behind;
+  reads = c.in_ok-read_more.ensures.reading;
+  writes = c.in_ok-read_more.ensures.writing;
+}
+
+pub returns-in_err-read_more-clause-behind : goal.returns-in_err-read_more-clause-behind
+returns-in_err-read_more-clause-behind g c =
+    behind_wider _ _ _ _ (λ _. longest_ahead) reach _ _ (block_within _) (behind_passed _ _ _ _ 0 0 _ (omega arith) c.loop-seen.invariant.come c.loop-seen.invariant.told c.loop-seen.invariant.behind
+    (writes_at c.in_err-read_more.field-0.0 _ _ _ _ c.in_err-read_more.ensures.told) c.in_err-read_more.ensures.behind)
+
+pub returns-then-seen-eq0-clause-behind : goal.returns-then-seen-eq0-clause-behind
+returns-then-seen-eq0-clause-behind g c =
+    behind_wider _ _ _ _ (λ _. longest_ahead) reach _ _ (block_within _) (behind_passed _ _ _ _ 0 0 _ (omega arith) c.loop-seen.invariant.come c.loop-seen.invariant.told c.loop-seen.invariant.behind
+    (record { out = c.in_ok-read_more.ensures.told.out; grows = c.in_ok-read_more.ensures.told.grows }) c.in_ok-read_more.ensures.behind)
+
+pub returns-else-seen-eq0-clause-behind : goal.returns-else-seen-eq0-clause-behind
+returns-else-seen-eq0-clause-behind g c =
+    behind_wider _ _ _ _ (λ _. longest_ahead) reach _ _ (block_within _) (behind_passed _ _ _ _ 0 0 _ (omega arith) c.loop-seen.invariant.come c.loop-seen.invariant.told c.loop-seen.invariant.behind
+    (record { out = c.in_ok-read_more.ensures.told.out; grows = c.in_ok-read_more.ensures.told.grows }) c.in_ok-read_more.ensures.behind)
+
+pub returns-then-seen-gt-LONGEST_LINE-clause-behind : goal.returns-then-seen-gt-LONGEST_LINE-clause-behind
+returns-then-seen-gt-LONGEST_LINE-clause-behind g c =
+    behind_long _ _ _ _ _ c.loop-seen.invariant.come c.loop-seen.invariant.told c.loop-seen.invariant.behind
+    (writes_or_stops c.pass_long_line.result _ _ _ _ _ c.pass_long_line.ensures.told) c.pass_long_line.ensures.behind

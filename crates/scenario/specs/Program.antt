@@ -1,0 +1,157 @@
+-- What the program does, from the text of its start list to the end of its task.
+use Rattle.std.specs.Prelude.{◌≡◌, ◌≢◌, ℕ, ◌*◌, ◌≤◌, ◌⊎◌, ◌++◌, ◌∷◌, Bool, true, false, List, [], codes, length, Option, Some, IfSome, Result, Ok, Err, ⊤}
+use Rattle.std.specs.Io.KnownBytes.{Appends}
+use Rattle.own_model.specs.AccountList.{account_list_text, total_line}
+use Rattle.own_model.specs.Listed.{Listed, start_list_of}
+use Rattle.own_model.specs.StartList.{StartList, Boots}
+use Rattle.own_model.specs.Text.{lines_of}
+use Rattle.own_model.specs.Transcript.{told_after}
+use Rattle.own_model.specs.SaidBy.{said_by}
+use Rattle.std.specs.Option.{option_copied}
+use Rattle.own_model.specs.World.{World, start_world, world_running, all_ram, all_caps}
+use Rattle.init_core.specs.Boot.{quota_fault}
+use Rattle.init_core.specs.StartText.{list_in}
+use Rattle.init_core.specs.declared.fault.BootFault.{BootFault}
+use Rattle.init_core.specs.declared.fault.BootFault.TheVariants.{NoMemory}
+use Rattle.scenario.specs.Lines.{AreReadable}
+use Rattle.scenario.specs.Stops.{Stops, AppendsPart}
+use Rattle.scenario.specs.declared.program.Failure.{Failure}
+use Rattle.scenario.specs.declared.program.Failure.TheVariants as failure
+use Rattle.scenario.specs.declared.program.Task.{Task}
+use Rattle.scenario.specs.declared.program.Task.TheVariants as task
+use Rattle.scenario.specs.declared.running.RunFault.{RunFault}
+use Rattle.scenario.specs.declared.running.RunFault.TheVariants.{WriteFault}
+use Rattle.scenario.specs.declared.running.Summary.{Summary}
+
+-- a task is what the options of the command line ask for
+abbrev pub AsksFor : Bool → Bool → Option (List ℕ) → Task → Type 0
+AsksFor check accounts only task.Check = check ≡ true
+AsksFor check accounts only (task.Run listed name) =
+    (check ≡ false) × (listed ≡ accounts) × (option_copied name ≡ only)
+
+-- a text is read as this start list, and the list boots
+pub record IsMachine (text : List ℕ) (list : StartList) : Type 0 where
+  pub listed : Listed
+  pub reads : list_in text ≡ Ok listed
+  pub list_is : list ≡ start_list_of listed
+  pub boots : Boots list
+
+-- the fault of a list that was read, or why none was
+abbrev fault_of : Result Listed BootFault → Option BootFault
+fault_of (Ok list) = quota_fault list
+fault_of (Err fault) = Some fault
+
+-- why a text boots no machine
+abbrev pub boot_fault : List ℕ → Option BootFault
+boot_fault text = fault_of (list_in text)
+
+-- what a task reads: a check reads nothing
+abbrev pub read_for : Task → Option (List ℕ) → Option (List ℕ)
+read_for task.Check input = Some []
+read_for (task.Run accounts only) input = input
+
+-- what a check tells of a machine
+abbrev pub ok_line : List ℕ
+ok_line = codes "ok" ++ 10 ∷ []
+
+-- the account list, where it is asked for
+abbrev pub accounts_for : Bool → World → List ℕ
+accounts_for true world = account_list_text world
+accounts_for false world = []
+
+-- the lines of an input that are run: all, or a name's alone
+abbrev pub lines_run : Option (List ℕ) → List ℕ → List (List ℕ)
+lines_run only input = said_by only (lines_of input)
+
+-- what a world is asked and told: the transcript of the lines that are run, and the account list of the last states
+abbrev pub scenario_text : Bool → Option (List ℕ) → World → List ℕ → List ℕ
+scenario_text accounts only world input =
+    told_after world.entries world.states [] (lines_run only input)
+    ++ accounts_for accounts (world_running world (lines_run only input))
+
+-- an input was read to its end, and this text is told
+pub record IsAnswered (text input : List ℕ) (lines : ℕ) (written now_written : Option (List ℕ)) : Type 0 where
+  pub counted : lines ≡ length (lines_of input)
+  pub readable : AreReadable (lines_of input)
+  pub tells : Appends written now_written text
+
+-- an input has no more lines than are allowed, and none that is too long to be read
+pub record IsWithinBounds (max_lines : ℕ) (input : List ℕ) : Type 0 where
+  pub few : length (lines_of input) ≤ max_lines
+  pub readable : AreReadable (lines_of input)
+
+-- where a scenario was answered, it is within these bounds
+abbrev pub IsBoundedFor : Task → ℕ → List ℕ → Type 0
+IsBoundedFor task.Check max_lines input = ⊤
+IsBoundedFor (task.Run accounts only) max_lines input = IsWithinBounds max_lines input
+
+-- what a task writes
+abbrev pub written_for : Task → StartList → List ℕ → List ℕ
+written_for task.Check list input = ok_line
+written_for (task.Run accounts only) list input =
+    scenario_text accounts (option_copied only) (start_world list) input
+
+-- the sums that an account list tells after any lines are the machine's
+abbrev pub TotalsAre : StartList → List (List ℕ) → Type 0
+TotalsAre list lines =
+    total_line (all_ram (world_running (start_world list) lines)) (all_caps (world_running (start_world list) lines))
+    ≡ total_line (list.pages * 4096) list.caps
+
+-- a task was done to its end, on the machine of a text
+pub record IsDone (asked : Task) (text : List ℕ) (input : Option (List ℕ)) (lines : ℕ) (written now_written : Option (List ℕ)) : Type 0 where
+  pub list : StartList
+  pub machine : IsMachine text list
+  pub done : IfSome (read_for asked input) (λ bytes.
+      IsAnswered (written_for asked list bytes) bytes lines written now_written)
+  pub totals : (lines : List (List ℕ)) → TotalsAre list lines
+
+-- a write of the account list failed, once all lines were answered and told
+pub record StopsList (accounts : Bool) (only : Option (List ℕ)) (fault : RunFault) (max_lines : ℕ) (world : World) (input : List ℕ)
+    (written now_written : Option (List ℕ)) : Type 0 where
+  pub asked : accounts ≡ true
+  pub fault_is : fault ≡ WriteFault
+  pub few : length (lines_of input) ≤ max_lines
+  pub readable : AreReadable (lines_of input)
+  pub part : List ℕ
+  pub left : List ℕ
+  pub parts : account_list_text (world_running world (lines_run only input)) ≡ part ++ left
+  pub grows : Appends written now_written
+      (told_after world.entries world.states [] (lines_run only input) ++ part)
+
+-- a scenario was stopped: its run, and then no account list is told, or the account list
+abbrev pub StopsScenario : Bool → Option (List ℕ) → RunFault → ℕ → World →
+    List ℕ → Option (List ℕ) → Bool → Option (List ℕ) → Option (List ℕ) → Type 0
+StopsScenario accounts only fault max_lines world input rest failed written now_written =
+    ((new : World) × Stops only fault max_lines world new input rest failed written now_written)
+    ⊎ StopsList accounts only fault max_lines world input written now_written
+
+-- a task that had begun was stopped by a fault: the run from the machine's start, or the one write of a check
+abbrev pub StopsTask : Task → RunFault → ℕ → StartList →
+    List ℕ → Option (List ℕ) → Bool → Option (List ℕ) → Option (List ℕ) → Type 0
+StopsTask task.Check fault max_lines list input rest failed written now_written =
+    (fault ≡ WriteFault) × AppendsPart written now_written ok_line
+StopsTask (task.Run accounts only) fault max_lines list input rest failed written now_written =
+    StopsScenario accounts (option_copied only) fault max_lines (start_world list) input rest failed written now_written
+
+-- a task failed: the text boots no machine, or the task was stopped on its machine
+abbrev pub FailsFor : Failure → Task → List ℕ → ℕ →
+    Option (List ℕ) → Option (List ℕ) → Bool → Option (List ℕ) → Option (List ℕ) → Type 0
+FailsFor (failure.Boot fault) asked text max_lines input rest failed written now_written =
+    fault ≢ NoMemory → boot_fault text ≡ Some fault
+FailsFor (failure.Run fault) asked text max_lines input rest failed written now_written =
+    (list : StartList) × IsMachine text list
+    × IfSome (read_for asked input) (λ bytes. StopsTask asked fault max_lines list bytes rest failed written now_written)
+
+-- the same of bytes, which no read fails to give
+abbrev pub FailsIn : Failure → Task → List ℕ → ℕ → List ℕ → List ℕ → Type 0
+FailsIn (failure.Boot fault) asked text max_lines input written =
+    (written ≡ []) × (fault ≢ NoMemory → boot_fault text ≡ Some fault)
+FailsIn (failure.Run fault) asked text max_lines input written =
+    (list : StartList) × IsMachine text list
+    × ((rest : Option (List ℕ)) × StopsTask asked fault max_lines list input rest false (Some []) (Some written))
+
+-- the exit status
+abbrev pub status_of : Result Summary Failure → ℕ
+status_of (Ok summary) = 0
+status_of (Err (failure.Run fault)) = 1
+status_of (Err (failure.Boot fault)) = 2

@@ -1,0 +1,46 @@
+-- What a run promises, of all lines or of a name's alone.
+use Rattle.std.specs.Prelude.{◌≡◌, ℕ, ◌≤◌, Bool, false, List, [], length, if◌then◌else◌, Option, IfSome, Result, Err}
+use Rattle.std.specs.Io.KnownBytes.{Appends}
+use Rattle.own_model.specs.SaidBy.{said_by}
+use Rattle.own_model.specs.StartList.{StartList}
+use Rattle.own_model.specs.Text.{lines_of}
+use Rattle.own_model.specs.Transcript.{told_after, calls_of, state_at, state_after}
+use Rattle.own_model.specs.World.{World, IsBalanced, IsBalancedFor, world_running}
+use Rattle.scenario.specs.Lines.{AreReadable}
+use Rattle.scenario.specs.declared.running.RunFault.{RunFault}
+use Rattle.scenario.specs.declared.running.RunFault.TheVariants.{ReadFault, WriteFault}
+use Rattle.scenario.specs.declared.running.Summary.{Summary}
+
+-- a run came to the end of its input
+pub record Completes (only : Option (List ℕ)) (lines : ℕ) (old new : World) (input : List ℕ)
+    (written now_written : Option (List ℕ)) : Type 0 where
+  -- each line is counted, also one that is skipped
+  pub counted : lines ≡ length (lines_of input)
+  pub readable : AreReadable (lines_of input)
+  -- what is written is the transcript of the lines that are run
+  pub transcript : Appends written now_written
+      (told_after old.entries old.states [] (said_by only (lines_of input)))
+  -- each component's own state is that of its own run on its own part of them
+  pub states : (component : ℕ) →
+      state_at new.states component
+      ≡ state_after old.entries old.states
+      (calls_of old.entries (said_by only (lines_of input))) component
+  pub world : new ≡ world_running old (said_by only (lines_of input))
+
+-- what a run keeps, however it ends
+pub record KeepsWorld (old new : World) : Type 0 where
+  pub entries : new.entries ≡ old.entries
+  pub count : length new.states ≡ length old.states
+  pub balance : (pages caps : ℕ) → IsBalanced pages caps old → IsBalanced pages caps new
+  pub shares : (machine : StartList) → IsBalancedFor machine old → IsBalancedFor machine new
+
+-- an input within the bounds, over devices that don't fail, is no cause to stop
+abbrev pub HasCause : List ℕ → ℕ → Bool → Bool → Type 0
+HasCause input max_lines read_failed write_failed =
+    read_failed ≡ false → write_failed ≡ false → AreReadable (lines_of input)
+    → length (lines_of input) ≤ max_lines → ⊥
+
+-- the fault that is told of devices that had failed before: the writer's first
+abbrev pub FaultBefore : Result Summary RunFault → Bool → Bool → Type 0
+FaultBefore result read_failed write_failed =
+    result ≡ Err (if write_failed then WriteFault else ReadFault)

@@ -1,0 +1,288 @@
+//! The account list: use and limits of every account, and the sums of all limits.
+ghost use Rattle.std.specs.Prelude.{◌≡◌, ◌<◌, ◌++◌, false, true, length, codes, Err, IfErr, OnErr, OnOk, is_err};
+ghost use Rattle.std.specs.List.{flat_map, zip};
+ghost use Rattle.std.specs.Io.KnownBytes.{Appends};
+ghost use Rattle.own_model.specs.AccountList.{account_line, account_list_text, session_line, session_lines, total_line};
+ghost use Rattle.own_model.specs.Listed.{start_list_of};
+ghost use Rattle.own_model.specs.StartList.{entries_of};
+ghost use Rattle.own_model.specs.Transcript.{entry_at, state_at};
+ghost use Rattle.own_model.specs.World.{all_ram, all_caps};
+ghost use Rattle.pd_core.specs.Answer.{quotas_account};
+ghost use Rattle.scenario.specs.Accounts.{selected_line};
+ghost use Rattle.scenario.specs.Gathered.{TellsUnless};
+ghost use Rattle.scenario.specs.Stops.{AppendsPart, is_write_fault};
+ghost use Rattle.scenario.specs.declared.running.RunFault.TheVariants.{WriteFault};
+
+use crate::account_sums::sum_all;
+use crate::account_text::{add, add_number, add_quotas};
+use crate::device::{DeviceFault, Sink};
+use crate::gather::Gather;
+use crate::running::RunFault;
+use arrayvec::ArrayVec;
+use init_core::StartList;
+use pd_core::{Core, Quotas, Router};
+
+/// Room for what follows the name in a line.
+const LONGEST_REST: usize = 160;
+
+/// Writes the account list: init's account, those of the components in the order of the list, those of each one's open
+/// sessions by rising selector, and the sums of all these limits. A write that fails leaves a part of it, and a writer that
+/// had failed before is not tried again. The components may have any own states, on a machine of any size.
+pub fn write_accounts<R: Router + Drop, K: Sink>(
+    core: &Core<R>,
+    list: &StartList,
+    writer: &mut K,
+) -> Result<(), RunFault>
+    requires listed { core.now.entries ≡ entries_of (start_list_of list.now) }
+    ensures told { OnOk result (Appends (K.contents writer.old) (K.contents writer.new) (account_list_text core.now)) }
+    ensures fault { IfErr result (λ fault. fault ≡ WriteFault) }
+    ensures part { OnErr result (AppendsPart (K.contents writer.old) (K.contents writer.new) (account_list_text core.now)) }
+    ensures writing { K.has_failed writer.new ≡ is_write_fault result }
+    ensures before { K.has_failed writer.old ≡ true → (result ≡ Err WriteFault) × (writer.new ≡ writer.old) }
+{
+    if writer.failed() {
+        return Err(RunFault::WriteFault);
+    }
+    match write_list(core, list, writer) {
+        Ok(()) => Ok(()),
+        Err(DeviceFault) => Err(RunFault::WriteFault),
+    }
+}
+
+// Gathers the account list and writes it out.
+fn write_list<R: Router + Drop, K: Sink>(
+    core: &Core<R>,
+    list: &StartList,
+    sink: &mut K,
+) -> Result<(), DeviceFault>
+    requires listed { core.now.entries ≡ entries_of (start_list_of list.now) }
+    requires writes { K.has_failed sink.old ≡ false }
+    ensures told { OnOk result (Appends (K.contents sink.old) (K.contents sink.new) (account_list_text core.now)) }
+    ensures part { OnErr result (AppendsPart (K.contents sink.old) (K.contents sink.new) (account_list_text core.now)) }
+    ensures failing { K.has_failed sink.new ≡ is_err result }
+{
+    let mut gathered = Gather::new();
+    put_list(core, list, &mut gathered, sink)?;
+    gathered.flush(sink)
+}
+
+// Gathers the account list.
+fn put_list<R: Router + Drop, K: Sink>(
+    core: &Core<R>,
+    list: &StartList,
+    gathered: &mut Gather,
+    sink: &mut K,
+) -> Result<(), DeviceFault>
+    requires listed { core.now.entries ≡ entries_of (start_list_of list.now) }
+    requires writes { K.has_failed sink.old ≡ false }
+    ensures told { TellsUnless result (K.contents sink.old) gathered.old (K.contents sink.new) gathered.new
+        (account_list_text core.now) }
+    ensures failing { K.has_failed sink.new ≡ is_err result }
+{
+    put_init(core, gathered, sink)?;
+    put_components(core, list, gathered, sink)?;
+    put_sessions(core, list, gathered, sink)?;
+    put_total(core, list, gathered, sink)
+}
+
+// Gathers init's line.
+fn put_init<R: Router + Drop, K: Sink>(
+    core: &Core<R>,
+    gathered: &mut Gather,
+    sink: &mut K,
+) -> Result<(), DeviceFault>
+    requires { K.has_failed sink.old ≡ false }
+    ensures told { TellsUnless result (K.contents sink.old) gathered.old (K.contents sink.new) gathered.new
+        (account_line (codes "init") core.now.init) }
+    ensures failing { K.has_failed sink.new ≡ is_err result }
+{
+    put_account(b"init", core.init_account(), gathered, sink)
+}
+
+// Gathers the line of each component.
+fn put_components<R: Router + Drop, K: Sink>(
+    core: &Core<R>,
+    list: &StartList,
+    gathered: &mut Gather,
+    sink: &mut K,
+) -> Result<(), DeviceFault>
+    requires listed { core.now.entries ≡ entries_of (start_list_of list.now) }
+    requires writes { K.has_failed sink.old ≡ false }
+    ensures told { TellsUnless result (K.contents sink.old) gathered.old (K.contents sink.new) gathered.new
+        (flat_map (λ p. account_line p.0.name p.1.account) (zip core.now.entries core.now.states)) }
+    ensures failing { K.has_failed sink.new ≡ is_err result }
+{
+    for component in 0..core.count() {
+        put_component(core, list, component, gathered, sink)?;
+    }
+    Ok(())
+}
+
+// Gathers the line of a component.
+fn put_component<R: Router + Drop, K: Sink>(
+    core: &Core<R>,
+    list: &StartList,
+    component: usize,
+    gathered: &mut Gather,
+    sink: &mut K,
+) -> Result<(), DeviceFault>
+    requires listed { core.now.entries ≡ entries_of (start_list_of list.now) }
+    requires component { component < length core.now.entries }
+    requires writes { K.has_failed sink.old ≡ false }
+    ensures told { TellsUnless result (K.contents sink.old) gathered.old (K.contents sink.new) gathered.new
+        (account_line (entry_at core.now.entries component).name (state_at core.now.states component).account) }
+    ensures failing { K.has_failed sink.new ≡ is_err result }
+{
+    put_account(
+        list.name(component),
+        core.account(component),
+        gathered,
+        sink,
+    )
+}
+
+// Gathers the lines of each component's open sessions.
+fn put_sessions<R: Router + Drop, K: Sink>(
+    core: &Core<R>,
+    list: &StartList,
+    gathered: &mut Gather,
+    sink: &mut K,
+) -> Result<(), DeviceFault>
+    requires listed { core.now.entries ≡ entries_of (start_list_of list.now) }
+    requires writes { K.has_failed sink.old ≡ false }
+    ensures told { TellsUnless result (K.contents sink.old) gathered.old (K.contents sink.new) gathered.new
+        (flat_map (λ p. session_lines p.0.name p.1) (zip core.now.entries core.now.states)) }
+    ensures failing { K.has_failed sink.new ≡ is_err result }
+{
+    for component in 0..core.count() {
+        put_sessions_of(core, list, component, gathered, sink)?;
+    }
+    Ok(())
+}
+
+// Gathers the lines of a component's open sessions by rising selector.
+fn put_sessions_of<R: Router + Drop, K: Sink>(
+    core: &Core<R>,
+    list: &StartList,
+    component: usize,
+    gathered: &mut Gather,
+    sink: &mut K,
+) -> Result<(), DeviceFault>
+    requires listed { core.now.entries ≡ entries_of (start_list_of list.now) }
+    requires component { component < length core.now.entries }
+    requires writes { K.has_failed sink.old ≡ false }
+    ensures told { TellsUnless result (K.contents sink.old) gathered.old (K.contents sink.new) gathered.new
+        (session_lines (entry_at core.now.entries component).name (state_at core.now.states component)) }
+    ensures failing { K.has_failed sink.new ≡ is_err result }
+{
+    for selector in 0..=core.last_selector(component) {
+        put_selected(core, list, component, selector, gathered, sink)?;
+    }
+    Ok(())
+}
+
+// Gathers the line of what a selector names, where it names a session.
+fn put_selected<R: Router + Drop, K: Sink>(
+    core: &Core<R>,
+    list: &StartList,
+    component: usize,
+    selector: u64,
+    gathered: &mut Gather,
+    sink: &mut K,
+) -> Result<(), DeviceFault>
+    requires listed { core.now.entries ≡ entries_of (start_list_of list.now) }
+    requires component { component < length core.now.entries }
+    requires writes { K.has_failed sink.old ≡ false }
+    ensures told { TellsUnless result (K.contents sink.old) gathered.old (K.contents sink.new) gathered.new
+        (selected_line (entry_at core.now.entries component).name (state_at core.now.states component) selector) }
+    ensures failing { K.has_failed sink.new ≡ is_err result }
+{
+    match core.session_account(component, selector) {
+        Some(account) => put_session(list.name(component), selector, account, gathered, sink),
+        None => Ok(()),
+    }
+}
+
+// Gathers the line of a component's account by its name.
+fn put_account<K: Sink>(
+    name: &[u8],
+    account: Quotas,
+    gathered: &mut Gather,
+    sink: &mut K,
+) -> Result<(), DeviceFault>
+    requires { K.has_failed sink.old ≡ false }
+    ensures told { TellsUnless result (K.contents sink.old) gathered.old (K.contents sink.new) gathered.new
+        (account_line name.now (quotas_account account)) }
+    ensures failing { K.has_failed sink.new ≡ is_err result }
+{
+    let mut rest: ArrayVec<u8, LONGEST_REST> = ArrayVec::new();
+    add(&mut rest, b" ");
+    add_quotas(&mut rest, account);
+    add(&mut rest, b"\n");
+    put_named(b"account ", name, rest.as_slice(), gathered, sink)
+}
+
+// Gathers the line of a session's account by its client's name and its selector.
+fn put_session<K: Sink>(
+    name: &[u8],
+    selector: u64,
+    account: Quotas,
+    gathered: &mut Gather,
+    sink: &mut K,
+) -> Result<(), DeviceFault>
+    requires { K.has_failed sink.old ≡ false }
+    ensures told { TellsUnless result (K.contents sink.old) gathered.old (K.contents sink.new) gathered.new
+        (session_line name.now selector (quotas_account account)) }
+    ensures failing { K.has_failed sink.new ≡ is_err result }
+{
+    let mut rest: ArrayVec<u8, LONGEST_REST> = ArrayVec::new();
+    add(&mut rest, b" ");
+    add_number(&mut rest, selector);
+    add(&mut rest, b" ");
+    add_quotas(&mut rest, account);
+    add(&mut rest, b"\n");
+    put_named(b"session ", name, rest.as_slice(), gathered, sink)
+}
+
+// Gathers a line in its three parts.
+fn put_named<K: Sink>(
+    word: &[u8],
+    name: &[u8],
+    rest: &[u8],
+    gathered: &mut Gather,
+    sink: &mut K,
+) -> Result<(), DeviceFault>
+    requires { K.has_failed sink.old ≡ false }
+    ensures told { TellsUnless result (K.contents sink.old) gathered.old (K.contents sink.new) gathered.new
+        (word.now ++ name.now ++ rest.now) }
+    ensures failing { K.has_failed sink.new ≡ is_err result }
+{
+    gathered.put(sink, word)?;
+    gathered.put(sink, name)?;
+    gathered.put(sink, rest)
+}
+
+// Gathers the line of the sums of all limits.
+fn put_total<R: Router + Drop, K: Sink>(
+    core: &Core<R>,
+    list: &StartList,
+    gathered: &mut Gather,
+    sink: &mut K,
+) -> Result<(), DeviceFault>
+    requires listed { core.now.entries ≡ entries_of (start_list_of list.now) }
+    requires writes { K.has_failed sink.old ≡ false }
+    ensures told { TellsUnless result (K.contents sink.old) gathered.old (K.contents sink.new) gathered.new
+        (total_line (all_ram core.now) (all_caps core.now)) }
+    ensures failing { K.has_failed sink.new ≡ is_err result }
+{
+    // A list has at most 32 components.
+    let _components = list.count();
+    let sums = sum_all(core);
+    let mut text: ArrayVec<u8, LONGEST_REST> = ArrayVec::new();
+    add(&mut text, b"total ram ");
+    add_number(&mut text, sums.ram);
+    add(&mut text, b" caps ");
+    add_number(&mut text, sums.caps);
+    add(&mut text, b"\n");
+    gathered.put(sink, text.as_slice())
+}

@@ -1,0 +1,76 @@
+//! The bytes of CONFIG, the text of a start list.
+ghost use Rattle.std.specs.Prelude.{◌≡◌, ◌≤◌, IfOk, IfSome, false, length, take};
+ghost use Rattle.scenario.specs.Config.{is_unreadable};
+ghost use Rattle.scenario.specs.declared.config.ConfigFault.TheVariants.{Unreadable as CantRead, NoMemory as NoRoom};
+
+use crate::device::{DeviceFault, Source};
+use crate::input::Input;
+use std::alloc::{AllocError, Global};
+use std::fs;
+use std::rt::Files;
+use thiserror::Error;
+
+/// How many bytes of CONFIG are read at most: one more than a start list may have, so that its length tells one that is
+/// too long.
+pub const LONGEST_CONFIG_READ: usize = 65_537;
+
+/// How many bytes are asked for at once.
+const BLOCK: usize = 4096;
+
+/// Why the bytes of CONFIG aren't there.
+#[derive(Clone, Copy, Debug, PartialEq, Eq, Error)]
+pub enum ConfigFault {
+    /// It can't be opened, or a read of it failed.
+    #[error("Unreadable_config")]
+    Unreadable,
+    /// The host has no memory for them.
+    #[error("No_memory")]
+    NoMemory,
+}
+
+impl From<DeviceFault> for ConfigFault {
+    ghost from_gives = { λ _ fault. fault ≡ CantRead };
+
+    fn from(_fault: DeviceFault) -> ConfigFault {
+        ConfigFault::Unreadable
+    }
+}
+
+impl From<AllocError> for ConfigFault {
+    ghost from_gives = { λ _ fault. fault ≡ NoRoom };
+
+    fn from(_want: AllocError) -> ConfigFault {
+        ConfigFault::NoMemory
+    }
+}
+
+/// Reads a source to its end, or as far as `LONGEST_CONFIG_READ` bytes go.
+pub fn read_config<S: Source>(alloc: Global, source: &mut S) -> Result<Vec<u8>, ConfigFault>
+    requires { S.has_failed source.old ≡ false }
+    ensures text { IfOk result (λ text. IfSome (S.remaining source.old) (λ bytes.
+        text.items ≡ take LONGEST_CONFIG_READ bytes)) }
+    ensures fits { IfOk result (λ text. length text.items ≤ LONGEST_CONFIG_READ) }
+    ensures failing { S.has_failed source.new ≡ is_unreadable result }
+{
+    let mut text = Vec::new(alloc);
+    let mut block = [0; BLOCK];
+    while text.len() < LONGEST_CONFIG_READ {
+        let room = BLOCK.min(LONGEST_CONFIG_READ - text.len());
+        let count = source.read(&mut block[..room])?;
+        if count == 0 {
+            break;
+        }
+        text.extend_from_slice(&block[..count])?;
+    }
+    Ok(text)
+}
+
+/// Reads the file of a path. One that can't be opened is unreadable, and so is a folder, which no read gives bytes of.
+pub fn read_config_at<R: Files + AllocGlobal>(rt: &R, path: &str) -> Result<Vec<u8>, ConfigFault>
+    ensures { IfOk result (λ text. length text.items ≤ LONGEST_CONFIG_READ) }
+{
+    match fs::open(rt, path) {
+        Ok(file) => read_config(rt.alloc(), &mut Input::new(file)),
+        Err(_) => Err(ConfigFault::Unreadable),
+    }
+}

@@ -1,0 +1,33 @@
+//! A scenario: lines of calls come in on standard input, and each is answered in turn on standard output.
+#![tactic(auto)]
+
+mod account_list;
+mod account_sums;
+mod account_text;
+mod answering;
+mod block;
+mod bytes;
+mod config;
+mod device;
+mod gather;
+mod host;
+mod input;
+mod line;
+mod lines;
+mod output;
+mod program;
+mod running;
+#[cfg(test)]
+mod tests;
+
+pub use account_list::write_accounts;
+pub use config::{ConfigFault, LONGEST_CONFIG_READ, read_config, read_config_at};
+pub use device::{DeviceFault, Sink, Source};
+pub use host::run_program;
+pub use input::Input;
+pub use line::read_line;
+pub use output::Output;
+pub use program::{
+    Failure, MAX_LINES, Stopped, Task, boot_and_run, exit_status, run_bytes, task_of,
+};
+pub use running::{RunFault, Summary, run, run_only};
