@@ -6,8 +6,13 @@ use Rattle.file_service.proofs.tests.machine.Machine.open.Goals as goal
 
 pub invariant_of-self-2 : goal.invariant_of-self-2
 invariant_of-self-2 g c =
-    let was = c.self.inside in
-    (admits_opened value_of was.server.sessions c.open.new.self.sessions was.memory c.open.new.memory was.server.map c.open.new.self.map
-    c.self.invariant.0 c.in_ok-id.ensures.server c.in_ok-id.ensures.places c.in_ok-id.ensures.opens,
-    omega (arith, c.self.invariant.1, open_opened value_of was.server.sessions c.open.new.self.sessions was.memory c.open.new.memory was.server.map c.open.new.self.map
-    c.in_ok-id.ensures.opens))
+    let was = c.self.inside in (
+      admits_opened value_of was.server.sessions c.open.new.self.sessions was.memory c.open.new.memory was.server.map c.open.new.self.map
+          c.self.invariant.0 c.in_ok-id.ensures.server c.in_ok-id.ensures.places c.in_ok-id.ensures.opens,
+      omega (
+        arith,
+        c.self.invariant.1,
+        open_opened value_of was.server.sessions c.open.new.self.sessions was.memory c.open.new.memory was.server.map c.open.new.self.map
+            c.in_ok-id.ensures.opens,
+      ),
+    )

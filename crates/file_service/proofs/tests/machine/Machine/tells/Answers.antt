@@ -10,8 +10,9 @@ pub invariant_of-self : goal.invariant_of-self
 invariant_of-self g c =
     let was = c.self.inside in
     let present : slab.ContainsKey was.server.sessions c.args.id.0 = search rules in
-    let row = row_at value_of was.server.sessions was.memory was.server.map c.args.id.0 present in
-    (admits_served value_of was.server.sessions c.serve.new.self.sessions was.memory c.serve.new.memory was.server.map c.serve.new.self.map
-    c.self.invariant.0 c.serve.ensures.server c.serve.ensures.places c.args.id.0 row.0 row.1 (service_step c.args.request.now row.0.account row.0.value) (c.serve.ensures.serves row.0 row.1),
-    c.self.invariant.1 ∙ sym (open_served value_of was.server.sessions c.serve.new.self.sessions was.memory c.serve.new.memory was.server.map c.serve.new.self.map
-    c.args.id.0 row.0 row.1 (service_step c.args.request.now row.0.account row.0.value) (c.serve.ensures.serves row.0 row.1)))
+    let row = row_at value_of was.server.sessions was.memory was.server.map c.args.id.0 present in (
+      admits_served value_of was.server.sessions c.serve.new.self.sessions was.memory c.serve.new.memory was.server.map c.serve.new.self.map
+          c.self.invariant.0 c.serve.ensures.server c.serve.ensures.places c.args.id.0 row.0 row.1 (service_step c.args.request.now row.0.account row.0.value) (c.serve.ensures.serves row.0 row.1),
+      c.self.invariant.1 ∙ sym (open_served value_of was.server.sessions c.serve.new.self.sessions was.memory c.serve.new.memory was.server.map c.serve.new.self.map
+          c.args.id.0 row.0 row.1 (service_step c.args.request.now row.0.account row.0.value) (c.serve.ensures.serves row.0 row.1)),
+    )

@@ -13,8 +13,13 @@ invariant_of-self g c =
     let was = c.self.inside in
     let present : slab.ContainsKey was.server.sessions c.args.id.0 = search rules in
     let value : LabelledLine → Share → Labelled = λ session share. as_kept session in
-    let row = row_at value was.server.sessions was.memory was.server.map c.args.id.0 present in
-    (admits_closed value was.server.sessions c.close.new.self.sessions was.memory c.close.new.memory was.server.map c.close.new.self.map
-    c.self.invariant.0 c.close.ensures.server c.close.ensures.places c.args.id.0 row.0 row.1 (c.close.ensures.closes row.0 row.1) c.close.ensures.sessions,
-    omega (arith, c.self.invariant.1, open_closed value was.server.sessions c.close.new.self.sessions was.memory c.close.new.memory was.server.map c.close.new.self.map
-    c.args.id.0 row.0 row.1 c.close.ensures.sessions))
+    let row = row_at value was.server.sessions was.memory was.server.map c.args.id.0 present in (
+      admits_closed value was.server.sessions c.close.new.self.sessions was.memory c.close.new.memory was.server.map c.close.new.self.map
+          c.self.invariant.0 c.close.ensures.server c.close.ensures.places c.args.id.0 row.0 row.1 (c.close.ensures.closes row.0 row.1) c.close.ensures.sessions,
+      omega (
+        arith,
+        c.self.invariant.1,
+        open_closed value was.server.sessions c.close.new.self.sessions was.memory c.close.new.memory was.server.map c.close.new.self.map
+            c.args.id.0 row.0 row.1 c.close.ensures.sessions,
+      ),
+    )
