@@ -66,8 +66,7 @@ module _ {V : Type 0} (rows : NatMap (Row V)) (account : ℕ) (none : IsNoRows r
   no_rows_remove : (id : ℕ) → IsNoRows (remove rows id) account
   no_rows_remove id q row there = none q row (before_remove rows id q row there)
 
-module _ {T V : Type 0} (kept : T → Share → Type 0) (value : T → Share → V) (sessions now : Slab (Session T)) (client most : ℕ) (old new : Store) (regions after : Regions) (admits : Admits kept sessions client most old regions)
-    (server : IsServer kept now new after) (capacity : now.capacity ≡ sessions.capacity) where
+module _ {T V : Type 0} (value : T → Share → V) (sessions now : Slab (Session T)) (old new : Store) (regions after : Regions) where
   -- the rows before and after
   abbrev rows : NatMap (Row V)
   rows = sessions_of value sessions old regions
@@ -75,79 +74,105 @@ module _ {T V : Type 0} (kept : T → Share → Type 0) (value : T → Share →
   abbrev rows' : NatMap (Row V)
   rows' = sessions_of value now new after
 
-  -- a client whose account is still open, and no row's, can open as many sessions where as many places are free
-  admits_by : IsOpenIn new client → IsNoRows rows' client → room_in new + len rows' ≡ room_in old + len rows → Admits kept now client most new after
-  admits_by opens none places = record {
-    server = server;
-    is_open = opens;
-    no_session = no_session_by_rows value now new after client none;
-    places = omega (arith, admits.places, capacity);
-    room = omega (arith, admits.room, places, len-map_of (row_of value new after) now, len-map_of (row_of value old regions) sessions);
-  }
+  -- as many sessions are open as there are rows
+  many_before : len rows ≡ slab_len sessions
+  many_before = len-map_of (row_of value old regions) sessions
 
-  -- none of the rows before is on the client's account
-  none_before : IsNoRows rows client
-  none_before = no_rows value sessions old regions client admits.no_session
+  many_now : len rows' ≡ slab_len now
+  many_now = len-map_of (row_of value new after) now
 
-  -- a session of the client is opened
-  pub admits_opened : {ram caps id : ℕ} {first : V} → OpensSession client ram caps id first old new rows rows' → Admits kept now client most new after
-  admits_opened {ram} {caps} {id} {first} opens =
-      let apart = apart_from_free (accounts_in old) opens.key client opens.fresh admits.is_open in
+  -- one more is open after an open
+  pub open_opened : {client ram caps id : ℕ} {first : V} → OpensSession client ram caps id first old new rows rows' → slab_len now ≡ slab_len sessions + 1
+  open_opened {client} {ram} {caps} {id} {first} opens =
       let row : Row V = record { client = client; key = opens.key; account = session_account ram caps; value = first } in
-      admits_by (open_in_part client new (ap (λ (p : Part). is_some p.account) opens.parted))
-      (subst (λ r. IsNoRows r client) (sym opens.sessions) (no_rows_insert rows client none_before id row (λ e. apart (sym e))))
-      (omega (arith, opens.room, ap len opens.sessions, len-insert_new rows id row opens.free))
+      omega (arith, many_now, many_before, ap len opens.sessions, len-insert_new rows id row opens.free)
 
-  module _ (id : ℕ) (row : Row V) (there : get rows id ≡ Some row) where
-    -- the client's account isn't the session's
-    apart : client ≢ row.key
-    apart e = none_before id row there (sym e)
+  -- as many where a row is written over another
+  open_written : (id : ℕ) (row next : Row V) → get rows id ≡ Some row → rows' ≡ insert rows id next → slab_len now ≡ slab_len sessions
+  open_written id row next there is = omega (arith, many_now, many_before, ap len is, len-insert_at rows id next row there)
 
-    -- where its part stays, it stays open
-    open_stays : part client new ≡ part client old → IsOpenIn new client
-    open_stays same = open_in_part client new (ap (λ (p : Part). is_some p.account) same ∙ part_open client old admits.is_open)
+  -- as after a request
+  pub open_served : (id : ℕ) (row : Row V) → get rows id ≡ Some row → (served : Served V) → ServesSession row id served old new rows rows' → slab_len now ≡ slab_len sessions
+  open_served id row there served serves = open_written id row (record row { account = served.account; value = served.value }) there serves.sessions
 
-    -- another row is written under the session's key, on the same account
-    admits_written : (next : Row V) → next.key ≡ row.key → rows' ≡ insert rows id next → IsOpenIn new client → room_in new ≡ room_in old → Admits kept now client most new after
-    admits_written next same is opens room =
-        admits_by opens
-        (subst (λ r. IsNoRows r client) (sym is) (no_rows_insert rows client none_before id next (λ e. none_before id row there (sym same ∙ e))))
-        (omega (arith, room, ap len is, len-insert_at rows id next row there))
+  -- and one less after a close
+  pub open_closed : (id : ℕ) (row : Row V) → get rows id ≡ Some row → rows' ≡ remove rows id → slab_len now + 1 ≡ slab_len sessions
+  open_closed id row there is = omega (arith, many_now, many_before, ap len is, len-remove_at rows id row there)
 
-    -- a request of a session is answered
-    pub admits_served : (served : Served V) → ServesSession row id served old new rows rows' → Admits kept now client most new after
-    admits_served served serves =
-        admits_written (record row { account = served.account; value = served.value }) refl serves.sessions (open_stays (serves.others client apart)) serves.room
-
-    -- limits come to a session, of the client or of another
-    pub admits_raised : {ram caps : ℕ} → RaisesPart row.client row.key ram caps old new → rows' ≡ insert rows id (record row { account = raised row.account ram caps }) → Admits kept now client most new after
-    admits_raised {ram} {caps} raises is =
-        admits_written (record row { account = raised row.account ram caps }) refl is
-        (elim (cases_eq client row.client) [
-          | inl own ↦ open_in_part client new (ap (λ k. is_some (part k new).account) own ∙ ap (λ (p : Part). is_some p.account) raises.parted_one)
-          | inr other ↦ open_stays (raises.others client other apart)
-        ]) raises.room
-
-    -- or are refused, and then nothing has changed
-    pub admits_upgraded : (ram caps : ℕ) (r : Result ⊤ Refusal) → now ≡ sessions → OnOk r (RaisesPart row.client row.key ram caps old new) → OnOk r (rows' ≡ insert rows id (record row { account = raised row.account ram caps })) →
-        OnErr r (new ≡ old) → Admits kept now client most new after
-    admits_upgraded ram caps (Ok done) same raises is stays = admits_raised {ram = ram} {caps = caps} raises is
-    admits_upgraded ram caps (Err e) same raises is stays = record {
+  module _ {kept : T → Share → Type 0} {client most : ℕ} (admits : Admits kept sessions client most old regions) (server : IsServer kept now new after) (capacity : now.capacity ≡ sessions.capacity) where
+    -- a client whose account is still open, and no row's, can open as many sessions where as many places are free
+    admits_by : IsOpenIn new client → IsNoRows rows' client → room_in new + slab_len now ≡ room_in old + slab_len sessions → Admits kept now client most new after
+    admits_by opens none places = record {
       server = server;
-      is_open = subst (λ s. IsOpenIn s client) (sym stays) admits.is_open;
-      no_session = subst (λ s. IsNoSession s client) (sym same) admits.no_session;
+      is_open = opens;
+      no_session = no_session_by_rows value now new after client none;
       places = omega (arith, admits.places, capacity);
-      room = omega (arith, admits.room, ap room_in stays, ap slab_len same);
+      room = omega (arith, admits.room, places);
     }
 
-    -- a session is closed, of the client or of another
-    pub admits_closed : ClosesPart row.key row.client old new → rows' ≡ remove rows id → Admits kept now client most new after
-    admits_closed closes is =
-        admits_by (elim (cases_eq client row.client) [
-          | inl own ↦ open_in_part client new (ap (λ k. is_some (part k new).account) own ∙ ap (λ (p : Part). is_some p.account) closes.raised_one)
-          | inr other ↦ open_stays (closes.others client apart other)
-        ]) (subst (λ r. IsNoRows r client) (sym is) (no_rows_remove rows client none_before id))
-        (omega (arith, closes.room, ap len is, len-remove_at rows id row there))
+    -- none of the rows before is on the client's account
+    none_before : IsNoRows rows client
+    none_before = no_rows value sessions old regions client admits.no_session
+
+    -- a session of the client is opened
+    pub admits_opened : {ram caps id : ℕ} {first : V} → OpensSession client ram caps id first old new rows rows' → Admits kept now client most new after
+    admits_opened {ram} {caps} {id} {first} opens =
+        let apart = apart_from_free (accounts_in old) opens.key client opens.fresh admits.is_open in
+        let row : Row V = record { client = client; key = opens.key; account = session_account ram caps; value = first } in
+        admits_by (open_in_part client new (ap (λ (p : Part). is_some p.account) opens.parted))
+        (subst (λ r. IsNoRows r client) (sym opens.sessions) (no_rows_insert rows client none_before id row (λ e. apart (sym e))))
+        (omega (arith, opens.room, open_opened opens))
+
+    module _ (id : ℕ) (row : Row V) (there : get rows id ≡ Some row) where
+      -- the client's account isn't the session's
+      apart : client ≢ row.key
+      apart e = none_before id row there (sym e)
+
+      -- where its part stays, it stays open
+      open_stays : part client new ≡ part client old → IsOpenIn new client
+      open_stays same = open_in_part client new (ap (λ (p : Part). is_some p.account) same ∙ part_open client old admits.is_open)
+
+      -- another row is written under the session's key, on the same account
+      admits_written : (next : Row V) → next.key ≡ row.key → rows' ≡ insert rows id next → IsOpenIn new client → room_in new ≡ room_in old → Admits kept now client most new after
+      admits_written next same is opens room =
+          admits_by opens
+          (subst (λ r. IsNoRows r client) (sym is) (no_rows_insert rows client none_before id next (λ e. none_before id row there (sym same ∙ e))))
+          (omega (arith, room, open_written id row next there is))
+
+      -- a request of a session is answered
+      pub admits_served : (served : Served V) → ServesSession row id served old new rows rows' → Admits kept now client most new after
+      admits_served served serves =
+          admits_written (record row { account = served.account; value = served.value }) refl serves.sessions (open_stays (serves.others client apart)) serves.room
+
+      -- limits come to a session, of the client or of another
+      pub admits_raised : {ram caps : ℕ} → RaisesPart row.client row.key ram caps old new → rows' ≡ insert rows id (record row { account = raised row.account ram caps }) → Admits kept now client most new after
+      admits_raised {ram} {caps} raises is =
+          admits_written (record row { account = raised row.account ram caps }) refl is
+          (elim (cases_eq client row.client) [
+            | inl own ↦ open_in_part client new (ap (λ k. is_some (part k new).account) own ∙ ap (λ (p : Part). is_some p.account) raises.parted_one)
+            | inr other ↦ open_stays (raises.others client other apart)
+          ]) raises.room
+
+      -- or are refused, and then nothing has changed
+      pub admits_upgraded : (ram caps : ℕ) (r : Result ⊤ Refusal) → now ≡ sessions → OnOk r (RaisesPart row.client row.key ram caps old new) → OnOk r (rows' ≡ insert rows id (record row { account = raised row.account ram caps })) →
+          OnErr r (new ≡ old) → Admits kept now client most new after
+      admits_upgraded ram caps (Ok done) same raises is stays = admits_raised {ram = ram} {caps = caps} raises is
+      admits_upgraded ram caps (Err e) same raises is stays = record {
+        server = server;
+        is_open = subst (λ s. IsOpenIn s client) (sym stays) admits.is_open;
+        no_session = subst (λ s. IsNoSession s client) (sym same) admits.no_session;
+        places = omega (arith, admits.places, capacity);
+        room = omega (arith, admits.room, ap room_in stays, ap slab_len same);
+      }
+
+      -- a session is closed, of the client or of another
+      pub admits_closed : ClosesPart row.key row.client old new → rows' ≡ remove rows id → Admits kept now client most new after
+      admits_closed closes is =
+          admits_by (elim (cases_eq client row.client) [
+            | inl own ↦ open_in_part client new (ap (λ k. is_some (part k new).account) own ∙ ap (λ (p : Part). is_some p.account) closes.raised_one)
+            | inr other ↦ open_stays (closes.others client apart other)
+          ]) (subst (λ r. IsNoRows r client) (sym is) (no_rows_remove rows client none_before id))
+          (omega (arith, closes.room, open_closed id row there is))
 
 -- a server that has just booted admits as many sessions as it has places for, of a client that is open
 pub admits_at_first : {T : Type 0} (kept : T → Share → Type 0) (sessions : Slab (Session T)) (client most : ℕ) (store : Store) (regions : Regions) → sessions.slots ≡ [] → most ≤ sessions.capacity →

@@ -65,13 +65,6 @@ impl<S: Service + Drop> Server<S> {
         })
     }
 
-    /// How many sessions are open.
-    pub fn count(&self) -> usize
-        ensures { result ≡ slab_len self.now.sessions }
-    {
-        self.sessions.len()
-    }
-
     /// Whether a session is open.
     pub fn is_open(&self, id: SessionId) -> bool
         ensures { result ≡ is_some (slab.get self.now.sessions id.0) }

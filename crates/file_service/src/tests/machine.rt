@@ -15,17 +15,20 @@ const SESSIONS: usize = 2049;
 /// Limits or a use: RAM in bytes, and capabilities.
 pub(super) type Amounts = (Ram, Caps);
 
-/// A memory, a file server, and one client, which starts with all of the memory. It has at most 2,049 sessions.
+/// A memory, a file server, and one client, which starts with all of the memory. It has at most 2,049 sessions,
+/// and counts those that are open.
 #[derive(Drop)]
 pub(super) struct Machine {
     memory: Memory,
     server: Server<FileService>,
     client: AccountId,
+    open: usize,
     reply: Reply,
 }
 
 impl Model for Machine {
-    ghost use Rattle.std.specs.Prelude.{ℕ};
+    ghost use Rattle.std.specs.Prelude.{ℕ, ◌≡◌};
+    ghost use Rattle.slab.specs.Slab.{slab_len};
     ghost use Rattle.server_frame.specs.Frame.{Admits};
     ghost use Rattle.file_service.specs.Session.{IsSession};
 
@@ -34,7 +37,8 @@ impl Model for Machine {
     ghost view = { λ m. m.client.0 };
 
     ghost invariant = { λ m.
-        Admits IsSession m.server.sessions m.client.0 2049 m.memory m.server.map };
+        Admits IsSession m.server.sessions m.client.0 2049 m.memory m.server.map
+        × (m.open ≡ slab_len m.server.sessions) };
 }
 
 impl Machine {
@@ -58,6 +62,7 @@ impl Machine {
             memory,
             server,
             client,
+            open: 0,
             reply: Reply::boot(alloc).expect(rt, "memory for a reply"),
         }
     }
@@ -70,10 +75,11 @@ impl Machine {
         ram: u64,
         caps: u32,
     ) -> Result<SessionId, Refusal> {
-        assert!(rt; label.len() <= 100 && self.server.count() < SESSIONS);
+        assert!(rt; label.len() <= 100 && self.open < SESSIONS);
         let id = self
             .server
             .open(&mut self.memory, self.client, label, Ram(ram), Caps(caps))?;
+        self.open += 1;
         Ok(id)
     }
 
@@ -109,6 +115,7 @@ impl Machine {
     pub(super) fn close(&mut self, rt: &impl Abort, id: SessionId) {
         assert!(rt; self.server.is_open(id));
         self.server.close(&mut self.memory, id);
+        self.open -= 1;
     }
 
     /// The use and the limits of the client.

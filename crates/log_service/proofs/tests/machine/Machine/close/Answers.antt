@@ -1,11 +1,11 @@
 -- The client has the session's limits, and can open as many sessions as before.
-use Rattle.std.proofs.Common.{rules}
+use Rattle.std.proofs.Common.{rules, arith}
 use Rattle.slab.specs.Slab as slab
 use Rattle.dataspace_core.specs.Share.{Share}
 use Rattle.own_model.specs.Session.{Labelled}
 use Rattle.log_service.specs.Session.{LabelledLine, as_kept}
 use Rattle.server_frame.specs.Session.{HasBlocksAlone}
-use Rattle.server_frame.proofs.RowLaws.{row_at, admits_closed}
+use Rattle.server_frame.proofs.RowLaws.{row_at, admits_closed, open_closed}
 use Rattle.log_service.proofs.tests.machine.Machine.close.Goals as goal
 
 pub invariant_of-self : goal.invariant_of-self
@@ -13,6 +13,13 @@ invariant_of-self g c =
     let was = c.self.inside in
     let present : slab.ContainsKey was.server.sessions c.args.id.0 = search rules in
     let value : LabelledLine → Share → Labelled = λ session share. as_kept session in
-    let row = row_at value was.server.sessions was.memory was.server.map c.args.id.0 present in
-    admits_closed (λ session share. HasBlocksAlone share) value was.server.sessions c.close.new.self.sessions was.client.0 2049 was.memory c.close.new.memory was.server.map c.close.new.self.map
-    c.self.invariant c.close.ensures.server c.close.ensures.places c.args.id.0 row.0 row.1 (c.close.ensures.closes row.0 row.1) c.close.ensures.sessions
+    let row = row_at value was.server.sessions was.memory was.server.map c.args.id.0 present in (
+      admits_closed value was.server.sessions c.close.new.self.sessions was.memory c.close.new.memory was.server.map c.close.new.self.map
+          c.self.invariant.0 c.close.ensures.server c.close.ensures.places c.args.id.0 row.0 row.1 (c.close.ensures.closes row.0 row.1) c.close.ensures.sessions,
+      omega (
+        arith,
+        c.self.invariant.1,
+        open_closed value was.server.sessions c.close.new.self.sessions was.memory c.close.new.memory was.server.map c.close.new.self.map
+            c.args.id.0 row.0 row.1 c.close.ensures.sessions,
+      ),
+    )
