@@ -45,7 +45,10 @@ fn told_among(
     let mut told = Vec::new(alloc);
     let mut count: u64 = 0;
     let mut rest = input;
-    while !rest.is_empty() {
+    for _ in 0..input.len() {
+        if rest.is_empty() {
+            break;
+        }
         let end = rest
             .iter()
             .position(|byte| *byte == b'\n')
