@@ -32,7 +32,7 @@ use Rattle.pd_core.specs.Release.{IsCleared}
 use Rattle.pd_core.specs.Sound.{IsSoundScript, Keeps}
 use Rattle.heap_window.proofs.BesideLemmas.{standing, none_standing, sliced_standing, elsewhere_standing}
 use Rattle.pd_core.proofs.OwnLemmas.{all_sessions, selects}
-use Rattle.pd_core.proofs.SlicedLemmas.{heap_beside, parts_stay}
+use Rattle.pd_core.proofs.SlicedLemmas.{LeavesHeap, heap_beside, parts_stay}
 
 module _ (store : Store) (script : Script) (sound : IsSoundScript store script) where
   -- ---- the sliced heap ends
@@ -52,31 +52,28 @@ module _ (store : Store) (script : Script) (sound : IsSoundScript store script) 
           | Some q ↦ λ one. absurd (none-some r (sym (given.gone s q one) ∙ at))
         ] refl
 
-    -- so it is a chunk's or a large block's
-    where_is : (s : ℕ) (r : Region) → get after.heap s ≡ Some r →
-        (get (block_regions (share_at script.account.0 mid after)) s ≡ Some r) ⊎ ((get script.regions.heap s ≡ Some r) × IsSome (block_region (share_at script.account.0 store script.regions) s))
-    where_is s r at = let was = was_there s r at in elim (sound.heaps.all s r was.0) [
-      | inl one ↦ absurd (none-some r (sym was.1 ∙ one))
-      | inr one ↦ inr (was.0, one)
-    ]
-
-    -- chunks and large blocks stand where they stood
-    beside : (s : ℕ) → standing after.heap after.tags s ≡ standing script.regions.heap script.regions.tags s
-    beside s =
+    -- so it is a chunk's or a large block's, and these stand where they stood
+    leaves : LeavesHeap store script mid after
+    leaves =
         let blocks = block_regions (share_at script.account.0 store script.regions) in
-        elim (get blocks s) as (λ o. get blocks s ≡ o → standing after.heap after.tags s ≡ standing script.regions.heap script.regions.tags s) [
-          | None ↦ λ none. let same = given.kept s none in elsewhere_standing script.regions.heap after.heap script.regions.tags after.tags s same.0 same.1
-          | Some q ↦ λ one.
-              let is = shown_block script.account.0 store script.regions s q one in
-              none_standing after.heap after.tags s (given.gone s q one) ∙ sym (sliced_standing script.regions.heap script.regions.tags s q is.there is.tag)
-        ] refl
-
-    lie : LieApart heap_low (heap_high script.regions.pages) after.heap
-    lie = LieApart-fewer heap_low (heap_high script.regions.pages) script.regions.heap after.heap (λ s r at. (was_there s r at).0) sound.heaps.heap.window.lie
+        let heap = script.regions.heap in record {
+          lie = LieApart-fewer heap_low (heap_high script.regions.pages) heap after.heap (λ s r at. (was_there s r at).0) sound.heaps.heap.window.lie;
+          beside = λ s. elim (get blocks s) as (λ o. get blocks s ≡ o → standing after.heap after.tags s ≡ standing heap script.regions.tags s) [
+            | None ↦ λ none. let same = given.kept s none in elsewhere_standing heap after.heap script.regions.tags after.tags s same.0 same.1
+            | Some q ↦ λ one.
+                let is = shown_block script.account.0 store script.regions s q one in
+                none_standing after.heap after.tags s (given.gone s q one) ∙ sym (sliced_standing heap script.regions.tags s q is.there is.tag)
+          ] refl;
+          keeps = λ k none held. given.dataspaces k none;
+          either = λ s r at. let was = was_there s r at in elim (sound.heaps.all s r was.0) [
+            | inl one ↦ absurd (none-some r (sym was.1 ∙ one))
+            | inr one ↦ inr (was.0, one)
+          ];
+        }
 
     -- so the other heap stays
     pub heap_left : HeapStays script.heap store mid script.regions after
-    heap_left = heap_beside store script sound left pays others lie beside (λ k none held. given.dataspaces k none) where_is
+    heap_left = heap_beside store script sound left pays others leaves
 
     -- the account is credited with the blocks
     credit : account_of (part script.account.0 mid)
