@@ -1,5 +1,5 @@
 -- A script's heaps end one after the other, and then its account uses nothing and closes.
-use Rattle.std.proofs.Common.{◌≡◌, ◌≢◌, ◌⊎◌, ℕ, ◌*◌, Option, Some, None, is_some, IsSome, unwrap_or, refl, sym, ap, subst, ◌∙◌, arith, inl, inr}
+use Rattle.std.proofs.Common.{◌≡◌, ◌≢◌, ℕ, ◌*◌, Option, Some, None, is_some, unwrap_or, refl, sym, ap, subst, ◌∙◌, arith, inl, inr}
 use Rattle.std.proofs.lemmas.Option.{none-some}
 use Rattle.std.specs.FinMap.{get, len}
 use Rattle.trade_base.specs.declared.id.AccountId.{AccountId}
@@ -8,7 +8,6 @@ use Rattle.own_model.specs.HeapWindow.{heap_low, heap_high}
 use Rattle.own_model.specs.NatMap.{total}
 use Rattle.own_model.specs.Region.{Region}
 use Rattle.own_model.specs.Sliced.{block_size}
-use Rattle.own_model.specs.Sound.{LieApart}
 use Rattle.own_model.specs.Use.{heap_count, heap_size, object_caps}
 use Rattle.own_model.proofs.ApartLemmas.{LieApart-fewer}
 use Rattle.own_model.proofs.NatMapLemmas.{none_at, some_of, value_at}
@@ -21,7 +20,7 @@ use Rattle.dataspace_core.proofs.PartLaws.{account_of-part, open_in_part, part_o
 use Rattle.heap_core.specs.declared.heap.Heap.{Heap}
 use Rattle.heap_core.specs.Calls.{GivesAll as GivesAllOfHeap}
 use Rattle.heap_core.specs.Heap.{payer_of as heap_payer, heap_at, IsSound as IsSoundHeap}
-use Rattle.heap_core.specs.Laws.{block_region, HeapStays}
+use Rattle.heap_core.specs.Laws.{HeapStays}
 use Rattle.sliced_heap.specs.declared.heap.SlicedHeap.{SlicedHeap}
 use Rattle.sliced_heap.specs.Heap.{payer_of, share_at, IsSound as IsSoundSliced, KeepsOthers, GivesAll}
 use Rattle.sliced_heap.specs.Sliced.{block_regions}

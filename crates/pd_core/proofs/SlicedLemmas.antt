@@ -44,7 +44,8 @@ use Rattle.heap_window.proofs.BesideLemmas.{map_of, standing, whole_standing, sl
 use Rattle.heap_core.proofs.StayLemmas.{heap_stays}
 use Rattle.heap_core.proofs.BlockRangeLemmas.{blocks_are_regions as heap_blocks_are_regions}
 use Rattle.pd_core.proofs.OwnLemmas.{slices}
-use Rattle.pd_core.proofs.ScriptLemmas.{Finishes, at_heap, block_there, is_region}
+use Rattle.pd_core.specs.Does.{Does}
+use Rattle.pd_core.proofs.ScriptLemmas.{at_heap, block_there, is_region}
 
 -- what is made of something comes of something
 mapped_some : {X Y : Type 0} (f : X → Y) (o : Option X) (y : Y) → option_map f o ≡ Some y → (x : X) × (o ≡ Some x)
@@ -98,7 +99,7 @@ module _ (store : Store) (script : Script) (sound : IsSoundScript store script) 
         reply = reply;
         lines = [];
         next = record (own_at sessions store script) { account = account_of (part script.account.0 store'); heap = heap_at heap' store' after; sliced = blocks_at script.account.0 store' after };
-      }) → Finishes call reply store script store' (record script { regions = after; heap = heap'; sliced = sliced' })
+      }) → Does call reply store script store' (record script { regions = after; heap = heap'; sliced = sliced' })
   finishes_heaps {store'} {after} {heap'} {sliced'} changes {call} {reply} is =
       let account = script.account.0 in
       let p' = part account store' in
@@ -256,8 +257,8 @@ module _ (store : Store) (script : Script) (sound : IsSoundScript store script) 
             leaves = record {
               lie = rw after_more (lie_with script.regions.pages heap taken.ds (sliced_size n / 4096) taken.start (new_page n) sound.heaps.heap.window.lie taken.gap);
               beside = λ s.
-              (λ i. standing (after_more i) (ap (λ (r : Regions). r.tags) taken.attached i) s)
-              ∙ stands_beside_more heap script.regions.tags taken.start more free s;
+                  (λ i. standing (after_more i) (ap (λ (r : Regions). r.tags) taken.attached i) s)
+                  ∙ stands_beside_more heap script.regions.tags taken.start more free s;
               keeps = λ k none held. taken.dataspaces k (apart_from_free (part_at store script).spaces taken.ds k fresh held) none;
               either = λ s r at. elim (grown s r at) [
                 | inl here ↦ inl (ap (λ m. get m s) taken.stands ∙ get-insert_same blocks taken.start more s here.0 ∙ ap (λ x. Some x) (sym here.1))
@@ -277,7 +278,7 @@ module _ (store : Store) (script : Script) (sound : IsSoundScript store script) 
           }
 
       -- a block that the sliced heap takes is the model's
-      pub snew_finishes : None ≡ sliced_refusal n (account_in store (payer_of script.sliced)) → Finishes (Snew n) (Attached address) store script store' (record script { regions = after; sliced = sliced' })
+      pub snew_finishes : None ≡ sliced_refusal n (account_in store (payer_of script.sliced)) → Does (Snew n) (Attached address) store script store' (record script { regions = after; sliced = sliced' })
       unfolding own_of part
       snew_finishes accepted =
           let fits : sliced_refusal n (account_of (part_at store script)) ≡ None = ap (λ a. sliced_refusal n (account_in store a)) (sym sound.heaps.sliced_pays) ∙ sym accepted in
@@ -325,16 +326,16 @@ module _ (store : Store) (script : Script) (sound : IsSoundScript store script) 
             leaves = record {
               lie = rw after_less (lie_without script.regions.pages heap given.start sound.heaps.heap.window.lie);
               beside = λ s.
-              (λ i. standing (after_less i) (ap (λ (r : Regions). r.tags) given.detached i) s)
-              ∙ stands_beside_less heap script.regions.tags given.start less given.region tag s;
+                  (λ i. standing (after_less i) (ap (λ (r : Regions). r.tags) given.detached i) s)
+                  ∙ stands_beside_less heap script.regions.tags given.start less given.region tag s;
               keeps = λ k none held. given.dataspaces k none;
               either = λ s r at.
-              let there = before_remove heap given.start s r (left s r at) in
-              let apart : s ≢ given.start = λ e. none-some r (sym (get-remove_same heap given.start s e) ∙ left s r at) in
-              elim (sound.heaps.all s r there) [
-                | inl one ↦ inl (ap (λ m. get m s) given.left ∙ get-remove_other blocks given.start s apart ∙ one)
-                | inr one ↦ inr (there, one)
-              ];
+                  let there = before_remove heap given.start s r (left s r at) in
+                  let apart : s ≢ given.start = λ e. none-some r (sym (get-remove_same heap given.start s e) ∙ left s r at) in
+                  elim (sound.heaps.all s r there) [
+                    | inl one ↦ inl (ap (λ m. get m s) given.left ∙ get-remove_other blocks given.start s apart ∙ one)
+                    | inr one ↦ inr (there, one)
+                  ];
             };
             unnamed = λ start q r d there names. sound.own.blocks.unnamed start q r d (before_remove heap given.start start r (left start r there)) names;
             ram_limit = ap (λ (a : Account). a.ram_limit) credit;
@@ -343,7 +344,7 @@ module _ (store : Store) (script : Script) (sound : IsSoundScript store script) 
           }
 
       -- a block that the sliced heap gives back is the model's
-      pub sdel_finishes : Finishes (Sdel address) Done store script store' (record script { regions = after; sliced = sliced' })
+      pub sdel_finishes : Does (Sdel address) Done store script store' (record script { regions = after; sliced = sliced' })
       unfolding own_of
       sdel_finishes =
           let value = (heap_beside one_less.leaves).value in

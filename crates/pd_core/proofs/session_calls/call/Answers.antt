@@ -3,7 +3,7 @@ use Rattle.std.proofs.Common.{rules, get_or, refl, sym, subst, ◌∙◌}
 use Rattle.own_model.specs.Call.Call.{CallSession}
 use Rattle.pd_core.specs.SessionCalls.{Goes}
 use Rattle.pd_core.proofs.SessionRefusedLemmas.{call_asks, unnamed_goes}
-use Rattle.pd_core.proofs.SessionGoesLemmas.{Names, named_two, named_cap, host_within, host_serves, call_goes}
+use Rattle.pd_core.proofs.SessionWorldLemmas.{Names, named_two, named_cap, host_within, host_serves, call_goes}
 use Rattle.pd_core.proofs.WorldLemmas.{role_at}
 use Rattle.pd_core.proofs.session_calls.call.Goals as goal
 
