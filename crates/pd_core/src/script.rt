@@ -1,7 +1,7 @@
 //! A script, and its calls: what each does to its account, its capabilities, its regions and the memory.
 
 use crate::accounts::quotas_of;
-use crate::answer::{Answer, Quotas, tell};
+use crate::answer::{Answer, Quotas, refuse, tell};
 use crate::bytes::{MOST_BYTES, tell_range};
 use crate::call::Call;
 use cap_space::{Cap, CapSpace};
@@ -177,7 +177,7 @@ impl Script {
     {
         match self.range(memory, address, count) {
             Ok((space, offset)) => tell_range(reply, memory, space, offset, count as usize),
-            Err(refusal) => tell(Err(refusal), reply),
+            Err(refusal) => refuse(refusal, reply),
         }
     }
 

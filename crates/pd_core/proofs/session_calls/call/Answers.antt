@@ -10,7 +10,7 @@ use Rattle.pd_core.proofs.session_calls.call.Goals as goal
 pub returns-in-Err : goal.returns-in-Err
 returns-in-Err c = λ rules.
     let components = c.args.components.now in
-    subst (λ told. Goes rules (CallSession c.args.selector c.args.request.now) c.args.caller told c.args.memory.now components c.args.memory.now components) (sym c.tell.ensures)
+    subst (λ told. Goes rules (CallSession c.args.selector c.args.request.now) c.args.caller told c.args.memory.now components c.args.memory.now components) (sym c.refuse.ensures)
     (unnamed_goes rules components c.index-components-caller.result c.requires.core c.requires.caller (CallSession c.args.selector c.args.request.now) c.args.selector (call_asks c.args.selector c.args.request.now)
     c.in-Err.refusal c.session.ensures c.in-Err.is)
 
