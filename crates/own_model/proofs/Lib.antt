@@ -52,6 +52,8 @@ pub mod FileReadLemmas
 pub mod FileTextLemmas
 pub mod LentLemmas
 pub mod SessionLemmas
+pub mod LentKeptLemmas
+pub mod ChargeLemmas
 pub mod DonationLemmas
 pub mod SessionSoundLemmas
 pub mod RouteLemmas
