@@ -14,7 +14,7 @@ use Rattle.own_model.specs.OwnState.{OwnState, Object, NamedBuffer, is_buffer_of
 use Rattle.own_model.specs.OwnState.Object.{Dataspace, RpcObject, OpenSession, Buffer}
 use Rattle.own_model.specs.OwnStep.{selectors_lent, gone_state}
 use Rattle.own_model.specs.Session.{Session, new_session, upgraded, served}
-use Rattle.own_model.specs.SessionLaws.{RunKeepsLent, StartsLent}
+use Rattle.own_model.specs.LentLaws.{StartsLent, RunKeepsLent}
 use Rattle.own_model.specs.Sound.{AreLent}
 use Rattle.own_model.specs.StartList.{start_state}
 use Rattle.trade_base.specs.Page.{page_of}

@@ -58,6 +58,7 @@ pub mod DonationLemmas
 pub mod SessionSoundLemmas
 pub mod RouteLemmas
 pub mod AloneLemmas
+pub mod LentAloneLemmas
 pub mod ListedLemmas
 pub mod SaidByLemmas
 pub mod AccountLemmas

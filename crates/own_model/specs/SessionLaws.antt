@@ -18,15 +18,7 @@ use Rattle.own_model.specs.Use.{UseTheirCharges}
 abbrev pub StartsWithoutSessions : Type 0
 StartsWithoutSessions = (start : StartEntry) → EachSession (λ session. ⊥) (start_state start)
 
--- nor with a buffer, so each is of an open session
-abbrev pub StartsLent : Type 0
-StartsLent = (start : StartEntry) → AreLent (start_state start).selectors
-
--- calls leave each buffer to an open session, which has no other
-abbrev pub RunKeepsLent : Type 0
-RunKeepsLent = (entry : Entry) (calls : List Call) (s : OwnState) → AreLent s.selectors → AreLent (own_run entry calls s).selectors
-
--- and each session's account using what the session is charged for, its buffer among it, and no more
+-- calls leave each session's account using what the session is charged for, its buffer among it, and no more
 abbrev pub RunKeepsCharges : Type 0
 RunKeepsCharges =
     (entry : Entry) (calls : List Call) (s : OwnState) → AreLent s.selectors → UseTheirCharges s → UseTheirCharges (own_run entry calls s)
