@@ -8,14 +8,15 @@ use Rattle.std.specs.FinMap.{get, insert, remove}
 use Rattle.trade_base.specs.declared.refusal.Refusal.{Refusal}
 use Rattle.own_model.proofs.NatMapLemmas.{get-insert_same, get-insert_other, get-remove_other}
 use Rattle.own_model.proofs.NewSelector.{new_selector_free}
+use Rattle.own_model.proofs.LentLemmas.{lent_still}
 use Rattle.own_model.proofs.StepLemmas.{KeptByEffects}
 use Rattle.own_model.proofs.TableLemmas.{others_go_on}
 use Rattle.own_model.specs.Account.{shortage}
 use Rattle.own_model.specs.Call.{Call, is_of_session, is_exit}
 use Rattle.own_model.specs.Call.Call.{Alloc, Free, Attach, AttachAt, Detach, Peek, Poke, Capalloc, Capfree, New, Del, Snew, Sdel, Quota, Open, Upgrade, CallSession, Close, Exit}
-use Rattle.own_model.specs.OwnState.{OwnState, Object, new_selector, object_with}
+use Rattle.own_model.specs.OwnState.{OwnState, Object, new_selector, object_with, buffer_of, bytes_of_buffer}
 use Rattle.own_model.specs.OwnState.Object.{Dataspace, RpcObject, OpenSession, Buffer}
-use Rattle.own_model.specs.OwnStep.{Outcome, own_step, unless, turned_away, opened_by, session_opened, upgraded_by, session_upgraded, session_called, session_closed}
+use Rattle.own_model.specs.OwnStep.{Outcome, own_step, unless, turned_away, opened_by, session_opened, upgraded_by, session_upgraded, session_called, session_closed, selectors_lent}
 use Rattle.own_model.specs.Session.{Session, Wish, wish, donation_refusal, new_session, upgraded, served}
 use Rattle.own_model.specs.SessionArgs.{Arguments}
 use Rattle.own_model.specs.SessionLaws.{is_of, SessionsStandAlone}
@@ -78,11 +79,18 @@ module _ (selector : ℕ) (session : Session) where
 
       serves : (found : Option Session) (request : List ℕ) → IsThere (session_called of found request s).next
       serves None request = there
-      serves (Some x) request = replaced of (OpenSession (served None x request).session) other
+      serves (Some x) request =
+          let buffer = buffer_of of s.selectors in
+          let o = served (bytes_of_buffer buffer) x request in
+          get-insert_other (selectors_lent of buffer o.buffer s.selectors) of (OpenSession o.session) selector other
+          ∙ lent_still of s.selectors buffer o.buffer refl selector (OpenSession session) there refl
 
       closes : (found : Option Session) → IsThere (session_closed of found s).next
       closes None = there
-      closes (Some x) = left of other
+      closes (Some x) =
+          let buffer = buffer_of of s.selectors in
+          get-remove_other (selectors_lent of buffer None s.selectors) of selector other
+          ∙ lent_still of s.selectors buffer None refl selector (OpenSession session) there refl
 
   -- another selector's call
   otherwise : (of : ℕ) → (of == selector) ≡ false → selector ≢ of

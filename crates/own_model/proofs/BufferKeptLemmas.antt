@@ -147,7 +147,7 @@ all_keep_within request buffer files account h = all_keep (λ f a b. WithinLimit
 -- ---- how long a buffer is
 
 -- as before
-same_fits : (buffer : Option (List ℕ)) → FitsBuffer buffer buffer
+pub same_fits : (buffer : Option (List ℕ)) → FitsBuffer buffer buffer
 same_fits None = tt
 same_fits (Some bytes) = refl
 

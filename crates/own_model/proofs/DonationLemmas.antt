@@ -7,7 +7,7 @@ use Rattle.std.specs.Prelude.{Option, None}
 use Rattle.std.specs.FinMap.{get, insert}
 use Rattle.own_model.proofs.LimitLemmas.{serve_keeps}
 use Rattle.own_model.proofs.NatMapLemmas.{get-insert_same, get-insert_other, before_remove}
-use Rattle.own_model.proofs.SessionLemmas.{EachNamed, effects_named, named_there, gone_named}
+use Rattle.own_model.proofs.SessionLemmas.{EachNamed, effects_named, each_lent, named_there, gone_named}
 use Rattle.own_model.proofs.TableLemmas.{others_keep}
 use Rattle.trade_base.specs.declared.refusal.Refusal.{Refusal}
 use Rattle.trade_base.specs.declared.refusal.Refusal.TheVariants.{InvalidSession}
@@ -16,9 +16,9 @@ use Rattle.own_model.specs.Call.{Call, is_of_session}
 use Rattle.own_model.specs.Call.Call.{Alloc, Free, Attach, AttachAt, Detach, Peek, Poke, Capalloc, Capfree, New, Del, Snew, Sdel, Quota, Open, Upgrade, CallSession, Close, Exit}
 use Rattle.own_model.specs.Donated.{Donation, donation_in, more_of, counted, donated_after}
 use Rattle.own_model.specs.Donation.{raised}
-use Rattle.own_model.specs.OwnState.{OwnState, new_selector, session_named}
+use Rattle.own_model.specs.OwnState.{OwnState, new_selector, session_named, buffer_of, bytes_of_buffer}
 use Rattle.own_model.specs.OwnState.Object.{OpenSession}
-use Rattle.own_model.specs.OwnStep.{Outcome, own_step, own_run, unless, turned_away, opened_by, session_opened, upgraded_by, session_upgraded, session_called, session_closed}
+use Rattle.own_model.specs.OwnStep.{Outcome, own_step, own_run, unless, turned_away, opened_by, session_opened, upgraded_by, session_upgraded, session_called, session_closed, selectors_lent, with_buffer}
 use Rattle.own_model.specs.Reply.{Reply}
 use Rattle.own_model.specs.Reply.Reply.{Done, Refused}
 use Rattle.own_model.specs.Routes.{Rule, Service, provider}
@@ -99,14 +99,19 @@ module _ (selector : ℕ) where
           IsCounted (CallSession of request) sum (session_called of found request s)
       serves request None at = h
       serves request (Some x) at =
-          let same = serve_keeps x.state None x request in
+          let buffer = buffer_of of s.selectors in
+          let o = served (bytes_of_buffer buffer) x request in
+          let same = serve_keeps x.state (bytes_of_buffer buffer) x request in
           subst (λ d. AreCounted d (session_called of (Some x) request s).next) (either (of == selector) sum)
-          (puts (of == selector) of refl sum sum s s.account (served None x request).session (λ here. let before = h of x (at x refl) here in (same.0 ∙ before.0, same.1 ∙ before.1)) h)
+          (puts (of == selector) of refl sum sum (with_buffer of buffer o.buffer s) s.account o.session (λ here. let before = h of x (at x refl) here in (same.0 ∙ before.0, same.1 ∙ before.1))
+          (each_lent (HasLimits sum) of buffer o.buffer s.selectors h))
 
       -- a close
       closes : (found : Option Session) → IsCounted (Close of) sum (session_closed of found s)
       closes None = h
-      closes (Some x) = λ q y is. h q y (before_remove s.selectors of q (OpenSession y) is)
+      closes (Some x) = λ q y is.
+          let buffer = buffer_of of s.selectors in
+          each_lent (HasLimits sum) of buffer None s.selectors h q y (before_remove (selectors_lent of buffer None s.selectors) of q (OpenSession y) is)
 
   -- ---- all calls
 

@@ -50,11 +50,15 @@ pub mod BufferErrorLemmas
 pub mod FilePlaceLemmas
 pub mod FileReadLemmas
 pub mod FileTextLemmas
+pub mod LentLemmas
 pub mod SessionLemmas
+pub mod LentKeptLemmas
+pub mod ChargeLemmas
 pub mod DonationLemmas
 pub mod SessionSoundLemmas
 pub mod RouteLemmas
 pub mod AloneLemmas
+pub mod LentAloneLemmas
 pub mod ListedLemmas
 pub mod SaidByLemmas
 pub mod AccountLemmas

@@ -2,7 +2,8 @@
 use Rattle.std.proofs.lemmas.Bool.Decides.{nat_tests}
 use Rattle.std.proofs.Common.{rules, ◌≡◌, ℕ, false, cond, lit≤, Option, Some, None, List, [], ◌∷◌, refl, arith}
 use Rattle.own_model.proofs.BufferKeptLemmas.{all_keep_limits, all_keep_within}
-use Rattle.std.specs.FinMap.{insert}
+use Rattle.std.specs.FinMap.{get, insert}
+use Rattle.own_model.proofs.LentLemmas.{lent_still, total_lent}
 use Rattle.trade_base.specs.declared.refusal.Refusal.{Refusal}
 use Rattle.trade_base.specs.declared.refusal.Refusal.TheVariants.{OutOfCaps}
 use Rattle.own_model.proofs.StepLemmas.{KeptBySessions, KeptByEffects, covers, short_of_caps, accepted_size, accepted_block, accepted_growth}
@@ -10,8 +11,8 @@ use Rattle.own_model.specs.Account.{Account, WithinLimits, shortage}
 use Rattle.own_model.specs.BufferService.{session_request}
 use Rattle.own_model.specs.Call.{Call, is_exit}
 use Rattle.own_model.specs.Call.Call.{Capalloc}
-use Rattle.own_model.specs.OwnState.{OwnState, Object, EachSession, new_selector, object_with}
-use Rattle.own_model.specs.OwnStep.{gone_state, own_step, own_run, script_step, unless, cap_allocated}
+use Rattle.own_model.specs.OwnState.{OwnState, Object, EachSession, new_selector, object_with, buffer_of, bytes_of_buffer}
+use Rattle.own_model.specs.OwnStep.{gone_state, own_step, own_run, script_step, unless, cap_allocated, selectors_lent, session_called, session_closed}
 use Rattle.own_model.specs.Laws.{StepKeepsLimits, OthersKeepOwnLimits, ExitsReturnLimits}
 use Rattle.own_model.specs.Donation.{raised}
 use Rattle.own_model.specs.Reply.Reply.{Refused}
@@ -20,10 +21,9 @@ use Rattle.own_model.proofs.SessionLemmas.{donation_covered, large_enough, effec
 use Rattle.own_model.proofs.Totals.{total-empty, total-insert_new, total-insert_same, total-insert_at, total-remove}
 use Rattle.own_model.specs.Limits.{ram_with, caps_with, ram_limits, caps_limits, init_after, AreWithinLimits}
 use Rattle.own_model.specs.NatMap.{total}
-use Rattle.own_model.specs.OwnState.{Object, EachSession, new_selector, object_with}
 use Rattle.own_model.specs.OwnState.Object.{Dataspace, RpcObject, OpenSession, Buffer}
 use Rattle.own_model.specs.Routes.{Rule}
-use Rattle.own_model.specs.Session.{Session, ServiceState, served_by}
+use Rattle.own_model.specs.Session.{Session, ServiceState, served, served_by}
 use Rattle.own_model.specs.Session.ServiceState.{Logging, Filing}
 use Rattle.own_model.specs.StartList.{Entry}
 use Rattle.own_model.specs.StartList.Kind.{Server}
@@ -133,9 +133,31 @@ pub serve_keeps : (state : ServiceState) (buffer : Option (List ℕ)) (x : Sessi
 serve_keeps (Logging partial) buffer x request = (refl, refl)
 serve_keeps (Filing files) buffer x request = all_keep_limits (session_request request) buffer files x.account
 
+-- a request leaves limits, whatever it does to a buffer
+serve_moves : (s : OwnState) (q : ℕ) (x : Session) (request : List ℕ) → get s.selectors q ≡ Some (OpenSession x) → SameInAll s (session_called q (Some x) request s).next
+serve_moves s q x request there =
+    let buffer = buffer_of q s.selectors in
+    let o = served (bytes_of_buffer buffer) x request in
+    let lent = selectors_lent q buffer o.buffer s.selectors in
+    let still = lent_still q s.selectors buffer o.buffer refl q (OpenSession x) there refl in
+    let same = serve_keeps x.state (bytes_of_buffer buffer) x request in (
+      omega (arith, total-insert_same ram_with lent q (OpenSession o.session) (OpenSession x) still same.0, total_lent q s.selectors ram_with (λ of bytes. refl) buffer o.buffer refl),
+      omega (arith, total-insert_same caps_with lent q (OpenSession o.session) (OpenSession x) still same.1, total_lent q s.selectors caps_with (λ of bytes. refl) buffer o.buffer refl),
+    )
+
+-- and a close moves those of the session
+close_moves : (s : OwnState) (q : ℕ) (x : Session) → get s.selectors q ≡ Some (OpenSession x) → SameInAll s (session_closed q (Some x) s).next
+close_moves s q x there =
+    let buffer = buffer_of q s.selectors in
+    let lent = selectors_lent q buffer None s.selectors in
+    let still = lent_still q s.selectors buffer None refl q (OpenSession x) there refl in (
+      omega (arith, total-remove ram_with lent q (OpenSession x) still, total_lent q s.selectors ram_with (λ of bytes. refl) buffer None refl),
+      omega (arith, total-remove caps_with lent q (OpenSession x) still, total_lent q s.selectors caps_with (λ of bytes. refl) buffer None refl),
+    )
+
 -- calls of sessions move limits
 sessions_move : (s : OwnState) → KeptBySessions (SameInAll s) s
-sessions_move s = search (rules, new_selector_free, donation_covered, total-insert_new, covers, total-insert_at, serve_keeps, total-insert_same, total-remove)
+sessions_move s = search (rules, new_selector_free, donation_covered, total-insert_new, covers, total-insert_at, serve_moves, close_moves)
 
 -- a call that isn't an exit changes no limits, or moves some
 pub limits_move : (entry : Entry) (call : Call) (s : OwnState) → is_exit call ≡ false → SameInAll s (own_step entry call s).next

@@ -1,6 +1,6 @@
 -- What a finite map from numbers answers: after a change, where it is picked from another, and by induction on its insertions.
 use Rattle.std.proofs.Common.{◌≡◌, ℕ, ◌≢◌, ◌⊎◌, Bool, true, false, cond, eqb, ◌&&◌, T, List, [], ◌∷◌, is_some, IsSome, Some, refl, sym, ap, subst, ◌∙◌, eqb-true, true≢false, nat_cmp, is_eq, is_lt, Ordering, Less, Equal, Greater, arith}
-use Rattle.std.proofs.lemmas.Bool.{cases_eq}
+use Rattle.std.proofs.lemmas.Bool.{cases_eq, eqb-false}
 use Rattle.std.proofs.lemmas.Bool.Decides.{nat_tests}
 use Rattle.std.proofs.lemmas.Option.{none-some, same_Some}
 use Rattle.std.proofs.lemmas.List.{nil_from_length}
@@ -48,6 +48,20 @@ module _ {X : Type 0} where
   -- and at another key
   pub get-remove_other : (m : NatMap X) (k q : ℕ) → q ≢ k → get (remove m k) q ≡ get m q
   get-remove_other m k q apart = grind (arith, nat_tests, get-remove m k q)
+
+-- what a function tells of what is under a key it tells after a change at a key of which it tells the same as before
+module _ {X Y : Type 0} (f : Option X → Y) (m : NatMap X) (k : ℕ) where
+  pub alike_insert : (v : X) → f (Some v) ≡ f (get m k) → (q : ℕ) → f (get (insert m k v) q) ≡ f (get m q)
+  alike_insert v same q = elim (eqb q k) as (λ b. eqb q k ≡ b → f (get (insert m k v) q) ≡ f (get m q)) [
+    | true ↦ λ at. ap f (get-insert_same m k v q (eqb-true q k at)) ∙ same ∙ ap (λ j. f (get m j)) (sym (eqb-true q k at))
+    | false ↦ λ other. ap f (get-insert_other m k v q (eqb-false q k other))
+  ] refl
+
+  pub alike_remove : f None ≡ f (get m k) → (q : ℕ) → f (get (remove m k) q) ≡ f (get m q)
+  alike_remove same q = elim (eqb q k) as (λ b. eqb q k ≡ b → f (get (remove m k) q) ≡ f (get m q)) [
+    | true ↦ λ at. ap f (get-remove_same m k q (eqb-true q k at)) ∙ same ∙ ap (λ j. f (get m j)) (sym (eqb-true q k at))
+    | false ↦ λ other. ap f (get-remove_other m k q (eqb-false q k other))
+  ] refl
 
 -- nothing is in a map that is empty
 pub none_in_empty : {X : Type 0} (m : NatMap X) → m ≡ empty → (q : ℕ) (w : X) → get m q ≡ Some w → ⊥

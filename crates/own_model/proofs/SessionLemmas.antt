@@ -9,12 +9,12 @@ use Rattle.own_model.proofs.NatMapLemmas.{each_after_insert, before_remove, get-
 use Rattle.own_model.proofs.StepLemmas.{KeptByEffects, KeptBySessions, covers}
 use Rattle.own_model.specs.Account.{Account, Fits}
 use Rattle.own_model.specs.NatMap.{NatMap}
-use Rattle.own_model.specs.OwnState.{OwnState, Object, EachSession, session_named, new_selector, object_with}
+use Rattle.own_model.specs.OwnState.{OwnState, Object, NamedBuffer, EachSession, session_named, new_selector, object_with, buffer_of, bytes_of_buffer}
 use Rattle.own_model.specs.OwnState.Object.{Dataspace, RpcObject, OpenSession, Buffer}
 use Rattle.own_model.specs.Session.{Session, Wish, donation_refusal, too_small, new_session, upgraded, served, session_ram, session_caps}
 use Rattle.trade_base.specs.declared.refusal.Refusal.{Refusal}
 use Rattle.std.proofs.lemmas.Bool.{ltb-false}
-use Rattle.own_model.specs.OwnStep.{gone_state}
+use Rattle.own_model.specs.OwnStep.{gone_state, selectors_lent}
 
 -- ---- what a donation that is accepted has
 
@@ -72,6 +72,14 @@ module _ (Q : ℕ → Session → Type 0) where
   after_one selectors k object each here selector session is =
       each_after_insert selectors k object OfObject (of_objects selectors each) here selector (OpenSession session) is
 
+  -- it holds of each session whatever becomes of a buffer
+  pub each_lent : (q : ℕ) (old : Option NamedBuffer) (new : Option (List ℕ)) (selectors : NatMap Object) → ((selector : ℕ) (session : Session) → get selectors selector ≡ Some (OpenSession session) → Q selector session) →
+      (selector : ℕ) (session : Session) → get (selectors_lent q old new selectors) selector ≡ Some (OpenSession session) → Q selector session
+  each_lent q None None selectors each = each
+  each_lent q None (Some bytes) selectors each = after_one selectors (new_selector selectors) (Buffer q bytes) each tt
+  each_lent q (Some b) (Some bytes) selectors each = after_one selectors b.selector (Buffer q bytes) each tt
+  each_lent q (Some b) None selectors each = λ selector session is. each selector session (before_remove selectors b.selector selector (OpenSession session) is)
+
   -- the same object with other bytes
   of_poked : (q : ℕ) (object : Object) (offset : ℕ) (part : List ℕ) → OfObject q object → OfObject q (object_with object offset part)
   of_poked q (OpenSession session) offset part h = h
@@ -100,11 +108,16 @@ module _ (Q : Session → Type 0) where
 
   -- calls of sessions keep what holds of a new session, of one with more, and of one that has served
   pub sessions_each : ((wish : Wish) → too_small wish.ram wish.caps ≡ None → Q (new_session wish)) →
-      ((x : Session) (ram caps : ℕ) → Q x → Q (upgraded x ram caps)) → ((x : Session) (request : List ℕ) → Q x → Q (served None x request).session) →
+      ((x : Session) (ram caps : ℕ) → Q x → Q (upgraded x ram caps)) → ((x : Session) (buffer : Option (List ℕ)) (request : List ℕ) → Q x → Q (served buffer x request).session) →
       (s : OwnState) → EachSession Q s → KeptBySessions (EachSession Q) s
   sessions_each new more serve s h = record {
     opens = λ wish accepted. after_one Named s.selectors (new_selector s.selectors) (OpenSession (new_session wish)) h (new wish (donation_covered s.account wish.ram wish.caps accepted).1);
     upgrades = λ selector x given there accepted. after_one Named s.selectors selector (OpenSession (upgraded x given.ram given.caps)) h (more x given.ram given.caps (h selector x there));
-    serves = λ selector x request there. after_one Named s.selectors selector (OpenSession (served None x request).session) h (serve x request (h selector x there));
-    closes = λ selector x there. λ q y is. h q y (before_remove s.selectors selector q (OpenSession y) is);
+    serves = λ selector x request there.
+        let buffer = buffer_of selector s.selectors in
+        let o = served (bytes_of_buffer buffer) x request in
+        after_one Named (selectors_lent selector buffer o.buffer s.selectors) selector (OpenSession o.session) (each_lent Named selector buffer o.buffer s.selectors h) (serve x (bytes_of_buffer buffer) request (h selector x there));
+    closes = λ selector x there. λ q y is.
+        let lent = selectors_lent selector (buffer_of selector s.selectors) None s.selectors in
+        each_lent Named selector (buffer_of selector s.selectors) None s.selectors h q y (before_remove lent selector q (OpenSession y) is);
   }

@@ -10,9 +10,14 @@ use Rattle.trade_base.specs.Page.{page_of}
 use Rattle.own_model.proofs.NatMapLemmas.{get-empty, get-remove_other, before_remove, apart_from_free, value_at, IsSome-at, get-insert_other, get-insert_same, each_after_insert}
 use Rattle.own_model.proofs.NewSelector.{new_selector_free}
 use Rattle.own_model.proofs.RegionLemmas.{place, left_without, len-without, free_place}
-use Rattle.own_model.specs.Account.{Account, parted_with, alloc_refusal}
+use Rattle.own_model.specs.Account.{Account, credited, parted_with, alloc_refusal}
 use Rattle.own_model.specs.Donation.{raised}
-use Rattle.own_model.specs.Session.{Session, new_session, upgraded, served}
+use Rattle.own_model.specs.Session.{Session, ServiceState, new_session, upgraded, served, served_by}
+use Rattle.own_model.specs.Session.ServiceState.{Logging, Filing}
+use Rattle.own_model.specs.BufferLaws.{FitsBuffer}
+use Rattle.own_model.specs.BufferService.{session_request}
+use Rattle.own_model.proofs.BufferKeptLemmas.{all_fit, same_fits}
+use Rattle.own_model.proofs.LentLemmas.{buffer_there, lent_still}
 use Rattle.own_model.proofs.StepLemmas.{KeptBySessions, KeptByEffects, valid_some}
 use Rattle.own_model.proofs.TableLemmas.{step_keeps, run_keeps}
 use Rattle.own_model.proofs.Totals.{len-insert_new, len-remove_le}
@@ -20,9 +25,9 @@ use Rattle.own_model.proofs.UseLemmas.{length-zeros, length-with_part, block_siz
 use Rattle.own_model.specs.Call.{Call}
 use Rattle.own_model.specs.Call.Call.{Free, Attach, AttachAt}
 use Rattle.own_model.specs.NatMap.{NatMap, joined}
-use Rattle.own_model.specs.OwnState.{OwnState, Object, zeros, new_selector, pages_in, with_part, object_with, named_bytes, heap_ranges}
+use Rattle.own_model.specs.OwnState.{OwnState, Object, NamedBuffer, zeros, new_selector, pages_in, with_part, object_with, named_bytes, heap_ranges, buffer_of, bytes_of_buffer}
 use Rattle.own_model.specs.OwnState.Object.{Dataspace, RpcObject, OpenSession, Buffer}
-use Rattle.own_model.specs.OwnStep.{gone_state, own_step, own_run, script_step, refused, allocated, freed, with_region, attached_first, attached_at, region_detached, poked_at, payload_poked, sliced_at, sliced_freed, own_heap_gap, cap_allocated, cap_freed}
+use Rattle.own_model.specs.OwnStep.{gone_state, own_step, own_run, script_step, refused, allocated, with_region, attached_first, attached_at, region_detached, poked_at, payload_poked, sliced_at, sliced_freed, own_heap_gap, cap_allocated, cap_freed, with_buffer}
 use Rattle.own_model.specs.Region.{Region, user_low, user_high, most_regions, can_stand, IsPlace, without}
 use Rattle.own_model.specs.Sound.{IsPages, NamesBytes, LieApart, AreMapped, IsBlock, KeysApart, IsSound}
 use Rattle.own_model.specs.OwnHeap.{ranges_of_heap, no_heap}
@@ -172,9 +177,9 @@ sound_cap_allocated s h =
       heap = h.heap;
     }
 
--- so does a dataspace that is freed, whose regions go too
-sound_freed : (selector : ℕ) (bytes : List ℕ) (s : OwnState) → IsSound s → IsSound (freed selector (Some (Dataspace bytes)) s).next
-sound_freed selector bytes s h = record {
+-- so does a selector that goes, with the regions of what it named
+sound_dropped : (selector : ℕ) (account : Account) (s : OwnState) → IsSound s → IsSound (record s { account = account; selectors = remove s.selectors selector; regions = without selector s.regions })
+sound_dropped selector account s h = record {
   whole = whole_left s.selectors selector h.whole;
   mapped = mapped_fewer s.selectors (remove s.selectors selector) s.regions (without selector s.regions)
       (λ start region is. let left = left_without selector s.regions start region is in (left.0, named_left s.selectors selector region left.1))
@@ -314,7 +319,7 @@ sound_payload_poked address offset bytes payload s there h =
 effects_sound : (s : OwnState) → IsSound s → KeptByEffects IsSound s
 effects_sound s h = record {
   allocates = λ n accepted. sound_allocated n s h accepted;
-  frees = λ selector bytes there. sound_freed selector bytes s h;
+  frees = λ selector bytes there. sound_dropped selector (credited s.account (length bytes) 1) s h;
   attaches = λ selector address bytes there can room. sound_attached selector address bytes s there can room h;
   detaches = λ address. sound_detached address s h;
   pokes = λ selector offset bytes object there. sound_poked selector offset bytes object s there h;
@@ -346,6 +351,48 @@ sound_session s selector old new account there h =
     named_same s.selectors (insert s.selectors selector (OpenSession new)) region before
     (get-insert_other s.selectors selector (OpenSession new) region.of (not_named s.selectors selector (OpenSession old) region there refl before))) h
 
+-- a region's selector still names bytes where it has others, as many
+named_resized : (selectors : NatMap Object) (k : ℕ) (new : Object) (old bytes : List ℕ) (region : Region) → named_bytes (get selectors k) ≡ Some old → named_bytes (Some new) ≡ Some bytes → length bytes ≡ length old →
+    NamesBytes selectors region → NamesBytes (insert selectors k new) region
+named_resized selectors k new old bytes region was is long h =
+    elim (eqb region.of k) as (λ b. eqb region.of k ≡ b → NamesBytes (insert selectors k new) region) [
+      | true ↦ λ same.
+          let at : region.of ≡ k = eqb-true region.of k same in
+          let before : h.bytes ≡ old = same_Some h.bytes old (sym h.there ∙ ap (λ j. named_bytes (get selectors j)) at ∙ was) in
+          record {
+            bytes = bytes;
+            there = ap named_bytes (get-insert_same selectors k new region.of at) ∙ is;
+            pages = h.pages ∙ ap pages_in before ∙ ap (λ l. l / 4096) (sym long);
+          }
+      | false ↦ λ other. named_same selectors _ region h (get-insert_other selectors k new region.of (eqb-false region.of k other))
+    ] refl
+
+-- a buffer that is made is whole pages, and one that stays is as long as it was
+sound_lent : (s : OwnState) (q : ℕ) (old : Option NamedBuffer) (new : Option (List ℕ)) → buffer_of q s.selectors ≡ old → FitsBuffer (bytes_of_buffer old) new → IsSound s → IsSound (with_buffer q old new s)
+sound_lent s q None None found fits h = h
+sound_lent s q None (Some bytes) found fits h =
+    let key = new_selector s.selectors in
+    let size = fits.1.1 in
+    sound_named s (insert s.selectors key (Buffer q bytes)) s.account
+    (whole_after s.selectors key (Buffer q bytes) h.whole (λ b is. subst IsPages (same_Some bytes b is) (record { some = omega (arith, fits.0, size); whole = omega (arith, size) })))
+    (λ region. named_new s.selectors key (Buffer q bytes) region (new_selector_free s.selectors)) h
+sound_lent s q (Some b) (Some bytes) found fits h =
+    let there = ap named_bytes (buffer_there q s.selectors b found) in
+    sound_named s (insert s.selectors b.selector (Buffer q bytes)) s.account
+    (whole_after s.selectors b.selector (Buffer q bytes) h.whole (λ c is. subst IsPages (same_Some bytes c is) (pages_alike b.bytes bytes fits (h.whole b.selector b.bytes there))))
+    (λ region. named_resized s.selectors b.selector (Buffer q bytes) b.bytes bytes region there refl fits) h
+sound_lent s q (Some b) None found fits h = sound_dropped b.selector s.account s h
+
+-- what a request leaves of a buffer is so long
+serve_fits : (state : ServiceState) (buffer : Option (List ℕ)) (x : Session) (request : List ℕ) → FitsBuffer buffer (served_by state buffer x request).buffer
+serve_fits (Logging partial) buffer x request = same_fits buffer
+serve_fits (Filing files) buffer x request = all_fit (session_request request) buffer files x.account
+
+-- what is given back has no length
+none_fits : (buffer : Option (List ℕ)) → FitsBuffer buffer None
+none_fits None = tt
+none_fits (Some bytes) = tt
+
 -- nor do calls of sessions
 pub sessions_sound : (s : OwnState) → IsSound s → KeptBySessions IsSound s
 sessions_sound s h = record {
@@ -355,11 +402,20 @@ sessions_sound s h = record {
       sound_named s (insert s.selectors key session) (parted_with s.account wish.ram wish.caps) (whole_after s.selectors key session h.whole (bytes_none session refl))
       (λ region. named_new s.selectors key session region (new_selector_free s.selectors)) h;
   upgrades = λ selector session more there accepted. sound_session s selector session (upgraded session more.ram more.caps) (parted_with s.account more.ram more.caps) there h;
-  serves = λ selector session request there. sound_session s selector session (served None session request).session s.account there h;
+  serves = λ selector session request there.
+      let buffer = buffer_of selector s.selectors in
+      let o = served (bytes_of_buffer buffer) session request in
+      sound_session (with_buffer selector buffer o.buffer s) selector session o.session s.account
+      (lent_still selector s.selectors buffer o.buffer refl selector (OpenSession session) there refl)
+      (sound_lent s selector buffer o.buffer refl (serve_fits session.state (bytes_of_buffer buffer) session request) h);
   closes = λ selector session there.
-      sound_named s (remove s.selectors selector) (raised s.account session.account.ram_limit session.account.caps_limit)
-      (whole_left s.selectors selector h.whole)
-      (λ region before. named_left s.selectors selector region (not_named s.selectors selector (OpenSession session) region there refl before) before) h;
+      let buffer = buffer_of selector s.selectors in
+      let t = with_buffer selector buffer None s in
+      let still = lent_still selector s.selectors buffer None refl selector (OpenSession session) there refl in
+      let sound = sound_lent s selector buffer None refl (none_fits (bytes_of_buffer buffer)) h in
+      sound_named t (remove t.selectors selector) (raised s.account session.account.ram_limit session.account.caps_limit)
+      (whole_left t.selectors selector sound.whole)
+      (λ region before. named_left t.selectors selector region (not_named t.selectors selector (OpenSession session) region still refl before) before) sound;
 }
 
 -- no blocks stand nowhere

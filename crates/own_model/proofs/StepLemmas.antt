@@ -14,9 +14,9 @@ use Rattle.own_model.specs.Growth.{Shape, Growth, most_chunks, is_large, hole_fo
 use Rattle.own_model.specs.NatMap.{NatMap}
 use Rattle.own_model.specs.OwnState.{OwnState, Object, named_bytes, pages_in}
 use Rattle.own_model.specs.OwnState.Object.{Dataspace, RpcObject, OpenSession}
-use Rattle.own_model.specs.OwnStep.{allocated, freed, with_region, region_detached, poked_at, payload_poked, block_poked, block_taken, grown_at, large_at, given_back, sliced_at, sliced_freed, own_heap_gap, cap_allocated, cap_freed, session_opened, session_upgraded, session_served, session_closed}
+use Rattle.own_model.specs.OwnStep.{allocated, freed, with_region, region_detached, poked_at, payload_poked, block_poked, block_taken, grown_at, large_at, given_back, sliced_at, sliced_freed, own_heap_gap, cap_allocated, cap_freed, session_opened, session_upgraded, session_called, session_closed}
 use Rattle.own_model.specs.Region.{Region, most_regions, user_low, user_high, can_stand, first_gap, user_gap, attach_refusal, attach_at_refusal}
-use Rattle.own_model.specs.Session.{Session, Wish, donation_refusal, served}
+use Rattle.own_model.specs.Session.{Session, Wish, donation_refusal}
 use Rattle.own_model.specs.SessionArgs.{Arguments}
 use Rattle.own_model.specs.Sliced.{sliced_header, sliced_size, sliced_refusal}
 use Rattle.std.proofs.lemmas.Bool.{ltb-true, ltb-false}
@@ -66,9 +66,9 @@ pub record KeptBySessions (P : OwnState → Type 0) (s : OwnState) : Type 0 wher
   -- more that the client covers, for a session
   pub upgrades : (selector : ℕ) (session : Session) (more : Arguments) → get s.selectors selector ≡ Some (OpenSession session) → shortage s.account more.ram more.caps ≡ None →
       P (session_upgraded selector session more s).next
-  -- a request of a session
-  pub serves : (selector : ℕ) (session : Session) (request : List ℕ) → get s.selectors selector ≡ Some (OpenSession session) → P (session_served selector (served None session request) s).next
-  -- a session closed
+  -- a request of a session, which may make, change or give back the session's buffer
+  pub serves : (selector : ℕ) (session : Session) (request : List ℕ) → get s.selectors selector ≡ Some (OpenSession session) → P (session_called selector (Some session) request s).next
+  -- a session closed, with its buffer
   pub closes : (selector : ℕ) (session : Session) → get s.selectors selector ≡ Some (OpenSession session) → P (session_closed selector (Some session) s).next
 
 -- two tests in order refuse nothing where neither refuses

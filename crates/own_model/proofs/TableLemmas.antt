@@ -19,13 +19,13 @@ use Rattle.own_model.specs.BestFit.{Spot, block_size}
 use Rattle.own_model.specs.Growth.{Growth, most_chunks, is_large, hole_for, growth_of, growth_refusal, small_refusal}
 use Rattle.own_model.specs.OwnState.{OwnState, Object, named_bytes, pages_in, session_named}
 use Rattle.own_model.specs.OwnState.Object.{Dataspace, RpcObject, OpenSession, Buffer}
-use Rattle.own_model.specs.OwnStep.{Outcome, own_step, own_run, entry_step, refused, unless, turned_away, allocated, freed, with_region, attached_first, attached_at, region_detached, count_refusal, peeked, poked, poked_at, payload_poked, block_poked, most_bytes, block_taken, grown_at, grown_in, large_at, large_in, small_new, given_back, deleted, sliced_at, sliced_in, sliced_freed, own_heap_gap, cap_allocated, cap_freed, told_quota, opened_by, session_opened, upgraded_by, session_upgraded, session_served, session_called, session_closed, exited, gone_state}
+use Rattle.own_model.specs.OwnStep.{Outcome, own_step, own_run, entry_step, refused, unless, turned_away, allocated, freed, with_region, attached_first, attached_at, region_detached, count_refusal, peeked, poked, poked_at, payload_poked, block_poked, most_bytes, block_taken, grown_at, grown_in, large_at, large_in, small_new, given_back, deleted, sliced_at, sliced_in, sliced_freed, own_heap_gap, cap_allocated, cap_freed, told_quota, opened_by, session_opened, upgraded_by, session_upgraded, session_called, session_closed, exited, gone_state}
 use Rattle.own_model.specs.Place.{Place, found}
 use Rattle.own_model.specs.Place.Place.{InDataspace, InPayload, InBlock}
 use Rattle.own_model.specs.Region.{Region, most_regions, user_low, user_high, can_stand, first_gap, user_gap, resolved, attach_refusal, attach_at_refusal}
 use Rattle.own_model.specs.Reply.Reply.{Refused}
 use Rattle.own_model.specs.Routes.{Service, provider}
-use Rattle.own_model.specs.Session.{Session, Wish, wish_of, wish_in, label_with, too_small, donation_refusal, session_ram, session_caps, served}
+use Rattle.own_model.specs.Session.{Session, Wish, wish_of, wish_in, label_with, too_small, donation_refusal, session_ram, session_caps}
 use Rattle.own_model.specs.SessionArgs.{Arguments, arguments_of}
 use Rattle.own_model.specs.Sliced.{sliced_header, sliced_size, sliced_refusal, block_found}
 use Rattle.own_model.specs.Sound.{IsSound}
@@ -347,7 +347,7 @@ module _ (session ends : Bool) (P : OwnState → Type 0) (s : OwnState) (h : P s
         Explained session P s (session_called selector found request s) (when (is_none found) InvalidSession ∷ [])
     serves (Some x) at request of = record {
       why = None;
-      accepted = session_served selector (served None x request) s;
+      accepted = session_called selector (Some x) request s;
       told = refl;
       quiet = λ other. absurd (true≢false (sym of ∙ other));
       is = refl;

@@ -1,10 +1,11 @@
 -- The use of an account is what its selectors name, before and after a call.
 use Rattle.std.proofs.lemmas.Bool.Decides.{nat_tests}
 use Rattle.std.proofs.Common.{rules, ◌≡◌, ℕ, ◌-◌, List, Some, refl, arith, set, Bool, true, false}
-use Rattle.std.specs.Prelude.{None}
+use Rattle.std.specs.Prelude.{Option, None}
 use Rattle.std.specs.FinMap.{get, remove, len-empty, empty, insert}
 use Rattle.trade_base.specs.Page.{page_of}
 use Rattle.own_model.proofs.NewSelector.{new_selector_free}
+use Rattle.own_model.proofs.LentLemmas.{lent_still, total_lent}
 use Rattle.own_model.proofs.BlockLemmas.{bytes-taken, bytes-given}
 use Rattle.own_model.proofs.OwnHeapLemmas.{chunk_bytes-set}
 use Rattle.own_model.specs.BestFit.{Spot, chunk_of, given_in}
@@ -19,9 +20,9 @@ use Rattle.own_model.proofs.TableLemmas.{run_keeps}
 pub use Rattle.own_model.proofs.ByteLemmas.{length-zeros, length-with_part}
 use Rattle.own_model.proofs.Totals.{total-empty, total-insert_new, total-insert_same, total-remove, len-insert_new, len-insert_at, len-remove_at}
 use Rattle.own_model.specs.Call.{Call}
-use Rattle.own_model.specs.OwnState.{OwnState, Object, zeros, new_selector, object_with}
+use Rattle.own_model.specs.OwnState.{OwnState, Object, zeros, new_selector, object_with, buffer_of, bytes_of_buffer}
 use Rattle.own_model.specs.OwnState.Object.{Dataspace, RpcObject, OpenSession, Buffer}
-use Rattle.own_model.specs.OwnStep.{gone_state, own_run, allocated, freed, poked_at, payload_poked, block_taken, chunk_added, large_at, given_back, sliced_at, sliced_freed, own_heap_gap, cap_allocated, cap_freed}
+use Rattle.own_model.specs.OwnStep.{gone_state, own_run, allocated, freed, poked_at, payload_poked, block_taken, chunk_added, large_at, given_back, sliced_at, sliced_freed, own_heap_gap, cap_allocated, cap_freed, with_buffer}
 use Rattle.own_model.specs.Account.{Account, opened, parted_with, alloc_refusal}
 use Rattle.own_model.specs.Session.{Session, new_session, upgraded, served}
 use Rattle.own_model.specs.Sliced.{sliced_header, sliced_size, block_size}
@@ -148,6 +149,13 @@ replaced_uses : (s : OwnState) (selector : ℕ) (old new : Session) (account : A
     get s.selectors selector ≡ Some (OpenSession old) → UsesWhatItHolds s → UsesWhatItHolds (record s { account = account; selectors = insert s.selectors selector (OpenSession new) })
 replaced_uses s selector old new account ram caps there h = search (rules, total-insert_same)
 
+-- nor does a buffer, whatever becomes of it
+lent_uses : (s : OwnState) (q : ℕ) (new : Option (List ℕ)) → UsesWhatItHolds s → UsesWhatItHolds (with_buffer q (buffer_of q s.selectors) new s)
+lent_uses s q new h = record {
+  ram = omega (arith, h.ram, total_lent q s.selectors object_size (λ of bytes. refl) (buffer_of q s.selectors) new refl);
+  caps = omega (arith, h.caps, total_lent q s.selectors object_caps (λ of bytes. refl) (buffer_of q s.selectors) new refl);
+}
+
 -- a session more, another in place of one, and one less use nothing of the client's account
 pub sessions_use : (s : OwnState) → UsesWhatItHolds s → KeptBySessions UsesWhatItHolds s
 sessions_use s h = record {
@@ -157,11 +165,19 @@ sessions_use s h = record {
       let free = new_selector_free s.selectors in
       record { ram = omega (arith, h.ram, total-insert_new object_size s.selectors key session free); caps = omega (arith, h.caps, total-insert_new object_caps s.selectors key session free) };
   upgrades = λ selector session more there accepted. replaced_uses s selector session (upgraded session more.ram more.caps) (parted_with s.account more.ram more.caps) refl refl there h;
-  serves = λ selector session request there. replaced_uses s selector session (served None session request).session s.account refl refl there h;
-  closes = λ selector session there. record {
-    ram = omega (arith, h.ram, total-remove object_size s.selectors selector (OpenSession session) there);
-    caps = omega (arith, h.caps, total-remove object_caps s.selectors selector (OpenSession session) there);
-  };
+  serves = λ selector session request there.
+      let buffer = buffer_of selector s.selectors in
+      let o = served (bytes_of_buffer buffer) session request in
+      replaced_uses (with_buffer selector buffer o.buffer s) selector session o.session s.account refl refl
+      (lent_still selector s.selectors buffer o.buffer refl selector (OpenSession session) there refl) (lent_uses s selector o.buffer h);
+  closes = λ selector session there.
+      let t = with_buffer selector (buffer_of selector s.selectors) None s in
+      let still = lent_still selector s.selectors (buffer_of selector s.selectors) None refl selector (OpenSession session) there refl in
+      let after = lent_uses s selector None h in
+      record {
+        ram = omega (arith, after.ram, total-remove object_size t.selectors selector (OpenSession session) still);
+        caps = omega (arith, after.caps, total-remove object_caps t.selectors selector (OpenSession session) still);
+      };
 }
 
 -- calls keep what is used equal to what is held

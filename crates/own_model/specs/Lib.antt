@@ -44,6 +44,7 @@ pub mod Donated
 pub mod FileLaws
 pub mod BufferLaws
 pub mod SessionLaws
+pub mod LentLaws
 pub mod CodedSession
 pub mod Listed
 pub mod MachineA

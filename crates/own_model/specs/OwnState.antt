@@ -1,7 +1,8 @@
 -- What a component has: its own state.
-use Rattle.std.specs.Prelude.{◌≡◌, ℕ, ◌+◌, ◌/◌, ◌<◌, List, [], length, Bool, nat_le, if◌then◌else◌, Option, Some, None, IsSome}
-use Rattle.std.specs.Option.{unwrap_or}
-use Rattle.std.specs.FinMap.{get, keys}
+use Rattle.std.specs.Prelude.{◌≡◌, ℕ, ◌+◌, ◌/◌, ◌<◌, ◌==◌, List, [], length, Bool, false, nat_le, if◌then◌else◌, Option, Some, None, IsSome}
+use Rattle.std.specs.List.{find}
+use Rattle.std.specs.Option.{option_map, unwrap_or}
+use Rattle.std.specs.FinMap.{get, keys, entries}
 use Rattle.trade_base.specs.Bytes.{with_bytes}
 use Rattle.own_model.specs.NatMap.{NatMap, joined, least_gap}
 use Rattle.own_model.specs.Account.{Account}
@@ -73,6 +74,34 @@ session_named (Some (Dataspace bytes)) = None
 session_named (Some RpcObject) = None
 session_named (Some (Buffer session bytes)) = None
 session_named None = None
+
+-- ---- buffers
+
+-- what a selector names is the buffer of the session under another
+abbrev pub is_buffer_of : ℕ → Option Object → Bool
+is_buffer_of q (Some (Buffer session bytes)) = session == q
+is_buffer_of q (Some (Dataspace bytes)) = false
+is_buffer_of q (Some RpcObject) = false
+is_buffer_of q (Some (OpenSession session)) = false
+is_buffer_of q None = false
+
+-- a buffer as its client has it: the selector that names it, and its bytes
+pub record NamedBuffer : Type 0 where
+  pub selector : ℕ
+  pub bytes : List ℕ
+
+abbrev pub named_buffer : ℕ × Object → NamedBuffer
+named_buffer e = record { selector = e.0; bytes = bytes_named (Some e.1) }
+
+-- the buffer of the session under a selector, if one is named: the first one
+unfoldable pub buffer_of : ℕ → NatMap Object → Option NamedBuffer
+buffer_of q selectors = option_map named_buffer (find (λ e. is_buffer_of q (Some e.1)) (entries selectors))
+
+-- its bytes
+abbrev pub bytes_of_buffer : Option NamedBuffer → Option (List ℕ)
+bytes_of_buffer buffer = option_map (λ b. b.bytes) buffer
+
+-- ---- new selectors
 
 -- a selector is the least positive number that is not in use
 pub record IsLeastUnused {X : Type 0} (selectors : NatMap X) (selector : ℕ) : Type 0 where

@@ -1,5 +1,5 @@
 -- What a call does to its caller's own state, and what it is answered; and runs of calls.
-use Rattle.std.specs.Prelude.{ℕ, ◌+◌, ◌-◌, ◌/◌, ◌&&◌, Bool, true, List, [], ◌∷◌, length, nat_lt, nat_le, if◌then◌else◌, Option, Some, None, is_none, Result, Ok, Err}
+use Rattle.std.specs.Prelude.{ℕ, ◌+◌, ◌-◌, ◌/◌, ◌&&◌, Bool, true, List, [], ◌∷◌, ◌++◌, length, decimal, nat_lt, nat_le, if◌then◌else◌, Option, Some, None, is_none, Result, Ok, Err}
 use Rattle.std.specs.FinMap as map
 use Rattle.std.specs.FinMap.{get, insert, remove}
 use Rattle.trade_base.specs.declared.refusal.Refusal.{Refusal}
@@ -8,7 +8,8 @@ use Rattle.trade_base.specs.Page.{page_of}
 use Rattle.own_model.specs.Account.{opened, shortage, charged, credited, parted_with, alloc_refusal}
 use Rattle.own_model.specs.Call.{Call, is_exit}
 use Rattle.own_model.specs.Call.Call.{Alloc, Free, Attach, AttachAt, Detach, Peek, Poke, Capalloc, Capfree, New, Del, Snew, Sdel, Quota, Open, Upgrade, CallSession, Close, Exit}
-use Rattle.own_model.specs.OwnState.{OwnState, Object, zeros, new_selector, pages_in, with_part, object_with, named_bytes, session_named, heap_ranges}
+use Rattle.own_model.specs.NatMap.{NatMap}
+use Rattle.own_model.specs.OwnState.{OwnState, Object, NamedBuffer, zeros, new_selector, pages_in, with_part, object_with, named_bytes, session_named, buffer_of, bytes_of_buffer, heap_ranges}
 use Rattle.own_model.specs.OwnState.Object.{Dataspace, RpcObject, OpenSession, Buffer}
 use Rattle.own_model.specs.BestFit.{Spot}
 use Rattle.own_model.specs.Growth.{Growth, is_large, hole_for, new_hole, growth_of, heap_refusal}
@@ -18,7 +19,7 @@ use Rattle.own_model.specs.HeapWindow.{heap_gap, largest_machine}
 use Rattle.own_model.specs.Place.{Place, found, bytes_from}
 use Rattle.own_model.specs.Place.Place.{InDataspace, InPayload, InBlock}
 use Rattle.own_model.specs.Sliced.{sliced_header, sliced_size, sliced_refusal, block_size}
-use Rattle.own_model.specs.Region.{most_regions, without, user_gap, attach_refusal, attach_at_refusal, detach_refusal}
+use Rattle.own_model.specs.Region.{Region, most_regions, without, user_gap, attach_refusal, attach_at_refusal, detach_refusal}
 use Rattle.own_model.specs.Reply.{Reply, LogLine}
 use Rattle.own_model.specs.Reply.Reply.{Selected, Attached, Bytes, Done, Quotas, Told, Refused}
 use Rattle.own_model.specs.Donation.{raised}
@@ -291,28 +292,58 @@ upgraded_by selector (Some session) (Some more) s = unless (shortage s.account m
 upgraded_by selector (Some session) None s = refused s BadArgs
 upgraded_by selector None arguments s = refused s InvalidSession
 
--- a request of a session is served
-abbrev pub session_served : ℕ → Served → OwnState → Outcome
-session_served selector o s = record {
-  reply = Told o.reply;
-  lines = o.lines;
-  next = record s { selectors = insert s.selectors selector (OpenSession o.session) };
-}
+-- what selectors name after the session under one of them, which had a buffer or none, has one of these bytes or none: one that
+-- is made comes under the new selector, one that stays has the bytes, and one that is given back goes
+abbrev pub selectors_lent : ℕ → Option NamedBuffer → Option (List ℕ) → NatMap Object → NatMap Object
+selectors_lent q None None selectors = selectors
+selectors_lent q None (Some bytes) selectors = insert selectors (new_selector selectors) (Buffer q bytes)
+selectors_lent q (Some buffer) (Some bytes) selectors = insert selectors buffer.selector (Buffer q bytes)
+selectors_lent q (Some buffer) None selectors = remove selectors buffer.selector
+
+-- the regions after that: those of a buffer that is given back go
+abbrev pub regions_lent : Option NamedBuffer → Option (List ℕ) → NatMap Region → NatMap Region
+regions_lent (Some buffer) None regions = without buffer.selector regions
+regions_lent (Some buffer) (Some bytes) regions = regions
+regions_lent None bytes regions = regions
+
+abbrev pub with_buffer : ℕ → Option NamedBuffer → Option (List ℕ) → OwnState → OwnState
+with_buffer q old new s =
+    record s { selectors = selectors_lent q old new s.selectors; regions = regions_lent old new s.regions }
+
+-- the reply to a request: where a buffer is made its selector is told at the end
+abbrev pub completed : Option NamedBuffer → Option (List ℕ) → ℕ → List ℕ → List ℕ
+completed None (Some bytes) selector reply = reply ++ decimal selector
+completed None None selector reply = reply
+completed (Some buffer) bytes selector reply = reply
+
+-- a request of a session, which had this buffer, is served
+abbrev pub session_served : ℕ → Option NamedBuffer → Served → OwnState → Outcome
+session_served selector buffer o s =
+    let t = with_buffer selector buffer o.buffer s in
+    record {
+      reply = Told (completed buffer o.buffer (new_selector s.selectors) o.reply);
+      lines = o.lines;
+      next = record t { selectors = insert t.selectors selector (OpenSession o.session) };
+    }
 
 abbrev pub session_called : ℕ → Option Session → List ℕ → OwnState → Outcome
-session_called selector (Some session) request s = session_served selector (served None session request) s
+session_called selector (Some session) request s =
+    let buffer = buffer_of selector s.selectors in
+    session_served selector buffer (served (bytes_of_buffer buffer) session request) s
 session_called selector None request s = refused s InvalidSession
 
--- a session goes, and all that was donated for it comes back to the client's limits
+-- a session goes, with its buffer and the regions of that, and all that was donated for it comes back to the client's limits
 abbrev pub session_closed : ℕ → Option Session → OwnState → Outcome
-session_closed selector (Some session) s = record {
-  reply = Done;
-  lines = [];
-  next = record s {
-    account = raised s.account session.account.ram_limit session.account.caps_limit;
-    selectors = remove s.selectors selector;
-  };
-}
+session_closed selector (Some session) s =
+    let t = with_buffer selector (buffer_of selector s.selectors) None s in
+    record {
+      reply = Done;
+      lines = [];
+      next = record t {
+        account = raised s.account session.account.ram_limit session.account.caps_limit;
+        selectors = remove t.selectors selector;
+      };
+    }
 session_closed selector None s = refused s InvalidSession
 
 -- nothing is left of who has exited: every session is closed, everything is dropped, and limits and use are 0

@@ -11,15 +11,17 @@ use Rattle.own_model.specs.OwnStep.{own_step, own_run}
 use Rattle.own_model.specs.Reply.Reply.{Done}
 use Rattle.own_model.specs.Session.{Session, IsKept}
 use Rattle.own_model.specs.StartList.{Entry, StartEntry, start_state}
-use Rattle.own_model.specs.Use.{UsesItsCharge}
+use Rattle.own_model.specs.Sound.{AreLent}
+use Rattle.own_model.specs.Use.{UseTheirCharges}
 
 -- nobody starts with a session
 abbrev pub StartsWithoutSessions : Type 0
 StartsWithoutSessions = (start : StartEntry) → EachSession (λ session. ⊥) (start_state start)
 
--- calls leave each session's account using what a session is charged for, and no more
+-- calls leave each session's account using what the session is charged for, its buffer among it, and no more
 abbrev pub RunKeepsCharges : Type 0
-RunKeepsCharges = (entry : Entry) (calls : List Call) (s : OwnState) → EachSession UsesItsCharge s → EachSession UsesItsCharge (own_run entry calls s)
+RunKeepsCharges =
+    (entry : Entry) (calls : List Call) (s : OwnState) → AreLent s.selectors → UseTheirCharges s → UseTheirCharges (own_run entry calls s)
 
 -- and what each server keeps for its sessions as it should be
 abbrev pub RunKeepsKept : Type 0

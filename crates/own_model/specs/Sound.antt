@@ -1,5 +1,5 @@
 -- What is true of every own state: of what has bytes, of its regions and of what stands in the heap window.
-use Rattle.std.specs.Prelude.{◌≡◌, ◌≢◌, ℕ, ◌+◌, ◌*◌, ◌%◌, ◌≤◌, false, List, length, Some, None, IsSome}
+use Rattle.std.specs.Prelude.{◌≡◌, ◌≢◌, ℕ, ◌+◌, ◌*◌, ◌%◌, ◌≤◌, true, false, List, length, Some, None, IsSome}
 use Rattle.std.specs.FinMap.{get, len, from_entries}
 use Rattle.std.specs.List.{AllByRecursion}
 use Rattle.own_model.specs.HeapWindow.{heap_low, heap_high, largest_machine}
@@ -10,7 +10,7 @@ use Rattle.own_model.specs.HeapStep.{payload_size}
 use Rattle.std.specs.Option.{option_map}
 use Rattle.own_model.specs.NatMap.{NatMap}
 use Rattle.own_model.specs.OwnHeap.{OwnHeap, chunk_ranges, ranges_of_large, ranges_of_heap}
-use Rattle.own_model.specs.OwnState.{OwnState, Object, named_bytes, pages_in, heap_ranges}
+use Rattle.own_model.specs.OwnState.{OwnState, Object, named_bytes, session_named, is_buffer_of, pages_in, heap_ranges}
 use Rattle.own_model.specs.Region.{Region, user_low, user_high, most_regions, overlap}
 use Rattle.own_model.specs.Sliced.{sliced_header, block_size, block_pages, ranges_of_blocks}
 
@@ -67,6 +67,11 @@ pub record AreMapped (selectors : NatMap Object) (regions : NatMap Region) : Typ
   pub named : (start : ℕ) (region : Region) → get regions start ≡ Some region → NamesBytes selectors region
   pub lie : LieApart user_low user_high regions
   pub few : len regions ≤ most_regions
+
+-- each buffer is of an open session, which has no other
+pub record AreLent (selectors : NatMap Object) : Type 0 where
+  pub open_session : (k q : ℕ) → is_buffer_of q (get selectors k) ≡ true → IsSome (session_named (get selectors q))
+  pub only : (j k q : ℕ) → is_buffer_of q (get selectors j) ≡ true → is_buffer_of q (get selectors k) ≡ true → j ≡ k
 
 -- what has bytes is pages, regions are mapped, each sliced block is pages, the heap is one, and what stands in the heap
 -- window lies apart

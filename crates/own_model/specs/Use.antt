@@ -1,10 +1,11 @@
 -- What an account's use is made of.
-use Rattle.std.specs.Prelude.{◌≡◌, ℕ, ◌+◌, length, sum_by}
-use Rattle.std.specs.FinMap.{len}
+use Rattle.std.specs.Prelude.{◌≡◌, ℕ, ◌+◌, List, length, sum_by, Option, Some}
+use Rattle.std.specs.FinMap.{get, len}
+use Rattle.own_model.specs.BufferService.{buffer_ram, buffer_caps}
 use Rattle.own_model.specs.Heap.{bytes_in}
 use Rattle.own_model.specs.NatMap.{total}
 use Rattle.own_model.specs.OwnHeap.{OwnHeap}
-use Rattle.own_model.specs.OwnState.{OwnState, Object}
+use Rattle.own_model.specs.OwnState.{OwnState, Object, buffer_of, bytes_of_buffer}
 use Rattle.own_model.specs.FileService.{files_ram, files_caps}
 use Rattle.own_model.specs.Session.{Session, ServiceState, session_ram, session_caps}
 use Rattle.own_model.specs.Session.ServiceState.{Logging, Filing}
@@ -34,10 +35,16 @@ abbrev pub state_caps : ServiceState → ℕ
 state_caps (Logging partial) = 0
 state_caps (Filing files) = files_caps files
 
--- a session's account uses what a session is charged for: itself, and what its server keeps
-pub record UsesItsCharge (session : Session) : Type 0 where
-  pub ram : session.account.ram_used ≡ session_ram + state_ram session.state
-  pub caps : session.account.caps_used ≡ session_caps + state_caps session.state
+-- a session's account uses what a session is charged for: itself, what its server keeps, and its buffer
+pub record UsesItsCharge (session : Session) (buffer : Option (List ℕ)) : Type 0 where
+  pub ram : session.account.ram_used ≡ session_ram + state_ram session.state + buffer_ram buffer
+  pub caps : session.account.caps_used ≡ session_caps + state_caps session.state + buffer_caps buffer
+
+-- each session of a component does
+abbrev pub UseTheirCharges : OwnState → Type 0
+UseTheirCharges s =
+    (selector : ℕ) (session : Session) → get s.selectors selector ≡ Some (OpenSession session) →
+    UsesItsCharge session (bytes_of_buffer (buffer_of selector s.selectors))
 
 -- the bytes of a heap's chunks and large blocks, and how many of them there are
 abbrev pub heap_size : OwnHeap → ℕ

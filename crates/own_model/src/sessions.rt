@@ -1,17 +1,30 @@
 //! Laws of sessions: what is charged to them, what servers keep for them, and that a close returns what was donated.
+ghost use Rattle.own_model.specs.LentLaws.{StartsLent, RunKeepsLent, BuffersStandAlone};
 ghost use Rattle.own_model.specs.SessionLaws.{StartsWithoutSessions, RunKeepsCharges, RunKeepsKept, SessionsStandAlone, LimitsAreDonations, ClosesReturnDonations};
 
-/// Nobody starts with a session. After any calls each session's account uses exactly what a session is charged for, and what
-/// its server keeps for it is as it should be.
+/// Nobody starts with a session. After any calls each session's account uses exactly what the session is charged for,
+/// its buffer among it, and what its server keeps for it is as it should be.
 pub fn sessions_stay_sound()
     ensures start { StartsWithoutSessions }
     ensures charges { RunKeepsCharges }
     ensures kept { RunKeepsKept }
 {}
 
+/// Each buffer is of an open session, which has no other: nobody starts with a buffer, and calls leave it so.
+pub fn buffers_are_of_sessions()
+    ensures start { StartsLent }
+    ensures run { RunKeepsLent }
+{}
+
 /// A session stays as it is but for the upgrades, requests and the close that name its selector, and its client's exit.
 pub fn sessions_stand_alone()
     ensures { SessionsStandAlone }
+{}
+
+/// A buffer stays as it is but for the calls of its session, and for pokes found in its own regions, which change its bytes
+/// alone.
+pub fn buffers_stand_alone()
+    ensures { BuffersStandAlone }
 {}
 
 /// What a close returns to its client is the sum of what the client named in the open that was accepted and in the upgrades
