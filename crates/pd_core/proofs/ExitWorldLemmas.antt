@@ -8,9 +8,10 @@ use Rattle.std.specs.FinMap.{get}
 use Rattle.own_model.specs.Call.Call.{Close, Exit}
 use Rattle.own_model.specs.Donation.{raised}
 use Rattle.own_model.specs.Limits.{ram_with, caps_with, ram_limits, caps_limits}
-use Rattle.own_model.specs.OwnState.{OwnState, Object, session_named}
+use Rattle.own_model.specs.NatMap.{NatMap}
+use Rattle.own_model.specs.OwnState.{OwnState, Object, NamedBuffer, session_named, buffer_of}
 use Rattle.own_model.specs.OwnState.Object.{Dataspace, RpcObject, OpenSession, Buffer as ABuffer}
-use Rattle.own_model.specs.OwnStep.{Outcome, own_step, session_closed, exited, gone_state}
+use Rattle.own_model.specs.OwnStep.{Outcome, own_step, selectors_lent, session_closed, exited, gone_state}
 use Rattle.own_model.specs.Session.{Session}
 use Rattle.own_model.specs.StartList.{Entry}
 use Rattle.own_model.specs.StartList.Kind.{Script as AScript}
@@ -26,17 +27,29 @@ use Rattle.pd_core.proofs.SessionOwnLemmas.{is_step}
 
 -- ---- one close
 
+-- what named no session doesn't when a buffer goes
+none_lent : (q : ℕ) (buffer : Option NamedBuffer) (m : NatMap Object) (k : ℕ) → session_named (get m k) ≡ None → session_named (get (selectors_lent q buffer None m) k) ≡ None
+none_lent q None m k none = none
+none_lent q (Some buffer) m k none = elim (cases_eq k buffer.selector) [
+  | inl at ↦ ap session_named (get-remove_same m buffer.selector k at)
+  | inr other ↦ ap session_named (get-remove_other m buffer.selector k other) ∙ none
+]
+
+-- what selectors name once the buffer of the session under one of them is gone
+abbrev unlent : ℕ → NatMap Object → NatMap Object
+unlent q m = selectors_lent q (buffer_of q m) None m
+
 -- the selector names no session after it
 closed_none : (q : ℕ) (s : OwnState) (o : Option Session) → session_named (get s.selectors q) ≡ o → session_named (get (session_closed q o s).next.selectors q) ≡ None
 closed_none q s None is = is
-closed_none q s (Some session) is = ap session_named (get-remove_same s.selectors q q refl)
+closed_none q s (Some session) is = ap session_named (get-remove_same (unlent q s.selectors) q q refl)
 
 -- and one that named none doesn't either
 closed_no_more : (q : ℕ) (s : OwnState) (o : Option Session) (k : ℕ) → session_named (get s.selectors k) ≡ None → session_named (get (session_closed q o s).next.selectors k) ≡ None
 closed_no_more q s None k none = none
 closed_no_more q s (Some session) k none = elim (cases_eq k q) [
-  | inl at ↦ ap session_named (get-remove_same s.selectors q k at)
-  | inr other ↦ ap session_named (get-remove_other s.selectors q k other) ∙ none
+  | inl at ↦ ap session_named (get-remove_same (unlent q s.selectors) q k at)
+  | inr other ↦ ap session_named (get-remove_other (unlent q s.selectors) q k other) ∙ none_lent q (buffer_of q s.selectors) s.selectors k none
 ]
 
 -- so one more is closed

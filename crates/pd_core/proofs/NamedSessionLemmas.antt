@@ -13,7 +13,7 @@ use Rattle.own_model.specs.Call.{Call}
 use Rattle.own_model.specs.Call.Call.{Close, Upgrade, CallSession}
 use Rattle.own_model.specs.Donation.{raised}
 use Rattle.own_model.specs.NatMap.{NatMap}
-use Rattle.own_model.specs.OwnState.{session_named}
+use Rattle.own_model.specs.OwnState.{session_named, buffer_of}
 use Rattle.own_model.specs.OwnState.Object.{OpenSession}
 use Rattle.own_model.specs.OwnStep.{Outcome, unrouted, unless, refused, entry_step, upgraded_by, session_upgraded}
 use Rattle.own_model.specs.Reply.{Reply, LogLine}
@@ -36,6 +36,7 @@ use Rattle.pd_core.specs.Own.{Sessions, object_of, own_at, own_of, own_heap_at, 
 use Rattle.pd_core.specs.Sessions.{row_session, AgreeBut, NamesSession, DoesSession}
 use Rattle.pd_core.specs.Sound.{rpc_weight, session_weight, IsSoundScript}
 use Rattle.pd_core.specs.declared.script.Script.{Script}
+use Rattle.pd_core.proofs.OwnLemmas.{has_no_buffer}
 use Rattle.pd_core.proofs.SessionOwnLemmas.{AreNoSpaces, AreCounted}
 use Rattle.pd_core.proofs.SessionStepLemmas.{ChangesOne, some_sessions, some_are_open, some_same, with_session, with_session_same, with_session_other, closes_own, upgrades_own, serves_own, lawful_after}
 use Rattle.pd_core.proofs.SessionScriptLemmas.{own_still, sound_still}
@@ -66,6 +67,10 @@ module _ (store store' : Store) (script : Script) (rows : NatMap (Row Labelled))
   others_agree : (S S' : Sessions) → AgreeBut S S' server session.0 → (q other : ℕ) (at : SessionId) → q ≢ selector → get script.caps.caps q ≡ Some (Session other at) → S' other at.0 ≡ S other at.0
   others_agree S S' agree q other at apart is = agree other at.0 (λ e f. apart (names.once q at (subst (λ k. get script.caps.caps q ≡ Some (Session k at)) e is) f))
 
+  -- the session has no buffer
+  no_buffers : (S : Sessions) → buffer_of selector (own_at S store script).selectors ≡ None
+  no_buffers S = has_no_buffer p script.caps script.regions (own_heap_at store script) (sliced_at store script) sound.own S selector
+
   -- ---- it is closed
 
   module _ (closed : a ≡ raised (account_of p) names.row.account.ram_limit names.row.account.caps_limit) where
@@ -88,7 +93,7 @@ module _ (store store' : Store) (script : Script) (rows : NatMap (Row Labelled))
     closes_does : DoesSession (Close selector) Done [] server session.0 (Some (row_session names.row)) None store script store' (record script { caps = closed_space })
     closes_does entry S S' kind agree was is =
         closes_own S S' p p' script.caps.caps closed_space.caps selector (closed_changes S S' agree) script.regions.user (own_heap_at store script) (sliced_at store script) sound.own.named.one sound.own.attached
-        entry server session (row_session names.row) names.named was closed_none (account_is ∙ closed)
+        entry server session (row_session names.row) names.named was (no_buffers S) closed_none (account_is ∙ closed)
         ∙ ap {B = Outcome} (λ s. record { reply = Done; lines = []; next = s }) (sym (own_still store store' script (Some a) sound own refl limits closed_space S'))
 
     closed_counted : AreCounted p p' script.caps closed_space script.regions
@@ -117,7 +122,7 @@ module _ (store store' : Store) (script : Script) (rows : NatMap (Row Labelled))
         (lawful_after S S p p' script.caps.caps closed_space.caps selector (closed_changes S S (λ _ _ _. refl)) script.regions.user (own_heap_at store script) (sliced_at store script) sound.own.named.one sound.own.attached
         unrouted (Close selector) Done [] refl
         (closes_own S S p p' script.caps.caps closed_space.caps selector (closed_changes S S (λ _ _ _. refl)) script.regions.user (own_heap_at store script) (sliced_at store script) sound.own.named.one sound.own.attached
-        unrouted server session (row_session names.row) names.named (some_same server session.0 (row_session names.row)) closed_none (account_is ∙ closed))
+        unrouted server session (row_session names.row) names.named (some_same server session.0 (row_session names.row)) (no_buffers S) closed_none (account_is ∙ closed))
         (sound.own.lawful S (some_are_open server session.0 (row_session names.row) script.caps.caps)))
 
   -- ---- it is given more, or serves a request
@@ -145,7 +150,7 @@ module _ (store store' : Store) (script : Script) (rows : NatMap (Row Labelled))
       (Some (served None (row_session names.row) request).session) store script store' script
   serves_does request same_one entry S S' kind agree was is =
       serves_own S S' p p' script.caps.caps script.caps.caps selector (put_changes S S' agree) script.regions.user (own_heap_at store script) (sliced_at store script) sound.own.named.one sound.own.attached
-      entry server session (row_session names.row) names.named was request names.named is (account_is ∙ same_one)
+      entry server session (row_session names.row) names.named was request (no_buffers S) names.named is (account_is ∙ same_one)
       ∙ ap {B = Outcome} (λ s. record { reply = Told (served None (row_session names.row) request).reply; lines = (served None (row_session names.row) request).lines; next = s }) (sym (put_still S'))
 
   -- where the model tells of it, and it uses what it did of no higher limits, the script is sound

@@ -11,8 +11,9 @@ use Rattle.own_model.specs.NatMap.{NatMap, picked, total}
 use Rattle.own_model.specs.Account.{opened, charged, credited}
 use Rattle.own_model.specs.Call.{Call}
 use Rattle.own_model.specs.OwnHeap.{OwnHeap}
-use Rattle.own_model.specs.OwnState.{OwnState, named_bytes, Object, new_selector, pages_in}
-use Rattle.own_model.specs.OwnState.Object.{Dataspace as ADataspace, OpenSession, Buffer as ABuffer}
+use Rattle.own_model.specs.OwnState.{OwnState, named_bytes, Object, new_selector, pages_in, is_buffer_of, buffer_of}
+use Rattle.own_model.specs.OwnState.Object.{Dataspace as ADataspace, RpcObject as AnRpcObject, OpenSession, Buffer as ABuffer}
+use Rattle.own_model.proofs.LentLemmas.{buffer_none}
 use Rattle.own_model.specs.OwnStep.{Outcome, script_step, unrouted}
 use Rattle.own_model.specs.Region.{Region}
 use Rattle.own_model.specs.Reply.{Reply}
@@ -115,6 +116,14 @@ not_buffer sessions p (Some (Session server key)) session bytes none is =
     elim (sessions server key.0) as (λ o. option_map OpenSession o ≡ Some (ABuffer session bytes) → ⊥) [ None ↦ λ h. none-some _ h | Some x ↦ λ h. cc ] is
 not_buffer sessions p (Some (Buffer of other)) session bytes none is = none of other refl
 
+-- what is no buffer is none of a session
+no_buffer_of : (q : ℕ) (o : Option Object) → ((session : ℕ) (bytes : List ℕ) → o ≡ Some (ABuffer session bytes) → ⊥) → is_buffer_of q o ≡ false
+no_buffer_of q None none = refl
+no_buffer_of q (Some (ADataspace bytes)) none = refl
+no_buffer_of q (Some AnRpcObject) none = refl
+no_buffer_of q (Some (OpenSession session)) none = refl
+no_buffer_of q (Some (ABuffer session bytes)) none = absurd (none session bytes refl)
+
 -- ---- sessions
 
 -- sessions of which each is open
@@ -188,6 +197,10 @@ module _ (p : Part) (space : Space) (regions : Regions) (heap : OwnHeap) (sliced
   pub holds_no_buffer : (sessions : Sessions) (s session : ℕ) (bytes : List ℕ) → get (before sessions).selectors s ≡ Some (ABuffer session bytes) → ⊥
   holds_no_buffer sessions s session bytes is =
       not_buffer sessions p (get space.caps s) session bytes (λ of other named. no_buffer s of other named) (sym (object_is sessions s) ∙ is)
+
+  -- nor has any of its sessions
+  pub has_no_buffer : (sessions : Sessions) (q : ℕ) → buffer_of q (before sessions).selectors ≡ None
+  has_no_buffer sessions q = buffer_none q (before sessions).selectors (λ k. no_buffer_of q (get (before sessions).selectors k) (holds_no_buffer sessions k))
 
   -- the bytes of a dataspace that a selector names are no more than the machine's
   pub few_bytes : (s : ℕ) (ds : DsId) → get space.caps s ≡ Some (Dataspace ds) → length (bytes_of p ds.0) ≤ regions.pages * 4096

@@ -1,7 +1,7 @@
 -- What each call of a session is to the model, in the own state of the script that makes it.
 use Rattle.std.proofs.Common.{◌≡◌, ◌≢◌, ℕ, ◌&&◌, true, false, cond, eqb, List, [], Some, is_some, refl, sym, ap, subst, ◌∙◌, arith}
 use Rattle.std.proofs.lemmas.Bool.Decides.{nat_tests}
-use Rattle.std.specs.Prelude.{None, Ok, ◌==◌, if◌then◌else◌}
+use Rattle.std.specs.Prelude.{Option, None, Ok, ◌==◌, if◌then◌else◌}
 use Rattle.std.specs.Option.{option_map}
 use Rattle.std.specs.FinMap.{get, insert, remove}
 use Rattle.trade_base.specs.declared.id.SessionId.{SessionId}
@@ -11,13 +11,18 @@ use Rattle.own_model.specs.Call.Call.{Open, Upgrade, CallSession, Close}
 use Rattle.own_model.specs.Donation.{raised}
 use Rattle.own_model.specs.NatMap.{NatMap}
 use Rattle.own_model.specs.OwnHeap.{OwnHeap}
-use Rattle.own_model.specs.OwnState.{OwnState, new_selector, session_named}
+use Rattle.own_model.specs.OwnState.{OwnState, NamedBuffer, new_selector, session_named, buffer_of, bytes_of_buffer}
 use Rattle.own_model.specs.OwnState.Object.{OpenSession}
-use Rattle.own_model.specs.OwnStep.{Outcome, entry_step, unless, opened_by, session_opened, upgraded_by, session_upgraded, session_called, session_closed}
+use Rattle.own_model.specs.OwnStep.{Outcome, entry_step, unless, opened_by, session_opened, upgraded_by, session_upgraded, session_called, session_served, session_closed, with_buffer}
 use Rattle.own_model.specs.Region.{Region}
 use Rattle.own_model.specs.Reply.{Reply, LogLine}
 use Rattle.own_model.specs.Reply.Reply.{Selected, Done, Told}
-use Rattle.own_model.specs.Session.{Session as AnOpenSession, Wish, wish, donation_refusal, new_session, upgraded, served}
+use Rattle.own_model.specs.Session.{Session as AnOpenSession, Wish, wish, donation_refusal, new_session, upgraded, Served, ServiceState, served, served_by}
+use Rattle.own_model.specs.Session.ServiceState.{Logging, Filing}
+use Rattle.own_model.specs.BufferService.{session_request_served}
+use Rattle.own_model.specs.BufferService.SessionRequest.{OfFiles}
+use Rattle.own_model.specs.FileService.{Files}
+use Rattle.own_model.specs.FileText.{FileRequest, file_request}
 use Rattle.own_model.specs.SessionArgs.{Arguments, arguments_of}
 use Rattle.own_model.specs.StartList.{Entry}
 use Rattle.own_model.specs.StartList.Kind.{Script as AScript}
@@ -55,6 +60,17 @@ some_are_open server key x caps q other session there = elim (eqb other server &
 pub some_same : (server key : ℕ) (x : AnOpenSession) → some_sessions server key x server key ≡ Some x
 unfolding some_sessions
 some_same server key x = with_session_same (λ _ _. Some x) server key x
+
+-- no text makes a buffer
+no_text_makes : (request : Option FileRequest) (files : Files) (account : Account) → (session_request_served (option_map OfFiles request) None files account).buffer ≡ None
+no_text_makes None files account = refl
+no_text_makes (Some request) files account = refl
+
+none_lent : (x : AnOpenSession) (request : List ℕ) → (served None x request).buffer ≡ None
+none_lent x request = by_state x.state where
+  by_state : (state : ServiceState) → (served_by state None x request).buffer ≡ None
+  by_state (Logging partial) = refl
+  by_state (Filing files) = no_text_makes (file_request request) files x.account
 
 -- an own state that is read out of parts hasn't exited
 stays_here : (S : Sessions) (p : Part) (caps : NatMap Cap) (user : NatMap Region) (heap : OwnHeap) (sliced : NatMap (List ℕ)) → (own_of S p caps user heap sliced).gone ≡ false
@@ -105,18 +121,29 @@ module _ (S S' : Sessions) (p p' : Part) (caps caps' : NatMap Cap) (selector : �
 
   -- ---- calls of a session
 
+  -- what a close comes to, by the session's buffer
+  abbrev closed_with : AnOpenSession → Option NamedBuffer → OwnState → Outcome
+  closed_with x buffer s =
+      let t = with_buffer selector buffer None s in
+      record { reply = Done; lines = []; next = record t { account = raised s.account x.account.ram_limit x.account.caps_limit; selectors = remove t.selectors selector } }
+
+  -- and a request of a session without one, by the buffer after it
+  abbrev served_with : Served → Option (List ℕ) → OwnState → Outcome
+  served_with o bytes s = session_served selector None (record o { buffer = bytes }) s
+
   module _ (entry : Entry) (server : ℕ) (session : SessionId) (x : AnOpenSession) (named : get caps selector ≡ Some (Session server session)) (is : S server session.0 ≡ Some x) where
     -- the selector names it before
     named_before : session_named (get before.selectors selector) ≡ Some x
     unfolding own_of
     named_before = ap session_named (get-picked_at (object_of S p) caps selector (Session server session) named ∙ ap (option_map OpenSession) is)
 
-    -- it is closed
-    pub closes_own : get caps' selector ≡ None → account_of p' ≡ raised (account_of p) x.account.ram_limit x.account.caps_limit →
+    -- it is closed, without a buffer
+    pub closes_own : buffer_of selector before.selectors ≡ None → get caps' selector ≡ None → account_of p' ≡ raised (account_of p) x.account.ram_limit x.account.caps_limit →
         entry_step entry (Close selector) before ≡ record { reply = Done; lines = []; next = after }
     unfolding own_of
-    closes_own gone account =
+    closes_own none gone account =
         ap (λ o. session_closed selector o before) named_before
+        ∙ ap (λ b. closed_with x b before) none
         ∙ ap {B = Outcome} (λ s. record { reply = Done; lines = []; next = s }) (sym (own_gone _ gone account))
 
     -- more is donated for it
@@ -129,12 +156,14 @@ module _ (S S' : Sessions) (p p' : Part) (caps caps' : NatMap Cap) (selector : �
         ∙ ap (λ o. unless o before (session_upgraded selector x more before)) enough
         ∙ ap {B = Outcome} (λ s. record { reply = Done; lines = []; next = s }) (sym (own_put server session (upgraded x more.ram more.caps) _ names put account))
 
-    -- it serves a request
-    pub serves_own : (request : List ℕ) → get caps' selector ≡ Some (Session server session) → S' server session.0 ≡ Some (served None x request).session → account_of p' ≡ account_of p →
+    -- it serves a request, without a buffer
+    pub serves_own : (request : List ℕ) → buffer_of selector before.selectors ≡ None → get caps' selector ≡ Some (Session server session) → S' server session.0 ≡ Some (served None x request).session → account_of p' ≡ account_of p →
         entry_step entry (CallSession selector request) before ≡ record { reply = Told (served None x request).reply; lines = (served None x request).lines; next = after }
     unfolding own_of
-    serves_own request names put account =
+    serves_own request none names put account =
         ap (λ o. session_called selector o request before) named_before
+        ∙ ap (λ b. session_served selector b (served (bytes_of_buffer b) x request) before) none
+        ∙ ap (λ b. served_with (served None x request) b before) (none_lent x request)
         ∙ ap {B = Outcome} (λ s. record { reply = Told (served None x request).reply; lines = (served None x request).lines; next = s }) (sym (own_put server session (served None x request).session _ names put account))
 
   -- a session is opened
