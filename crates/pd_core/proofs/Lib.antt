@@ -23,6 +23,7 @@ pub mod AccountLemmas
 pub mod RegionCallLemmas
 pub mod BytesLemmas
 pub mod PlaceLemmas
+pub mod BufferLemmas
 pub mod ComponentLemmas
 pub mod QuotaLemmas
 pub mod RouterLemmas

@@ -1,12 +1,13 @@
 -- Servers, whichever their service is: their rows, and what is so of each that is sound.
-use Rattle.std.proofs.Common.{◌≡◌, ◌≢◌, ℕ, ◌+◌, ◌*◌, ◌<◌, ◌≤◌, Some, false, true, is_some, refl, sym, ap, subst, ◌∙◌}
+use Rattle.std.proofs.Common.{◌≡◌, ◌≢◌, ℕ, ◌+◌, ◌*◌, ◌<◌, ◌≤◌, Some, false, true, true≢false, is_some, refl, sym, ap, subst, ◌∙◌}
 use Rattle.std.proofs.lemmas.Option.{none-some, same_Some}
-use Rattle.std.specs.Prelude.{Option, None, IsSome}
+use Rattle.std.specs.Prelude.{Option, None, IsSome, IfSome}
 use Rattle.std.specs.Option.{option_map}
 use Rattle.std.specs.FinMap.{get, empty}
 use Rattle.slab.specs.Slab.{Slab, ContainsKey}
 use Rattle.slab.specs.Slab as slab
 use Rattle.trade_base.specs.declared.id.AccountId.{AccountId}
+use Rattle.trade_base.specs.declared.id.DsId.{DsId}
 use Rattle.own_model.specs.Account.{Fits}
 use Rattle.own_model.specs.OwnHeap.{no_heap}
 use Rattle.own_model.specs.Session.{Labelled}
@@ -17,6 +18,7 @@ use Rattle.dataspace_core.specs.Room.{HasRoom}
 use Rattle.dataspace_core.specs.Share.{Share}
 use Rattle.dataspace_core.specs.Store.{Store, part, account_in, root_in, caps_limits_in, IsOpenIn, IsChildIn}
 use Rattle.server_frame.specs.Frame.{Row, row_of, sessions_of, IsServer, IsNoSession}
+use Rattle.server_frame.specs.Lent.{key_of}
 use Rattle.server_frame.specs.declared.server.Session.{Session as Kept}
 use Rattle.server_frame.specs.declared.server.Server.{Server}
 use Rattle.server_frame.proofs.PlaceLaws.{table_has_place}
@@ -25,7 +27,7 @@ use Rattle.log_service.specs.declared.service.LogService.{LogService}
 use Rattle.log_service.specs.Session.{LabelledLine}
 use Rattle.file_service.specs.declared.service.FileService.{FileService}
 use Rattle.file_service.specs.declared.session.FileSession.{FileSession}
-use Rattle.pd_core.specs.Component.{payer_in, caps_in, places_in, rows_in, capacity_in, served_by, own_in, HasPlace, Works, IsSoundRole}
+use Rattle.pd_core.specs.Component.{payer_in, caps_in, places_in, rows_in, capacity_in, served_by, own_in, HasPlace, HasSession, Works, IsSoundRole}
 use Rattle.pd_core.specs.Own.{Sessions, no_sessions, own_of}
 use Rattle.pd_core.specs.Sessions.{log_value, log_buffer, IsLogKept, files_value, files_buffer, IsFilesKept}
 use Rattle.pd_core.specs.declared.component.Role.{Role}
@@ -169,6 +171,21 @@ log_open store role account server id is = is_there log_value log_buffer server.
 
 pub files_open : (store : Store) (role : Role) (account : AccountId) (server : Server FileService FileSession) (id : ℕ) → role ≡ AFiles account server → IsSome (get (rows_in store role) id) → ContainsKey server.sessions id
 files_open store role account server id is = is_there files_value files_buffer server.sessions store server.map role (ap (rows_in store) is) id
+
+-- each session of a role with a row is open
+pub has_session : (store : Store) (role : Role) (id : ℕ) → IsSome (get (rows_in store role) id) → HasSession role id
+has_session store (AScript script) id there = absurd (true≢false (sym there ∙ ap is_some (get-empty id)))
+has_session store (ALog account server) id there = log_open store (ALog account server) account server id refl there
+has_session store (AFiles account server) id there = files_open store (AFiles account server) account server id refl there
+has_session store AGone id there = absurd (true≢false (sym there ∙ ap is_some (get-empty id)))
+
+-- what a server tells that a session lends is its row's
+module _ {T : Type 0} (value : T → Share → Labelled) (buffer : T → Option ℕ) (sessions : Slab (Kept T)) (store : Store) (regions : Regions) (id : ℕ) (told : Option DsId)
+    (is : IfSome (slab.get sessions id) (λ session. key_of told ≡ buffer session.state)) where
+  pub buffer_of_row : (row : Row Labelled) → get (sessions_of value buffer sessions store regions) id ≡ Some row → key_of told ≡ row.buffer
+  buffer_of_row row there =
+      let its = row_is value buffer sessions store regions id row there in
+      subst (λ o. IfSome o (λ (session : Kept T). key_of told ≡ buffer session.state)) its.there is ∙ ap (λ (r : Row Labelled). r.buffer) its.is
 
 -- a script has no session
 pub script_open : (store : Store) (role : Role) (script : Script) (id : ℕ) → role ≡ AScript script → IsSome (get (rows_in store role) id) → ⊥

@@ -5,6 +5,7 @@ use Rattle.std.proofs.lemmas.Option.{none-some, same_Some}
 use Rattle.std.specs.FinMap.{get, insert, remove}
 use Rattle.std.specs.Option.{option_map}
 use Rattle.std.specs.Prelude.{IsSome}
+use Rattle.trade_base.specs.declared.id.DsId.{DsId}
 use Rattle.trade_base.specs.declared.id.SessionId.{SessionId}
 use Rattle.trade_base.specs.declared.refusal.Refusal.{Refusal}
 use Rattle.trade_base.specs.declared.refusal.Refusal.TheVariants.{BadArgs}
@@ -25,7 +26,8 @@ use Rattle.cap_space.specs.declared.cap.Cap.{Cap}
 use Rattle.cap_space.specs.declared.cap.Cap.TheVariants.{Dataspace, RpcObject, Session, Buffer}
 use Rattle.dataspace_core.specs.Store.{Store, account_in, ClosesPart, RaisesPart}
 use Rattle.server_frame.specs.Frame.{Row, row_served, ServesSession}
-use Rattle.server_frame.specs.Lent.{bytes_lent}
+use Rattle.server_frame.specs.Lent.{IsEffect, key_of, bytes_lent}
+use Rattle.server_frame.specs.declared.effect.Effect.TheVariants.{Buffer as MakesBuffer, Gone as GivesBuffer}
 use Rattle.server_frame.specs.declared.effect.Effect.{Effect}
 use Rattle.server_frame.specs.Session.{Served, service_step}
 use Rattle.server_frame.specs.Told.{Told}
@@ -155,6 +157,31 @@ module _ {store : Store} (components : List Component) {i s : ℕ} {script : Scr
 
   caller_is : (get_or components i d).role ≡ AScript script
   caller_is = sym (role_at components i d (caller_within components two)) ∙ two.is_script
+
+  -- ---- what is lent: nothing
+
+  -- so no buffer is told of
+  pub none_told : (told : Option DsId) → ((store : Store) (one : Row Labelled) → get (rows_of store host) session.0 ≡ Some one → key_of told ≡ one.buffer) → (space : DsId) → told ≡ Some space → ⊥
+  none_told told tells space is = none-some space.0 (sym (lends_nothing store host.role session.0 row there) ∙ sym (tells store row there) ∙ ap key_of is)
+
+  module _ (store' : Store) (host' : Component) (request : List ℕ) (effect : Effect)
+      (served_by : (one : Row Labelled) → get (rows_of store host) session.0 ≡ Some one → ServesSession one session.0 effect (row_served service_step request store one) store store' (rows_of store host) (rows_of store' host')) where
+    -- none is made
+    pub none_made : (space : DsId) → effect ≡ MakesBuffer space → ⊥
+    none_made space is =
+        let serves = served_by row there in
+        let after = row_served service_step request store row in
+        let next : Row Labelled = record row { account = after.account; value = after.value; buffer = serves.lent } in
+        let now = ap (λ (m : NatMap (Row Labelled)). get m session.0) serves.sessions ∙ get-insert_same (rows_of store host) session.0 next session.0 refl in
+        let does = subst (λ e. IsEffect e row.buffer serves.lent) is serves.effect_is in
+        none-some space.0 (sym (lends_nothing store' host'.role session.0 next now) ∙ does.1)
+
+    -- and none is given back
+    pub none_given : (space : DsId) → effect ≡ GivesBuffer space → ⊥
+    none_given space is =
+        let serves = served_by row there in
+        let does = subst (λ e. IsEffect e row.buffer serves.lent) is serves.effect_is in
+        none-some space.0 (sym (lends_nothing store host.role session.0 row there) ∙ does.0)
 
   -- ---- refusals of an upgrade
 

@@ -1,7 +1,7 @@
 -- A component as the model sees it.
 use Rattle.std.specs.Prelude.{◌≡◌, ◌≢◌, ℕ, List, ◌+◌, ◌*◌, ◌<◌, ◌≤◌, Option, Some, None, IsSome, IfSome}
 use Rattle.std.specs.FinMap.{get, empty}
-use Rattle.slab.specs.Slab.{Slab, slab_len}
+use Rattle.slab.specs.Slab.{Slab, ContainsKey, slab_len}
 use Rattle.trade_base.specs.declared.id.SessionId.{SessionId}
 use Rattle.own_model.specs.Limits.{caps_limits}
 use Rattle.own_model.specs.NatMap.{NatMap}
@@ -129,6 +129,13 @@ capacity_in (Script script) = 0
 capacity_in (Log account server) = server.sessions.capacity
 capacity_in (Files account server) = server.sessions.capacity
 capacity_in Gone = 0
+
+-- a session is open under a key
+abbrev pub HasSession : Role → ℕ → Type 0
+HasSession (Script script) id = ⊥
+HasSession (Log account server) id = ContainsKey server.sessions id
+HasSession (Files account server) id = ContainsKey server.sessions id
+HasSession Gone id = ⊥
 
 -- there is a place for one more
 abbrev pub HasPlace : Role → Type 0

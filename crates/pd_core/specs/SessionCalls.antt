@@ -1,8 +1,10 @@
 -- A call of a session in the core: what it requires of the components, and what it does to the world.
-use Rattle.std.specs.Prelude.{◌≡◌, ℕ, ◌<◌, ◌≤◌, List, length, map, get_or, Option, Some, None, Result, Err}
+use Rattle.std.specs.Prelude.{◌≡◌, true, false, ℕ, ◌<◌, ◌≤◌, List, length, map, get_or, Option, Some, None, Result, Err}
 use Rattle.std.specs.FinMap.{get, len}
 use Rattle.std.specs.List.{All, flat_map}
 use Rattle.std.specs.Option.{ok_or, option_map}
+use Rattle.trade_base.specs.declared.id.DsId.{DsId}
+use Rattle.trade_base.specs.declared.id.Selector.{Selector}
 use Rattle.trade_base.specs.declared.id.SessionId.{SessionId}
 use Rattle.trade_base.specs.declared.refusal.Refusal.{Refusal}
 use Rattle.trade_base.specs.declared.refusal.Refusal.TheVariants.{Gone, InvalidSession, NotAScript}
@@ -10,13 +12,16 @@ use Rattle.own_model.specs.Call.{Call}
 use Rattle.own_model.specs.Reply.{reply_text, log_text}
 use Rattle.own_model.specs.Routes.{Service, provider}
 use Rattle.own_model.specs.World.{outcome_at, with_state}
-use Rattle.cap_space.specs.Space.{with_cap, without_cap}
-use Rattle.cap_space.specs.declared.cap.Cap.TheVariants.{Session as ASession}
+use Rattle.cap_space.specs.Space.{with_cap, without_cap, is_buffer}
+use Rattle.own_model.specs.NatMap.{NatMap}
+use Rattle.cap_space.specs.declared.cap.Cap.{Cap}
+use Rattle.cap_space.specs.declared.cap.Cap.TheVariants.{Session as ASession, Buffer as ABuffer}
+use Rattle.region_map.specs.Regions.{all_detached}
 use Rattle.dataspace_core.specs.Store.{Store}
 use Rattle.server_frame.specs.Told.{Told}
 use Rattle.pd_core.specs.Answer.{told_alone, reply_of}
 use Rattle.pd_core.specs.declared.answer.Answer.{Answer}
-use Rattle.pd_core.specs.Component.{service_of}
+use Rattle.pd_core.specs.Component.{service_of, caps_in}
 use Rattle.pd_core.specs.Core.{Rules, world_of, IsCore}
 use Rattle.pd_core.specs.Sound.{session_at}
 use Rattle.pd_core.specs.declared.component.Role.{Role}
@@ -66,6 +71,41 @@ with_session (Script script) selector server session =
 with_session (Log account server) selector entry session = Log account server
 with_session (Files account server) selector entry session = Files account server
 with_session GoneRole selector entry session = GoneRole
+
+-- a role with a buffer under a selector
+abbrev pub with_buffer : Role → ℕ → DsId → Selector → Role
+with_buffer (Script script) selector space session =
+    Script (record script { caps = with_cap script.caps selector (ABuffer space session) })
+with_buffer (Log account server) selector space session = Log account server
+with_buffer (Files account server) selector space session = Files account server
+with_buffer GoneRole selector space session = GoneRole
+
+-- a role without a selector's capability and without the regions of a dataspace
+abbrev pub without_buffer : Role → ℕ → ℕ → Role
+without_buffer (Script script) selector space =
+    Script (record script { caps = without_cap script.caps selector; regions = all_detached script.regions space })
+without_buffer (Log account server) selector space = Log account server
+without_buffer (Files account server) selector space = Files account server
+without_buffer GoneRole selector space = GoneRole
+
+-- a selector names the buffer in a dataspace
+pub record IsLentTo (space : ℕ) (caps : NatMap Cap) : Type 0 where
+  pub selector : ℕ
+  pub named : is_buffer space (get caps selector) ≡ true
+
+-- a script's does
+abbrev pub NamesBuffer : ℕ → Role → Type 0
+NamesBuffer space (Script script) = IsLentTo space script.caps.caps
+NamesBuffer space (Log account server) = ⊥
+NamesBuffer space (Files account server) = ⊥
+NamesBuffer space GoneRole = ⊥
+
+-- the buffer in a dataspace goes from its least selector, and its regions go
+pub record DropsBuffer (space : ℕ) (old new : Component) : Type 0 where
+  pub selector : ℕ
+  pub named : is_buffer space (get (caps_in old.role) selector) ≡ true
+  pub least : (other : ℕ) → other < selector → is_buffer space (get (caps_in old.role) other) ≡ false
+  pub gone : new ≡ record old { role = without_buffer old.role selector space }
 
 -- a call of the component at a place is answered as the model's, and leaves the world that the model's leaves
 pub record Answers (rules : Rules) (call : Call) (i : ℕ) (reply : Told) (old : Store) (before : List Component) (new : Store) (after : List Component) : Type 0 where

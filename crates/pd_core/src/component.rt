@@ -14,7 +14,7 @@ use region_map::RegionMap;
 use server_frame::{Reply, Server};
 use sliced_heap::SlicedHeap;
 use std::mem;
-use trade_base::{AccountId, Refusal, Selector, SessionId};
+use trade_base::{AccountId, DsId, Refusal, Selector, SessionId};
 
 /// What a component is for. A server answers the calls of others, and is charged on the account.
 #[derive(Drop)]
@@ -55,7 +55,7 @@ impl Component {
     ghost use Rattle.pd_core.specs.Component.{entry_of, payer_of, service_of, tables_of, caps_of, HasNewHeap, own, IsSound, Keeps};
     ghost use Rattle.pd_core.specs.Fresh.{HasNoSessions, IsNewServer};
     ghost use Rattle.pd_core.specs.Own.{Sessions, HasSessions};
-    ghost use Rattle.pd_core.specs.SessionCalls.{named_in, with_session, without_selector, HasSelectorLeft};
+    ghost use Rattle.pd_core.specs.SessionCalls.{named_in, with_session, with_buffer, without_selector, HasSelectorLeft, NamesBuffer, DropsBuffer};
 
     /// A script of a name of at most 32 bytes that is charged on the account, with these capabilities and regions, and with
     /// empty heaps.
@@ -159,6 +159,33 @@ impl Component {
     {
         match &mut self.role {
             Role::Script(script) => script.caps.insert(Cap::Session { server, session }),
+            Role::Log(..) | Role::Files(..) | Role::Gone => unreachable!(),
+        }
+    }
+
+    /// The selector under which a script keeps a buffer: a dataspace that the session under a selector lends it.
+    pub(crate) fn keep_buffer(&mut self, space: DsId, session: Selector) -> Selector
+        requires room { HasSelectorLeft self.old.role }
+        ensures least { result.0 ≡ new_selector (caps_of self.old) }
+        ensures kept { self.new
+            ≡ record self.old { role = with_buffer self.old.role result.0 space session } }
+    {
+        match &mut self.role {
+            Role::Script(script) => script.caps.insert(Cap::Buffer { space, session }),
+            Role::Log(..) | Role::Files(..) | Role::Gone => unreachable!(),
+        }
+    }
+
+    /// A buffer goes that a script was lent, which frees its selector, and so do its regions. Its dataspace needn't be there.
+    pub(crate) fn drop_buffer(&mut self, space: DsId)
+        requires lent { NamesBuffer space.0 self.old.role }
+        ensures { DropsBuffer space.0 self.old self.new }
+    {
+        match &mut self.role {
+            Role::Script(script) => {
+                let _ = script.caps.take_buffer(space);
+                script.regions.detach_all(space);
+            }
             Role::Log(..) | Role::Files(..) | Role::Gone => unreachable!(),
         }
     }

@@ -3,7 +3,7 @@
 use crate::component::{Component, Role};
 use dataspace_core::Memory;
 use server_frame::{Effect, LONGEST_LABEL, Reply};
-use trade_base::{AccountId, Caps, Ram, Refusal, SessionId};
+use trade_base::{AccountId, Caps, DsId, Ram, Refusal, SessionId};
 
 impl Component {
     ghost use Rattle.std.specs.Prelude.{◌≡◌, ◌≤◌, length, Some, IfOk, OnOk, OnErr};
@@ -13,11 +13,12 @@ impl Component {
     ghost use Rattle.own_model.specs.Donation.{raised};
     ghost use Rattle.own_model.specs.Routes.{Service};
     ghost use Rattle.own_model.specs.Session.{donation_refusal, state_at_first};
-    ghost use Rattle.dataspace_core.specs.Store.{account_in, RaisesPart, ClosesPart};
+    ghost use Rattle.dataspace_core.specs.Store.{Store, account_in, RaisesPart, ClosesPart};
     ghost use Rattle.server_frame.specs.Frame.{AtRow, row_served, OpensSession, ServesSession};
+    ghost use Rattle.server_frame.specs.Lent.{key_of};
     ghost use Rattle.server_frame.specs.Session.{service_step};
     ghost use Rattle.server_frame.specs.Told.{nothing_told};
-    ghost use Rattle.pd_core.specs.Component.{rows_of, service_of, Admits, Serves, StaysServer};
+    ghost use Rattle.pd_core.specs.Component.{rows_of, service_of, Admits, HasSession, Serves, StaysServer};
 
     /// Opens a session for a client's account, with its donation: RAM in bytes, and capabilities. Refused as
     /// `Server::open` is, where nothing changes.
@@ -74,6 +75,19 @@ impl Component {
         match &mut self.role {
             Role::Log(_, server) => server.upgrade(memory, id, ram, caps),
             Role::Files(_, server) => server.upgrade(memory, id, ram, caps),
+            Role::Script(_) | Role::Gone => unreachable!(),
+        }
+    }
+
+    /// The dataspace that a session lends its client, if it lends one.
+    pub(crate) fn buffer_of_session(&self, id: SessionId) -> Option<DsId>
+        requires { HasSession self.now.role id.0 }
+        ensures { (store : Store) → AtRow (rows_of store self.now) id.0 (λ row.
+            key_of result ≡ row.buffer) }
+    {
+        match &self.role {
+            Role::Log(_, server) => server.buffer(id),
+            Role::Files(_, server) => server.buffer(id),
             Role::Script(_) | Role::Gone => unreachable!(),
         }
     }

@@ -10,11 +10,12 @@ use crate::component::{Component, Role};
 use crate::label::label_of;
 use crate::router::Router;
 use dataspace_core::Memory;
-use server_frame::Reply;
+use server_frame::{Effect, Reply};
 use session_proto::SessionArgs;
-use trade_base::Refusal;
+use trade_base::{Refusal, Selector};
 
-/// The session that a selector of the component at a place names goes, or why not: `NotAScript`, then `Gone`, then
+/// The session that a selector of the component at a place names goes, with the capability and the regions of its buffer, or why
+/// not: `NotAScript`, then `Gone`, then
 /// `InvalidSession`.
 pub(crate) fn close(
     memory: &mut Memory,
@@ -28,7 +29,12 @@ pub(crate) fn close(
         memory.old components.old memory.new components.new }
 {
     let (entry, session) = components[caller].take_session(selector)?;
-    components[entry].close_session(memory, session);
+    let server = &mut components[entry];
+    let lent = server.buffer_of_session(session);
+    server.close_session(memory, session);
+    if let Some(space) = lent {
+        components[caller].drop_buffer(space);
+    }
     Ok(Answer::Done)
 }
 
@@ -53,7 +59,8 @@ pub(crate) fn upgrade(
 }
 
 /// A request of the session that a selector of the component at a place names is answered, and the lines that it finishes
-/// are told before the answer. It is refused with `NotAScript`, `Gone` or else `InvalidSession`.
+/// are told before the answer. A buffer that it makes comes under a new selector, which is told at the end of the reply, and one
+/// that it gives back goes with its regions. It is refused with `NotAScript`, `Gone` or else `InvalidSession`.
 pub(crate) fn call(
     memory: &mut Memory,
     components: &mut [Component],
@@ -73,8 +80,14 @@ pub(crate) fn call(
         Err(refusal) => return refuse(refusal, reply),
     };
     reply.clear();
-    // No session lends anything yet.
-    let _ = components[entry].serve_session(memory, session, request, reply);
+    match components[entry].serve_session(memory, session, request, reply) {
+        Effect::Nothing => {}
+        Effect::Buffer(space) => {
+            let kept = components[caller].keep_buffer(space, Selector(selector as u32));
+            reply.add_number(kept.0 as u64);
+        }
+        Effect::Gone(space) => components[caller].drop_buffer(space),
+    }
 }
 
 /// A session of the service is opened for the component at a place, by the text of arguments, or why not: `NotAScript`, then

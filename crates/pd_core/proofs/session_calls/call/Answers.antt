@@ -3,7 +3,7 @@ use Rattle.std.proofs.Common.{rules, get_or, refl, sym, subst, ◌∙◌}
 use Rattle.own_model.specs.Call.Call.{CallSession}
 use Rattle.pd_core.specs.SessionCalls.{Goes}
 use Rattle.pd_core.proofs.SessionRefusedLemmas.{call_asks, unnamed_goes}
-use Rattle.pd_core.proofs.SessionWorldLemmas.{Names, named_two, named_cap, host_within, host_serves, call_goes}
+use Rattle.pd_core.proofs.SessionWorldLemmas.{Names, named_two, named_cap, host_within, host_serves, none_made, none_given, call_goes}
 use Rattle.pd_core.proofs.WorldLemmas.{role_at}
 use Rattle.pd_core.proofs.session_calls.call.Goals as goal
 
@@ -33,8 +33,76 @@ serve_session-requires-clause-serves c =
     let e = c.index-components-entry.result in
     host_serves components two c.index-components-caller.result (get_or components c.in-Ok.named.0 e) (role_at components c.in-Ok.named.0 e (host_within components c.in-Ok.named.0 two.serving)) c.args.selector c.in-Ok.named.1 (named_cap names)
 
-pub returns : goal.returns
-returns c = λ rules.
+-- no session makes a buffer
+pub overflow_cast-selector : goal.overflow_cast-selector
+overflow_cast-selector c =
+    let components = c.args.components.now in
+    let names : Names c.args.memory.now components c.args.caller c.index-components-caller.result c.args.selector c.in-Ok.named
+    = record { core = c.requires.core; here = c.requires.caller; is = sym c.session.ensures ∙ c.in-Ok.is } in
+    let two = named_two names in
+    let e = c.index-components-entry.result in
+    let done = c.serve_session in
+    absurd (none_made components two c.index-components-caller.result (get_or components c.in-Ok.named.0 e) (role_at components c.in-Ok.named.0 e (host_within components c.in-Ok.named.0 two.serving)) c.args.selector c.in-Ok.named.1
+    (named_cap names) done.new.memory done.new.self c.args.request.now done.result done.ensures.serves c.in-Buffer.space c.in-Buffer.is)
+
+pub keep_buffer-kept-requires : goal.keep_buffer-kept-requires
+keep_buffer-kept-requires c =
+    let components = c.args.components.now in
+    let names : Names c.args.memory.now components c.args.caller c.index-components-caller.result c.args.selector c.in-Ok.named
+    = record { core = c.requires.core; here = c.requires.caller; is = sym c.session.ensures ∙ c.in-Ok.is } in
+    let two = named_two names in
+    let e = c.index-components-entry.result in
+    let done = c.serve_session in
+    absurd (none_made components two c.index-components-caller.result (get_or components c.in-Ok.named.0 e) (role_at components c.in-Ok.named.0 e (host_within components c.in-Ok.named.0 two.serving)) c.args.selector c.in-Ok.named.1
+    (named_cap names) done.new.memory done.new.self c.args.request.now done.result done.ensures.serves c.in-Buffer.space c.in-Buffer.is)
+
+pub add_number-requires : goal.add_number-requires
+add_number-requires c =
+    let components = c.args.components.now in
+    let names : Names c.args.memory.now components c.args.caller c.index-components-caller.result c.args.selector c.in-Ok.named
+    = record { core = c.requires.core; here = c.requires.caller; is = sym c.session.ensures ∙ c.in-Ok.is } in
+    let two = named_two names in
+    let e = c.index-components-entry.result in
+    let done = c.serve_session in
+    absurd (none_made components two c.index-components-caller.result (get_or components c.in-Ok.named.0 e) (role_at components c.in-Ok.named.0 e (host_within components c.in-Ok.named.0 two.serving)) c.args.selector c.in-Ok.named.1
+    (named_cap names) done.new.memory done.new.self c.args.request.now done.result done.ensures.serves c.in-Buffer.space c.in-Buffer.is)
+
+pub returns-in-Buffer : goal.returns-in-Buffer
+returns-in-Buffer c = λ rules.
+    let components = c.args.components.now in
+    let names : Names c.args.memory.now components c.args.caller c.index-components-caller.result c.args.selector c.in-Ok.named
+    = record { core = c.requires.core; here = c.requires.caller; is = sym c.session.ensures ∙ c.in-Ok.is } in
+    let two = named_two names in
+    let e = c.index-components-entry.result in
+    let done = c.serve_session in
+    absurd (none_made components two c.index-components-caller.result (get_or components c.in-Ok.named.0 e) (role_at components c.in-Ok.named.0 e (host_within components c.in-Ok.named.0 two.serving)) c.args.selector c.in-Ok.named.1
+    (named_cap names) done.new.memory done.new.self c.args.request.now done.result done.ensures.serves c.in-Buffer.space c.in-Buffer.is)
+
+-- nor gives one back
+pub drop_buffer-requires : goal.drop_buffer-requires
+drop_buffer-requires c =
+    let components = c.args.components.now in
+    let names : Names c.args.memory.now components c.args.caller c.index-components-caller.result c.args.selector c.in-Ok.named
+    = record { core = c.requires.core; here = c.requires.caller; is = sym c.session.ensures ∙ c.in-Ok.is } in
+    let two = named_two names in
+    let e = c.index-components-entry.result in
+    let done = c.serve_session in
+    absurd (none_given components two c.index-components-caller.result (get_or components c.in-Ok.named.0 e) (role_at components c.in-Ok.named.0 e (host_within components c.in-Ok.named.0 two.serving)) c.args.selector c.in-Ok.named.1
+    (named_cap names) done.new.memory done.new.self c.args.request.now done.result done.ensures.serves c.in-Gone.space c.in-Gone.is)
+
+pub returns-in-Gone : goal.returns-in-Gone
+returns-in-Gone c = λ rules.
+    let components = c.args.components.now in
+    let names : Names c.args.memory.now components c.args.caller c.index-components-caller.result c.args.selector c.in-Ok.named
+    = record { core = c.requires.core; here = c.requires.caller; is = sym c.session.ensures ∙ c.in-Ok.is } in
+    let two = named_two names in
+    let e = c.index-components-entry.result in
+    let done = c.serve_session in
+    absurd (none_given components two c.index-components-caller.result (get_or components c.in-Ok.named.0 e) (role_at components c.in-Ok.named.0 e (host_within components c.in-Ok.named.0 two.serving)) c.args.selector c.in-Ok.named.1
+    (named_cap names) done.new.memory done.new.self c.args.request.now done.result done.ensures.serves c.in-Gone.space c.in-Gone.is)
+
+pub returns-in-Nothing : goal.returns-in-Nothing
+returns-in-Nothing c = λ rules.
     let components = c.args.components.now in
     let names : Names c.args.memory.now components c.args.caller c.index-components-caller.result c.args.selector c.in-Ok.named
     = record { core = c.requires.core; here = c.requires.caller; is = sym c.session.ensures ∙ c.in-Ok.is } in

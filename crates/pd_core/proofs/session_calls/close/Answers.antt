@@ -2,7 +2,8 @@
 use Rattle.std.proofs.Common.{rules, get_or, set, length-set, refl, sym, ◌∙◌, arith}
 use Rattle.own_model.specs.Call.Call.{Close}
 use Rattle.pd_core.proofs.SessionRefusedLemmas.{close_asks, unnamed_goes, passed_on, unchanged}
-use Rattle.pd_core.proofs.SessionWorldLemmas.{Names, named_two, named_cap, host_within, host_read, host_serves, close_goes}
+use Rattle.pd_core.proofs.SessionWorldLemmas.{Names, named_two, named_cap, host_within, host_read, host_serves, none_told, close_goes}
+use Rattle.pd_core.proofs.ServerLemmas.{has_session}
 use Rattle.pd_core.proofs.session_calls.close.Goals as goal
 
 pub returns-in_err-entry : goal.returns-in_err-entry
@@ -33,8 +34,41 @@ close_session-requires c =
     let d = c.index-components-caller.result in
     host_serves components two d host host_is c.args.selector c.in_ok-entry.session (named_cap names)
 
-pub returns : goal.returns
-returns c = λ rules.
+pub buffer_of_session-lent-requires : goal.buffer_of_session-lent-requires
+buffer_of_session-lent-requires c =
+    let components = c.args.components.now in
+    let names : Names c.args.memory.now components c.args.caller c.index-components-caller.result c.args.selector (c.in_ok-entry.entry, c.in_ok-entry.session)
+    = record { core = c.requires.core; here = c.requires.caller; is = sym c.take_session.ensures.named ∙ c.in_ok-entry.was } in
+    let two = named_two names in
+    let client = c.take_session.new.self in
+    let e = c.index-components-entry.result in
+    let host = get_or (set components c.args.caller client) c.in_ok-entry.entry e in
+    let serves = host_serves components two c.index-components-caller.result (get_or (set components c.args.caller client) c.in_ok-entry.entry e) (host_read components two client e) c.args.selector c.in_ok-entry.session (named_cap names) in
+    has_session c.args.memory.now host.role c.in_ok-entry.session.0 serves.row
+
+-- no session lends a buffer
+pub drop_buffer-requires : goal.drop_buffer-requires
+drop_buffer-requires c =
+    let components = c.args.components.now in
+    let names : Names c.args.memory.now components c.args.caller c.index-components-caller.result c.args.selector (c.in_ok-entry.entry, c.in_ok-entry.session)
+    = record { core = c.requires.core; here = c.requires.caller; is = sym c.take_session.ensures.named ∙ c.in_ok-entry.was } in
+    let two = named_two names in
+    let client = c.take_session.new.self in
+    let e = c.index-components-entry.result in
+    absurd (none_told components two c.index-components-caller.result (get_or (set components c.args.caller client) c.in_ok-entry.entry e) (host_read components two client e) c.args.selector c.in_ok-entry.session (named_cap names) c.buffer_of_session-lent.result c.buffer_of_session-lent.ensures c.in-Some.space c.in-Some.is)
+
+pub returns-in-Some : goal.returns-in-Some
+returns-in-Some c = λ rules.
+    let components = c.args.components.now in
+    let names : Names c.args.memory.now components c.args.caller c.index-components-caller.result c.args.selector (c.in_ok-entry.entry, c.in_ok-entry.session)
+    = record { core = c.requires.core; here = c.requires.caller; is = sym c.take_session.ensures.named ∙ c.in_ok-entry.was } in
+    let two = named_two names in
+    let client = c.take_session.new.self in
+    let e = c.index-components-entry.result in
+    absurd (none_told components two c.index-components-caller.result (get_or (set components c.args.caller client) c.in_ok-entry.entry e) (host_read components two client e) c.args.selector c.in_ok-entry.session (named_cap names) c.buffer_of_session-lent.result c.buffer_of_session-lent.ensures c.in-Some.space c.in-Some.is)
+
+pub returns-in_default : goal.returns-in_default
+returns-in_default c = λ rules.
     let components = c.args.components.now in
     let names : Names c.args.memory.now components c.args.caller c.index-components-caller.result c.args.selector (c.in_ok-entry.entry, c.in_ok-entry.session)
     = record { core = c.requires.core; here = c.requires.caller; is = sym c.take_session.ensures.named ∙ c.in_ok-entry.was } in
