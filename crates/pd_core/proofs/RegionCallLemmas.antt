@@ -4,6 +4,7 @@ use Rattle.std.specs.Prelude.{Ok, Err, Option}
 use Rattle.std.specs.Option.{unwrap_or}
 use Rattle.std.specs.FinMap.{get}
 use Rattle.trade_base.specs.declared.id.DsId.{DsId}
+use Rattle.trade_base.specs.declared.id.Selector.{Selector}
 use Rattle.trade_base.specs.declared.refusal.Refusal.{Refusal}
 use Rattle.trade_base.specs.declared.refusal.Refusal.TheVariants.{InvalidCap}
 use Rattle.own_model.specs.Call.{Call}
@@ -22,29 +23,33 @@ use Rattle.cap_space.specs.declared.cap.Cap.{Cap}
 use Rattle.cap_space.specs.declared.cap.Cap.TheVariants.{Dataspace, RpcObject as AnRpcCap, Session, Buffer}
 use Rattle.region_map.specs.Regions.{Regions, attached, detached}
 use Rattle.dataspace_core.specs.Store.{Part, bytes_of}
-use Rattle.pd_core.specs.Own.{Sessions, selector_of, regions_of, own_of, sized_at}
+use Rattle.pd_core.specs.Own.{Sessions, Lent, selector_of, regions_of, own_of, sized_at}
 use Rattle.pd_core.specs.Sound.{AreNamed, IsScript}
 use Rattle.pd_core.proofs.NameLemmas.{named_is}
 use Rattle.pd_core.proofs.OwnLemmas.{Settles, all_sessions, before, object_is, no_buffer, few_bytes, names_object, remaps}
 use Rattle.pd_core.proofs.AccountLemmas.{refuses}
 
+-- a capability is no buffer's
+abbrev IsNoBuffer : Option Cap → Type 0
+IsNoBuffer o = (of : DsId) (session : Selector) → o ≡ Some (Buffer of session) → ⊥
+
 -- what a look-up finds, with its pages
-found_dataspace : (p : Part) (o : Option Cap) (found : DsId × ℕ) → Ok found ≡ sized_at p o → (o ≡ Some (Dataspace found.0)) × (found.1 ≡ pages_in (bytes_of p found.0.0))
-found_dataspace p None found h = cc
-found_dataspace p (Some (Dataspace d)) found h =
+found_dataspace : (L : Lent) (p : Part) (o : Option Cap) (found : DsId × ℕ) → IsNoBuffer o → Ok found ≡ sized_at L p o → (o ≡ Some (Dataspace found.0)) × (found.1 ≡ pages_in (bytes_of p found.0.0))
+found_dataspace L p None found none h = cc
+found_dataspace L p (Some (Dataspace d)) found none h =
     let same : found ≡ (d, pages_in (bytes_of p d.0)) = cc in
     (ap (λ (f : DsId × ℕ). Some (Dataspace f.0)) (sym same), ap (λ (f : DsId × ℕ). f.1) same ∙ ap (λ (f : DsId × ℕ). pages_in (bytes_of p f.0.0)) (sym same))
-found_dataspace p (Some AnRpcCap) found h = cc
-found_dataspace p (Some (Buffer space session)) found h = cc
-found_dataspace p (Some (Session server session)) found h = cc
+found_dataspace L p (Some AnRpcCap) found none h = cc
+found_dataspace L p (Some (Buffer space session)) found none h = absurd (none space session refl)
+found_dataspace L p (Some (Session server session)) found none h = cc
 
 -- what a look-up finds nothing for names no dataspace
-unsized : (p : Part) (o : Option Cap) (refusal : Refusal) → Err refusal ≡ sized_at p o → (refusal ≡ InvalidCap) × (dataspace_of o ≡ None)
-unsized p None refusal h = (cc, refl)
-unsized p (Some (Dataspace d)) refusal h = cc
-unsized p (Some AnRpcCap) refusal h = (cc, refl)
-unsized p (Some (Buffer space session)) refusal h = (cc, refl)
-unsized p (Some (Session server session)) refusal h = (cc, refl)
+unsized : (L : Lent) (p : Part) (o : Option Cap) (refusal : Refusal) → Err refusal ≡ sized_at L p o → (refusal ≡ InvalidCap) × (dataspace_of o ≡ None)
+unsized L p None refusal h = (cc, refl)
+unsized L p (Some (Dataspace d)) refusal h = cc
+unsized L p (Some AnRpcCap) refusal h = (cc, refl)
+unsized L p (Some (Buffer space session)) refusal h = cc
+unsized L p (Some (Session server session)) refusal h = (cc, refl)
 
 module _ (p : Part) (space : Space) (regions : Regions) (heap : OwnHeap) (sliced : NatMap (List ℕ)) (sound : IsScript p space regions heap sliced) where
   -- the own state's regions have the starts and pages of the map's
@@ -54,13 +59,13 @@ module _ (p : Part) (space : Space) (regions : Regions) (heap : OwnHeap) (sliced
 
   -- ---- attach
 
-  module _ (s : ℕ) (refusal : Refusal) (none : Err refusal ≡ sized_at p (get space.caps s)) where
+  module _ (L : Lent) (s : ℕ) (refusal : Refusal) (none : Err refusal ≡ sized_at L p (get space.caps s)) where
     -- a call that attaches what has no bytes is refused
     unnamed : (sessions : Sessions) (step : Option (List ℕ) → Outcome) → step None ≡ refused (before p space regions heap sliced sound sessions) InvalidCap →
         refused (before p space regions heap sliced sound sessions) refusal ≡ step (named_bytes (get (before p space regions heap sliced sound sessions).selectors s))
     unnamed sessions step nothing =
         let b = before p space regions heap sliced sound sessions in
-        let un = unsized p (get space.caps s) refusal none in
+        let un = unsized L p (get space.caps s) refusal none in
         let by : Option Object → Outcome = λ o. step (named_bytes o) in
         ap (refused b) un.0 ∙ refuses by b nothing nothing (λ session. nothing) sessions p (get space.caps s)
         (λ of session named. absurd (no_buffer p space regions heap sliced sound s of session named)) un.1 ∙ ap by (sym (object_is p space regions heap sliced sound sessions s))
@@ -73,7 +78,7 @@ module _ (p : Part) (space : Space) (regions : Regions) (heap : OwnHeap) (sliced
     pub attach_at_unnamed : (address : ℕ) (sessions : Sessions) → refused (before p space regions heap sliced sound sessions) refusal ≡ script_step (AttachAt s address) (before p space regions heap sliced sound sessions)
     attach_at_unnamed address sessions = let b = before p space regions heap sliced sound sessions in unnamed sessions (λ o. attached_at s address o b) refl
 
-  module _ (s : ℕ) (found : DsId × ℕ) (is : Ok found ≡ sized_at p (get space.caps s)) where
+  module _ (L : Lent) (s : ℕ) (found : DsId × ℕ) (is : Ok found ≡ sized_at L p (get space.caps s)) where
     -- the dataspace and its pages
     abbrev ds : DsId
     ds = found.0
@@ -83,11 +88,11 @@ module _ (p : Part) (space : Space) (regions : Regions) (heap : OwnHeap) (sliced
 
     -- the selector names it
     named : get space.caps s ≡ Some (Dataspace ds)
-    named = (found_dataspace p (get space.caps s) found is).0
+    named = (found_dataspace L p (get space.caps s) found (no_buffer p space regions heap sliced sound s) is).0
 
     -- its pages are those of its bytes
     size : pages ≡ pages_in (bytes_of p ds.0)
-    size = (found_dataspace p (get space.caps s) found is).1
+    size = (found_dataspace L p (get space.caps s) found (no_buffer p space regions heap sliced sound s) is).1
 
     -- what is attached is pages
     whole : IsPages (bytes_of p ds.0)

@@ -17,7 +17,7 @@ use Rattle.own_model.specs.Session.{Session as AnOpenSession}
 use Rattle.own_model.specs.Sliced.{block_found}
 use Rattle.cap_space.specs.declared.cap.Cap.{Cap}
 use Rattle.cap_space.specs.declared.cap.Cap.TheVariants.{Dataspace, RpcObject, Session, Buffer}
-use Rattle.dataspace_core.specs.Store.{Store, Part, part, account_of, bytes_of}
+use Rattle.dataspace_core.specs.Store.{Store, Part, part, account_of, bytes_of, space_at}
 use Rattle.heap_core.specs.Calls.{HoldsRange as HoldsRangeInBlock}
 use Rattle.heap_core.specs.Heap.{heap_at}
 use Rattle.sliced_heap.specs.Heap.{share_at, blocks_at, HoldsRange}
@@ -92,13 +92,21 @@ own_at sessions store script =
 
 -- ---- what a script looks up
 
--- the dataspace that what a selector has is a capability of, and its pages
-abbrev pub sized_at : Part → Option Cap → Result (DsId × ℕ) Refusal
-sized_at part (Some (Dataspace ds)) = Ok (ds, pages_in (bytes_of part ds.0))
-sized_at part (Some RpcObject) = Err InvalidCap
-sized_at part (Some (Session server session)) = Err InvalidCap
-sized_at part (Some (Buffer space session)) = Err InvalidCap
-sized_at part None = Err InvalidCap
+-- the bytes of dataspaces by their keys: those that sessions lend are read so
+abbrev pub Lent : Type 0
+Lent = ℕ → List ℕ
+
+-- as a memory has them
+abbrev pub lent_in : Store → Lent
+lent_in store key = (space_at store key).bytes
+
+-- the dataspace that what a selector has is a capability of, its own or one that a session lends, and its pages
+abbrev pub sized_at : Lent → Part → Option Cap → Result (DsId × ℕ) Refusal
+sized_at lent part (Some (Dataspace ds)) = Ok (ds, pages_in (bytes_of part ds.0))
+sized_at lent part (Some RpcObject) = Err InvalidCap
+sized_at lent part (Some (Session server session)) = Err InvalidCap
+sized_at lent part (Some (Buffer space session)) = Ok (space, pages_in (lent space.0))
+sized_at lent part None = Err InvalidCap
 
 -- why so many bytes from an address on aren't found
 abbrev pub range_refusal : NatMap Region → NatMap (List ℕ) → OwnHeap → ℕ → ℕ → Option Refusal

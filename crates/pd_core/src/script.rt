@@ -37,7 +37,7 @@ impl Script {
     ghost use Rattle.pd_core.specs.Call.{model_call, bytes_in};
     ghost use Rattle.pd_core.specs.declared.call.Call.TheVariants.{Peek};
     ghost use Rattle.pd_core.specs.Does.{Does, DoesTold, CanDo};
-    ghost use Rattle.pd_core.specs.Own.{part_at, own_heap_at, sliced_at, sized_at, range_refusal, IsFound};
+    ghost use Rattle.pd_core.specs.Own.{part_at, own_heap_at, sliced_at, lent_in, sized_at, range_refusal, IsFound};
     ghost use Rattle.pd_core.specs.Sound.{IsSoundScript, Keeps};
 
     /// Carries a call out that is none of a session and no exit, and writes what it is answered in place of what the reply was.
@@ -248,14 +248,16 @@ impl Script {
         quotas_of(memory, self.account)
     }
 
-    /// The dataspace that a selector names and its pages, or `InvalidCap` where it names none.
+    /// The dataspace that a selector names, its own or a buffer's, and its pages, or `InvalidCap` where it names none.
     fn dataspace(&self, memory: &Memory, selector: u64) -> Result<(DsId, u64), Refusal>
         requires { IsSoundScript memory.now self.now }
         ensures { result
-            ≡ sized_at (part_at memory.now self.now) (get self.now.caps.caps selector) }
+            ≡ sized_at (lent_in memory.now) (part_at memory.now self.now)
+            (get self.now.caps.caps selector) }
     {
         match self.caps.get(selector) {
             Some(Cap::Dataspace(space)) => Ok((space, memory.size(space) / PAGE)),
+            Some(Cap::Buffer { space, .. }) => Ok((space, memory.size(space) / PAGE)),
             _ => Err(Refusal::InvalidCap),
         }
     }
