@@ -18,6 +18,7 @@ pub mod NodeLemmas
 pub mod ContentLemmas
 pub mod ResultLemmas
 pub mod FoundLemmas
+pub mod FillLemmas
 pub mod NodeCallLemmas
 pub mod NodeGiveLemmas
 pub mod BeginLemmas
@@ -27,6 +28,5 @@ pub mod NodeFoundLemmas
 pub mod NodeStoreLemmas
 pub mod NodeStoredLemmas
 pub mod NodeFreeLemmas
-pub mod CopyLemmas
 pub mod EndLemmas
 pub mod RequestLemmas

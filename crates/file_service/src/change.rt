@@ -263,7 +263,7 @@ impl FileSession {
             .ok_or(FileError::OutOfRam)?;
         let content = take_content(&self.heap, sliced, memory, map, size).map_err(error_of)?;
         let old = found.node.content;
-        copy_front(&self.heap, sliced, memory, map, old, content, offset);
+        copy_content(&self.heap, sliced, memory, map, old, content, offset);
         write_content(&self.heap, sliced, memory, map, content, offset, bytes);
         self.replace(sliced, memory, map, found, content, size);
         Ok(bytes.len() as u64)
@@ -328,31 +328,6 @@ fn ram_fits(sliced: &SlicedHeap, memory: &Memory)
     ensures { (account_in memory.now (payer_of sliced.now)).ram_limit < 2 ^ 64 }
 {
     let _ = memory.limits(sliced.account());
-}
-
-/// Copies so many bytes of a content's front to another's, if any.
-fn copy_front(
-    heap: &Heap,
-    sliced: &SlicedHeap,
-    memory: &mut Memory,
-    map: &RegionMap,
-    from: u64,
-    to: u64,
-    count: u64,
-)
-    requires furnished { IsFurnished heap.now sliced.now memory.old map.now }
-    requires source { 0 < count
-        → HasBytes (stock heap.now sliced.now memory.old map.now).contents from 0 count }
-    requires target { HasBytes (stock heap.now sliced.now memory.old map.now).contents to 0 count }
-    requires apart { 0 < count → from ≢ to }
-    ensures copied { stock heap.now sliced.now memory.new map.now
-        ≡ content_copied from to count (stock heap.now sliced.now memory.old map.now) }
-    ensures keeps { KeepsSession sliced.now heap.now sliced.now
-        memory.old memory.new map.now map.now }
-{
-    if count > 0 {
-        copy_content(heap, sliced, memory, map, from, to, count);
-    }
 }
 
 /// What a reply names a refusal of a heap.

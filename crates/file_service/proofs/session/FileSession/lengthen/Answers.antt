@@ -38,37 +38,37 @@ takes c =
       is = subst (λ r. IfOk r (λ a. taken ≡ content_taken size a was)) ok c.take_content.ensures.taken;
     }
 
-pub copy_front-requires-clause-source : goal.copy_front-requires-clause-source
-copy_front-requires-clause-source c =
-    source c.args.self.now _ _ _ _ _ _ c.requires.found _ _ _ _ c.requires.low (takes (goal.at.copy_front-requires-clause-source c).In_ok-content)
+pub copy_content-requires-clause-source : goal.copy_content-requires-clause-source
+copy_content-requires-clause-source c =
+    source c.args.self.now _ _ _ _ _ _ c.requires.found _ _ _ _ c.requires.low (takes (goal.at.copy_content-requires-clause-source c).In_ok-content)
 
-pub copy_front-requires-clause-target : goal.copy_front-requires-clause-target
-copy_front-requires-clause-target c =
-    target c.args.self.now _ _ _ _ _ _ c.requires.found _ _ _ _ c.requires.low (takes (goal.at.copy_front-requires-clause-target c).In_ok-content)
+pub copy_content-requires-clause-target : goal.copy_content-requires-clause-target
+copy_content-requires-clause-target c =
+    target c.args.self.now _ _ _ _ _ _ c.requires.found _ _ _ _ c.requires.low (takes (goal.at.copy_content-requires-clause-target c).In_ok-content)
 
-pub copy_front-requires-clause-apart : goal.copy_front-requires-clause-apart
-copy_front-requires-clause-apart c =
-    λ some. not_new c.args.self.now _ _ _ _ _ _ c.requires.found _ _ _ _ c.requires.low (takes (goal.at.copy_front-requires-clause-apart c).In_ok-content) (omega (arith, some, c.requires.low))
+pub copy_content-requires-clause-apart : goal.copy_content-requires-clause-apart
+copy_content-requires-clause-apart c =
+    λ some. not_new c.args.self.now _ _ _ _ _ _ c.requires.found _ _ _ _ c.requires.low (takes (goal.at.copy_content-requires-clause-apart c).In_ok-content) (omega (arith, some, c.requires.low))
 
 pub write_content-requires-clause-there : goal.write_content-requires-clause-there
 write_content-requires-clause-there c =
-    room c.args.self.now _ _ _ _ _ _ c.requires.found _ _ _ _ c.requires.low (takes (goal.at.write_content-requires-clause-there c).In_ok-content) _ c.copy_front.ensures.copied
+    room c.args.self.now _ _ _ _ _ _ c.requires.found _ _ _ _ c.requires.low (takes (goal.at.write_content-requires-clause-there c).In_ok-content) _ c.copy_content.ensures.copied
 
 pub replace-requires-clause-found : goal.replace-requires-clause-found
 replace-requires-clause-found c =
-    made_found c.args.self.now _ _ _ _ _ _ c.requires.found _ _ _ _ c.requires.low (takes (goal.at.replace-requires-clause-found c).In_ok-content) _ c.copy_front.ensures.copied _ c.write_content.ensures.written
+    made_found c.args.self.now _ _ _ _ _ _ c.requires.found _ _ _ _ c.requires.low (takes (goal.at.replace-requires-clause-found c).In_ok-content) _ c.copy_content.ensures.copied _ c.write_content.ensures.written
 
 pub replace-requires-clause-content : goal.replace-requires-clause-content
 replace-requires-clause-content c =
-    λ _. made_has c.args.self.now _ _ _ _ _ _ c.requires.found _ _ _ _ c.requires.low (takes (goal.at.replace-requires-clause-content c).In_ok-content) _ c.copy_front.ensures.copied _ c.write_content.ensures.written
+    λ _. made_has c.args.self.now _ _ _ _ _ _ c.requires.found _ _ _ _ c.requires.low (takes (goal.at.replace-requires-clause-content c).In_ok-content) _ c.copy_content.ensures.copied _ c.write_content.ensures.written
 
 pub replace-requires-clause-own : goal.replace-requires-clause-own
 replace-requires-clause-own c =
-    λ _. made_own c.args.self.now _ _ _ _ _ _ c.requires.found _ _ _ _ c.requires.low (takes (goal.at.replace-requires-clause-own c).In_ok-content) _ c.copy_front.ensures.copied _ c.write_content.ensures.written
+    λ _. made_own c.args.self.now _ _ _ _ _ _ c.requires.found _ _ _ _ c.requires.low (takes (goal.at.replace-requires-clause-own c).In_ok-content) _ c.copy_content.ensures.copied _ c.write_content.ensures.written
 
 pub returns-clause-serves : goal.returns-clause-serves
 returns-clause-serves c =
-    made_served c.args.self.now _ _ _ _ _ _ c.requires.found _ _ _ _ c.requires.low (takes (goal.at.returns-clause-serves c).In_ok-content) _ c.copy_front.ensures.copied _ c.write_content.ensures.written
+    made_served c.args.self.now _ _ _ _ _ _ c.requires.found _ _ _ _ c.requires.low (takes (goal.at.returns-clause-serves c).In_ok-content) _ c.copy_content.ensures.copied _ c.write_content.ensures.written
     c.requires.longer c.replace.new.self (stock c.replace.new.self.heap c.replace.new.sliced c.replace.new.memory c.replace.new.map)
     c.replace.ensures.files c.replace.ensures.kept c.replace.ensures.account c.replace.ensures.label
 
