@@ -31,8 +31,8 @@ use Rattle.pd_core.specs.Exit.{HasSelectorsTo}
 use Rattle.pd_core.specs.SessionCalls.{named_in}
 use Rattle.pd_core.specs.Sound.{session_at}
 use Rattle.pd_core.proofs.ServerLemmas.{row_is}
-use Rattle.pd_core.proofs.SessionAccountLemmas.{its as named_row}
-use Rattle.pd_core.proofs.SessionGoesLemmas.{Names, named_two, named_cap, host_within}
+use Rattle.pd_core.proofs.ClientServerLemmas.{its as named_row}
+use Rattle.pd_core.proofs.SessionWorldLemmas.{Names, named_two, named_cap, host_within}
 use Rattle.pd_core.proofs.WorldLemmas.{role_at}
 use Rattle.pd_core.specs.declared.component.Component.{Component}
 use Rattle.pd_core.specs.declared.component.Role.{Role}

@@ -38,7 +38,7 @@ use Rattle.pd_core.specs.declared.component.Role.{Role}
 use Rattle.pd_core.specs.declared.component.Role.TheVariants.{Script as AScript, Log as ALog, Files as AFiles, Gone as AGone}
 use Rattle.pd_core.specs.declared.script.Script.{Script}
 use Rattle.pd_core.proofs.WorldLemmas.{refused_goes}
-use Rattle.pd_core.proofs.SessionDoneLemmas.{refused_reply}
+use Rattle.pd_core.proofs.NamedSessionLemmas.{refused_reply}
 
 -- ---- what a look-up gives
 

@@ -5,7 +5,7 @@ ghost use Rattle.own_model.specs.Call.Call.{CallSession as ModelledCallSession, 
 ghost use Rattle.pd_core.specs.Core.{Rules, IsCore};
 ghost use Rattle.pd_core.specs.SessionCalls.{Agrees, Goes, GoesWith};
 
-use crate::answer::{Answer, tell};
+use crate::answer::{Answer, refuse};
 use crate::component::{Component, Role};
 use crate::label::label_of;
 use crate::router::Router;
@@ -70,7 +70,7 @@ pub(crate) fn call(
 {
     let (entry, session) = match components[caller].session(selector) {
         Ok(named) => named,
-        Err(refusal) => return tell(Err(refusal), reply),
+        Err(refusal) => return refuse(refusal, reply),
     };
     reply.clear();
     components[entry].serve_session(memory, session, request, reply);

@@ -1,20 +1,27 @@
--- The file service's requests and replies, as the model's words.
+-- The file service's requests, as the model's words.
 use Rattle.std.specs.Prelude.{IsSome}
+use Rattle.own_model.specs.BufferService as model
+use Rattle.own_model.specs.BufferService.{SessionRequest}
+use Rattle.own_model.specs.BufferService.SessionRequest.{OfFiles, OfBuffer}
+use Rattle.own_model.specs.FileText as files
 use Rattle.own_model.specs.Text.{bytes_of_hex, hex_bytes}
-use Rattle.own_model.specs.FileText as model
 use Rattle.session_proto.specs.declared.file.FileRequest.{FileRequest}
-use Rattle.session_proto.specs.declared.file.FileRequest.TheVariants.{Create, Write, Read, Size, Clear, Drop, Name, Stat}
+use Rattle.session_proto.specs.declared.file.FileRequest.TheVariants.{Create, Write, Read, Size, Clear, Drop, Name, Stat, Buffer, Unbuffer, Put, Get}
 
 -- a request, by its bytes
-abbrev pub model_request : FileRequest → model.FileRequest
-model_request (Create file) = model.FileRequest.Create file.now
-model_request (Write file offset hex) = model.FileRequest.Write file.now offset (hex_bytes hex.now)
-model_request (Read file offset len) = model.FileRequest.Read file.now offset len
-model_request (Size file) = model.FileRequest.Size file.now
-model_request (Clear file) = model.FileRequest.Clear file.now
-model_request (Drop file) = model.FileRequest.Drop file.now
-model_request (Name index) = model.FileRequest.Name index
-model_request Stat = model.FileRequest.Stat
+abbrev pub model_request : FileRequest → SessionRequest
+model_request (Create file) = OfFiles (files.FileRequest.Create file.now)
+model_request (Write file offset hex) = OfFiles (files.FileRequest.Write file.now offset (hex_bytes hex.now))
+model_request (Read file offset len) = OfFiles (files.FileRequest.Read file.now offset len)
+model_request (Size file) = OfFiles (files.FileRequest.Size file.now)
+model_request (Clear file) = OfFiles (files.FileRequest.Clear file.now)
+model_request (Drop file) = OfFiles (files.FileRequest.Drop file.now)
+model_request (Name index) = OfFiles (files.FileRequest.Name index)
+model_request Stat = OfFiles files.FileRequest.Stat
+model_request (Buffer bytes) = OfBuffer (model.BufferRequest.Make bytes)
+model_request Unbuffer = OfBuffer model.BufferRequest.GiveBack
+model_request (Put file offset place len) = OfBuffer (model.BufferRequest.Put file.now offset place len)
+model_request (Get file offset place len) = OfBuffer (model.BufferRequest.Get file.now offset place len)
 
 -- the text of a request that writes is hexadecimal digits
 abbrev pub HasHex : FileRequest → Type 0

@@ -3,9 +3,9 @@ use Rattle.std.specs.Prelude.{ℕ, ◌+◌, ◌*◌, length}
 use Rattle.own_model.specs.Account.{Account}
 use Rattle.own_model.specs.FileText as model
 use Rattle.session_proto.specs.declared.file_reply.FileError.{FileError}
-use Rattle.session_proto.specs.declared.file_reply.FileError.TheVariants.{BadRequest, BadName, Exists, NotFound, Gap, TooLong, End, TooManyChunks, OutOfRam, OutOfCaps}
+use Rattle.session_proto.specs.declared.file_reply.FileError.TheVariants.{BadRequest, BadName, Exists, NotFound, Gap, TooLong, End, TooManyChunks, OutOfRam, OutOfCaps, InvalidSize, NoBuffer, BadRange}
 use Rattle.session_proto.specs.declared.file_reply.FileReply.{FileReply}
-use Rattle.session_proto.specs.declared.file_reply.FileReply.TheVariants.{Done, Count, Bytes, Named, Quotas, Refused}
+use Rattle.session_proto.specs.declared.file_reply.FileReply.TheVariants.{Done, Count, Bytes, Named, Quotas, Lent, Refused}
 use Rattle.session_proto.specs.declared.file_reply.Shares.{Shares}
 
 abbrev pub model_error : FileError → model.FileError
@@ -19,6 +19,9 @@ model_error End = model.FileError.End
 model_error TooManyChunks = model.FileError.TooManyChunks
 model_error OutOfRam = model.FileError.OutOfRam
 model_error OutOfCaps = model.FileError.OutOfCaps
+model_error InvalidSize = model.FileError.InvalidSize
+model_error NoBuffer = model.FileError.NoBuffer
+model_error BadRange = model.FileError.BadRange
 
 -- use and limits, as the account that has them
 abbrev pub account_of : Shares → Account
@@ -35,6 +38,7 @@ model_reply (Count count) = model.FileReply.Count count
 model_reply (Bytes bytes) = model.FileReply.Bytes bytes.now
 model_reply (Named name) = model.FileReply.Named name.now
 model_reply (Quotas shares) = model.FileReply.Quotas (account_of shares)
+model_reply Lent = model.FileReply.Lent
 model_reply (Refused e) = model.FileReply.Refused (model_error e)
 
 -- the bytes that a reply wants at most
@@ -44,4 +48,5 @@ room_for (Count count) = 23
 room_for (Bytes bytes) = 3 + 2 * length bytes.now
 room_for (Named name) = 3 + length name.now
 room_for (Quotas shares) = 103
+room_for Lent = 7
 room_for (Refused e) = 24

@@ -2,7 +2,9 @@
 ghost use Rattle.std.specs.Prelude.{◌≡◌, ◌==◌, not, IfSome};
 ghost use Rattle.std.specs.Option.{option_map, option_copied};
 ghost use Rattle.std.specs.List.{list_all};
-ghost use Rattle.own_model.specs.FileText.{file_request, file_word, of_file, read_of, write_of, request_of};
+ghost use Rattle.own_model.specs.BufferService.{session_request};
+ghost use Rattle.own_model.specs.BufferService.SessionRequest.{OfFiles};
+ghost use Rattle.own_model.specs.FileText.{file_word, of_file, read_of, write_of, request_of};
 ghost use Rattle.session_proto.specs.File.{model_request, HasHex};
 
 use crate::hex_text::hex_or_nothing;
@@ -10,7 +12,8 @@ use crate::log::LONGEST_REQUEST;
 use text_read::split_first_word;
 use trade_base::read_number;
 
-/// A request. A file is named by one or more bytes without a space, and bytes are hexadecimal digits, two a byte.
+/// A request, of the files of a session or of its buffer. A file is named by one or more bytes without a space, and bytes are
+/// hexadecimal digits, two a byte.
 #[derive(Clone, Copy)]
 pub enum FileRequest<'a> {
     /// A file is made.
@@ -37,12 +40,30 @@ pub enum FileRequest<'a> {
     Name(u64),
     /// Use and limit of the session's account are told.
     Stat,
+    /// A buffer of so many bytes, in whole pages, is made for the session.
+    Buffer(u64),
+    /// The buffer is given back.
+    Unbuffer,
+    /// So many bytes from a place in the buffer on are written at an offset of a file.
+    Put {
+        file: &'a [u8],
+        offset: u64,
+        place: u64,
+        len: u64,
+    },
+    /// At most so many bytes at an offset of a file are put into the buffer, from a place on.
+    Get {
+        file: &'a [u8],
+        offset: u64,
+        place: u64,
+        len: u64,
+    },
 }
 
 impl<'a> FileRequest<'a> {
-    /// The request that a text is, or `None` where it is none.
+    /// The request that a text is, or `None` where it is none. No text is one of the buffer.
     pub fn read(text: &'a [u8]) -> Option<FileRequest<'a>>
-        ensures request { option_map model_request result ≡ file_request text.now }
+        ensures request { option_map model_request result ≡ session_request text.now }
         ensures hex { IfSome result HasHex }
     {
         if text.len() > LONGEST_REQUEST {
@@ -56,7 +77,7 @@ impl<'a> FileRequest<'a> {
 /// The request of a form, with what stands after the form and a space as its arguments.
 fn request_from<'a>(form: &[u8], arguments: Option<&'a [u8]>) -> Option<FileRequest<'a>>
     ensures request { option_map model_request result
-        ≡ request_of form.now (option_copied arguments.entry) }
+        ≡ option_map OfFiles (request_of form.now (option_copied arguments.entry)) }
     ensures hex { IfSome result HasHex }
 {
     if form == b"CREATE".as_slice() {
@@ -100,7 +121,8 @@ fn has_no_space(text: &[u8]) -> bool
 
 /// A file word and an offset, and hexadecimal digits or nothing, parted by spaces.
 fn read_write(arguments: &[u8]) -> Option<FileRequest<'_>>
-    ensures request { option_map model_request result ≡ of_file write_of arguments.now }
+    ensures request { option_map model_request result
+        ≡ option_map OfFiles (of_file write_of arguments.now) }
     ensures hex { IfSome result HasHex }
 {
     let (file, rest) = split_first_word(arguments);
@@ -113,7 +135,8 @@ fn read_write(arguments: &[u8]) -> Option<FileRequest<'_>>
 
 /// A file word, an offset and a length, parted by spaces.
 fn read_read(arguments: &[u8]) -> Option<FileRequest<'_>>
-    ensures request { option_map model_request result ≡ of_file read_of arguments.now }
+    ensures request { option_map model_request result
+        ≡ option_map OfFiles (of_file read_of arguments.now) }
     ensures hex { IfSome result HasHex }
 {
     let (file, rest) = split_first_word(arguments);

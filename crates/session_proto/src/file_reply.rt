@@ -30,6 +30,12 @@ pub enum FileError {
     OutOfRam,
     /// The session's capabilities don't cover it.
     OutOfCaps,
+    /// A buffer has no bytes, or too many for any machine.
+    InvalidSize,
+    /// The session has no buffer.
+    NoBuffer,
+    /// The buffer doesn't have all these bytes.
+    BadRange,
 }
 
 impl FileError {
@@ -48,6 +54,9 @@ impl FileError {
             FileError::TooManyChunks => "TOO_MANY_CHUNKS",
             FileError::OutOfRam => "OUT_OF_RAM",
             FileError::OutOfCaps => "OUT_OF_CAPS",
+            FileError::InvalidSize => "INVALID_SIZE",
+            FileError::NoBuffer => "NO_BUFFER",
+            FileError::BadRange => "BAD_RANGE",
         }
     }
 }
@@ -74,6 +83,8 @@ pub enum FileReply<'a> {
     Named(&'a [u8]),
     /// Use and limit of the session's account.
     Quotas(Shares),
+    /// A buffer was made, whose selector is still to follow.
+    Lent,
     /// It is refused.
     Refused(FileError),
 }
@@ -100,6 +111,7 @@ impl<'a> FileReply<'a> {
                 reply.add_text(b"OK ");
                 add_shares(reply, shares);
             }
+            FileReply::Lent => reply.add_text(b"OK cap "),
             FileReply::Refused(error) => {
                 reply.add_text(b"ERR ");
                 reply.add_text(error.name().as_bytes());

@@ -217,6 +217,10 @@ fn other_file_requests_are_none(rt: HostRuntime) {
         b"NAME",
         b"NAME -1",
         b"SIZE  a",
+        b"BUFFER 1",
+        b"UNBUFFER",
+        b"PUT a 0 0 1",
+        b"GET a 0 0 1",
     ] {
         assert!(rt; FileRequest::read(text).is_none());
     }
@@ -243,6 +247,13 @@ fn file_replies_are_written(rt: HostRuntime) -> Result<(), Fail> {
             b"ERR TOO_MANY_CHUNKS",
         ),
         (FileReply::Refused(FileError::NotFound), b"ERR NOT_FOUND"),
+        (FileReply::Lent, b"OK cap "),
+        (
+            FileReply::Refused(FileError::InvalidSize),
+            b"ERR INVALID_SIZE",
+        ),
+        (FileReply::Refused(FileError::NoBuffer), b"ERR NO_BUFFER"),
+        (FileReply::Refused(FileError::BadRange), b"ERR BAD_RANGE"),
     ] {
         told.clear();
         reply.write(&mut told);

@@ -5,8 +5,8 @@ use Rattle.own_model.specs.Call.Call.{Open}
 use Rattle.own_model.specs.Session.{label_with}
 use Rattle.pd_core.proofs.RouterLemmas.{denied_wish}
 use Rattle.pd_core.proofs.SessionRefusedLemmas.{no_script_goes, unasked_goes, unread_wish, passed_on, unchanged, arguments_are}
-use Rattle.pd_core.proofs.SessionGoesLemmas.{host_within}
-use Rattle.pd_core.proofs.SessionLedLemmas.{IsLed, led_two, led_refused, led_admits, led_selector, led_opened}
+use Rattle.pd_core.proofs.SessionWorldLemmas.{host_within}
+use Rattle.pd_core.proofs.RoutedSessionLemmas.{IsLed, led_two, led_refused, led_admits, led_selector, led_opened}
 use Rattle.pd_core.proofs.session_calls.open.Goals as goal
 
 pub returns-in_default : goal.returns-in_default
