@@ -17,7 +17,7 @@ use Rattle.server_frame.specs.Session.{holding_of}
 use Rattle.file_service.specs.Calls.{HasBytes, payload_in, content_written, content_copied}
 use Rattle.file_service.specs.Found.{FindsContent, IsElsewhere, IsThere}
 use Rattle.file_service.specs.Furnished.{IsFurnished, KeepsSession, stock}
-use Rattle.file_service.proofs.ContentLemmas.{poke_changes, poke_account, pokes}
+use Rattle.file_service.proofs.ContentLemmas.{poke_changes, poke_account, poke_lent, pokes}
 use Rattle.file_service.proofs.FoundLemmas.{content_put, content_read, found_becomes}
 use Rattle.file_service.proofs.FurnishedLemmas.{contents_kept, nodes_stay_in}
 
@@ -35,7 +35,7 @@ module _ {heap : Heap} {sliced : SlicedHeap} {store : Store} {regions : Regions}
       ((pokes f ds at (address + offset) bytes found.held becomes).blocks ∙ content_put f address offset (length bytes) ds at has some found bytes)
 
   pub put_keeps : KeepsSession sliced heap sliced store new regions regions
-  put_keeps = contents_kept f (poke_changes f ds at (address + offset) bytes found.held becomes)
+  put_keeps = contents_kept f (poke_changes f ds at (address + offset) bytes found.held becomes) (poke_lent f ds at (address + offset) bytes found.held becomes)
 
 module _ {heap : Heap} {sliced : SlicedHeap} {store : Store} {regions : Regions} (f : IsFurnished heap sliced store regions) where
   -- bytes of another dataspace

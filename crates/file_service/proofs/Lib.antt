@@ -13,6 +13,7 @@ pub mod DropLemmas
 pub mod WriteLemmas
 pub mod LengthenLemmas
 pub mod FrontLemmas
+pub mod LentLemmas
 pub mod FurnishedLemmas
 pub mod NodeLemmas
 pub mod ContentLemmas
@@ -29,4 +30,7 @@ pub mod NodeStoreLemmas
 pub mod NodeStoredLemmas
 pub mod NodeFreeLemmas
 pub mod EndLemmas
+pub mod BufferLemmas
+pub mod SourceLemmas
 pub mod RequestLemmas
+pub mod BufferRequestLemmas

@@ -187,7 +187,7 @@ pub(crate) fn fill_content(
 }
 
 /// The dataspace of some bytes of a content, and the offset in it.
-fn find_content(
+pub(crate) fn find_content(
     heap: &Heap,
     sliced: &SlicedHeap,
     memory: &Memory,

@@ -22,10 +22,10 @@ finds c =
     let was : Stock = stock c.args.self.now.heap c.args.sliced.now c.args.memory.now c.args.map.now in
     subst (λ o. IfSome o (Finds c.args.self.now was c.args.name.now)) (c.ok_or.ensures.ok_part ∙ ap result_ok c.in_ok-found.was) c.find.ensures.some
 
-pub returns-then-offset-size-clause-serves : goal.returns-then-offset-size-clause-serves
-returns-then-offset-size-clause-serves c =
+pub returns-then-offset-found-clause-serves : goal.returns-then-offset-found-clause-serves
+returns-then-offset-found-clause-serves c =
     let was : Stock = stock c.args.self.now.heap c.args.sliced.now c.args.memory.now c.args.map.now in
-    let found = finds (goal.at.returns-then-offset-size-clause-serves c).In_ok-found in
+    let found = finds (goal.at.returns-then-offset-found-clause-serves c).In_ok-found in
     let previous = c.in_ok-found.found.previous in
     let address = c.in_ok-found.found.address in
     let node = value_of c.in_ok-found.found.node in
@@ -35,28 +35,3 @@ returns-then-offset-size-clause-serves c =
     (write_gap c.args.name.now c.args.self.now was c.args.offset c.args.bytes.now (file_at was.nodes was.contents address)
     (found_named c.args.self.now.first c.args.self.now.last was.nodes was.contents c.args.name.now previous address node found) (omega (arith, long)))
 
-pub write_content-requires-clause-there : goal.write_content-requires-clause-there
-write_content-requires-clause-there c =
-    let was : Stock = stock c.args.self.now.heap c.args.sliced.now c.args.memory.now c.args.map.now in
-    let found = finds (goal.at.write_content-requires-clause-there c).In_ok-found in
-    let node = value_of c.in_ok-found.found.node in
-    subst (λ m. HasBytes (stock c.args.self.now.heap c.args.sliced.now m c.args.map.now).contents node.content c.args.offset (length c.args.bytes.now)) (sym c.find.ensures.memory)
-    (found_has c.args.self.now.first c.args.self.now.last was.nodes was.contents c.args.name.now c.in_ok-found.found.previous c.in_ok-found.found.address node found
-    c.args.offset (length c.args.bytes.now) (omega arith) (omega arith))
-
-pub returns-then-count-gt0-clause-serves : goal.returns-then-count-gt0-clause-serves
-returns-then-count-gt0-clause-serves c =
-    let was : Stock = stock c.args.self.now.heap c.args.sliced.now c.args.memory.now c.args.map.now in
-    let now : Stock = stock c.args.self.now.heap c.args.sliced.now c.write_content.new.memory c.args.map.now in
-    let found = finds (goal.at.returns-then-count-gt0-clause-serves c).In_ok-found in
-    let node = value_of c.in_ok-found.found.node in
-    over_served c.args.self.now was _ _ _ node found c.args.offset c.args.bytes.now (omega arith) (omega arith) now
-    (c.write_content.ensures.written ∙ ap (λ m. content_written node.content c.args.offset c.args.bytes.now (stock c.args.self.now.heap c.args.sliced.now m c.args.map.now)) c.find.ensures.memory)
-
-pub returns-else-count-gt0-clause-serves : goal.returns-else-count-gt0-clause-serves
-returns-else-count-gt0-clause-serves c =
-    let was : Stock = stock c.args.self.now.heap c.args.sliced.now c.args.memory.now c.args.map.now in
-    let found = finds (goal.at.returns-else-count-gt0-clause-serves c).In_ok-found in
-    serves_same (served_in (Write c.args.name.now c.args.offset c.args.bytes.now) c.args.self.now was) _ c.args.self.now c.args.sliced.now c.args.memory.now c.find.new.memory c.args.map.now
-    c.requires.files c.find.ensures.memory
-    (nothing_told c.args.self.now was _ _ _ _ found c.args.offset c.args.bytes.now (omega arith) (omega arith))
