@@ -143,7 +143,9 @@ impl FileSession {
         let part = count.min(size - offset);
         if part > 0 {
             let content = found.node.content;
-            fill_buffer(&self.heap, sliced, memory, map, lent, place, content, offset, part);
+            fill_buffer(
+                &self.heap, sliced, memory, map, lent, place, content, offset, part,
+            );
         }
         Ok(part)
     }

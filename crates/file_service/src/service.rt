@@ -147,12 +147,22 @@ fn answer(
             taking(gone).write(reply);
             return goes(gone);
         }
-        Some(FileRequest::Put { file, offset, place, len }) => {
-            counted(session.put(heap, memory, map, file, offset, place, len)).write(reply)
-        }
-        Some(FileRequest::Get { file, offset, place, len }) => {
-            counted(session.get(heap, memory, map, file, offset, place, len)).write(reply)
-        }
+        Some(
+            FileRequest::Put {
+                file,
+                offset,
+                place,
+                len,
+            },
+        ) => { counted(session.put(heap, memory, map, file, offset, place, len)).write(reply) }
+        Some(
+            FileRequest::Get {
+                file,
+                offset,
+                place,
+                len,
+            },
+        ) => { counted(session.get(heap, memory, map, file, offset, place, len)).write(reply) }
     }
     Effect::Nothing
 }

@@ -57,9 +57,7 @@ pub(crate) fn put_content(
         memory.old memory.new map.now map.now }
 {
     match source {
-        Source::Bytes(bytes) => {
-            write_content(heap, sliced, memory, map, address, offset, bytes)
-        }
+        Source::Bytes(bytes) => { write_content(heap, sliced, memory, map, address, offset, bytes) }
         Source::Buffer { lent, place, count } => fill_content(
             heap, sliced, memory, map, address, offset, lent.space, place, count,
         ),

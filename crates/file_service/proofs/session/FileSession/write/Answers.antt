@@ -34,4 +34,3 @@ returns-then-offset-found-clause-serves c =
     c.requires.files c.find.ensures.memory
     (write_gap c.args.name.now c.args.self.now was c.args.offset c.args.bytes.now (file_at was.nodes was.contents address)
     (found_named c.args.self.now.first c.args.self.now.last was.nodes was.contents c.args.name.now previous address node found) (omega (arith, long)))
-
