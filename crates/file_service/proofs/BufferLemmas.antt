@@ -1,8 +1,8 @@
 -- A buffer is taken, filled and given back: what that leaves of both heaps.
 use Rattle.std.proofs.lemmas.Bool.Decides.{nat_tests}
-use Rattle.std.proofs.Common.{rules, ◌≡◌, ◌≢◌, ℕ, ◌+◌, ◌*◌, ◌/◌, ◌≤◌, ◌==◌, Bool, true, false, cond, List, [], length, Some, is_some, IsSome, refl, sym, ap, subst, ◌∙◌, arith}
+use Rattle.std.proofs.Common.{◌≡◌, ◌≢◌, ℕ, ◌+◌, ◌*◌, ◌/◌, ◌≤◌, ◌==◌, Bool, true, false, cond, List, length, Some, is_some, IsSome, refl, sym, ap, ◌∙◌, arith}
 use Rattle.std.proofs.lemmas.Option.{none-some, same_Some}
-use Rattle.std.specs.Prelude.{Option, None, slice_range}
+use Rattle.std.specs.Prelude.{Option, None}
 use Rattle.std.specs.FinMap.{get, insert, remove, empty, len, len-empty}
 use Rattle.std.specs.Ordering.{nat_cmp}
 use Rattle.trade_base.specs.Bytes.{with_bytes}
@@ -13,9 +13,8 @@ use Rattle.own_model.specs.Account.{Account, shortage, alloc_refusal, charged, c
 use Rattle.own_model.specs.HeapWindow.{heap_gap}
 use Rattle.own_model.specs.NatMap.{NatMap}
 use Rattle.own_model.specs.Region.{Region}
-use Rattle.own_model.specs.Zeros.{zeros}
 use Rattle.own_model.proofs.NatMapLemmas.{same, natmaps, get-empty, get-insert_same, value_at}
-use Rattle.own_model.proofs.Totals.{len-insert_new, len-insert_at, len-remove_at}
+use Rattle.own_model.proofs.Totals.{len-insert_new, len-insert_at}
 use Rattle.region_map.specs.Regions.{Regions, of_no_heap, heap_attached, heap_detached}
 use Rattle.dataspace_core.specs.Store.{Store, Part, Exists, part, account_in, account_of, bytes_of, space_at, part_with_space, part_with_bytes, part_without_space, PartBecomes}
 use Rattle.dataspace_core.specs.Share.{share_in, IsWindowOf}
@@ -26,13 +25,13 @@ use Rattle.dataspace_core.proofs.WindowLaws as window
 use Rattle.dataspace_core.proofs.WindowLaws.{new_in_part, own_account}
 use Rattle.heap_core.specs.declared.heap.Heap.{Heap}
 use Rattle.heap_window.specs.Window.{large_tag, MapsMemory}
-use Rattle.heap_window.proofs.BesideLemmas.{gap_is_free, gap_is_place, maps_memory, lie_with, lie_without}
-use Rattle.heap_window.proofs.ShareLemmas.{IsShownAs, shown_block, in_numbered, numbered-insert, numbered-remove}
+use Rattle.heap_window.proofs.BesideLemmas.{gap_is_free, gap_is_place, maps_memory}
+use Rattle.heap_window.proofs.ShareLemmas.{IsShownAs, shown_block, numbered-insert, numbered-remove}
 use Rattle.heap_window.proofs.WindowLemmas.{IsPut, is_put, blocks_in_place, blocks_attached, blocks_detached}
 use Rattle.sliced_heap.specs.declared.heap.SlicedHeap.{SlicedHeap}
-use Rattle.sliced_heap.specs.Heap.{payer_of, share_at, KeepsOthers}
+use Rattle.sliced_heap.specs.Heap.{payer_of, share_at}
 use Rattle.sliced_heap.specs.Laws.{HeapStays}
-use Rattle.sliced_heap.specs.Sliced.{sliced_tag, block_regions}
+use Rattle.sliced_heap.specs.Sliced.{sliced_tag}
 use Rattle.sliced_heap.proofs.HeapLaws.{heap_stays_among, map_stays_for_payer}
 use Rattle.server_frame.specs.Session.{holding_of}
 use Rattle.file_service.specs.Found.{FindsContent}

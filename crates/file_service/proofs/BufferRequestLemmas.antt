@@ -1,12 +1,12 @@
 -- Requests of the buffer: why they are refused, and what they leave of a session.
-use Rattle.std.proofs.Common.{rules, ◌≡◌, ℕ, ◌+◌, ◌-◌, ◌<◌, ◌≤◌, true, false, List, [], ◌++◌, length, take, drop, Option, Some, None, refl, sym, ap, subst, ◌∙◌, arith}
+use Rattle.std.proofs.Common.{◌≡◌, ℕ, ◌+◌, ◌<◌, ◌≤◌, true, false, List, [], ◌++◌, length, take, drop, Option, Some, None, refl, sym, ap, subst, ◌∙◌, arith}
 use Rattle.std.proofs.lemmas.Bool.Decides.{nat_tests}
-use Rattle.std.specs.Prelude.{slice_range, nat_lt}
+use Rattle.std.specs.Prelude.{nat_lt}
 use Rattle.std.specs.Option.{option_map}
 use Rattle.trade_base.specs.Bytes.{with_bytes}
 use Rattle.trade_base.proofs.BytesLemmas.{with_bytes-nothing}
 use Rattle.own_model.specs.Account.{Account}
-use Rattle.own_model.specs.BufferService.{SessionRequest, BufferServed, beside, range_refusal, part_of, put, got, session_request}
+use Rattle.own_model.specs.BufferService.{BufferServed, beside, range_refusal, part_of, put, got, session_request}
 use Rattle.own_model.specs.BufferService.SessionRequest.{OfFiles}
 use Rattle.own_model.specs.FileService.{File, Files, FileServed, told, written}
 use Rattle.own_model.specs.FileText as model

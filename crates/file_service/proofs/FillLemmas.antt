@@ -1,20 +1,16 @@
 -- A content is filled with bytes of a dataspace that isn't its own, as with the front of another content.
-use Rattle.std.proofs.lemmas.Bool.Decides.{nat_tests}
-use Rattle.std.proofs.Common.{rules, ◌≡◌, ◌≢◌, ℕ, ◌+◌, ◌-◌, ◌≤◌, List, length, take, Some, refl, sym, ap, subst, ◌∙◌, arith}
+use Rattle.std.proofs.Common.{◌≡◌, ◌≢◌, ℕ, ◌+◌, ◌-◌, ◌≤◌, List, length, take, sym, ap, subst, ◌∙◌, arith}
 use Rattle.std.specs.Prelude.{slice_range}
-use Rattle.std.specs.FinMap.{get}
 use Rattle.trade_base.proofs.BytesLemmas.{length-slice_range}
-use Rattle.own_model.specs.Region.{Region}
-use Rattle.own_model.specs.Sliced.{sliced_header}
 use Rattle.region_map.specs.Regions.{Regions}
 use Rattle.dataspace_core.specs.Store.{Store, part, space_at, part_with_bytes, PartBecomes}
 use Rattle.heap_core.specs.declared.heap.Heap.{Heap}
 use Rattle.heap_window.proofs.ShareLemmas.{shown_block}
 use Rattle.sliced_heap.specs.declared.heap.SlicedHeap.{SlicedHeap}
-use Rattle.sliced_heap.specs.Heap.{payer_of, share_at}
-use Rattle.sliced_heap.specs.Sliced.{sliced_of, block_regions}
+use Rattle.sliced_heap.specs.Heap.{payer_of}
+use Rattle.sliced_heap.specs.Sliced.{sliced_of}
 use Rattle.server_frame.specs.Session.{holding_of}
-use Rattle.file_service.specs.Calls.{HasBytes, payload_in, content_written, content_copied}
+use Rattle.file_service.specs.Calls.{HasBytes, payload_in, content_written}
 use Rattle.file_service.specs.Found.{FindsContent, IsElsewhere, IsThere}
 use Rattle.file_service.specs.Furnished.{IsFurnished, KeepsSession, stock}
 use Rattle.file_service.proofs.ContentLemmas.{poke_changes, poke_account, poke_lent, pokes}

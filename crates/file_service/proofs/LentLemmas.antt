@@ -1,10 +1,10 @@
 -- What is neither heap's stays while the map's regions of no heap do.
-use Rattle.std.proofs.Common.{rules, ◌≡◌, ◌≢◌, ℕ, ◌≤◌, ◌<◌, ◌==◌, Bool, true, false, cond, eqb-true, true≢false, List, Some, is_some, IsSome, refl, sym, ap, subst, ◌∙◌, arith}
+use Rattle.std.proofs.Common.{rules, ◌≡◌, ℕ, ◌==◌, Bool, true, false, cond, eqb-true, true≢false, List, Some, is_some, refl, sym, ap, ◌∙◌, arith}
 use Rattle.std.proofs.lemmas.Bool.{false_from_ne_true}
 use Rattle.std.proofs.lemmas.Bool.Decides.{nat_tests}
 use Rattle.std.specs.Prelude.{Option, None}
 use Rattle.std.specs.Option.{option_and_then}
-use Rattle.std.specs.FinMap.{get, insert, remove}
+use Rattle.std.specs.FinMap.{get, remove}
 use Rattle.own_model.specs.NatMap.{NatMap}
 use Rattle.own_model.specs.Region.{Region}
 use Rattle.own_model.proofs.NatMapLemmas.{same, natmaps, get-picked}
@@ -14,7 +14,7 @@ use Rattle.dataspace_core.specs.Store.{Store, part}
 use Rattle.dataspace_core.proofs.ShareLaws.{get-tags_of, each_shown, in_share}
 use Rattle.heap_core.specs.Calls.{KeepsElsewhere}
 use Rattle.heap_window.specs.Window.{share_at, numbered}
-use Rattle.heap_window.proofs.ShareLemmas.{IsShownAs, get-numbered, in_numbered, kept_tag, numbered-insert_other, numbered-remove, numbered_free}
+use Rattle.heap_window.proofs.ShareLemmas.{IsShownAs, get-numbered, in_numbered, kept_tag, numbered-insert_other}
 use Rattle.file_service.specs.Furnished.{is_lent_tag, lent_regions, KeepsLent}
 
 -- the regions of no heap in a map

@@ -1,35 +1,27 @@
 -- What calls of a session's heap of nodes change: nothing but bytes of chunks, or a chunk more.
-use Rattle.std.proofs.Common.{◌≡◌, ◌≢◌, ℕ, ◌+◌, ◌/◌, ◌≤◌, ◌==◌, false, List, length, Some, is_some, refl, sym, ap, ◌∙◌, arith, length-append}
+use Rattle.std.proofs.Common.{◌≡◌, ℕ, ◌+◌, ◌/◌, ◌≤◌, ◌==◌, false, length, refl, sym, ap, ◌∙◌, arith, length-append}
 use Rattle.std.proofs.lemmas.Bool.Decides.{nat_tests}
 use Rattle.std.proofs.lemmas.List.{length-set}
-use Rattle.std.proofs.lemmas.Option.{none-some}
 use Rattle.std.specs.Prelude.{Option, None}
-use Rattle.std.specs.Option.{option_map, option_and_then, unwrap_or}
-use Rattle.std.specs.FinMap.{get, len}
+use Rattle.std.specs.Option.{unwrap_or}
+use Rattle.std.specs.FinMap.{get}
 use Rattle.own_model.specs.Account.{Account, opened, charged}
 use Rattle.own_model.specs.BestFit.{Spot}
 use Rattle.own_model.specs.Growth.{Growth}
 use Rattle.own_model.specs.HeapStep.{with_block, with_chunk, without_block}
-use Rattle.own_model.specs.NatMap.{NatMap, picked, total}
 use Rattle.own_model.specs.OwnHeap.{OwnHeap}
-use Rattle.own_model.specs.Region.{Region}
-use Rattle.own_model.proofs.NatMapLemmas.{same, get-insert_same, get-picked, apart_from_free}
-use Rattle.own_model.proofs.Totals.{len-total, total-picked}
+use Rattle.own_model.proofs.NatMapLemmas.{get-insert_same}
 use Rattle.region_map.specs.Regions.{Regions, heap_attached, of_no_heap}
 use Rattle.dataspace_core.specs.Share.{share_in, KeepsShares}
 use Rattle.dataspace_core.specs.Store.{Store, Part, part, account_in}
 use Rattle.dataspace_core.proofs.PartLaws.{account_of-part, account_by}
 use Rattle.heap_core.proofs.BesideLemmas.{rest_in_place, count_in_place, rest_attached, alike_in_place, alike_attached}
-use Rattle.dataspace_core.proofs.WindowLaws.{in_none}
 use Rattle.heap_core.specs.declared.heap.Heap.{Heap}
 use Rattle.heap_core.specs.Calls.{KeepsSpaces, AddsSpace, Attaches}
 use Rattle.heap_core.specs.Heap.{payer_of as heap_payer, heap_in, heap_at, shape_in, large_tag, IsSound as IsSoundHeap}
-use Rattle.sliced_heap.specs.Sliced.{sliced_tag}
 use Rattle.heap_window.proofs.BesideLemmas.{gap_is_free}
 use Rattle.file_service.proofs.FurnishedLemmas.{ChangesNodes}
 use Rattle.file_service.proofs.LentLemmas.{lent_places, lent_attached}
-use Rattle.dataspace_core.proofs.ShareLaws.{some_alike}
-use Rattle.heap_window.proofs.WindowLemmas.{blocks_in_place, blocks_attached}
 
 -- the shape of a heap, as its account's part has it
 pub shape_is : (heap : Heap) (store : Store) (regions : Regions) → (heap_at heap store regions).shape ≡ shape_in heap (part (heap_payer heap) store)

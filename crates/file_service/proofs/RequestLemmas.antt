@@ -6,7 +6,7 @@ use Rattle.own_model.specs.Account.{Account}
 use Rattle.own_model.specs.BufferService.{session_request}
 use Rattle.std.proofs.lemmas.Option.{none-some}
 use Rattle.own_model.specs.BufferService.SessionRequest.{OfFiles}
-use Rattle.own_model.specs.FileService.{File, Files, named, request_served, file_served, told}
+use Rattle.own_model.specs.FileService.{File, Files, named, told}
 use Rattle.own_model.specs.FileText as model
 use Rattle.own_model.specs.FileText.{file_request, file_reply}
 use Rattle.own_model.specs.FileText.FileRequest.{Write, Name}
@@ -16,8 +16,6 @@ use Rattle.own_model.specs.Text.{bytes_of_hex, hex_bytes}
 use Rattle.own_model.proofs.FileTextLemmas.{write_is_short}
 use Rattle.own_model.proofs.LogLemmas.{bytes_of_digits}
 use Rattle.own_model.proofs.NatMapLemmas.{some_of}
-use Rattle.session_proto.specs.File.{model_request}
-use Rattle.session_proto.specs.declared.file.FileRequest.{FileRequest}
 use Rattle.region_map.specs.Regions.{Regions}
 use Rattle.dataspace_core.specs.Store.{Store}
 use Rattle.sliced_heap.specs.declared.heap.SlicedHeap.{SlicedHeap}

@@ -1,13 +1,13 @@
 -- What a source has stays while what is lent does.
-use Rattle.std.proofs.Common.{rules, ◌≡◌, ℕ, ◌+◌, ◌≤◌, List, length, Some, refl, sym, ap, subst, ◌∙◌}
+use Rattle.std.proofs.Common.{rules, ◌≡◌, ℕ, ◌+◌, ◌≤◌, length, Some, refl, sym, ap, subst, ◌∙◌}
 use Rattle.std.specs.Prelude.{Option, None, IfSome, slice_range}
 use Rattle.std.specs.FinMap.{get, empty}
 use Rattle.own_model.specs.NatMap.{NatMap}
 use Rattle.own_model.specs.Region.{Region}
 use Rattle.own_model.proofs.NatMapLemmas.{get-insert_same}
 use Rattle.region_map.specs.Regions.{Regions}
-use Rattle.dataspace_core.specs.Store.{Store, Exists, part, space_at}
-use Rattle.dataspace_core.proofs.PartLaws.{paid_in_part, part_paid}
+use Rattle.dataspace_core.specs.Store.{Store, Exists, space_at}
+use Rattle.dataspace_core.proofs.PartLaws.{paid_in_part}
 use Rattle.heap_core.specs.declared.heap.Heap.{Heap}
 use Rattle.heap_window.proofs.ShareLemmas.{shown_block}
 use Rattle.sliced_heap.specs.declared.heap.SlicedHeap.{SlicedHeap}

@@ -1,11 +1,11 @@
 -- What a session lends stands aside: neither its files nor what is true of it goes by the buffer's bytes.
-use Rattle.std.proofs.Common.{◌≡◌, ◌≢◌, ℕ, ◌==◌, true, false, true≢false, eqb-true, List, length, drop, Some, IsSome, is_some, refl, sym, ap, subst, ◌∙◌, arith, inl, inr}
+use Rattle.std.proofs.Common.{◌≡◌, ◌≢◌, ℕ, ◌==◌, true, false, true≢false, eqb-true, List, length, drop, Some, is_some, refl, sym, ap, subst, ◌∙◌, arith, inl, inr}
 use Rattle.std.proofs.lemmas.Bool.{cases_eq}
 use Rattle.std.proofs.lemmas.Bool.Decides.{nat_tests}
 use Rattle.std.proofs.lemmas.Option.{none-some, same_Some}
 use Rattle.std.specs.Prelude.{Option, None}
 use Rattle.std.specs.Option.{option_map}
-use Rattle.std.specs.FinMap.{get, insert, empty, len}
+use Rattle.std.specs.FinMap.{get, empty, len}
 use Rattle.own_model.specs.NatMap.{NatMap}
 use Rattle.own_model.specs.Moved.{moved_up}
 use Rattle.own_model.specs.OwnHeap.{OwnHeap}
@@ -15,17 +15,15 @@ use Rattle.own_model.proofs.NatMapLemmas.{picked_alike, get-insert_same, get-ins
 use Rattle.own_model.proofs.Totals.{len-insert_at}
 use Rattle.region_map.specs.Regions.{of_no_heap}
 use Rattle.dataspace_core.specs.Share.{Share}
-use Rattle.heap_core.specs.declared.heap.Heap.{Heap}
-use Rattle.heap_core.specs.Heap.{heap_in, IsLaid}
+use Rattle.heap_core.specs.Heap.{heap_in}
 use Rattle.heap_core.proofs.StayLemmas.{laid_same, value_same}
 use Rattle.heap_window.specs.Window.{block_region}
-use Rattle.heap_window.proofs.BesideLemmas.{stands_alike}
 use Rattle.heap_window.proofs.ShareLemmas.{in_numbered, told_region}
 use Rattle.sliced_heap.specs.Heap.{IsNoBlock}
 use Rattle.sliced_heap.specs.Sliced.{sliced_of, sliced_tag, is_sliced_tag, block_regions, payload_of}
 use Rattle.server_frame.specs.Lent.{LendsAside, AllLendAside, share_with}
 use Rattle.file_service.specs.Files.{AreFiles, files_of}
-use Rattle.file_service.specs.Furnished.{IsShare, HoldsNodes, is_lent_tag, lent_regions}
+use Rattle.file_service.specs.Furnished.{IsShare, HoldsNodes, is_lent_tag}
 use Rattle.file_service.specs.Lent.{StandsLent, KeepsBuffer, buffer_key}
 use Rattle.own_model.specs.Session.{Labelled}
 use Rattle.own_model.specs.Session.ServiceState.{Filing}

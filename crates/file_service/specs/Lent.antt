@@ -1,7 +1,7 @@
 -- The buffer that a session lends its client: a dataspace of the session's account, attached in the server's heap window.
-use Rattle.std.specs.Prelude.{◌≡◌, ℕ, ◌*◌, ◌/◌, List, length, Option, Some, None}
+use Rattle.std.specs.Prelude.{◌≡◌, ℕ, List, length, Option, Some, None}
 use Rattle.std.specs.Option.{option_map}
-use Rattle.std.specs.FinMap.{get, insert, empty}
+use Rattle.std.specs.FinMap.{insert, empty}
 use Rattle.trade_base.specs.Bytes.{with_bytes}
 use Rattle.trade_base.specs.Page.{page_of}
 use Rattle.own_model.specs.Account.{charged, credited}

@@ -31,7 +31,6 @@ use Rattle.server_frame.specs.Lent.{IsEffect, bytes_lent}
 use Rattle.server_frame.specs.Session.{holding_of}
 use Rattle.server_frame.specs.Told.{Told, nothing_told}
 use Rattle.server_frame.specs.declared.effect.Effect.{Effect}
-use Rattle.server_frame.specs.declared.effect.Effect.TheVariants as Effect
 use Rattle.file_service.specs.declared.session.FileSession.{FileSession}
 
 -- what a session is, read out of what its account has

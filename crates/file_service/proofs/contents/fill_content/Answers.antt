@@ -1,5 +1,5 @@
 -- What is found holds the content's bytes, and a copy there is a write of them.
-use Rattle.std.proofs.Common.{◌≡◌, ◌+◌, ◌≤◌, List, [], ◌∷◌, length, sym, ap, subst, ◌∙◌, arith}
+use Rattle.std.proofs.Common.{◌+◌, sym, subst, arith}
 use Rattle.std.specs.Prelude.{slice_range}
 use Rattle.trade_base.proofs.BytesLemmas.{length-slice_range}
 use Rattle.dataspace_core.specs.Store.{space_at}

@@ -1,12 +1,12 @@
 -- A sliced block less leaves the heap of nodes.
-use Rattle.std.proofs.Common.{◌≡◌, ℕ, List, [], refl, sym, ap, ◌∙◌}
-use Rattle.std.specs.FinMap.{get, remove}
+use Rattle.std.proofs.Common.{◌≡◌, ℕ, List, [], sym, ap, ◌∙◌}
+use Rattle.std.specs.FinMap.{remove}
 use Rattle.std.specs.Prelude.{Option, unwrap_or}
-use Rattle.own_model.specs.Account.{Account, credited}
+use Rattle.own_model.specs.Account.{credited}
 use Rattle.own_model.specs.NatMap.{NatMap}
 use Rattle.own_model.specs.Sliced.{block_size}
 use Rattle.dataspace_core.specs.Store.{account_in}
-use Rattle.sliced_heap.specs.Heap.{GivesBlock, blocks_at, share_at, payer_of}
+use Rattle.sliced_heap.specs.Heap.{blocks_at, share_at, payer_of}
 use Rattle.file_service.specs.Calls.{payload_in}
 use Rattle.file_service.proofs.FurnishedLemmas.{contents_held, contents_kept, nodes_stay_in}
 use Rattle.file_service.proofs.ContentLemmas.{less_credit, less_changes, less_lent}

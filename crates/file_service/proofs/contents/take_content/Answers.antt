@@ -1,5 +1,5 @@
 -- A sliced block more leaves the heap of nodes.
-use Rattle.std.proofs.Common.{◌≡◌, ◌-◌, refl, sym, ap, ◌∙◌}
+use Rattle.std.proofs.Common.{◌-◌, refl, sym, ap, ◌∙◌}
 use Rattle.sliced_heap.specs.Heap.{share_at, payer_of}
 use Rattle.std.specs.FinMap.{get, insert}
 use Rattle.own_model.specs.OwnState.{zeros}

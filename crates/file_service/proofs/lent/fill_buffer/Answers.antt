@@ -1,5 +1,5 @@
 -- The content is found in a dataspace that isn't the buffer's, and its bytes are copied.
-use Rattle.std.proofs.Common.{rules, ◌≡◌, ◌≢◌, ◌+◌, ◌≤◌, length, sym, ap, subst, ◌∙◌, arith}
+use Rattle.std.proofs.Common.{◌+◌, subst, arith}
 use Rattle.std.specs.Prelude.{slice_range}
 use Rattle.trade_base.proofs.BytesLemmas.{length-slice_range}
 use Rattle.dataspace_core.specs.Store.{space_at}

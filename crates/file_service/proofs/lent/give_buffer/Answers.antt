@@ -1,5 +1,4 @@
 -- Its region is the map's, and its dataspace the account's.
-use Rattle.std.proofs.Common.{rules, ◌≡◌, ap, is_some}
 use Rattle.file_service.proofs.BufferLemmas.{given_furnished, given_buffer, lent_there, lent_exists}
 use Rattle.file_service.proofs.lent.give_buffer.Goals as goal
 

@@ -1,6 +1,5 @@
 -- A session is ready once it is furnished.
 use Rattle.std.proofs.Common.{sym, subst}
-use Rattle.heap_core.specs.Heap.{heap_in}
 use Rattle.own_model.specs.OwnHeap.{OwnHeap}
 use Rattle.sliced_heap.specs.Sliced.{sliced_of}
 use Rattle.server_frame.specs.Session.{holding_of}

@@ -1,6 +1,5 @@
 -- The file is written over where it gets no longer.
-use Rattle.std.proofs.Common.{◌≡◌, ◌+◌, ◌∙◌, length, sym, ap, subst, arith}
-use Rattle.file_service.specs.Calls.{content_written, HasBytes}
+use Rattle.std.proofs.Common.{length, arith}
 use Rattle.file_service.specs.Furnished.{Stock, stock}
 use Rattle.file_service.specs.Node.{value_of}
 use Rattle.file_service.specs.Source.{bytes_from}

@@ -1,28 +1,24 @@
 -- The offset is looked at first, then the range of the buffer, and then it is a write.
-use Rattle.std.proofs.Common.{rules, ◌≡◌, ℕ, ◌+◌, ◌-◌, ◌≤◌, List, [], length, take, drop, Some, None, Err, Ok, refl, sym, ap, subst, ◌∙◌, arith}
+use Rattle.std.proofs.Common.{rules, ◌≡◌, ◌+◌, length, Some, None, Err, sym, ap, subst, ◌∙◌, arith}
 use Rattle.std.specs.Prelude.{IfSome, IfOk, slice_range}
-use Rattle.std.specs.Option.{option_map, unwrap_or}
+use Rattle.std.specs.Option.{option_map}
 use Rattle.std.specs.Result.{result_ok, result_err}
-use Rattle.trade_base.proofs.BytesLemmas.{length-slice_range}
-use Rattle.own_model.specs.BufferService.{beside, range_refusal, part_of, put, got}
-use Rattle.own_model.specs.BufferService.BufferRequest.{Put, Get}
+use Rattle.own_model.specs.BufferService.{beside, range_refusal, part_of, put}
+use Rattle.own_model.specs.BufferService.BufferRequest.{Put}
 use Rattle.own_model.specs.BufferService.SessionRequest.{OfBuffer}
 use Rattle.own_model.specs.FileService.{File, written, file_named}
 use Rattle.own_model.specs.FileText.FileError.{Gap}
-use Rattle.own_model.specs.FileText.FileReply.{Count, Refused}
-use Rattle.dataspace_core.specs.Store.{Store, Exists, space_at}
+use Rattle.own_model.specs.FileText.FileReply.{Refused}
+use Rattle.dataspace_core.specs.Store.{space_at}
 use Rattle.server_frame.specs.Lent.{bytes_lent}
 use Rattle.server_frame.specs.Session.{holding_of}
 use Rattle.session_proto.specs.FileReply.{model_error}
-use Rattle.file_service.specs.Calls.{payload_in, HasBytes}
 use Rattle.file_service.specs.Files.{file_at}
 use Rattle.file_service.specs.Furnished.{Stock, stock}
 use Rattle.file_service.specs.Lent.{HasBuffer, buffer_key}
 use Rattle.file_service.specs.Node.{value_of}
-use Rattle.file_service.specs.Session.{files_in, served_in, session_served, counted_reply, Answers, Finds, IsReady, LeavesSession}
-use Rattle.file_service.specs.Source.{HasRange, bytes_from}
-use Rattle.file_service.proofs.FrontLemmas.{front_part}
-use Rattle.file_service.proofs.SearchLemmas.{found_named, found_long, found_has, found_bytes}
+use Rattle.file_service.specs.Session.{files_in, session_served, counted_reply, Answers, Finds, IsReady}
+use Rattle.file_service.proofs.SearchLemmas.{found_named, found_long}
 use Rattle.file_service.proofs.ServeLemmas.{found_name}
 use Rattle.file_service.proofs.SourceLemmas.{buffer_exists}
 use Rattle.file_service.proofs.BufferRequestLemmas as request

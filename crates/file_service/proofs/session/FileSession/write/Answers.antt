@@ -1,18 +1,16 @@
 -- The offset is looked at first, then whether the file gets longer.
-use Rattle.std.proofs.Common.{◌∙◌, length, sym, ap, subst, arith}
+use Rattle.std.proofs.Common.{◌∙◌, ap, subst, arith}
 use Rattle.std.specs.Prelude.{IfSome}
 use Rattle.std.specs.Result.{result_ok}
 use Rattle.own_model.specs.FileText.FileError.{Gap}
 use Rattle.own_model.specs.FileText.FileReply.{Refused}
 use Rattle.own_model.specs.FileText.FileRequest.{Write}
-use Rattle.file_service.specs.Calls.{content_written, HasBytes}
 use Rattle.file_service.specs.Files.{file_at}
 use Rattle.file_service.specs.Furnished.{Stock, stock}
 use Rattle.file_service.specs.Node.{value_of}
 use Rattle.file_service.specs.Session.{served_in, Finds}
-use Rattle.file_service.proofs.SearchLemmas.{found_named, found_long, found_has}
+use Rattle.file_service.proofs.SearchLemmas.{found_named, found_long}
 use Rattle.file_service.proofs.ServeLemmas.{serves_same, write_gap}
-use Rattle.file_service.proofs.WriteLemmas.{nothing_told, over_served}
 use Rattle.file_service.proofs.session.FileSession.write.Goals.{In_ok-found}
 use Rattle.file_service.proofs.session.FileSession.write.Goals as goal
 
