@@ -1,6 +1,6 @@
 -- How a session's heap of nodes begins: an account that has nothing but sliced blocks has no chunk, and a map that lies apart
 -- makes both heaps sound.
-use Rattle.std.proofs.Common.{◌≡◌, ◌≢◌, ℕ, ◌+◌, ◌-◌, ◌*◌, ◌<◌, ◌≤◌, ◌==◌, cond, List, [], length, Some, is_some, IsSome, refl, sym, ap, subst, ◌∙◌, arith, inl, inr}
+use Rattle.std.proofs.Common.{◌≡◌, ◌≢◌, ℕ, ◌+◌, ◌-◌, ◌≤◌, cond, List, length, Some, is_some, IsSome, refl, sym, ap, subst, ◌∙◌, arith, inl, inr}
 use Rattle.std.proofs.lemmas.Bool.{cases_eq, cases_lt}
 use Rattle.std.proofs.lemmas.Bool.Decides.{nat_tests}
 use Rattle.std.proofs.lemmas.Option.{none-some, same_Some}
@@ -13,25 +13,26 @@ use Rattle.own_model.specs.NatMap.{NatMap}
 use Rattle.own_model.specs.OwnHeap.{OwnHeap, no_heap}
 use Rattle.own_model.specs.Region.{Region}
 use Rattle.own_model.specs.Sliced.{sliced_header}
-use Rattle.own_model.proofs.NatMapLemmas.{by_insertions, get-empty, get-insert_same, get-insert_other, get-remove_other, get-picked, and_then_from, value_at}
+use Rattle.own_model.proofs.NatMapLemmas.{same, none_if, by_insertions, get-empty, get-insert_same, get-insert_other, get-remove_other, get-picked, and_then_from, value_at}
 use Rattle.own_model.proofs.Totals.{len-insert_new, len-remove_at}
-use Rattle.region_map.specs.Regions.{Regions, AreSound}
+use Rattle.region_map.specs.Regions.{Regions, AreSound, of_no_heap}
 use Rattle.dataspace_core.specs.Share.{Share, share_in}
 use Rattle.dataspace_core.specs.Store.{Store, part, IsOpenIn}
 use Rattle.heap_core.specs.declared.heap.Heap.{Heap}
-use Rattle.heap_core.specs.Heap.{payer_of as heap_payer, heap_in, large_tag, HasNoBlocks, IsLaid}
+use Rattle.heap_core.specs.Heap.{payer_of as heap_payer, heap_in, HasNoBlocks, IsLaid}
 use Rattle.sliced_heap.specs.declared.heap.SlicedHeap.{SlicedHeap}
 use Rattle.sliced_heap.specs.Heap.{payer_of, share_at}
 use Rattle.sliced_heap.specs.Sliced.{sliced_tag, is_sliced_tag, sliced_of, block_regions, payload_of}
-use Rattle.heap_window.proofs.ShareLemmas.{get-sliced_regions}
+use Rattle.heap_window.proofs.ShareLemmas.{get-sliced_regions, in_numbered}
 use Rattle.dataspace_core.proofs.ShareLaws.{in_share}
 use Rattle.server_frame.specs.Session.{IsSessionHeap, HasBlocksAlone, holding_of}
-use Rattle.file_service.specs.Furnished.{IsShare, KeepsNodes, IsFurnished}
+use Rattle.file_service.specs.Furnished.{IsShare, KeepsNodes, IsFurnished, is_lent_tag, lent_regions}
+use Rattle.file_service.proofs.LentLemmas.{lent_number}
 use Rattle.heap_window.proofs.BesideLemmas.{map_of}
 use Rattle.file_service.proofs.FurnishedLemmas.{laid_back}
 
 -- a session's share of a map is one that a map can have
-session_share : (sliced : SlicedHeap) (store : Store) (regions : Regions) → IsSessionHeap sliced store regions → IsShare (holding_of sliced store regions)
+pub session_share : (sliced : SlicedHeap) (store : Store) (regions : Regions) → IsSessionHeap sliced store regions → IsShare (holding_of sliced store regions)
 unfolding share_in
 session_share sliced store regions session = record {
   paid = λ s r there. (in_share (part (payer_of sliced) store) regions.heap regions.tags s r there).1;
@@ -57,7 +58,7 @@ furnishes {heap} {later} {sliced} {store} {regions} account session kept apart i
       nodes = record {
         laid = now;
         no_large = ap (λ (h : OwnHeap). h.large) (value share) ∙ nodes.no_large;
-        all = nodes.all ∙ ap (λ (h : OwnHeap). length h.shape.chunks + len (sliced_of share)) (sym (value share));
+        all = nodes.all ∙ ap (λ (h : OwnHeap). length h.shape.chunks + len (sliced_of share) + len (lent_regions share)) (sym (value share));
       };
     }
 
@@ -110,19 +111,19 @@ of_region share address x h = elim (cases_lt address sliced_header) [
       record { region = from.0; behind = high; there = passes.0; tag = passes.1 }
 ]
 
--- an account that has nothing but sliced blocks has no chunk
-pub alone_no_blocks : (share : Share) → IsShare share → HasBlocksAlone share → HasNoBlocks share
+-- an account that has nothing but sliced blocks has regions of those alone
+alone_sliced : (share : Share) → IsShare share → HasBlocksAlone share → (start k : ℕ) (region : Region) → get share.heap start ≡ Some region → get share.tags start ≡ Some k → k ≡ sliced_tag
 unfolding Injects
-alone_no_blocks share is alone start k region there tag = elim (cases_lt large_tag k) [
-  | inl high ↦ high
-  | inr low ↦
+alone_sliced share is alone start k region there tag = elim (cases_eq k sliced_tag) [
+  | inl same ↦ same
+  | inr other ↦
       let of : ℕ → ℕ = λ address. unwrap_or (option_map (λ (r : Region). r.of) (get share.heap (address - sliced_header))) 0 in
       let of_is : (address : ℕ) (r : Region) → get share.heap (address - sliced_header) ≡ Some r → of address ≡ r.of = λ address r h. ap (λ (o : Option Region). unwrap_or (option_map (λ (q : Region). q.of) o) 0) h in
       let at = value_at share.part.spaces region.of (is.paid start region there) in
       let fewer = injects (sliced_of share) (remove share.part.spaces region.of) of
       (λ a x h.
       let r = of_region share a x h in
-      let apart : r.region.of ≢ region.of = λ e. let same = is.once (a - sliced_header) start r.region region r.there there e in absurd (omega (arith, low, same_Some k sliced_tag (sym tag ∙ ap (get share.tags) (sym same) ∙ r.tag))) in
+      let apart : r.region.of ≢ region.of = λ e. let same = is.once (a - sliced_header) start r.region region r.there there e in other (same_Some k sliced_tag (sym tag ∙ ap (get share.tags) (sym same) ∙ r.tag)) in
       ap (λ n. is_some (get (remove share.part.spaces region.of) n)) (of_is a r.region r.there) ∙ ap is_some (get-remove_other share.part.spaces region.of r.region.of apart) ∙ is.paid (a - sliced_header) r.region r.there)
       (λ a b x y one two e.
       let r = of_region share a x one in
@@ -132,12 +133,22 @@ alone_no_blocks share is alone start k region there tag = elim (cases_lt large_t
       absurd (omega (arith, fewer, alone, len-remove_at share.part.spaces region.of at.0 at.1))
 ]
 
+-- so it has no chunk
+pub alone_no_blocks : (share : Share) → IsShare share → HasBlocksAlone share → HasNoBlocks share
+alone_no_blocks share is alone start k region there tag = omega (arith, alone_sliced share is alone start k region there tag)
+
+-- and nothing is lent
+pub alone_not_lent : (share : Share) → IsShare share → HasBlocksAlone share → lent_regions share ≡ empty
+alone_not_lent share is alone = same _ _ (λ s. none_if _ (not_there s) ∙ sym (get-empty s)) where
+  not_there : (s : ℕ) (r : Region) → get (lent_regions share) s ≡ Some r → ⊥
+  not_there s r e = let at = in_numbered is_lent_tag share.heap share.tags s r e in omega (arith, alone_sliced share is alone s of_no_heap r at.1 (lent_number _ at.0))
+
 pub new_keeps : (heap : Heap) → ((share : Share) → HasNoBlocks share → IsLaid heap share) → ((share : Share) → HasNoBlocks share → heap_in heap share ≡ no_heap) → (share : Share) → HasBlocksAlone share → KeepsNodes heap share
 new_keeps heap laid value share alone is =
     let none = alone_no_blocks share is alone in record {
       laid = laid share none;
       no_large = ap (λ (h : OwnHeap). h.large) (value share none);
-      all = omega (arith, alone, ap (λ (h : OwnHeap). length h.shape.chunks) (value share none));
+      all = omega (arith, alone, ap (λ (h : OwnHeap). length h.shape.chunks) (value share none), ap len (alone_not_lent share is alone) ∙ len-empty nat_cmp Region);
     }
 
 -- its shape is that of no chunks, whatever share is looked at

@@ -1,5 +1,5 @@
 -- What calls of a session's sliced heap leave of the heap of nodes: blocks that come and go, and bytes that change.
-use Rattle.std.proofs.Common.{◌≡◌, ◌≢◌, ℕ, ◌+◌, ◌-◌, ◌/◌, ◌≤◌, true, false, cond, nat_le, List, length, drop, Some, is_some, refl, sym, ap, ◌∙◌, arith, inl, inr}
+use Rattle.std.proofs.Common.{◌≡◌, ◌≢◌, ℕ, ◌+◌, ◌-◌, ◌/◌, ◌≤◌, true, false, cond, nat_le, List, length, drop, Some, is_some, refl, sym, ap, subst, ◌∙◌, arith, inl, inr}
 use Rattle.std.proofs.lemmas.Bool.{cases_eq}
 use Rattle.std.proofs.lemmas.Bool.Decides.{nat_tests}
 use Rattle.std.proofs.lemmas.Option.{none-some}
@@ -15,7 +15,7 @@ use Rattle.own_model.specs.Sliced.{sliced_header, sliced_size, block_size, block
 use Rattle.own_model.proofs.HeapRangeLemmas.{new_page}
 use Rattle.own_model.proofs.NatMapLemmas.{get-picked, get-insert_same, get-insert_other, get-remove_same, get-remove_other}
 use Rattle.own_model.proofs.Totals.{len-insert_new, len-insert_at, len-remove_at}
-use Rattle.region_map.specs.Regions.{Regions}
+use Rattle.region_map.specs.Regions.{Regions, of_no_heap, heap_attached, heap_detached}
 use Rattle.dataspace_core.specs.Store.{Store, Part, part, account_in, account_of, bytes_of, part_with_bytes, PartBecomes}
 use Rattle.dataspace_core.specs.Share.{Share, share_in, shown}
 use Rattle.dataspace_core.proofs.WindowLaws.{unshown_free}
@@ -31,7 +31,8 @@ use Rattle.sliced_heap.specs.Laws.{Pokes}
 use Rattle.sliced_heap.specs.Sliced.{sliced_tag, block_regions, payload_of}
 use Rattle.sliced_heap.proofs.BlockLemmas.{payload_at, is_of}
 use Rattle.sliced_heap.proofs.HeapLaws.{payload_poked}
-use Rattle.file_service.specs.Furnished.{IsFurnished}
+use Rattle.file_service.specs.Furnished.{IsFurnished, KeepsLent}
+use Rattle.file_service.proofs.LentLemmas.{lent_in, lent_stays, lent_attached, lent_detached}
 use Rattle.heap_window.specs.Window.{low_region}
 use Rattle.heap_window.proofs.BesideLemmas.{gap_is_free, lie_with, lie_without}
 use Rattle.file_service.proofs.FurnishedLemmas.{ChangesContents}
@@ -71,6 +72,10 @@ numbered_alike p q (Some k) (Some r) alike =
       | false ↦ λ high. refl
     ] refl
 
+-- a number above a chunk's is none of a block's
+high_number : (spaces : NatMap (List ℕ)) (tag : ℕ) (o : Option Region) → nat_le tag large_tag ≡ false → numbered_in spaces (Some tag) o ≡ None
+high_number spaces tag o high = rw high refl
+
 module _ {heap : Heap} {sliced : SlicedHeap} {store : Store} {regions : Regions} (f : IsFurnished heap sliced store regions) where
   -- the account, its share, and its part
   abbrev a : ℕ
@@ -82,18 +87,63 @@ module _ {heap : Heap} {sliced : SlicedHeap} {store : Store} {regions : Regions}
   abbrev p : Part
   p = part (payer_of sliced) store
 
-  -- a dataspace that a region with a chunk's number shows is no sliced block's
-  chunk_no_sliced : (s k : ℕ) (r : Region) → get regions.heap s ≡ Some r → get regions.tags s ≡ Some k → k ≤ large_tag → IsNoBlock S r.of
-  chunk_no_sliced s k r there tag low t q block e = let one = shown_block (payer_of sliced) store regions t q block in grind (arith, nat_tests, one, f.sound.window.once t s q r one.there there e)
+  -- a dataspace that a region with another number shows is no sliced block's
+  other_no_sliced : (s k : ℕ) (r : Region) → get regions.heap s ≡ Some r → get regions.tags s ≡ Some k → k ≤ of_no_heap → IsNoBlock S r.of
+  other_no_sliced s k r there tag low t q block e = let one = shown_block (payer_of sliced) store regions t q block in grind (arith, nat_tests, one, f.sound.window.once t s q r one.there there e)
 
   -- a chunk's region is the map's
-  chunk_in_map : (s k : ℕ) (r : Region) → block_region S s ≡ Some (r, k) → (get regions.heap s ≡ Some r) × (get regions.tags s ≡ Some k) × (k ≤ large_tag)
+  pub chunk_in_map : (s k : ℕ) (r : Region) → block_region S s ≡ Some (r, k) → (get regions.heap s ≡ Some r) × (get regions.tags s ≡ Some k) × (k ≤ large_tag)
   chunk_in_map s k r is =
       let told = told_region S s k r is in
       ((in_share p regions.heap regions.tags s r told.there).0, kept_tag (payer_of sliced) store regions s r told.there ∙ told.tag, told.few)
 
   account_was : account_in store (payer_of sliced) ≡ account_of p
   account_was = sym (account_of-part (payer_of sliced) store)
+
+  -- ---- regions of no chunk's number
+
+  -- the account's chunks hold what they held
+  abbrev pub SameChunks : Store → Type 0
+  SameChunks new = (s k : ℕ) (r : Region) → get regions.heap s ≡ Some r → get regions.tags s ≡ Some k → k ≤ large_tag → get (part (payer_of sliced) new).spaces r.of ≡ get p.spaces r.of
+
+  alike_chunks : (new : Store) → SameChunks new → (s : ℕ) → numbered_in (part (payer_of sliced) new).spaces (get regions.tags s) (get regions.heap s) ≡ numbered_in p.spaces (get regions.tags s) (get regions.heap s)
+  alike_chunks new same s = numbered_alike p.spaces (part (payer_of sliced) new).spaces (get regions.tags s) (get regions.heap s) (λ r k there tag low. ap is_some (same s k r there tag low))
+
+  -- so they stand where they stood on the same map, with a region more of another number, and with one less
+  pub stands_still : (new : Store) → SameChunks new → (s : ℕ) → block_region (share_at (payer_of sliced) new regions) s ≡ block_region S s
+  stands_still new same s = region_is (payer_of sliced) new regions s ∙ alike_chunks new same s ∙ sym (region_is (payer_of sliced) store regions s)
+
+  pub stands_more : (new : Store) (ds pages tag start : ℕ) → nat_le tag large_tag ≡ false → get regions.heap start ≡ None → SameChunks new →
+      (s : ℕ) → block_region (share_at (payer_of sliced) new (heap_attached regions ds pages tag start)) s ≡ block_region S s
+  stands_more new ds pages tag start high free same s =
+      let more : Region = record { of = ds; pages = pages } in
+      region_is (payer_of sliced) new (heap_attached regions ds pages tag start) s
+      ∙ elim (cases_eq s start) [
+        | inl here ↦
+            ap (λ t. numbered_in (part (payer_of sliced) new).spaces t (get (insert regions.heap start more) s)) (get-insert_same regions.tags start tag s here)
+            ∙ high_number (part (payer_of sliced) new).spaces tag (get (insert regions.heap start more) s) high
+            ∙ sym (none_numbered (get regions.tags s))
+            ∙ ap (numbered_in p.spaces (get regions.tags s)) (sym (ap (get regions.heap) here ∙ free))
+        | inr apart ↦
+            (λ i. numbered_in (part (payer_of sliced) new).spaces (get-insert_other regions.tags start tag s apart i) (get-insert_other regions.heap start more s apart i))
+            ∙ alike_chunks new same s
+      ]
+      ∙ sym (region_is (payer_of sliced) store regions s)
+
+  pub stands_less : (new : Store) (start tag : ℕ) → get regions.tags start ≡ Some tag → nat_le tag large_tag ≡ false → SameChunks new →
+      (s : ℕ) → block_region (share_at (payer_of sliced) new (heap_detached regions start)) s ≡ block_region S s
+  stands_less new start tag kept high same s =
+      region_is (payer_of sliced) new (heap_detached regions start) s
+      ∙ elim (cases_eq s start) [
+        | inl here ↦
+            (λ i. numbered_in (part (payer_of sliced) new).spaces (get-remove_same regions.tags start s here i) (get (remove regions.heap start) s))
+            ∙ sym (high_number p.spaces tag (get regions.heap s) high)
+            ∙ ap (λ t. numbered_in p.spaces t (get regions.heap s)) (sym (ap (get regions.tags) here ∙ kept))
+        | inr apart ↦
+            (λ i. numbered_in (part (payer_of sliced) new).spaces (get-remove_other regions.tags start s apart i) (get-remove_other regions.heap start s apart i))
+            ∙ alike_chunks new same s
+      ]
+      ∙ sym (region_is (payer_of sliced) store regions s)
 
   -- ---- a block more
 
@@ -105,9 +155,6 @@ module _ {heap : Heap} {sliced : SlicedHeap} {store : Store} {regions : Regions}
     more_heap : after.heap ≡ insert regions.heap takes.start more
     more_heap = ap (λ (r : Regions). r.heap) takes.attached
 
-    more_tags : after.tags ≡ insert regions.tags takes.start sliced_tag
-    more_tags = ap (λ (r : Regions). r.tags) takes.attached
-
     -- nothing stood there
     more_free : get regions.heap takes.start ≡ None
     more_free = gap_is_free regions.pages regions.heap (sliced_size n / 4096) takes.start (new_page n) f.sound.window.lie takes.gap
@@ -116,23 +163,13 @@ module _ {heap : Heap} {sliced : SlicedHeap} {store : Store} {regions : Regions}
     more_unshown : (s : ℕ) (r : Region) → get regions.heap s ≡ Some r → r.of ≢ takes.ds
     more_unshown = unshown_free store regions.heap takes.ds f.sound.window.shown_whole takes.fresh
 
-    more_same : (s k : ℕ) (r : Region) → get regions.heap s ≡ Some r → get regions.tags s ≡ Some k → k ≤ large_tag → get (part (payer_of sliced) new).spaces r.of ≡ get p.spaces r.of
-    more_same s k r there tag low = takes.dataspaces r.of (more_unshown s r there) (chunk_no_sliced s k r there tag low)
+    more_same : (s k : ℕ) (r : Region) → get regions.heap s ≡ Some r → get regions.tags s ≡ Some k → k ≤ of_no_heap → get (part (payer_of sliced) new).spaces r.of ≡ get p.spaces r.of
+    more_same s k r there tag low = takes.dataspaces r.of (more_unshown s r there) (other_no_sliced s k r there tag low)
 
     more_stands : (s : ℕ) → block_region (share_at (payer_of sliced) new after) s ≡ block_region S s
     more_stands s =
-        region_is (payer_of sliced) new after s
-        ∙ (λ i. numbered_in (part (payer_of sliced) new).spaces (get (more_tags i) s) (get (more_heap i) s))
-        ∙ elim (cases_eq s takes.start) [
-          | inl here ↦
-              (λ i. numbered_in (part (payer_of sliced) new).spaces (get-insert_same regions.tags takes.start sliced_tag s here i) (get (insert regions.heap takes.start more) s))
-              ∙ sym (none_numbered (get regions.tags s))
-              ∙ ap (numbered_in p.spaces (get regions.tags s)) (sym (ap (get regions.heap) here ∙ more_free))
-          | inr apart ↦
-              (λ i. numbered_in (part (payer_of sliced) new).spaces (get-insert_other regions.tags takes.start sliced_tag s apart i) (get-insert_other regions.heap takes.start more s apart i))
-              ∙ numbered_alike p.spaces (part (payer_of sliced) new).spaces (get regions.tags s) (get regions.heap s) (λ r k there tag low. ap is_some (more_same s k r there tag low))
-        ]
-        ∙ sym (region_is (payer_of sliced) store regions s)
+        subst (λ m. block_region (share_at (payer_of sliced) new m) s ≡ block_region S s) (sym takes.attached)
+        (stands_more new takes.ds (sliced_size n / 4096) sliced_tag takes.start refl more_free (λ t k r there tag low. more_same t k r there tag (omega (arith, low))) s)
 
     -- no payload started there
     pub more_no_payload : get (blocks_at (payer_of sliced) store regions) address ≡ None
@@ -147,6 +184,11 @@ module _ {heap : Heap} {sliced : SlicedHeap} {store : Store} {regions : Regions}
     pub more_charge : account_in new (payer_of sliced) ≡ charged (account_in store (payer_of sliced)) (sliced_size n) 1
     more_charge = account_by (payer_of sliced) new _ takes.charge
 
+    pub more_lent : KeepsLent (payer_of sliced) store new regions after
+    more_lent = lent_stays (payer_of sliced) store new regions after
+        (ap lent_in takes.attached ∙ lent_attached regions takes.ds (sliced_size n / 4096) sliced_tag takes.start refl more_free)
+        (λ s r there tag. more_same s of_no_heap r there tag (omega arith))
+
     pub more_changes : ChangesContents f now new after
     more_changes = record {
       sound = sound;
@@ -154,9 +196,9 @@ module _ {heap : Heap} {sliced : SlicedHeap} {store : Store} {regions : Regions}
       others = others;
       lie = rw more_heap (lie_with regions.pages regions.heap takes.ds (sliced_size n / 4096) takes.start (new_page n) f.sound.window.lie takes.gap);
       stands = more_stands;
-      kept = λ s k r is. let at = chunk_in_map s k r is in more_same s k r at.0 at.1 at.2;
+      kept = λ s k r is. let at = chunk_in_map s k r is in more_same s k r at.0 at.1 (omega (arith, at.2));
       uses = omega (arith, takes.count, ap (λ (x : Account). x.caps_used) more_charge);
-      count = omega (arith, takes.count, ap len takes.blocks, len-insert_new (blocks_at (payer_of sliced) store regions) address (zeros (sliced_size n - sliced_header)) more_no_payload);
+      count = omega (arith, takes.count, ap len takes.blocks, len-insert_new (blocks_at (payer_of sliced) store regions) address (zeros (sliced_size n - sliced_header)) more_no_payload, ap len more_lent.stands);
     }
 
   -- ---- a block less
@@ -169,9 +211,6 @@ module _ {heap : Heap} {sliced : SlicedHeap} {store : Store} {regions : Regions}
     less_heap : after.heap ≡ remove regions.heap gives.start
     less_heap = ap (λ (r : Regions). r.heap) gives.detached
 
-    less_tags : after.tags ≡ remove regions.tags gives.start
-    less_tags = ap (λ (r : Regions). r.tags) gives.detached
-
     -- it kept a sliced block's number
     less_tag : get regions.tags gives.start ≡ Some sliced_tag
     less_tag =
@@ -179,25 +218,20 @@ module _ {heap : Heap} {sliced : SlicedHeap} {store : Store} {regions : Regions}
         let same : block.start ≡ gives.start = omega (arith, block.at, gives.at) in
         ap (get regions.tags) (sym same) ∙ (shown_block (payer_of sliced) store regions block.start block.region block.there).tag
 
-    less_same : (s k : ℕ) (r : Region) → get regions.heap s ≡ Some r → get regions.tags s ≡ Some k → k ≤ large_tag → get (part (payer_of sliced) new).spaces r.of ≡ get p.spaces r.of
-    less_same s k r there tag low = gives.dataspaces r.of (chunk_no_sliced s k r there tag low)
+    less_same : (s k : ℕ) (r : Region) → get regions.heap s ≡ Some r → get regions.tags s ≡ Some k → k ≤ of_no_heap → get (part (payer_of sliced) new).spaces r.of ≡ get p.spaces r.of
+    less_same s k r there tag low = gives.dataspaces r.of (other_no_sliced s k r there tag low)
 
     less_stands : (s : ℕ) → block_region (share_at (payer_of sliced) new after) s ≡ block_region S s
     less_stands s =
-        region_is (payer_of sliced) new after s
-        ∙ (λ i. numbered_in (part (payer_of sliced) new).spaces (get (less_tags i) s) (get (less_heap i) s))
-        ∙ elim (cases_eq s gives.start) [
-          | inl here ↦
-              (λ i. numbered_in (part (payer_of sliced) new).spaces (get-remove_same regions.tags gives.start s here i) (get (remove regions.heap gives.start) s))
-              ∙ ap (λ t. numbered_in p.spaces t (get regions.heap s)) (sym (ap (get regions.tags) here ∙ less_tag))
-          | inr apart ↦
-              (λ i. numbered_in (part (payer_of sliced) new).spaces (get-remove_other regions.tags gives.start s apart i) (get-remove_other regions.heap gives.start s apart i))
-              ∙ numbered_alike p.spaces (part (payer_of sliced) new).spaces (get regions.tags s) (get regions.heap s) (λ r k there tag low. ap is_some (less_same s k r there tag low))
-        ]
-        ∙ sym (region_is (payer_of sliced) store regions s)
+        subst (λ m. block_region (share_at (payer_of sliced) new m) s ≡ block_region S s) (sym gives.detached)
+        (stands_less new gives.start sliced_tag less_tag refl (λ t k r there tag low. less_same t k r there tag (omega (arith, low))) s)
 
     pub less_credit : account_in new (payer_of sliced) ≡ credited (account_in store (payer_of sliced)) (block_size gives.payload) 1
     less_credit = account_by (payer_of sliced) new _ gives.charge
+
+    pub less_lent : KeepsLent (payer_of sliced) store new regions after
+    less_lent = lent_stays (payer_of sliced) store new regions after (ap lent_in gives.detached ∙ lent_detached regions gives.start sliced_tag less_tag refl)
+        (λ s r there tag. less_same s of_no_heap r there tag (omega arith))
 
     pub less_changes : ChangesContents f now new after
     less_changes = record {
@@ -206,9 +240,9 @@ module _ {heap : Heap} {sliced : SlicedHeap} {store : Store} {regions : Regions}
       others = others;
       lie = rw less_heap (lie_without regions.pages regions.heap gives.start f.sound.window.lie);
       stands = less_stands;
-      kept = λ s k r is. let at = chunk_in_map s k r is in less_same s k r at.0 at.1 at.2;
+      kept = λ s k r is. let at = chunk_in_map s k r is in less_same s k r at.0 at.1 (omega (arith, at.2));
       uses = omega (arith, gives.count, f.session.pays, ap (λ (x : Account). x.caps_used) less_credit);
-      count = omega (arith, gives.count, ap len gives.blocks, len-remove_at (blocks_at (payer_of sliced) store regions) address gives.payload gives.was);
+      count = omega (arith, gives.count, ap len gives.blocks, len-remove_at (blocks_at (payer_of sliced) store regions) address gives.payload gives.was, ap len less_lent.stands);
     }
 
   -- ---- other bytes
@@ -224,17 +258,14 @@ module _ {heap : Heap} {sliced : SlicedHeap} {store : Store} {regions : Regions}
     put : IsPut (payer_of sliced) ds store new
     put = is_put (payer_of sliced) ds offset bytes held.bytes there_now held.within becomes
 
-    poke_same : (s k : ℕ) (r : Region) → get regions.heap s ≡ Some r → get regions.tags s ≡ Some k → k ≤ large_tag → get (part (payer_of sliced) new).spaces r.of ≡ get p.spaces r.of
-    poke_same s k r there tag low = put.others r.of (λ e. chunk_no_sliced s k r there tag low held.start _ held.region (sym e))
-
-    poke_stands : (s : ℕ) → block_region (share_at (payer_of sliced) new regions) s ≡ block_region S s
-    poke_stands s =
-        region_is (payer_of sliced) new regions s
-        ∙ numbered_alike p.spaces (part (payer_of sliced) new).spaces (get regions.tags s) (get regions.heap s) (λ r k there tag low. ap is_some (poke_same s k r there tag low))
-        ∙ sym (region_is (payer_of sliced) store regions s)
+    poke_same : (s k : ℕ) (r : Region) → get regions.heap s ≡ Some r → get regions.tags s ≡ Some k → k ≤ of_no_heap → get (part (payer_of sliced) new).spaces r.of ≡ get p.spaces r.of
+    poke_same s k r there tag low = put.others r.of (λ e. other_no_sliced s k r there tag low held.start _ held.region (sym e))
 
     pub poke_account : account_in new (payer_of sliced) ≡ account_in store (payer_of sliced)
     poke_account = sym (account_of-part (payer_of sliced) new) ∙ ap account_of becomes.own ∙ account_of-part (payer_of sliced) store
+
+    pub poke_lent : KeepsLent (payer_of sliced) store new regions regions
+    poke_lent = lent_stays (payer_of sliced) store new regions regions refl (λ s r there tag. poke_same s of_no_heap r there tag (omega arith))
 
     pub poke_changes : ChangesContents f sliced new regions
     poke_changes = record {
@@ -248,8 +279,8 @@ module _ {heap : Heap} {sliced : SlicedHeap} {store : Store} {regions : Regions}
         rest = refl;
       };
       lie = f.sound.window.lie;
-      stands = poke_stands;
-      kept = λ s k r is. let at = chunk_in_map s k r is in poke_same s k r at.0 at.1 at.2;
+      stands = stands_still new (λ s k r there tag low. poke_same s k r there tag (omega (arith, low)));
+      kept = λ s k r is. let at = chunk_in_map s k r is in poke_same s k r at.0 at.1 (omega (arith, at.2));
       uses = omega (arith, ap (λ (q : Part). len q.spaces) becomes.own, ap (λ (x : Account). x.caps_used) poke_account, len-insert_at p.spaces ds (with_bytes (bytes_of p ds) offset bytes) held.bytes there_now);
-      count = omega (arith, ap (λ (q : Part). len q.spaces) becomes.own, len-insert_at p.spaces ds (with_bytes (bytes_of p ds) offset bytes) held.bytes there_now, ap len pokes.blocks, len-insert_at (blocks_at (payer_of sliced) store regions) (held.start + sliced_header) (with_part (drop sliced_header held.bytes) (offset - sliced_header) bytes) (drop sliced_header held.bytes) held.payload);
+      count = omega (arith, ap (λ (q : Part). len q.spaces) becomes.own, len-insert_at p.spaces ds (with_bytes (bytes_of p ds) offset bytes) held.bytes there_now, ap len pokes.blocks, len-insert_at (blocks_at (payer_of sliced) store regions) (held.start + sliced_header) (with_part (drop sliced_header held.bytes) (offset - sliced_header) bytes) (drop sliced_header held.bytes) held.payload, ap len poke_lent.stands);
     }

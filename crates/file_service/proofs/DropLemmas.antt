@@ -1,5 +1,5 @@
 -- DROP: a file goes, with its node and its content.
-use Rattle.std.proofs.Common.{◌≡◌, ◌≢◌, ℕ, ◌+◌, ◌-◌, ◌<◌, ◌≤◌, true, false, cond, eqb, List, [], ◌∷◌, ◌++◌, length, refl, sym, ap, subst, ◌∙◌, arith}
+use Rattle.std.proofs.Common.{◌≡◌, ◌≢◌, ℕ, ◌<◌, true, false, cond, eqb, List, [], ◌∷◌, ◌++◌, length, refl, sym, ap, subst, ◌∙◌, arith}
 use Rattle.std.proofs.lemmas.Bool.Decides.{nat_tests}
 use Rattle.std.specs.Prelude.{IsSome}
 use Rattle.std.specs.Option.{unwrap_or}
@@ -18,7 +18,7 @@ use Rattle.file_service.specs.Calls.{payload_in, content_given, HasBytes}
 use Rattle.file_service.specs.Files.{file_at}
 use Rattle.file_service.specs.Furnished.{Stock}
 use Rattle.file_service.specs.Node.{FileNode}
-use Rattle.file_service.specs.Session.{IsFound, LinksTo, Serves, served_in}
+use Rattle.file_service.specs.Session.{IsFound, KeepsOwn, LinksTo, Serves, served_in}
 use Rattle.file_service.specs.declared.session.FileSession.{FileSession}
 use Rattle.file_service.proofs.LinkLemmas.{listed_append, last_listed}
 use Rattle.file_service.proofs.RemoveLemmas.{stand_removed, files_removed}
@@ -58,7 +58,7 @@ module _ (session later : FileSession) (was linked given : Stock) (name : List �
     pub given_there : 0 < node.size → IsSome (get given.contents node.content)
     given_there some = grind (arith, nat_tests, found_content session.first session.last was.nodes was.contents name previous address node found some)
 
-    module _ (last_is : later.last ≡ cond (eqb session.last address) previous session.last) (label_is : later.label ≡ session.label) where
+    module _ (last_is : later.last ≡ cond (eqb session.last address) previous session.last) (own : KeepsOwn session later) where
       abbrev pub file : File
       file = file_at was.nodes was.contents address
 
@@ -76,7 +76,7 @@ module _ (session later : FileSession) (was linked given : Stock) (name : List �
             blocks = found.before ++ found.behind;
             stand = stand_removed session.first session.last was.nodes linked.nodes new.nodes was.contents new.contents name previous address node found later.first later.last links without last_is gone;
           })
-          label_is
+          own
 
       long : length file.bytes ≡ node.size
       long = found_long session.first session.last was.nodes was.contents name previous address node found

@@ -1,5 +1,5 @@
 -- The heap of nodes ends: its chunks go, and the sliced blocks stay where they stand.
-use Rattle.std.proofs.Common.{rules, ◌≡◌, ℕ, ◌+◌, ◌==◌, Bool, true, false, cond, true≢false, length, Some, is_some, refl, sym, ap, subst, ◌∙◌, arith}
+use Rattle.std.proofs.Common.{rules, ◌≡◌, ℕ, ◌+◌, Bool, true, false, cond, true≢false, length, Some, is_some, refl, sym, ap, subst, ◌∙◌, arith}
 use Rattle.std.proofs.lemmas.Bool.{false_from_ne_true}
 use Rattle.std.proofs.lemmas.Bool.Decides.{nat_tests}
 use Rattle.std.proofs.lemmas.Option.{same_Some}
@@ -11,7 +11,7 @@ use Rattle.own_model.specs.OwnHeap.{OwnHeap}
 use Rattle.own_model.specs.Region.{Region}
 use Rattle.own_model.specs.Use.{heap_count, heap_size}
 use Rattle.own_model.proofs.NatMapLemmas.{same}
-use Rattle.region_map.specs.Regions.{Regions}
+use Rattle.region_map.specs.Regions.{Regions, of_no_heap}
 use Rattle.dataspace_core.specs.Share.{KeepsShares}
 use Rattle.dataspace_core.specs.Store.{Store, part, account_in}
 use Rattle.heap_core.specs.declared.heap.Heap.{Heap}
@@ -21,7 +21,8 @@ use Rattle.sliced_heap.specs.declared.heap.SlicedHeap.{SlicedHeap}
 use Rattle.sliced_heap.specs.Heap.{payer_of, share_at}
 use Rattle.sliced_heap.specs.Sliced.{sliced_tag, is_sliced_tag, block_regions}
 use Rattle.server_frame.specs.Session.{HasBlocksAlone, holding_of}
-use Rattle.file_service.specs.Furnished.{IsFurnished, KeepsSession}
+use Rattle.file_service.specs.Furnished.{IsFurnished, KeepsSession, lent_regions}
+use Rattle.file_service.proofs.LentLemmas.{lent_places, lent_elsewhere}
 use Rattle.file_service.proofs.FurnishedLemmas.{ChangesNodes, nodes_are, nodes_kept}
 use Rattle.dataspace_core.proofs.PartLaws.{account_by}
 use Rattle.heap_window.specs.Window.{IsNoHeapBlock}
@@ -69,6 +70,13 @@ module _ {heap later : Heap} {sliced : SlicedHeap} {store new : Store} {regions 
   stands : block_regions (share_at (heap_payer heap) new after) ≡ block_regions (share_at (heap_payer heap) store regions)
   stands = blocks_kept (heap_payer heap) store new regions after given.kept (λ s r there tag. ap is_some (given.spaces r.of (no_block r.of (sliced_alone s r there tag))))
 
+  -- and what is lent
+  lent_alone : (s : ℕ) (r : Region) → get regions.heap s ≡ Some r → get regions.tags s ≡ Some of_no_heap → IsNoHeapBlock regions r.of
+  lent_alone s r there tag t k q other number low e = grind (arith, nat_tests, same_Some)
+
+  lent : lent_regions (share_at (heap_payer heap) new after) ≡ lent_regions (share_at (heap_payer heap) store regions)
+  lent = lent_places (heap_payer heap) store new regions after (lent_elsewhere regions after given.kept) (λ s r there tag. ap is_some (given.spaces r.of (no_block r.of (lent_alone s r there tag))))
+
   -- there was no large block
   none_large : (heap_at heap store regions).large ≡ empty
   none_large = ap (λ (h : OwnHeap). h.large) (sym (nodes_are heap sliced store regions f.payer)) ∙ f.nodes.no_large
@@ -86,15 +94,19 @@ module _ {heap later : Heap} {sliced : SlicedHeap} {store new : Store} {regions 
   no_chunks_left = ap (λ (h : OwnHeap). length h.shape.chunks) given.value
 
   changes : ChangesNodes (heap_payer heap) heap store regions later new after
-  changes = grind (arith, nat_tests, stands, no_block, credit, pays, none_large, count_is, no_chunks_left)
+  changes = grind (arith, nat_tests, stands, lent, no_block, credit, pays, none_large, count_is, no_chunks_left)
 
   -- the session is kept
   pub end_keeps : KeepsSession sliced later sliced store new regions after
   end_keeps = nodes_kept f (subst (λ x. ChangesNodes x heap store regions later new after) f.payer changes)
 
-  -- and has nothing but sliced blocks
-  pub end_alone : HasBlocksAlone (holding_of sliced new after)
-  end_alone = grind (arith, nat_tests, end_keeps, nodes_are, no_chunks_left)
+  -- and has nothing but sliced blocks, where nothing is lent
+  pub end_alone : lent_regions (holding_of sliced store regions) ≡ empty → HasBlocksAlone (holding_of sliced new after)
+  end_alone none =
+      let all = end_keeps.stays.furnished.nodes.all in
+      let chunks = ap (λ (h : OwnHeap). length h.shape.chunks) (nodes_are later sliced new after end_keeps.stays.furnished.payer) ∙ no_chunks_left in
+      let lent = ap len (end_keeps.lent.stands ∙ none) ∙ len-empty nat_cmp Region in
+      omega (arith, all, chunks, lent)
 
   -- its limits stay
   pub end_ram : (account_in new (payer_of sliced)).ram_limit ≡ (account_in store (payer_of sliced)).ram_limit

@@ -8,7 +8,7 @@ use Rattle.own_model.specs.NatMap.{NatMap}
 use Rattle.own_model.specs.OwnHeap.{OwnHeap}
 use Rattle.own_model.specs.Region.{Region}
 use Rattle.own_model.specs.Sound.{LieApart}
-use Rattle.region_map.specs.Regions.{Regions}
+use Rattle.region_map.specs.Regions.{Regions, of_no_heap}
 use Rattle.dataspace_core.specs.Share.{Share, share_in, KeepsShares}
 use Rattle.dataspace_core.specs.Store.{Store, part, account_in, IsOpenIn}
 use Rattle.heap_core.specs.declared.heap.Heap.{Heap}
@@ -22,7 +22,8 @@ use Rattle.sliced_heap.specs.Sliced.{sliced_of, block_regions}
 use Rattle.sliced_heap.proofs.HeapLaws.{heap_stays_among}
 use Rattle.heap_window.proofs.ShareLemmas.{shown_block}
 use Rattle.server_frame.specs.Session.{holding, holding_of}
-use Rattle.file_service.specs.Furnished.{IsFurnished, KeepsSession, stock}
+use Rattle.file_service.specs.Furnished.{IsFurnished, KeepsLent, StaysFurnished, KeepsSession, lent_regions, stock}
+use Rattle.file_service.proofs.LentLemmas.{shown_lent}
 use Rattle.heap_window.proofs.BesideLemmas.{map_of, maps_memory}
 use Rattle.heap_window.specs.Window.{IsNoHeapBlock}
 
@@ -86,6 +87,7 @@ pub record ChangesNodes (account : ℕ) (heap : Heap) (store : Store) (regions :
   pub stands : block_regions (share_at account new after) ≡ block_regions (share_at account store regions)
   pub kept : (k : ℕ) → IsSome (get (part account store).spaces k) → IsNoHeapBlock regions k → get (part account new).spaces k ≡ get (part account store).spaces k
   pub uses : (account_in new account).caps_used + len (part account store).spaces ≡ (account_in store account).caps_used + len (part account new).spaces
+  pub lent : lent_regions (share_at account new after) ≡ lent_regions (share_at account store regions)
   pub no_large : (heap_at later new after).large ≡ (heap_at heap store regions).large
   pub count : len (part account new).spaces + length (heap_at heap store regions).shape.chunks ≡ len (part account store).spaces + length (heap_at later new after).shape.chunks
 
@@ -98,6 +100,10 @@ module _ {heap : Heap} {sliced : SlicedHeap} {store : Store} {regions : Regions}
   pub sliced_no_chunk : (s : ℕ) (r : Region) → get (block_regions (share_at (payer_of sliced) store regions)) s ≡ Some r → IsNoHeapBlock regions r.of
   sliced_no_chunk s r block t k q there tag low e = let one = shown_block (payer_of sliced) store regions s r block in grind (arith, nat_tests, one, f.sound.window.once t s q r there one.there e)
 
+  -- nor is what is lent
+  pub lent_no_chunk : (s : ℕ) (r : Region) → get regions.heap s ≡ Some r → get regions.tags s ≡ Some of_no_heap → IsNoHeapBlock regions r.of
+  lent_no_chunk s r there lent t k q other tag low e = grind (arith, nat_tests, f.sound.window.once t s q r other there e)
+
   module _ {later : Heap} {new : Store} {after : Regions} (c : ChangesNodes (payer_of sliced) heap store regions later new after) where
     opens_still : IsOpenIn new (payer_of sliced)
     opens_still = subst (IsOpenIn new) c.payer c.sound.opens
@@ -108,9 +114,16 @@ module _ {heap : Heap} {sliced : SlicedHeap} {store : Store} {regions : Regions}
         heap_stays_among sliced store new regions after f.session.sound (maps_memory c.sound.window) opens_still c.stands
         (λ s r block. c.kept r.of (shown_block (payer_of sliced) store regions s r block).paid (sliced_no_chunk s r block))
 
-    pub nodes_kept : KeepsSession sliced later sliced store new regions after
+    -- and so does what is lent
+    pub lent_kept : KeepsLent (payer_of sliced) store new regions after
+    lent_kept = record {
+      stands = c.lent;
+      bytes = λ s r lent. let is = shown_lent (payer_of sliced) store regions s r lent in c.kept r.of is.paid (lent_no_chunk s r is.there is.tag);
+    }
+
+    nodes_stay_furnished : StaysFurnished sliced later sliced store new regions after
     unfolding share_in
-    nodes_kept = record {
+    nodes_stay_furnished = record {
       furnished = record {
         session = record { sound = sliced_stays.sound; pays = omega (arith, c.uses, f.session.pays) };
         payer = c.payer;
@@ -124,19 +137,23 @@ module _ {heap : Heap} {sliced : SlicedHeap} {store : Store} {regions : Regions}
               let blocks = ap len sliced_stays.blocks in
               let old_blocks = ap len (contents_held (share_at (payer_of sliced) store regions)) in
               let new_blocks = ap len (contents_held (share_at (payer_of sliced) new after)) in
-              omega (arith, c.count, was, before, now, blocks, old_blocks, new_blocks);
+              let lent = ap len c.lent in
+              omega (arith, c.count, was, before, now, blocks, old_blocks, new_blocks, lent);
         };
       };
       payer = refl;
       others = record { shares = c.shares.shares; root = c.shares.root; parents = c.shares.parents; room = c.shares.room; rest = c.rest };
     }
 
+    pub nodes_kept : KeepsSession sliced later sliced store new regions after
+    nodes_kept = record { stays = nodes_stay_furnished; lent = lent_kept }
+
     -- the contents stay
     pub contents_stay : (account : Account) (nodes : OwnHeap) → account_in new (payer_of sliced) ≡ account → heap_at later new after ≡ nodes →
         stock later sliced new after ≡ record (stock heap sliced store regions) { account = account; nodes = nodes }
     contents_stay account nodes is value = search (rules, nodes_are, contents_held, sliced_stays)
 
-  -- ---- a call of the sliced heap
+  -- ---- a call of the sliced heap, or of what is lent
 
   -- what such a call leaves, and what it changes of numbers
   pub record ChangesContents (now : SlicedHeap) (new : Store) (after : Regions) : Type 0 where
@@ -149,8 +166,8 @@ module _ {heap : Heap} {sliced : SlicedHeap} {store : Store} {regions : Regions}
         get (part (payer_of sliced) new).spaces r.of ≡ get (part (payer_of sliced) store).spaces r.of
     pub uses : (account_in new (payer_of sliced)).caps_used + len (part (payer_of sliced) store).spaces
         ≡ (account_in store (payer_of sliced)).caps_used + len (part (payer_of sliced) new).spaces
-    pub count : len (part (payer_of sliced) new).spaces + len (blocks_at (payer_of sliced) store regions)
-        ≡ len (part (payer_of sliced) store).spaces + len (blocks_at (payer_of sliced) new after)
+    pub count : len (part (payer_of sliced) new).spaces + len (blocks_at (payer_of sliced) store regions) + len (lent_regions (share_at (payer_of sliced) store regions))
+        ≡ len (part (payer_of sliced) store).spaces + len (blocks_at (payer_of sliced) new after) + len (lent_regions (share_at (payer_of sliced) new after))
 
   module _ {now : SlicedHeap} {new : Store} {after : Regions} (c : ChangesContents now new after) where
     pages_stay : after.pages ≡ regions.pages
@@ -173,9 +190,9 @@ module _ {heap : Heap} {sliced : SlicedHeap} {store : Store} {regions : Regions}
     contents_now : sliced_of (holding_of now new after) ≡ blocks_at (payer_of sliced) new after
     contents_now = contents_held (share_at (payer_of now) new after) ∙ ap (λ x. blocks_at x new after) c.payer
 
-    pub contents_kept : KeepsSession sliced heap now store new regions after
+    pub contents_stay_furnished : StaysFurnished sliced heap now store new regions after
     unfolding share_in
-    contents_kept = record {
+    contents_stay_furnished = record {
       furnished = record {
         session = record {
           sound = c.sound;
@@ -191,12 +208,16 @@ module _ {heap : Heap} {sliced : SlicedHeap} {store : Store} {regions : Regions}
               let old_blocks = ap len (contents_held (share_at (payer_of sliced) store regions)) in
               let new_blocks = ap len contents_now in
               let spaces = ap (λ x. len (part x new).spaces) c.payer in
-              omega (arith, c.count, was, chunks, old_blocks, new_blocks, spaces);
+              let lent = ap (λ x. len (lent_regions (share_at x new after))) c.payer in
+              omega (arith, c.count, was, chunks, old_blocks, new_blocks, spaces, lent);
         };
       };
       payer = c.payer;
       others = c.others;
     }
+
+    pub contents_kept : KeepsLent (payer_of sliced) store new regions after → KeepsSession sliced heap now store new regions after
+    contents_kept lent = record { stays = contents_stay_furnished; lent = lent }
 
     -- what the session has
     pub nodes_stay_in : (account : Account) (contents : NatMap (List ℕ)) → account_in new (payer_of sliced) ≡ account → blocks_at (payer_of sliced) new after ≡ contents →

@@ -22,7 +22,7 @@ use Rattle.file_service.specs.Calls.{payload_in, content_taken, content_copied, 
 use Rattle.file_service.specs.Files.{node_at, file_at, files_of, StandAt, HasContent}
 use Rattle.file_service.specs.Furnished.{Stock}
 use Rattle.file_service.specs.Node.{FileNode}
-use Rattle.file_service.specs.Session.{files_in, served_in, HasFiles, IsFound, IsOwn, Serves}
+use Rattle.file_service.specs.Session.{files_in, served_in, HasFiles, IsFound, IsOwn, KeepsOwn, Serves}
 use Rattle.file_service.specs.declared.session.FileSession.{FileSession}
 use Rattle.file_service.proofs.FrontLemmas.{front_longer}
 use Rattle.file_service.proofs.KeptLemmas.{Stays, bytes_by, same_file, stand_kept, blocks_are, files_are}
@@ -158,8 +158,8 @@ module _ (session : FileSession) (was taken : Stock) (name : List ℕ) (previous
       -- given to the file it is what is served
       pub made_served : node.size < offset + length bytes → (later : FileSession) (now : Stock) →
           files_in later now ≡ record (files_in session made) { files = rewritten name (take size (payload_in made.contents content)) (files_in session made).files } → HasFiles later now →
-          now.account ≡ content_credited (file_at made.nodes made.contents address) made.account → later.label ≡ session.label →
+          now.account ≡ content_credited (file_at made.nodes made.contents address) made.account → KeepsOwn session later →
           Serves (served_in (Write name offset bytes) session was) (Count (length bytes)) session later now
-      made_served longer later now files kept account label =
+      made_served longer later now files kept account own =
           longer_served session was name previous address node found offset bytes low longer later made now (take size (payload_in made.contents content)) takes.covered
-          (made_account ∙ ap (λ n. charged was.account (sliced_size n) 1) takes.size_is) made_files made_address (made_bytes longer) files kept account label
+          (made_account ∙ ap (λ n. charged was.account (sliced_size n) 1) takes.size_is) made_files made_address (made_bytes longer) files kept account own

@@ -13,11 +13,13 @@ pub mod DropLemmas
 pub mod WriteLemmas
 pub mod LengthenLemmas
 pub mod FrontLemmas
+pub mod LentLemmas
 pub mod FurnishedLemmas
 pub mod NodeLemmas
 pub mod ContentLemmas
 pub mod ResultLemmas
 pub mod FoundLemmas
+pub mod FillLemmas
 pub mod NodeCallLemmas
 pub mod NodeGiveLemmas
 pub mod BeginLemmas
@@ -27,6 +29,8 @@ pub mod NodeFoundLemmas
 pub mod NodeStoreLemmas
 pub mod NodeStoredLemmas
 pub mod NodeFreeLemmas
-pub mod CopyLemmas
 pub mod EndLemmas
+pub mod BufferLemmas
+pub mod SourceLemmas
 pub mod RequestLemmas
+pub mod BufferRequestLemmas

@@ -1,5 +1,5 @@
 -- Links after a block is put behind the last one, and after one is taken out.
-use Rattle.std.proofs.Common.{◌≡◌, ◌≢◌, ℕ, zero, suc, ◌+◌, ◌≤◌, true, false, List, [], ◌∷◌, ◌++◌, length, map, ◌&&◌, ◌||◌, refl, sym, ap, ◌∙◌, true≢false, arith}
+use Rattle.std.proofs.Common.{◌≡◌, ◌≢◌, ℕ, zero, suc, ◌≤◌, true, false, List, [], ◌∷◌, ◌++◌, length, map, ◌||◌, refl, sym, ap, ◌∙◌, true≢false, arith}
 use Rattle.std.proofs.lemmas.Bool.Decides.{nat_tests}
 use Rattle.sliced_heap.specs.Chain.{is_listed, has_no_repeat}
 pub use Rattle.sliced_heap.proofs.ChainLemmas.{unlisted, listed_first, listed_later, once_first, once_later}

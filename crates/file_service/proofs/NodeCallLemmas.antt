@@ -1,34 +1,27 @@
 -- What calls of a session's heap of nodes change: nothing but bytes of chunks, or a chunk more.
-use Rattle.std.proofs.Common.{◌≡◌, ◌≢◌, ℕ, ◌+◌, ◌/◌, ◌≤◌, ◌==◌, false, List, length, Some, is_some, refl, sym, ap, ◌∙◌, arith, length-append}
+use Rattle.std.proofs.Common.{◌≡◌, ℕ, ◌+◌, ◌/◌, ◌≤◌, ◌==◌, false, length, refl, sym, ap, ◌∙◌, arith, length-append}
 use Rattle.std.proofs.lemmas.Bool.Decides.{nat_tests}
 use Rattle.std.proofs.lemmas.List.{length-set}
-use Rattle.std.proofs.lemmas.Option.{none-some}
 use Rattle.std.specs.Prelude.{Option, None}
-use Rattle.std.specs.Option.{option_map, option_and_then, unwrap_or}
-use Rattle.std.specs.FinMap.{get, len}
+use Rattle.std.specs.Option.{unwrap_or}
+use Rattle.std.specs.FinMap.{get}
 use Rattle.own_model.specs.Account.{Account, opened, charged}
 use Rattle.own_model.specs.BestFit.{Spot}
 use Rattle.own_model.specs.Growth.{Growth}
 use Rattle.own_model.specs.HeapStep.{with_block, with_chunk, without_block}
-use Rattle.own_model.specs.NatMap.{NatMap, picked, total}
 use Rattle.own_model.specs.OwnHeap.{OwnHeap}
-use Rattle.own_model.specs.Region.{Region}
-use Rattle.own_model.proofs.NatMapLemmas.{same, get-insert_same, get-picked, apart_from_free}
-use Rattle.own_model.proofs.Totals.{len-total, total-picked}
-use Rattle.region_map.specs.Regions.{Regions, heap_attached}
+use Rattle.own_model.proofs.NatMapLemmas.{get-insert_same}
+use Rattle.region_map.specs.Regions.{Regions, heap_attached, of_no_heap}
 use Rattle.dataspace_core.specs.Share.{share_in, KeepsShares}
 use Rattle.dataspace_core.specs.Store.{Store, Part, part, account_in}
 use Rattle.dataspace_core.proofs.PartLaws.{account_of-part, account_by}
-use Rattle.heap_core.proofs.BesideLemmas.{rest_in_place, count_in_place, rest_attached}
-use Rattle.dataspace_core.proofs.WindowLaws.{in_none}
+use Rattle.heap_core.proofs.BesideLemmas.{rest_in_place, count_in_place, rest_attached, alike_in_place, alike_attached}
 use Rattle.heap_core.specs.declared.heap.Heap.{Heap}
 use Rattle.heap_core.specs.Calls.{KeepsSpaces, AddsSpace, Attaches}
 use Rattle.heap_core.specs.Heap.{payer_of as heap_payer, heap_in, heap_at, shape_in, large_tag, IsSound as IsSoundHeap}
-use Rattle.sliced_heap.specs.Sliced.{sliced_tag}
 use Rattle.heap_window.proofs.BesideLemmas.{gap_is_free}
 use Rattle.file_service.proofs.FurnishedLemmas.{ChangesNodes}
-use Rattle.dataspace_core.proofs.ShareLaws.{some_alike}
-use Rattle.heap_window.proofs.WindowLemmas.{blocks_in_place, blocks_attached}
+use Rattle.file_service.proofs.LentLemmas.{lent_places, lent_attached}
 
 -- the shape of a heap, as its account's part has it
 pub shape_is : (heap : Heap) (store : Store) (regions : Regions) → (heap_at heap store regions).shape ≡ shape_in heap (part (heap_payer heap) store)
@@ -65,6 +58,7 @@ module _ (heap later : Heap) (store new : Store) (regions : Regions) (sound : Is
           rest = refl;
           stands = left.stands;
           kept = left.kept;
+          lent = lent_places (heap_payer heap) store new regions regions refl (λ s r there tag. alike_in_place heap store new regions sound spaces r.of);
           uses = omega (arith, ap (λ (x : Account). x.caps_used) account_stays, count);
           no_large = no_large;
           count = omega (arith, chunks, count);
@@ -77,6 +71,16 @@ module _ (heap later : Heap) (store new : Store) (regions : Regions) (sound : Is
       (attaches : Attaches heap ds bytes tag start store new regions (heap_attached regions ds (bytes / 4096) tag start)) (spaces : AddsSpace heap ds store new) where
     abbrev after : Regions
     after = heap_attached regions ds (bytes / 4096) tag start
+
+    -- nothing stood there
+    free : get regions.heap start ≡ None
+    free =
+        let there = get-insert_same regions.heap start (record { of = ds; pages = bytes / 4096 }) start refl in
+        gap_is_free regions.pages regions.heap (bytes / 4096) start (sound'.window.lie.some start _ there) sound.window.lie attaches.gap
+
+    -- the number is a chunk's
+    other : (tag == of_no_heap) ≡ false
+    other = grind (arith, nat_tests, low)
 
     pub grown_account : account_in new (heap_payer heap) ≡ charged (account_in store (heap_payer heap)) bytes 1
     grown_account = account_by (heap_payer heap) new _ attaches.charge
@@ -92,6 +96,8 @@ module _ (heap later : Heap) (store new : Store) (regions : Regions) (sound : Is
           rest = refl;
           stands = left.stands;
           kept = left.kept;
+          lent = lent_places (heap_payer heap) store new regions after (lent_attached regions ds (bytes / 4096) tag start other free)
+              (λ s r there tag'. alike_attached heap store new regions sound ds bytes tag start low sound'.window attaches.gap spaces s r there);
           uses = omega (arith, spaces.count, ap (λ (x : Account). x.caps_used) grown_account);
           no_large = no_large;
           count = omega (arith, spaces.count, chunks);

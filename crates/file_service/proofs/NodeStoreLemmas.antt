@@ -24,6 +24,7 @@ use Rattle.heap_core.proofs.LookupLemmas.{payload_some}
 use Rattle.heap_core.proofs.RangeLemmas.{payload_poked}
 use Rattle.dataspace_core.proofs.ShareLaws.{in_share}
 use Rattle.file_service.proofs.FurnishedLemmas.{ChangesNodes}
+use Rattle.file_service.proofs.LentLemmas.{lent_places}
 use Rattle.heap_window.proofs.WindowLemmas.{IsPut, is_put, blocks_in_place}
 use Rattle.heap_window.proofs.ShareLemmas.{kept_tag, shown_large}
 
@@ -106,4 +107,4 @@ module _ (heap : Heap) (store : Store) (regions : Regions) (sound : IsSoundHeap 
     spaces_count = ap (λ (q : Part). len q.spaces) becomes.own ∙ len-insert_at p.spaces ds (with_bytes (bytes_of p ds) offset bytes) held.bytes held.there
 
     pub poked_changes : ChangesNodes (heap_payer heap) heap store regions heap new regions
-    poked_changes = search (rules, pokes, blocks_in_place, put, held_tag, there, spaces_count, poked_account)
+    poked_changes = search (rules, pokes, blocks_in_place, lent_places, put, held_tag, there, spaces_count, poked_account)

@@ -1,5 +1,5 @@
 -- What a session has after a node is stored.
-use Rattle.std.proofs.Common.{rules, ◌≡◌, ℕ, ◌-◌, ◌≤◌, true, List, [], length, Some, sym, subst, ◌∙◌, arith}
+use Rattle.std.proofs.Common.{rules, ◌≡◌, ℕ, ◌-◌, ◌≤◌, true, List, length, Some, sym, subst, ◌∙◌, arith}
 use Rattle.std.specs.FinMap.{get}
 use Rattle.own_model.specs.HeapStep.{with_poked}
 use Rattle.own_model.specs.OwnState.{with_part}

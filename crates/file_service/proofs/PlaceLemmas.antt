@@ -1,6 +1,6 @@
 -- Where the blocks of nodes stand: in which chunk, and how far into it. A block stands there while others come and go.
 use Rattle.std.proofs.lemmas.Bool.Decides.{nat_tests}
-use Rattle.std.proofs.Common.{rules, ◌≡◌, ◌≢◌, ℕ, ◌+◌, ◌-◌, ◌<◌, ◌≤◌, [], ◌∷◌, ◌++◌, length, get_or, Some, sym, ap, subst, ◌∙◌, arith}
+use Rattle.std.proofs.Common.{rules, ◌≡◌, ℕ, ◌+◌, ◌-◌, ◌<◌, ◌≤◌, [], ◌∷◌, ◌++◌, length, get_or, Some, sym, ap, subst, ◌∙◌, arith}
 use Rattle.std.proofs.lemmas.List.{length-map, get_or-map, get_or_append_left, length-append, length-set, get_or-set_same}
 use Rattle.std.proofs.Math.Seq.{get_or-append_seam}
 use Rattle.std.specs.List.{AllByRecursion}
@@ -13,7 +13,6 @@ use Rattle.own_model.proofs.BestFitLemmas.{best_is_hole}
 use Rattle.own_model.proofs.BlockLemmas.{bytes-taken, bytes-given, hole_within, block_size-fits}
 use Rattle.own_model.proofs.ListLemmas.{all_at}
 use Rattle.own_model.proofs.ChunkLemmas.{Lies, chunk_from_is, chunk_from-set, chunk_from-append}
-use Rattle.avl_alloc.specs.Layout as avl
 use Rattle.avl_alloc.proofs.LayoutLemmas.{sound_told}
 use Rattle.region_map.specs.Regions.{Regions}
 use Rattle.dataspace_core.specs.Store.{Store}

@@ -1,12 +1,12 @@
 -- How requests are served, by the tests that they pass.
-use Rattle.std.proofs.Common.{rules, ◌≡◌, ◌≢◌, ℕ, ◌-◌, ◌<◌, ◌≤◌, true, false, List, [], length, take, drop, Option, Some, None, is_some, refl, sym, ap, ◌∙◌, true≢false, arith}
+use Rattle.std.proofs.Common.{rules, ◌≡◌, ℕ, ◌<◌, ◌≤◌, true, false, List, [], length, take, drop, Option, Some, None, is_some, refl, sym, ap, subst, ◌∙◌, true≢false, arith}
 use Rattle.std.proofs.lemmas.Bool.Decides.{nat_tests}
 use Rattle.std.proofs.lemmas.Slice.Eq.{bytes_eq-Decides}
 use Rattle.std.specs.Prelude.{Result, Ok, Err, MatchResult, is_ok}
 use Rattle.std.specs.Str.{bytes_eq}
 use Rattle.trade_base.specs.declared.refusal.Refusal.{Refusal}
 use Rattle.own_model.specs.Account.{Account}
-use Rattle.own_model.specs.FileService.{File, Files, FileServed, node_size, created, content_credited, rewritten, without, told, error_of, file_named, sized, cleared, dropped, named, read, written}
+use Rattle.own_model.specs.FileService.{File, Files, FileServed, node_size, created, content_credited, rewritten, without, told, error_of, file_named, sized, cleared, dropped, read, written}
 use Rattle.own_model.specs.FileText as model
 use Rattle.own_model.specs.FileText.FileRequest.{Create, Write, Read, Size, Clear, Drop}
 use Rattle.own_model.specs.FileText.FileReply.{Done, Count, Bytes, Refused}
@@ -17,11 +17,15 @@ use Rattle.region_map.specs.Regions.{Regions}
 use Rattle.dataspace_core.specs.Store.{Store}
 use Rattle.heap_core.specs.declared.heap.Heap.{Heap}
 use Rattle.sliced_heap.specs.declared.heap.SlicedHeap.{SlicedHeap}
+use Rattle.sliced_heap.specs.Heap.{payer_of}
 use Rattle.sliced_heap.proofs.EndLemmas.{keeps_then}
+use Rattle.std.specs.FinMap.{get}
+use Rattle.own_model.specs.NatMap.{NatMap}
+use Rattle.own_model.specs.Region.{Region}
 use Rattle.file_service.specs.Files.{file_at}
-use Rattle.file_service.specs.Furnished.{Stock, stock, IsFurnished, KeepsSession}
+use Rattle.file_service.specs.Furnished.{Stock, stock, IsFurnished, KeepsLent, StaysFurnished, KeepsSession}
 use Rattle.file_service.specs.Node.{FileNode}
-use Rattle.file_service.specs.Session.{files_in, HasFiles, Serves, IsTold, IsFound, served_in}
+use Rattle.file_service.specs.Session.{files_in, HasFiles, KeepsOwn, Serves, IsTold, IsFound, served_in}
 use Rattle.file_service.specs.declared.session.FileSession.{FileSession}
 
 -- ---- what other accounts have
@@ -30,10 +34,25 @@ use Rattle.file_service.specs.declared.session.FileSession.{FileSession}
 pub keeps_same : (heap : Heap) (sliced : SlicedHeap) (old new : Store) (regions : Regions) → IsFurnished heap sliced old regions → new ≡ old → KeepsSession sliced heap sliced old new regions regions
 keeps_same heap sliced old new regions furnished e = search rules
 
+-- what is lent stays through one thing after another
+pub lent_both : (account : ℕ) (old mid new : Store) (regions middle after : Regions) → KeepsLent account old mid regions middle → KeepsLent account mid new middle after → KeepsLent account old new regions after
+lent_both account old mid new regions middle after first next = record {
+  stands = next.stands ∙ first.stands;
+  bytes = λ s r lent. next.bytes s r (ap (λ (m : NatMap Region). get m s) first.stands ∙ lent) ∙ first.bytes s r lent;
+}
+
+-- so does a session
+pub stays_both : (heap later : Heap) (sliced between now : SlicedHeap) (old mid new : Store) (regions middle after : Regions) →
+    StaysFurnished sliced heap between old mid regions middle → StaysFurnished between later now mid new middle after → StaysFurnished sliced later now old new regions after
+stays_both heap later sliced between now old mid new regions middle after first next = search (rules, keeps_then)
+
 -- one thing after another
 pub keeps_both : (heap later : Heap) (sliced between now : SlicedHeap) (old mid new : Store) (regions middle after : Regions) →
     KeepsSession sliced heap between old mid regions middle → KeepsSession between later now mid new middle after → KeepsSession sliced later now old new regions after
-keeps_both heap later sliced between now old mid new regions middle after first next = search (rules, keeps_then)
+keeps_both heap later sliced between now old mid new regions middle after first next = record {
+  stays = stays_both heap later sliced between now old mid new regions middle after first.stays next.stays;
+  lent = lent_both (payer_of sliced) old mid new regions middle after first.lent (subst (λ x. KeepsLent x mid new middle after) first.stays.payer next.lent);
+}
 
 -- ---- a reply that leaves all
 
@@ -58,9 +77,9 @@ serves_refused served reply session sliced now old new regions after files s e r
 
 -- what is done is served so
 pub serves_done : (served : FileServed) (reply : model.FileReply) (files : Files) (account : Account) (old later : FileSession) (new : Stock) →
-    served ≡ told reply files account → new.account ≡ account → files_in later new ≡ files → HasFiles later new → later.label ≡ old.label →
+    served ≡ told reply files account → new.account ≡ account → files_in later new ≡ files → HasFiles later new → KeepsOwn old later →
     Serves served reply old later new
-serves_done served reply files account old later new is account_is files_are kept label = search rules
+serves_done served reply files account old later new is account_is files_are kept own = search rules
 
 -- ---- names
 

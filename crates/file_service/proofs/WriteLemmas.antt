@@ -1,5 +1,5 @@
 -- WRITE: why it is refused, and what it does.
-use Rattle.std.proofs.Common.{rules, ◌≡◌, ◌≢◌, ℕ, ◌+◌, ◌-◌, ◌<◌, ◌≤◌, ◌^◌, true, false, cond, Bool, List, [], ◌∷◌, ◌++◌, length, take, Option, Some, None, sym, ap, subst, ◌∙◌, arith}
+use Rattle.std.proofs.Common.{rules, ◌≡◌, ◌≢◌, ℕ, ◌+◌, ◌<◌, ◌≤◌, ◌^◌, true, false, cond, Bool, List, [], ◌∷◌, ◌++◌, length, take, Option, Some, None, sym, ap, subst, ◌∙◌, arith}
 use Rattle.std.proofs.lemmas.Bool.{cases_lt}
 use Rattle.std.proofs.lemmas.Bool.Decides.{nat_tests}
 use Rattle.std.proofs.lemmas.Option.{same_Some, none-some}
@@ -26,7 +26,7 @@ use Rattle.file_service.specs.Calls.{payload_in, content_written}
 use Rattle.file_service.specs.Files.{node_at, file_at, files_of, nodes_from, HasContent, StandAt}
 use Rattle.file_service.specs.Furnished.{Stock}
 use Rattle.file_service.specs.Node.{FileNode}
-use Rattle.file_service.specs.Session.{files_in, served_in, HasFiles, IsFound, IsTold, Serves}
+use Rattle.file_service.specs.Session.{files_in, served_in, HasFiles, IsFound, IsTold, KeepsOwn, Serves}
 use Rattle.file_service.specs.declared.session.FileSession.{FileSession}
 use Rattle.file_service.proofs.FileListLemmas.{rewritten_same}
 use Rattle.file_service.proofs.FrontLemmas.{front_written}
@@ -169,6 +169,6 @@ module _ (session : FileSession) (was : Stock) (name : List ℕ) (previous addre
         made.account ≡ charged was.account (sliced_size (offset + length bytes)) 1 → files_in session made ≡ files_in session was →
         file_at made.nodes made.contents address ≡ file → front ≡ with_bytes file.bytes offset bytes →
         files_in later now ≡ record (files_in session made) { files = rewritten name front (files_in session made).files } → HasFiles later now →
-        now.account ≡ content_credited (file_at made.nodes made.contents address) made.account → later.label ≡ session.label →
+        now.account ≡ content_credited (file_at made.nodes made.contents address) made.account → KeepsOwn session later →
         Serves (served_in (Write name offset bytes) session was) (Count (length bytes)) session later now
-    longer_served later made now front covered charge same file_is front_is files kept account label = search (rules, serves_done, write_longer, there, long, named, files)
+    longer_served later made now front covered charge same file_is front_is files kept account own = search (rules, serves_done, write_longer, there, long, named, files)

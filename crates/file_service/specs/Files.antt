@@ -1,5 +1,5 @@
 -- The files of a session, as the blocks of its nodes and its contents hold them.
-use Rattle.std.specs.Prelude.{◌≡◌, ℕ, ◌+◌, ◌-◌, ◌<◌, ◌≤◌, ◌==◌, true, if◌then◌else◌, List, length, map, take, Some}
+use Rattle.std.specs.Prelude.{◌≡◌, ℕ, ◌-◌, ◌<◌, ◌==◌, true, if◌then◌else◌, List, length, map, take, Some}
 use Rattle.std.specs.FinMap.{get, len}
 use Rattle.own_model.specs.FileService.{File, Files}
 use Rattle.own_model.specs.Heap.{header}

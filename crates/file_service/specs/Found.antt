@@ -1,11 +1,14 @@
 -- Where the bytes of nodes and contents are found in the memory.
-use Rattle.std.specs.Prelude.{◌≡◌, ℕ, ◌+◌, ◌≤◌, length}
+use Rattle.std.specs.Prelude.{◌≡◌, ◌≢◌, ℕ, ◌+◌, ◌≤◌, length, Some}
+use Rattle.std.specs.FinMap.{get}
+use Rattle.own_model.specs.Region.{Region}
 use Rattle.dataspace_core.specs.Store.{Store, Exists, space_at}
 use Rattle.region_map.specs.Regions.{Regions}
 use Rattle.heap_core.specs.declared.heap.Heap.{Heap}
 use Rattle.heap_core.specs.Calls.{HoldsRange as HoldsInHeap}
 use Rattle.sliced_heap.specs.declared.heap.SlicedHeap.{SlicedHeap}
 use Rattle.sliced_heap.specs.Heap.{payer_of, share_at, HoldsRange}
+use Rattle.sliced_heap.specs.Sliced.{block_regions}
 use Rattle.own_model.specs.Sliced.{sliced_header}
 
 -- a dataspace of the memory has so many bytes from an offset on
@@ -24,3 +27,9 @@ pub record FindsContent (sliced : SlicedHeap) (store : Store) (regions : Regions
   pub held : HoldsRange (share_at (payer_of sliced) store regions) ds offset (address + into) count
   pub at : held.start + sliced_header ≡ address
   pub there : IsThere store ds offset count
+
+-- a dataspace isn't that of the content that starts at an address
+abbrev pub IsElsewhere : SlicedHeap → Store → Regions → ℕ → ℕ → Type 0
+IsElsewhere sliced store regions source address =
+    (start : ℕ) (region : Region) → start + sliced_header ≡ address →
+    get (block_regions (share_at (payer_of sliced) store regions)) start ≡ Some region → source ≢ region.of

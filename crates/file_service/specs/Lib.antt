@@ -1,7 +1,10 @@
 pub mod Links
 pub mod Furnished
+pub mod Lent
+pub mod Source
 pub mod Node
 pub mod Calls
 pub mod Found
 pub mod Files
 pub mod Session
+pub mod Aside

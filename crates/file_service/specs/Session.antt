@@ -1,8 +1,8 @@
 -- What a session of the file service is to its client, and what its requests do.
-use Rattle.std.specs.Prelude.{◌≡◌, ◌≢◌, ℕ, ◌-◌, ◌<◌, true, false, length, List, ◌∷◌, ◌++◌, map, take, find, Some, None, Result, Ok, Err}
+use Rattle.std.specs.Prelude.{◌≡◌, ◌≢◌, ℕ, ◌-◌, ◌<◌, true, false, length, List, ◌∷◌, ◌++◌, map, take, find, Option, Some, None, Result, Ok, Err}
 use Rattle.own_model.specs.FileService.{Files, FileServed, is_named, request_served, told}
 use Rattle.own_model.specs.FileText as model
-use Rattle.own_model.specs.FileText.FileReply.{Done, Count, Bytes, Refused}
+use Rattle.own_model.specs.FileText.FileReply.{Done, Count, Bytes, Lent, Refused}
 use Rattle.session_proto.specs.FileReply.{model_error}
 use Rattle.session_proto.specs.declared.file_reply.FileError.{FileError}
 use Rattle.dataspace_core.specs.Share.{Share}
@@ -20,7 +20,17 @@ use Rattle.file_service.specs.Links.{last_of}
 use Rattle.file_service.specs.Node.{FileNode}
 use Rattle.file_service.specs.Node.{value_of as node_value}
 use Rattle.file_service.specs.declared.session.Found.{Found}
-use Rattle.file_service.specs.Furnished.{Stock, KeepsNodes}
+use Rattle.file_service.specs.Furnished.{Stock, stock, KeepsNodes, IsFurnished, StaysFurnished}
+use Rattle.file_service.specs.Lent.{KeepsBuffer, HasBuffer, buffer_key}
+use Rattle.own_model.specs.BufferService.{SessionRequest, BufferServed, session_request_served}
+use Rattle.trade_base.specs.declared.id.DsId.{DsId}
+use Rattle.region_map.specs.Regions.{Regions}
+use Rattle.dataspace_core.specs.Store.{Store}
+use Rattle.sliced_heap.specs.declared.heap.SlicedHeap.{SlicedHeap}
+use Rattle.server_frame.specs.Lent.{IsEffect, bytes_lent}
+use Rattle.server_frame.specs.Session.{holding_of}
+use Rattle.server_frame.specs.Told.{Told, nothing_told}
+use Rattle.server_frame.specs.declared.effect.Effect.{Effect}
 use Rattle.file_service.specs.declared.session.FileSession.{FileSession}
 
 -- what a session is, read out of what its account has
@@ -34,6 +44,7 @@ value_of session share = record {
 pub record IsSession (session : FileSession) (share : Share) : Type 0 where
   pub nodes : KeepsNodes session.heap share
   pub files : AreFiles session.first session.last (heap_in session.heap share) (sliced_of share)
+  pub buffer : KeepsBuffer session.buffer share
 
 -- ---- while a request is served
 
@@ -45,17 +56,56 @@ files_in session stock = files_of session.first stock.nodes stock.contents
 abbrev pub HasFiles : FileSession → Stock → Type 0
 HasFiles session stock = AreFiles session.first session.last stock.nodes stock.contents
 
--- after a request the account and the files are as it is served, and the label stays
+-- a session has the label that it had, and lends what it lent
+pub record KeepsOwn (old later : FileSession) : Type 0 where
+  pub label : later.label ≡ old.label
+  pub buffer : later.buffer ≡ old.buffer
+
+-- after a request of files the account and the files are as it is served
 pub record Leaves (served : FileServed) (old later : FileSession) (new : Stock) : Type 0 where
   pub account : new.account ≡ served.account
   pub files : files_in later new ≡ served.files
   pub kept : HasFiles later new
-  pub label : later.label ≡ old.label
+  pub own : KeepsOwn old later
 
 -- and it is answered so
 pub record Serves (served : FileServed) (reply : model.FileReply) (old later : FileSession) (new : Stock) : Type 0 where
   pub reply_is : model.file_reply reply ≡ served.reply
   pub leaves : Leaves served old later new
+
+-- ---- requests of files and of the buffer
+
+-- a session is ready for a request: both heaps are furnished, the links hold files, and what it lends stands
+pub record IsReady (session : FileSession) (sliced : SlicedHeap) (store : Store) (regions : Regions) : Type 0 where
+  pub furnished : IsFurnished session.heap sliced store regions
+  pub files : HasFiles session (stock session.heap sliced store regions)
+  pub lent : HasBuffer session.buffer (holding_of sliced store regions)
+
+-- what a request does to it
+abbrev pub session_served : Option SessionRequest → FileSession → SlicedHeap → Store → Regions → BufferServed
+session_served request session sliced store regions =
+    let has = stock session.heap sliced store regions in
+    session_request_served request (bytes_lent store (buffer_key session.buffer)) (files_in session has) has.account
+
+-- after a request it is ready for another, and account, files and buffer are as it is served
+pub record LeavesSession (served : BufferServed) (old later : FileSession) (now : SlicedHeap) (new : Store) (after : Regions) : Type 0 where
+  pub ready : IsReady later now new after
+  pub account : (stock later.heap now new after).account ≡ served.account
+  pub files : files_in later (stock later.heap now new after) ≡ served.files
+  pub buffer : bytes_lent new (buffer_key later.buffer) ≡ served.buffer
+  pub label : later.label ≡ old.label
+
+-- and it is answered so
+pub record Answers (served : BufferServed) (reply : model.FileReply) (old later : FileSession) (now : SlicedHeap) (new : Store) (after : Regions) : Type 0 where
+  pub reply_is : model.file_reply reply ≡ served.reply
+  pub leaves : LeavesSession served old later now new after
+
+-- the reply is told, with what the request did to the buffer, and other accounts keep what they have
+pub record IsAnswered (served : BufferServed) (effect : Effect) (told : Told) (old later : FileSession) (sliced now : SlicedHeap) (store new : Store) (regions after : Regions) : Type 0 where
+  pub text : told ≡ record nothing_told { text = served.reply }
+  pub leaves : LeavesSession served old later now new after
+  pub effect_is : IsEffect effect (buffer_key old.buffer) (buffer_key later.buffer)
+  pub stays : StaysFurnished sliced later.heap now store new regions after
 
 -- the node of a name is found, with what is before it: none of the files before it has the name
 pub record IsFound (first last : ℕ) (nodes : OwnHeap) (contents : NatMap (List ℕ)) (name : List ℕ) (previous address : ℕ) (node : FileNode) : Type 0 where
@@ -103,6 +153,20 @@ IsOwn first nodes content =
 abbrev pub done_reply : {A : Type 0} → Result A FileError → model.FileReply
 done_reply (Ok _) = Done
 done_reply (Err e) = Refused (model_error e)
+
+-- that a buffer is lent, and what that is
+abbrev pub lent_reply : Result DsId FileError → model.FileReply
+lent_reply (Ok _) = Lent
+lent_reply (Err e) = Refused (model_error e)
+
+abbrev pub lent_effect : Result DsId FileError → Effect
+lent_effect (Ok ds) = Effect.Buffer ds
+lent_effect (Err e) = Effect.Nothing
+
+-- what goes
+abbrev pub gone_effect : Result DsId FileError → Effect
+gone_effect (Ok ds) = Effect.Gone ds
+gone_effect (Err e) = Effect.Nothing
 
 -- a count
 abbrev pub counted_reply : Result ℕ FileError → model.FileReply

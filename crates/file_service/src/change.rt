@@ -11,13 +11,15 @@ ghost use Rattle.session_proto.specs.FileReply.{model_error};
 ghost use Rattle.file_service.specs.Calls.{payload_in, content_copied, HasBytes};
 ghost use Rattle.file_service.specs.Files.{file_at, HasContent};
 ghost use Rattle.file_service.specs.Node.{value_of as node_value};
+ghost use Rattle.file_service.specs.Source.{bytes_from, HasSource};
 ghost use Rattle.file_service.specs.Furnished.{stock, IsFurnished, KeepsSession};
-ghost use Rattle.file_service.specs.Session.{files_in, HasFiles, Finds, LinksTo, IsFresh, IsOwn, Serves, done_reply, counted_reply, served_in};
+ghost use Rattle.file_service.specs.Session.{files_in, HasFiles, Finds, LinksTo, IsFresh, IsOwn, KeepsOwn, Serves, done_reply, counted_reply, served_in};
 
-use crate::contents::{copy_content, give_content, take_content, write_content};
+use crate::contents::{copy_content, give_content, take_content};
 use crate::node::{Node, copied};
 use crate::nodes::{give_node, load_node, store_node, take_node};
 use crate::session::{FileSession, Found};
+use crate::source::{Source, put_content};
 use dataspace_core::Memory;
 use heap_core::Heap;
 use region_map::RegionMap;
@@ -72,7 +74,6 @@ impl FileSession {
         offset: u64,
         bytes: &[u8],
     ) -> Result<u64, FileError>
-        requires few { length bytes.now ≤ 4096 }
         requires furnished { IsFurnished self.old.heap sliced.old memory.old map.old }
         requires files { HasFiles self.old (stock self.old.heap sliced.old memory.old map.old) }
         ensures serves { Serves
@@ -85,17 +86,42 @@ impl FileSession {
         let found = self
             .find(sliced, memory, map, name)
             .ok_or(FileError::NotFound)?;
-        let size = found.node.size;
-        if offset > size {
+        if offset > found.node.size {
             return Err(FileError::Gap);
         }
-        let count = bytes.len() as u64;
-        if count > size - offset {
-            return self.lengthen(sliced, memory, map, found, offset, bytes);
+        self.overwrite(sliced, memory, map, found, offset, Source::Bytes(bytes))
+    }
+
+    /// The same of a file that is found, from an offset on that isn't above its size, by the bytes of a source.
+    pub(crate) fn overwrite(
+        &mut self,
+        sliced: &mut SlicedHeap,
+        memory: &mut Memory,
+        map: &mut RegionMap,
+        found: Found,
+        offset: u64,
+        source: Source<'_>,
+    ) -> Result<u64, FileError>
+        requires furnished { IsFurnished self.old.heap sliced.old memory.old map.old }
+        requires files { HasFiles self.old (stock self.old.heap sliced.old memory.old map.old) }
+        requires found { Finds self.old
+            (stock self.old.heap sliced.old memory.old map.old) found.node.name.items found }
+        requires low { offset ≤ found.node.size }
+        requires source { HasSource source sliced.old memory.old map.old }
+        ensures serves { Serves
+            (served_in (Write found.node.name.items offset (bytes_from source.entry memory.old)) self.old
+            (stock self.old.heap sliced.old memory.old map.old)) (counted_reply result)
+            self.old self.new (stock self.new.heap sliced.new memory.new map.new) }
+        ensures keeps { KeepsSession sliced.old self.new.heap sliced.new
+            memory.old memory.new map.old map.new }
+    {
+        let count = source.count();
+        if count > found.node.size - offset {
+            return self.lengthen(sliced, memory, map, found, offset, source);
         }
         if count > 0 {
             let content = found.node.content;
-            write_content(&self.heap, sliced, memory, map, content, offset, bytes);
+            put_content(&self.heap, sliced, memory, map, content, offset, source);
         }
         Ok(count)
     }
@@ -185,7 +211,7 @@ impl FileSession {
         ensures kept { HasFiles self.new (stock self.new.heap sliced.now memory.new map.now) }
         ensures account { (stock self.new.heap sliced.now memory.new map.now).account
             ≡ (stock self.old.heap sliced.now memory.old map.now).account }
-        ensures label { self.new.label ≡ self.old.label }
+        ensures own { KeepsOwn self.old self.new }
         ensures keeps { KeepsSession sliced.now self.new.heap sliced.now
             memory.old memory.new map.now map.now }
     {
@@ -232,7 +258,7 @@ impl FileSession {
         store_node(&self.heap, sliced, memory, map, holder, &node);
     }
 
-    // Writes a file's bytes up to an offset, and these behind them, as a new content.
+    // Writes a file's bytes up to an offset, and a source's behind them, as a new content.
     fn lengthen(
         &mut self,
         sliced: &mut SlicedHeap,
@@ -240,17 +266,17 @@ impl FileSession {
         map: &mut RegionMap,
         found: Found,
         offset: u64,
-        bytes: &[u8],
+        source: Source<'_>,
     ) -> Result<u64, FileError>
         requires furnished { IsFurnished self.old.heap sliced.old memory.old map.old }
         requires files { HasFiles self.old (stock self.old.heap sliced.old memory.old map.old) }
         requires found { Finds self.old
             (stock self.old.heap sliced.old memory.old map.old) found.node.name.items found }
         requires low { offset ≤ found.node.size }
-        requires longer { found.node.size < offset + length bytes.now }
-        requires few { length bytes.now ≤ 4096 }
+        requires longer { found.node.size < offset + length (bytes_from source memory.old) }
+        requires source { HasSource source sliced.old memory.old map.old }
         ensures serves { Serves
-            (served_in (Write found.node.name.items offset bytes.now) self.old
+            (served_in (Write found.node.name.items offset (bytes_from source.entry memory.old)) self.old
             (stock self.old.heap sliced.old memory.old map.old))
             (counted_reply result) self.old self.new
             (stock self.new.heap sliced.new memory.new map.new) }
@@ -258,15 +284,14 @@ impl FileSession {
             memory.old memory.new map.old map.new }
     {
         ram_fits(sliced, memory);
-        let size = offset
-            .checked_add(bytes.len() as u64)
-            .ok_or(FileError::OutOfRam)?;
+        let count = source.count();
+        let size = offset.checked_add(count).ok_or(FileError::OutOfRam)?;
         let content = take_content(&self.heap, sliced, memory, map, size).map_err(error_of)?;
         let old = found.node.content;
-        copy_front(&self.heap, sliced, memory, map, old, content, offset);
-        write_content(&self.heap, sliced, memory, map, content, offset, bytes);
+        copy_content(&self.heap, sliced, memory, map, old, content, offset);
+        put_content(&self.heap, sliced, memory, map, content, offset, source);
         self.replace(sliced, memory, map, found, content, size);
-        Ok(bytes.len() as u64)
+        Ok(count)
     }
 
     // Gives a file another content, and then the old one back.
@@ -298,7 +323,7 @@ impl FileSession {
         ensures account { let old = stock self.old.heap sliced.old memory.old map.old in
             (stock self.new.heap sliced.new memory.new map.new).account
             ≡ content_credited (file_at old.nodes old.contents found.address) old.account }
-        ensures label { self.new.label ≡ self.old.label }
+        ensures own { KeepsOwn self.old self.new }
         ensures keeps { KeepsSession sliced.old self.new.heap sliced.new
             memory.old memory.new map.old map.new }
     {
@@ -330,33 +355,8 @@ fn ram_fits(sliced: &SlicedHeap, memory: &Memory)
     let _ = memory.limits(sliced.account());
 }
 
-/// Copies so many bytes of a content's front to another's, if any.
-fn copy_front(
-    heap: &Heap,
-    sliced: &SlicedHeap,
-    memory: &mut Memory,
-    map: &RegionMap,
-    from: u64,
-    to: u64,
-    count: u64,
-)
-    requires furnished { IsFurnished heap.now sliced.now memory.old map.now }
-    requires source { 0 < count
-        → HasBytes (stock heap.now sliced.now memory.old map.now).contents from 0 count }
-    requires target { HasBytes (stock heap.now sliced.now memory.old map.now).contents to 0 count }
-    requires apart { 0 < count → from ≢ to }
-    ensures copied { stock heap.now sliced.now memory.new map.now
-        ≡ content_copied from to count (stock heap.now sliced.now memory.old map.now) }
-    ensures keeps { KeepsSession sliced.now heap.now sliced.now
-        memory.old memory.new map.now map.now }
-{
-    if count > 0 {
-        copy_content(heap, sliced, memory, map, from, to, count);
-    }
-}
-
 /// What a reply names a refusal of a heap.
-fn error_of(refusal: Refusal) -> FileError
+pub(crate) fn error_of(refusal: Refusal) -> FileError
     ensures { model_error result ≡ model.error_of refusal }
 {
     match refusal {

@@ -1,10 +1,11 @@
 //! Contents of files: blocks of a session's sliced heap.
-ghost use Rattle.std.specs.Prelude.{◌≡◌, ◌≢◌, ◌+◌, ◌≤◌, length, slice_range, None, IsSome, IfOk, OnErr};
+ghost use Rattle.std.specs.Prelude.{◌≡◌, ◌≢◌, ◌+◌, ◌<◌, ◌≤◌, length, slice_range, None, IsSome, IfOk, OnErr};
 ghost use Rattle.std.specs.FinMap.{get};
 ghost use Rattle.std.specs.Result.{result_err};
 ghost use Rattle.own_model.specs.Sliced.{sliced_refusal};
 ghost use Rattle.file_service.specs.Calls.{payload_in, content_taken, content_given, content_written, content_copied, HasBytes};
-ghost use Rattle.file_service.specs.Found.{FindsContent};
+ghost use Rattle.dataspace_core.specs.Store.{space_at};
+ghost use Rattle.file_service.specs.Found.{FindsContent, IsElsewhere, IsThere};
 ghost use Rattle.file_service.specs.Furnished.{stock, IsFurnished, KeepsSession};
 
 use dataspace_core::Memory;
@@ -12,9 +13,6 @@ use heap_core::Heap;
 use region_map::RegionMap;
 use sliced_heap::SlicedHeap;
 use trade_base::{DsId, Refusal};
-
-/// The most bytes that are copied at once.
-const PIECE: usize = 1024;
 
 /// Takes a content of so many bytes, all zero, and tells its address. The account pays for it in whole pages, with its header,
 /// and one capability.
@@ -130,7 +128,7 @@ pub(crate) fn write_content(
     memory.write(ds, at, bytes);
 }
 
-/// Copies so many bytes of a content's front to another's.
+/// Copies so many bytes of a content's front to another's, if any.
 pub(crate) fn copy_content(
     heap: &Heap,
     sliced: &SlicedHeap,
@@ -141,28 +139,55 @@ pub(crate) fn copy_content(
     count: u64,
 )
     requires furnished { IsFurnished heap.now sliced.now memory.old map.now }
-    requires source { HasBytes
-        (stock heap.now sliced.now memory.old map.now).contents from 0 count }
+    requires source { 0 < count
+        → HasBytes (stock heap.now sliced.now memory.old map.now).contents from 0 count }
     requires target { HasBytes (stock heap.now sliced.now memory.old map.now).contents to 0 count }
-    requires apart { from ≢ to }
+    requires apart { 0 < count → from ≢ to }
     ensures copied { stock heap.now sliced.now memory.new map.now
         ≡ content_copied from to count (stock heap.now sliced.now memory.old map.now) }
     ensures keeps { KeepsSession sliced.now heap.now sliced.now
         memory.old memory.new map.now map.now }
 {
-    let mut buffer = [0; PIECE];
-    let mut done = 0;
-    while done < count {
-        let size = (count - done).min(PIECE as u64) as usize;
-        let piece = &mut buffer[..size];
-        read_content(heap, sliced, memory, map, from, done, piece);
-        write_content(heap, sliced, memory, map, to, done, piece);
-        done += size as u64;
+    if count == 0 {
+        return;
     }
+    let (source, place) = find_content(heap, sliced, memory, map, from, 0, count);
+    fill_content(heap, sliced, memory, map, to, 0, source, place, count);
+}
+
+/// Puts bytes of a dataspace that isn't this content's, `count` of them from `place` on, over the content's from an offset on.
+pub(crate) fn fill_content(
+    heap: &Heap,
+    sliced: &SlicedHeap,
+    memory: &mut Memory,
+    map: &RegionMap,
+    address: u64,
+    offset: u64,
+    source: DsId,
+    place: u64,
+    count: u64,
+)
+    requires furnished { IsFurnished heap.now sliced.now memory.old map.now }
+    requires there { HasBytes
+        (stock heap.now sliced.now memory.old map.now).contents address offset count }
+    requires source { IsThere memory.old source.0 place count }
+    requires apart { IsElsewhere sliced.now memory.old map.now source.0 address }
+    ensures written { let bytes = (space_at memory.old source.0).bytes in
+        stock heap.now sliced.now memory.new map.now
+        ≡ content_written address offset (slice_range bytes place (place + count))
+        (stock heap.now sliced.now memory.old map.now) }
+    ensures keeps { KeepsSession sliced.now heap.now sliced.now
+        memory.old memory.new map.now map.now }
+{
+    if count == 0 {
+        return;
+    }
+    let (ds, at) = find_content(heap, sliced, memory, map, address, offset, count);
+    memory.copy(source, place, ds, at, count);
 }
 
 /// The dataspace of some bytes of a content, and the offset in it.
-fn find_content(
+pub(crate) fn find_content(
     heap: &Heap,
     sliced: &SlicedHeap,
     memory: &Memory,

@@ -5,11 +5,14 @@ mod change;
 mod contents;
 mod find;
 mod furnished;
+mod lend;
+mod lent;
 mod look;
 mod node;
 mod nodes;
 mod service;
 mod session;
+mod source;
 #[cfg(test)]
 mod tests;
 

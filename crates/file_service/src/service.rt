@@ -1,20 +1,22 @@
 //! The file service: what it answers to the requests of a session.
 ghost use Rattle.std.specs.Prelude.{◌≡◌, ◌*◌, ◌/◌, ◌≤◌, length, [], Some, None};
-ghost use Rattle.own_model.specs.FileService.{file_served};
+ghost use Rattle.own_model.specs.BufferService.{session_request};
 ghost use Rattle.own_model.specs.FileText.FileRequest.{Write};
 ghost use Rattle.own_model.specs.Routes.Service.{Files};
 ghost use Rattle.own_model.specs.Session.{Labelled, state_at_first};
 ghost use Rattle.own_model.specs.Text.{bytes_of_hex, hex_bytes};
 ghost use Rattle.dataspace_core.specs.Store.{account_in, IsOpenIn};
 ghost use Rattle.sliced_heap.specs.Heap.{payer_of};
-ghost use Rattle.server_frame.proofs.LentLaws.{lends_nothing};
+ghost use Rattle.file_service.specs.Aside.{lends_aside};
 ghost use Rattle.server_frame.specs.Session.{service_step};
 ghost use Rattle.server_frame.specs.Told.{nothing_told};
 ghost use Rattle.session_proto.specs.FileReply.{model_reply, account_of};
 ghost use Rattle.file_service.specs.Furnished.{stock, IsFurnished, KeepsSession};
-ghost use Rattle.file_service.specs.Session.{files_in, HasFiles, Leaves, Serves, done_reply, counted_reply, served_in};
+ghost use Rattle.file_service.specs.Lent.{buffer_key};
+ghost use Rattle.file_service.specs.Session.{HasFiles, IsReady, IsAnswered, Serves, done_reply, counted_reply, lent_reply, lent_effect, gone_effect, served_in, session_served};
 
 use crate::furnished::{end_nodes, furnish};
+use crate::lent::give_any;
 use crate::session::FileSession;
 use dataspace_core::Memory;
 use region_map::RegionMap;
@@ -43,7 +45,7 @@ impl Service for FileService {
 
     ghost value = { value_of };
 
-    ghost buffer = { λ session. None };
+    ghost buffer = { λ session. buffer_key session.buffer };
 
     ghost IsKept = { IsSession };
 
@@ -55,8 +57,9 @@ impl Service for FileService {
         FileSession::open(account, label)
     }
 
-    fn buffer(&self, _session: &FileSession) -> Option<DsId> {
-        None
+    fn buffer(&self, session: &FileSession) -> Option<DsId> {
+        let lent = session.buffer?;
+        Some(lent.space)
     }
 
     fn serve(
@@ -69,8 +72,7 @@ impl Service for FileService {
         reply: &mut Reply,
     ) -> Effect {
         furnish(&mut session.heap, heap, memory, map);
-        answer(session, heap, memory, map, request, reply);
-        Effect::Nothing
+        answer(session, heap, memory, map, request, reply)
     }
 
     fn end(
@@ -80,15 +82,17 @@ impl Service for FileService {
         memory: &mut Memory,
         map: &mut RegionMap,
     ) {
+        let buffer = session.buffer;
         let mut nodes = session.heap;
         furnish(&mut nodes, heap, memory, map);
+        give_any(&nodes, heap, memory, map, buffer);
         end_nodes(&mut nodes, heap, memory, map);
     }
 
-    ghost lends_aside = { lends_nothing };
+    ghost lends_aside = { lends_aside };
 }
 
-/// Answers a request of a session.
+/// Answers a request of a session, and tells what it did to the buffer.
 fn answer(
     session: &mut FileSession,
     heap: &mut SlicedHeap,
@@ -96,21 +100,12 @@ fn answer(
     map: &mut RegionMap,
     request: &[u8],
     reply: &mut Reply,
-)
-    requires furnished { IsFurnished session.old.heap heap.old memory.old map.old }
-    requires files { HasFiles session.old (stock session.old.heap heap.old memory.old map.old) }
+) -> Effect
+    requires ready { IsReady session.old heap.old memory.old map.old }
     requires reply { reply.old ≡ nothing_told }
-    ensures text { let old = stock session.old.heap heap.old memory.old map.old in
-        reply.new
-        ≡ record nothing_told {
-          text =
-              (file_served (files_in session.old old) old.account request.now).reply;
-        } }
-    ensures leaves { let old = stock session.old.heap heap.old memory.old map.old in
-        Leaves (file_served
-        (files_in session.old old) old.account request.now) session.old session.new
-        (stock session.new.heap heap.new memory.new map.new) }
-    ensures keeps { KeepsSession heap.old session.new.heap heap.new
+    ensures answered { IsAnswered
+        (session_served (session_request request.now) session.old heap.old memory.old map.old)
+        result reply.new session.old session.new heap.old heap.new
         memory.old memory.new map.old map.new }
 {
     match FileRequest::read(request) {
@@ -142,7 +137,34 @@ fn answer(
             None => FileReply::Refused(FileError::End).write(reply),
         },
         Some(FileRequest::Stat) => FileReply::Quotas(shares(heap, memory)).write(reply),
+        Some(FileRequest::Buffer(bytes)) => {
+            let lent = session.lend(heap, memory, map, bytes);
+            lending(lent).write(reply);
+            return lends(lent);
+        }
+        Some(FileRequest::Unbuffer) => {
+            let gone = session.take_back(heap, memory, map);
+            taking(gone).write(reply);
+            return goes(gone);
+        }
+        Some(
+            FileRequest::Put {
+                file,
+                offset,
+                place,
+                len,
+            },
+        ) => { counted(session.put(heap, memory, map, file, offset, place, len)).write(reply) }
+        Some(
+            FileRequest::Get {
+                file,
+                offset,
+                place,
+                len,
+            },
+        ) => { counted(session.get(heap, memory, map, file, offset, place, len)).write(reply) }
     }
+    Effect::Nothing
 }
 
 /// Puts the bytes that a text of hexadecimal digits stands for over a file's from an offset on, and tells how many they are.
@@ -208,5 +230,45 @@ fn counted(outcome: Result<u64, FileError>) -> FileReply<'static>
     match outcome {
         Ok(count) => FileReply::Count(count),
         Err(error) => FileReply::Refused(error),
+    }
+}
+
+/// The reply that tells whether a buffer is lent. Its selector follows it.
+fn lending(outcome: Result<DsId, FileError>) -> FileReply<'static>
+    ensures { model_reply result ≡ lent_reply outcome }
+{
+    match outcome {
+        Ok(_) => FileReply::Lent,
+        Err(error) => FileReply::Refused(error),
+    }
+}
+
+/// What that does to the buffer.
+fn lends(outcome: Result<DsId, FileError>) -> Effect
+    ensures { result ≡ lent_effect outcome }
+{
+    match outcome {
+        Ok(space) => Effect::Buffer(space),
+        Err(_) => Effect::Nothing,
+    }
+}
+
+/// The reply that tells whether a buffer is taken back.
+fn taking(outcome: Result<DsId, FileError>) -> FileReply<'static>
+    ensures { model_reply result ≡ done_reply outcome }
+{
+    match outcome {
+        Ok(_) => FileReply::Done,
+        Err(error) => FileReply::Refused(error),
+    }
+}
+
+/// What that does to the buffer.
+fn goes(outcome: Result<DsId, FileError>) -> Effect
+    ensures { result ≡ gone_effect outcome }
+{
+    match outcome {
+        Ok(space) => Effect::Gone(space),
+        Err(_) => Effect::Nothing,
     }
 }

@@ -5,7 +5,7 @@ use crate::node::Node;
 use arrayvec::ArrayVec;
 use heap_core::Heap;
 use server_frame::LONGEST_LABEL;
-use trade_base::AccountId;
+use trade_base::{AccountId, DsId};
 
 /// What the file service keeps for a session. Each file has a node, a block of the heap, and the nodes are linked in the
 /// order of creation.
@@ -18,6 +18,17 @@ pub struct FileSession {
     pub(crate) first: u64,
     /// The address of the last file's node, or 0.
     pub(crate) last: u64,
+    /// What it lends its client, if it lends anything.
+    pub(crate) buffer: Option<Lent>,
+}
+
+/// A buffer that a session lends its client: a dataspace of the session's account, and where it stands in the server's heap
+/// window.
+#[derive(Clone, Copy, Drop)]
+pub(crate) struct Lent {
+    pub(crate) space: DsId,
+    /// Where its region starts.
+    pub(crate) start: u64,
 }
 
 /// A file that is found: where its node is, and that of the file before it, or 0.
@@ -29,19 +40,20 @@ pub(crate) struct Found {
 }
 
 impl FileSession {
-    ghost use Rattle.std.specs.Prelude.{◌≡◌, ◌≤◌, length};
+    ghost use Rattle.std.specs.Prelude.{◌≡◌, ◌≤◌, length, None};
     ghost use Rattle.dataspace_core.specs.Share.{Share};
     ghost use Rattle.own_model.specs.Routes.Service.{Files};
     ghost use Rattle.own_model.specs.Session.{state_at_first};
     ghost use Rattle.server_frame.specs.Session.{HasBlocksAlone};
     ghost use Rattle.file_service.specs.Session.{value_of, IsSession};
 
-    /// A session without files.
+    /// A session without files, which lends nothing.
     pub(crate) fn open(account: AccountId, label: &[u8]) -> FileSession
         requires { length label.now ≤ LONGEST_LABEL }
         ensures first { (share : Share) → HasBlocksAlone share
             → value_of result share ≡ record { label = label.now; state = state_at_first Files } }
         ensures kept { (share : Share) → HasBlocksAlone share → IsSession result share }
+        ensures lends { result.buffer ≡ None }
     {
         let mut copy = ArrayVec::new();
         let _ = copy.try_extend_from_slice(label);
@@ -50,6 +62,7 @@ impl FileSession {
             heap: new_nodes(account),
             first: 0,
             last: 0,
+            buffer: None,
         }
     }
 }

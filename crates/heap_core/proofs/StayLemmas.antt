@@ -91,10 +91,10 @@ module _ (heap : Heap) (S T : Share) (laid : IsLaid heap S) (stand : (s : ℕ) �
   large_bytes : (s : ℕ) (r : Region) → get (large_regions S) s ≡ Some r → get T.part.spaces r.of ≡ get S.part.spaces r.of
   large_bytes s r h = bytes s large_tag r (large_region S s r h)
 
-  laid_same : IsLaid heap T
+  pub laid_same : IsLaid heap T
   laid_same = laid_stays heap S T laid stand (λ s k r h low. bytes s k r h) (λ s r h. ap (option_map length) (large_bytes s r h))
 
-  value_same : heap_in heap T ≡ heap_in heap S
+  pub value_same : heap_in heap T ≡ heap_in heap S
   unfolding heap_in
   value_same =
       value_then heap S T laid stand (λ s k r h low. bytes s k r h) (λ s r h. ap (option_map length) (large_bytes s r h)) (bytes_shown S.part.spaces (large_regions S))

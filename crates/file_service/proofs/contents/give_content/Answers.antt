@@ -1,15 +1,15 @@
 -- A sliced block less leaves the heap of nodes.
-use Rattle.std.proofs.Common.{◌≡◌, ℕ, List, [], refl, sym, ap, ◌∙◌}
-use Rattle.std.specs.FinMap.{get, remove}
+use Rattle.std.proofs.Common.{◌≡◌, ℕ, List, [], sym, ap, ◌∙◌}
+use Rattle.std.specs.FinMap.{remove}
 use Rattle.std.specs.Prelude.{Option, unwrap_or}
-use Rattle.own_model.specs.Account.{Account, credited}
+use Rattle.own_model.specs.Account.{credited}
 use Rattle.own_model.specs.NatMap.{NatMap}
 use Rattle.own_model.specs.Sliced.{block_size}
 use Rattle.dataspace_core.specs.Store.{account_in}
-use Rattle.sliced_heap.specs.Heap.{GivesBlock, blocks_at, share_at, payer_of}
+use Rattle.sliced_heap.specs.Heap.{blocks_at, share_at, payer_of}
 use Rattle.file_service.specs.Calls.{payload_in}
 use Rattle.file_service.proofs.FurnishedLemmas.{contents_held, contents_kept, nodes_stay_in}
-use Rattle.file_service.proofs.ContentLemmas.{less_credit, less_changes}
+use Rattle.file_service.proofs.ContentLemmas.{less_credit, less_changes, less_lent}
 use Rattle.file_service.proofs.ResultLemmas.{free_ok, ok_then}
 use Rattle.file_service.proofs.contents.give_content.Goals as goal
 
@@ -31,4 +31,4 @@ returns-clause-keeps c =
     let e = c.free.ensures in
     let a = payer_of c.args.sliced.now in
     let gives = ok_then c.free.result (free_ok c.args.address (contents_held (share_at a c.args.memory.now c.args.map.now)) c.requires.there e.refusal) e.given in
-    contents_kept f (less_changes f e.sound e.payer e.others c.args.address gives)
+    contents_kept f (less_changes f e.sound e.payer e.others c.args.address gives) (less_lent f e.sound e.payer e.others c.args.address gives)

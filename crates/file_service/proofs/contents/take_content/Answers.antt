@@ -1,11 +1,11 @@
 -- A sliced block more leaves the heap of nodes.
-use Rattle.std.proofs.Common.{◌≡◌, ◌-◌, refl, sym, ap, ◌∙◌}
+use Rattle.std.proofs.Common.{◌-◌, refl, sym, ap, ◌∙◌}
 use Rattle.sliced_heap.specs.Heap.{share_at, payer_of}
 use Rattle.std.specs.FinMap.{get, insert}
 use Rattle.own_model.specs.OwnState.{zeros}
 use Rattle.own_model.specs.Sliced.{sliced_size, sliced_header}
 use Rattle.file_service.proofs.FurnishedLemmas.{contents_held, contents_kept, nodes_stay_in}
-use Rattle.file_service.proofs.ContentLemmas.{more_no_payload, more_charge, more_changes}
+use Rattle.file_service.proofs.ContentLemmas.{more_no_payload, more_charge, more_changes, more_lent}
 use Rattle.file_service.proofs.ResultLemmas.{if_ok_then, either_way, keeps_same}
 use Rattle.file_service.proofs.contents.take_content.Goals as goal
 
@@ -30,5 +30,5 @@ returns-clause-keeps c =
     let f = c.requires.furnished in
     let e = c.alloc.ensures in
     either_way c.alloc.result e.taken e.err e.memory_err e.map_err
-    (λ address takes. contents_kept f (more_changes f e.sound e.payer e.others c.args.bytes address takes))
+    (λ address takes. contents_kept f (more_changes f e.sound e.payer e.others c.args.bytes address takes) (more_lent f e.sound e.payer e.others c.args.bytes address takes))
     (λ same memory map. keeps_same f refl same memory map)

@@ -1,10 +1,9 @@
 -- What is found holds the content's bytes, and a write there changes nothing else.
-use Rattle.std.proofs.Common.{◌≡◌, ◌+◌, ◌≤◌, length, refl, ◌∙◌, arith}
+use Rattle.std.proofs.Common.{◌≡◌, ◌≤◌, length, refl, arith}
 use Rattle.std.proofs.lemmas.Bool.Decides.{nat_tests}
 use Rattle.file_service.specs.Furnished.{stock}
-use Rattle.file_service.proofs.FurnishedLemmas.{contents_kept, nodes_stay_in}
-use Rattle.file_service.proofs.ContentLemmas.{poke_changes, poke_account, pokes}
-use Rattle.file_service.proofs.FoundLemmas.{content_put, found_becomes, nothing_written}
+use Rattle.file_service.proofs.FoundLemmas.{nothing_written}
+use Rattle.file_service.proofs.FillLemmas.{put_written, put_keeps}
 use Rattle.file_service.proofs.ResultLemmas.{keeps_same}
 use Rattle.file_service.proofs.contents.write_content.Goals as goal
 
@@ -23,24 +22,11 @@ returns-clause-written c =
     let test = c.is_empty.ensures in
     let none = c.if-is_empty.false in
     let some : 1 ≤ length c.args.bytes.now = grind (arith, nat_tests) in
-    let f = c.requires.furnished in
-    let found = c.find_content-at.ensures in
-    let ds = c.find_content-at.result.0.0 in
-    let at = c.find_content-at.result.1 in
-    let becomes = found_becomes f c.args.address c.args.offset (length c.args.bytes.now) ds at c.requires.there some found c.args.bytes.now c.write.new.self c.write.ensures.part in
-    nodes_stay_in f (poke_changes f ds at (c.args.address + c.args.offset) c.args.bytes.now found.held becomes) _ _
-    (poke_account f ds at (c.args.address + c.args.offset) c.args.bytes.now found.held becomes)
-    ((pokes f ds at (c.args.address + c.args.offset) c.args.bytes.now found.held becomes).blocks
-    ∙ content_put f c.args.address c.args.offset (length c.args.bytes.now) ds at c.requires.there some found c.args.bytes.now)
+    put_written c.requires.furnished c.args.address c.args.offset c.args.bytes.now _ _ c.requires.there some c.find_content-at.ensures c.write.ensures.part
 
 pub returns-clause-keeps : goal.returns-clause-keeps
 returns-clause-keeps c =
     let test = c.is_empty.ensures in
     let none = c.if-is_empty.false in
     let some : 1 ≤ length c.args.bytes.now = grind (arith, nat_tests) in
-    let f = c.requires.furnished in
-    let found = c.find_content-at.ensures in
-    let ds = c.find_content-at.result.0.0 in
-    let at = c.find_content-at.result.1 in
-    let becomes = found_becomes f c.args.address c.args.offset (length c.args.bytes.now) ds at c.requires.there some found c.args.bytes.now c.write.new.self c.write.ensures.part in
-    contents_kept f (poke_changes f ds at (c.args.address + c.args.offset) c.args.bytes.now found.held becomes)
+    put_keeps c.requires.furnished c.args.address c.args.offset c.args.bytes.now _ _ c.requires.there some c.find_content-at.ensures c.write.ensures.part

@@ -1,5 +1,5 @@
 -- The name is as long as its word says, and no longer than a name can be.
-use Rattle.std.proofs.Common.{◌≡◌, ◌+◌, ◌-◌, ℕ, List, refl, ap, sym, ◌∙◌, arith}
+use Rattle.std.proofs.Common.{refl}
 use Rattle.file_service.specs.Node.{node_of}
 use Rattle.file_service.proofs.node.Node.from_bytes.Goals as goal
 

@@ -1,6 +1,5 @@
 -- The bytes are put one after another.
-use Rattle.std.proofs.Common.{◌≡◌, ◌++◌, List, ℕ, refl, ap, sym, ◌∙◌}
-use Rattle.trade_base.specs.Word.{word_bytes}
+use Rattle.std.proofs.Common.{refl}
 use Rattle.file_service.specs.Node.{bytes_of}
 use Rattle.file_service.proofs.node.Node.to_bytes.Goals as goal
 

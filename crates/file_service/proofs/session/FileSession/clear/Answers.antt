@@ -34,4 +34,4 @@ returns-clause-serves c =
     (clear_done c.args.name.now c.args.self.now was file
     (found_named c.args.self.now.first c.args.self.now.last was.nodes was.contents c.args.name.now previous address node found)
     (file_name c.args.self.now.first c.args.self.now.last was c.args.name.now previous address node found))
-    account files c.replace.ensures.kept c.replace.ensures.label
+    account files c.replace.ensures.kept c.replace.ensures.own

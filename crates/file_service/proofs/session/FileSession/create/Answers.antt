@@ -40,7 +40,7 @@ append-requires-clause-fresh c =
     let t : TakesNode c.in_ok-address.address was taken = subst (λ m. TakesNode c.in_ok-address.address (stock c.args.self.now.heap c.args.sliced.now m c.args.map.now) taken) c.find.ensures.memory old in
     (takes_node c.args.self.now.first c.args.self.now.last c.requires.files.blocks c.in_ok-address.address was c.requires.files.stand
     (furnished_has_places c.args.self.now.heap c.args.sliced.now c.args.memory.now c.args.map.now c.requires.furnished) t.free taken
-    (furnished_has_places c.take_node.new.heap c.args.sliced.now c.take_node.new.memory c.take_node.new.map c.take_node.ensures.keeps.furnished) t).fresh
+    (furnished_has_places c.take_node.new.heap c.args.sliced.now c.take_node.new.memory c.take_node.new.map c.take_node.ensures.keeps.stays.furnished) t).fresh
 
 pub append-requires-clause-files : goal.append-requires-clause-files
 append-requires-clause-files c =
@@ -54,7 +54,7 @@ append-requires-clause-files c =
       blocks = c.requires.files.blocks;
       stand = (takes_node c.args.self.now.first c.args.self.now.last c.requires.files.blocks c.in_ok-address.address was c.requires.files.stand
           (furnished_has_places c.args.self.now.heap c.args.sliced.now c.args.memory.now c.args.map.now c.requires.furnished) t.free taken
-          (furnished_has_places c.take_node.new.heap c.args.sliced.now c.take_node.new.memory c.take_node.new.map c.take_node.ensures.keeps.furnished) t).stand;
+          (furnished_has_places c.take_node.new.heap c.args.sliced.now c.take_node.new.memory c.take_node.new.map c.take_node.ensures.keeps.stays.furnished) t).stand;
     }
 
 pub returns-clause-serves : goal.returns-clause-serves
@@ -68,7 +68,7 @@ returns-clause-serves c =
     let takes : Takes c.args.self.now.first c.args.self.now.last c.requires.files.blocks c.in_ok-address.address was taken =
     takes_node c.args.self.now.first c.args.self.now.last c.requires.files.blocks c.in_ok-address.address was c.requires.files.stand
     (furnished_has_places c.args.self.now.heap c.args.sliced.now c.args.memory.now c.args.map.now c.requires.furnished) t.free taken
-    (furnished_has_places c.take_node.new.heap c.args.sliced.now c.take_node.new.memory c.take_node.new.map c.take_node.ensures.keeps.furnished) t in
+    (furnished_has_places c.take_node.new.heap c.args.sliced.now c.take_node.new.memory c.take_node.new.map c.take_node.ensures.keeps.stays.furnished) t in
     let none_found = none_of c.find.result (sym c.is_some.ensures ∙ c.if-is_some.false) in
     let none : file_named c.args.name.now (files_in c.args.self.now was) ≡ None =
     subst (λ o. IfNone o (file_named c.args.name.now (files_in c.args.self.now was) ≡ None)) none_found c.find.ensures.none in
@@ -86,6 +86,6 @@ returns-clause-serves c =
         account = c.append.ensures.account ∙ ap (λ (s : FileServed). s.account) (sym is);
         files = c.append.ensures.files ∙ (λ i. record { files = same i ++ file ∷ []; shape = taken.nodes.shape }) ∙ ap (λ (s : FileServed). s.files) (sym is);
         kept = c.append.ensures.kept;
-        label = c.append.ensures.label;
+        own = record { label = c.append.ensures.own.label; buffer = c.append.ensures.own.buffer };
       };
     }

@@ -1,12 +1,12 @@
 -- Each step goes one link on, and one place.
-use Rattle.std.proofs.Common.{◌≡◌, ◌≢◌, ◌∙◌, ◌+◌, ◌-◌, ◌≤◌, ◌++◌, ◌∷◌, [], ℕ, List, length, map, Some, None, refl, sym, ap, subst, arith, length-append}
+use Rattle.std.proofs.Common.{◌≡◌, ◌≢◌, ◌∙◌, ◌+◌, ◌≤◌, ◌++◌, ◌∷◌, [], ℕ, length, map, Some, refl, sym, ap, subst, arith, length-append}
 use Rattle.std.proofs.lemmas.List.{length-map}
 use Rattle.std.proofs.lemmas.Option.{slice_get_past}
 use Rattle.std.specs.Option.{option_map}
 use Rattle.std.specs.Prelude.{slice_get}
 use Rattle.own_model.specs.FileService.{File}
 use Rattle.file_service.specs.Calls.{HasBytes}
-use Rattle.file_service.specs.Files.{file_at, link_in, node_at, StandAt}
+use Rattle.file_service.specs.Files.{file_at, link_in, node_at}
 use Rattle.file_service.specs.Furnished.{Stock, stock}
 use Rattle.file_service.specs.Links.{last_of, Leads}
 use Rattle.file_service.specs.Node.{FileNode, value_of}

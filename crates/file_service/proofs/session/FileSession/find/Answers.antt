@@ -1,14 +1,11 @@
 -- Each step goes one link on.
-use Rattle.std.proofs.Common.{◌≡◌, ◌≢◌, ◌∙◌, ◌++◌, ◌∷◌, [], ℕ, true, false, List, length, map, None, refl, sym, ap, subst, arith}
-use Rattle.std.proofs.lemmas.Bool.Decides.{nat_tests}
+use Rattle.std.proofs.Common.{◌≡◌, ◌≢◌, ◌∙◌, ◌++◌, ◌∷◌, [], false, length, map, refl, sym, ap, subst, arith}
 use Rattle.std.specs.Prelude.{find}
 use Rattle.std.specs.Str.{bytes_eq}
 use Rattle.own_model.specs.FileService.{is_named}
-use Rattle.own_model.specs.OwnHeap.{OwnHeap}
 use Rattle.file_service.specs.Calls.{HasBytes}
 use Rattle.file_service.specs.Files.{file_at, node_at, StandAt}
 use Rattle.file_service.specs.Furnished.{Stock, stock}
-use Rattle.file_service.specs.Links.{last_of}
 use Rattle.file_service.specs.Node.{FileNode, value_of}
 use Rattle.file_service.proofs.FileListLemmas.{append_map, none_appended}
 use Rattle.file_service.proofs.SearchLemmas.{next_behind, here_behind, stand_on, none_behind, along_behind, last_put, link_some, append_none}

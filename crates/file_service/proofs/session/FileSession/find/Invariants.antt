@@ -4,7 +4,7 @@ use Rattle.std.specs.Prelude.{find}
 use Rattle.std.specs.FinMap.{len}
 use Rattle.own_model.specs.FileService.{is_named}
 use Rattle.file_service.specs.Files.{link_in, file_at, StandAt}
-use Rattle.file_service.specs.Furnished.{Stock, stock}
+use Rattle.file_service.specs.Furnished.{stock}
 use Rattle.file_service.specs.Links.{along, last_of, Leads}
 use Rattle.file_service.proofs.session.FileSession.find.Given as goal
 

@@ -12,24 +12,28 @@ use Rattle.own_model.specs.FileText.FileRequest.{Write}
 use Rattle.own_model.specs.Sliced.{sliced_size}
 use Rattle.session_proto.specs.FileReply.{model_error}
 use Rattle.session_proto.specs.declared.file_reply.FileError.TheVariants.{OutOfRam}
-use Rattle.file_service.specs.Calls.{content_taken}
+use Rattle.file_service.specs.Calls.{content_taken, content_written}
 use Rattle.file_service.specs.Furnished.{Stock, stock}
 use Rattle.file_service.specs.Session.{files_in, served_in, counted_reply}
+use Rattle.file_service.specs.Calls.{HasBytes}
+use Rattle.file_service.specs.Source.{bytes_from, HasSource}
+use Rattle.file_service.proofs.SourceLemmas.{source_kept, bytes_kept}
 use Rattle.file_service.proofs.LengthenLemmas.{TakesLonger, sum_is, no_sum, not_new, source, target, room, made_has, made_own, made_found, made_served}
 use Rattle.file_service.proofs.ResultLemmas.{err_case, err_and}
-use Rattle.file_service.proofs.ServeLemmas.{serves_told, serves_refused, was_ok}
+use Rattle.file_service.proofs.ServeLemmas.{keeps_both, serves_told, serves_refused, was_ok}
 use Rattle.file_service.proofs.WriteLemmas.{above_words, refused_short, granted_covered, longer_refused}
-use Rattle.file_service.proofs.session.FileSession.lengthen.Goals.{In_ok-content}
+use Rattle.file_service.proofs.session.FileSession.lengthen.Goals.{In_ok-content, After-copy_content}
 use Rattle.file_service.proofs.session.FileSession.lengthen.Goals as goal
 
 -- the new content
 takes : (c : In_ok-content) → TakesLonger (stock c.args.self.now.heap c.args.sliced.now c.args.memory.now c.args.map.now)
-    (stock c.args.self.now.heap c.take_content.new.sliced c.take_content.new.memory c.take_content.new.map) c.in_ok-size.size c.in_ok-content.content c.args.offset c.args.bytes.now
+    (stock c.args.self.now.heap c.take_content.new.sliced c.take_content.new.memory c.take_content.new.map) c.in_ok-size.size c.in_ok-content.content c.args.offset (bytes_from c.args.source c.args.memory.now)
 takes c =
     let was : Stock = stock c.args.self.now.heap c.args.sliced.now c.args.memory.now c.args.map.now in
     let taken : Stock = stock c.args.self.now.heap c.take_content.new.sliced c.take_content.new.memory c.take_content.new.map in
     let size = c.in_ok-size.size in
-    let size_is = sum_is c.checked_add.result c.ok_or.result _ size (c.args.offset + length c.args.bytes.now) c.checked_add.ensures c.ok_or.ensures.ok_part c.in_ok-size.was in
+    let count_is = c.count-count.ensures c.args.sliced.now c.args.memory.now c.args.map.now c.requires.source in
+    let size_is = sum_is c.checked_add.result c.ok_or.result _ size (c.args.offset + c.count-count.result) c.checked_add.ensures c.ok_or.ensures.ok_part c.in_ok-size.was ∙ ap (λ n. c.args.offset + n) count_is in
     let ok = was_ok c.take_content.result c.map_err.result c.in_ok-content.content _ c.map_err.ensures.cases c.map_err.ensures.variant c.in_ok-content.was in
     record {
       size_is = size_is;
@@ -38,65 +42,97 @@ takes c =
       is = subst (λ r. IfOk r (λ a. taken ≡ content_taken size a was)) ok c.take_content.ensures.taken;
     }
 
-pub copy_front-requires-clause-source : goal.copy_front-requires-clause-source
-copy_front-requires-clause-source c =
-    source c.args.self.now _ _ _ _ _ _ c.requires.found _ _ _ _ c.requires.low (takes (goal.at.copy_front-requires-clause-source c).In_ok-content)
+pub copy_content-requires-clause-source : goal.copy_content-requires-clause-source
+copy_content-requires-clause-source c =
+    source c.args.self.now _ _ _ _ _ _ c.requires.found _ _ _ _ c.requires.low (takes (goal.at.copy_content-requires-clause-source c).In_ok-content)
 
-pub copy_front-requires-clause-target : goal.copy_front-requires-clause-target
-copy_front-requires-clause-target c =
-    target c.args.self.now _ _ _ _ _ _ c.requires.found _ _ _ _ c.requires.low (takes (goal.at.copy_front-requires-clause-target c).In_ok-content)
+pub copy_content-requires-clause-target : goal.copy_content-requires-clause-target
+copy_content-requires-clause-target c =
+    target c.args.self.now _ _ _ _ _ _ c.requires.found _ _ _ _ c.requires.low (takes (goal.at.copy_content-requires-clause-target c).In_ok-content)
 
-pub copy_front-requires-clause-apart : goal.copy_front-requires-clause-apart
-copy_front-requires-clause-apart c =
-    λ some. not_new c.args.self.now _ _ _ _ _ _ c.requires.found _ _ _ _ c.requires.low (takes (goal.at.copy_front-requires-clause-apart c).In_ok-content) (omega (arith, some, c.requires.low))
+pub copy_content-requires-clause-apart : goal.copy_content-requires-clause-apart
+copy_content-requires-clause-apart c =
+    λ some. not_new c.args.self.now _ _ _ _ _ _ c.requires.found _ _ _ _ c.requires.low (takes (goal.at.copy_content-requires-clause-apart c).In_ok-content) (omega (arith, some, c.requires.low))
 
-pub write_content-requires-clause-there : goal.write_content-requires-clause-there
-write_content-requires-clause-there c =
-    room c.args.self.now _ _ _ _ _ _ c.requires.found _ _ _ _ c.requires.low (takes (goal.at.write_content-requires-clause-there c).In_ok-content) _ c.copy_front.ensures.copied
+-- the source is as it was, when the front is copied
+record IsAsItWas (c : After-copy_content) : Type 0 where
+  has : HasSource c.args.source c.take_content.new.sliced c.copy_content.new.memory c.take_content.new.map
+  bytes : bytes_from c.args.source c.copy_content.new.memory ≡ bytes_from c.args.source c.args.memory.now
+
+as_it_was : (c : After-copy_content) → IsAsItWas c
+as_it_was c =
+    let taken = c.take_content.ensures.keeps in
+    let has = source_kept c.requires.furnished taken c.args.source c.requires.source in
+    record {
+      has = source_kept taken.stays.furnished c.copy_content.ensures.keeps c.args.source has;
+      bytes = bytes_kept taken.stays.furnished c.copy_content.ensures.keeps c.args.source has ∙ bytes_kept c.requires.furnished taken c.args.source c.requires.source;
+    }
+
+pub put_content-requires-clause-source : goal.put_content-requires-clause-source
+put_content-requires-clause-source c = (as_it_was (goal.at.put_content-requires-clause-source c).After-copy_content).has
+
+pub put_content-requires-clause-there : goal.put_content-requires-clause-there
+put_content-requires-clause-there c =
+    let copied : Stock = stock c.args.self.now.heap c.take_content.new.sliced c.copy_content.new.memory c.take_content.new.map in
+    subst (λ bytes. HasBytes copied.contents c.in_ok-content.content c.args.offset (length bytes)) (sym (as_it_was (goal.at.put_content-requires-clause-there c).After-copy_content).bytes)
+    (room c.args.self.now _ _ _ _ _ _ c.requires.found _ _ _ _ c.requires.low (takes (goal.at.put_content-requires-clause-there c).In_ok-content) _ c.copy_content.ensures.copied)
 
 pub replace-requires-clause-found : goal.replace-requires-clause-found
 replace-requires-clause-found c =
-    made_found c.args.self.now _ _ _ _ _ _ c.requires.found _ _ _ _ c.requires.low (takes (goal.at.replace-requires-clause-found c).In_ok-content) _ c.copy_front.ensures.copied _ c.write_content.ensures.written
+    let at = goal.at.replace-requires-clause-found c in
+    made_found c.args.self.now _ _ _ _ _ _ c.requires.found _ _ _ _ c.requires.low (takes at.In_ok-content) _ c.copy_content.ensures.copied _ (c.put_content.ensures.written ∙ ap (λ bytes. content_written c.in_ok-content.content c.args.offset bytes (stock c.args.self.now.heap c.take_content.new.sliced c.copy_content.new.memory c.take_content.new.map)) (as_it_was at.After-copy_content).bytes)
 
 pub replace-requires-clause-content : goal.replace-requires-clause-content
 replace-requires-clause-content c =
-    λ _. made_has c.args.self.now _ _ _ _ _ _ c.requires.found _ _ _ _ c.requires.low (takes (goal.at.replace-requires-clause-content c).In_ok-content) _ c.copy_front.ensures.copied _ c.write_content.ensures.written
+    let at = goal.at.replace-requires-clause-content c in
+    λ _. made_has c.args.self.now _ _ _ _ _ _ c.requires.found _ _ _ _ c.requires.low (takes at.In_ok-content) _ c.copy_content.ensures.copied _ (c.put_content.ensures.written ∙ ap (λ bytes. content_written c.in_ok-content.content c.args.offset bytes (stock c.args.self.now.heap c.take_content.new.sliced c.copy_content.new.memory c.take_content.new.map)) (as_it_was at.After-copy_content).bytes)
 
 pub replace-requires-clause-own : goal.replace-requires-clause-own
 replace-requires-clause-own c =
-    λ _. made_own c.args.self.now _ _ _ _ _ _ c.requires.found _ _ _ _ c.requires.low (takes (goal.at.replace-requires-clause-own c).In_ok-content) _ c.copy_front.ensures.copied _ c.write_content.ensures.written
+    let at = goal.at.replace-requires-clause-own c in
+    λ _. made_own c.args.self.now _ _ _ _ _ _ c.requires.found _ _ _ _ c.requires.low (takes at.In_ok-content) _ c.copy_content.ensures.copied _ (c.put_content.ensures.written ∙ ap (λ bytes. content_written c.in_ok-content.content c.args.offset bytes (stock c.args.self.now.heap c.take_content.new.sliced c.copy_content.new.memory c.take_content.new.map)) (as_it_was at.After-copy_content).bytes)
 
 pub returns-clause-serves : goal.returns-clause-serves
 returns-clause-serves c =
-    made_served c.args.self.now _ _ _ _ _ _ c.requires.found _ _ _ _ c.requires.low (takes (goal.at.returns-clause-serves c).In_ok-content) _ c.copy_front.ensures.copied _ c.write_content.ensures.written
+    let at = goal.at.returns-clause-serves c in
+    let count_is = c.count-count.ensures c.args.sliced.now c.args.memory.now c.args.map.now c.requires.source in
+    rw count_is
+    (made_served c.args.self.now _ _ _ _ _ _ c.requires.found _ _ _ _ c.requires.low (takes at.In_ok-content) _ c.copy_content.ensures.copied _ (c.put_content.ensures.written ∙ ap (λ bytes. content_written c.in_ok-content.content c.args.offset bytes (stock c.args.self.now.heap c.take_content.new.sliced c.copy_content.new.memory c.take_content.new.map)) (as_it_was at.After-copy_content).bytes)
     c.requires.longer c.replace.new.self (stock c.replace.new.self.heap c.replace.new.sliced c.replace.new.memory c.replace.new.map)
-    c.replace.ensures.files c.replace.ensures.kept c.replace.ensures.account c.replace.ensures.label
+    c.replace.ensures.files c.replace.ensures.kept c.replace.ensures.account c.replace.ensures.own)
 
 pub returns-in_err-size-clause-serves : goal.returns-in_err-size-clause-serves
 returns-in_err-size-clause-serves c =
     let was : Stock = stock c.args.self.now.heap c.args.sliced.now c.args.memory.now c.args.map.now in
-    let size = c.args.offset + length c.args.bytes.now in
-    let above = no_sum c.checked_add.result c.ok_or.result (size < 2 ^ 64) _ size c.checked_add.ensures c.ok_or.ensures.ok_part c.in_err-size.was in
+    let size = c.args.offset + length (bytes_from c.args.source c.args.memory.now) in
+    let count_is = c.count-count.ensures c.args.sliced.now c.args.memory.now c.args.map.now c.requires.source in
+    let above = no_sum c.checked_add.result c.ok_or.result (c.args.offset + c.count-count.result < 2 ^ 64) _ (c.args.offset + c.count-count.result) c.checked_add.ensures c.ok_or.ensures.ok_part c.in_err-size.was in
     let tells : c.from_residual.result ≡ Err OutOfRam = search rules in
-    serves_told (served_in (Write c.args.found.node.name.items c.args.offset c.args.bytes.now) c.args.self.now was) _ c.args.self.now was c.requires.files
-    (longer_refused c.args.self.now was _ _ _ _ c.requires.found c.args.offset c.args.bytes.now c.requires.low c.requires.longer model.FileError.OutOfRam
-    (ap (option_map error_of) (above_words was.account size c.ram_fits.ensures (omega (arith, above))))
+    serves_told (served_in (Write c.args.found.node.name.items c.args.offset (bytes_from c.args.source c.args.memory.now)) c.args.self.now was) _ c.args.self.now was c.requires.files
+    (longer_refused c.args.self.now was _ _ _ _ c.requires.found c.args.offset (bytes_from c.args.source c.args.memory.now) c.requires.low c.requires.longer model.FileError.OutOfRam
+    (ap (option_map error_of) (above_words was.account size c.ram_fits.ensures (omega (arith, above, count_is))))
     ∙ ap (λ r. told (counted_reply r) (files_in c.args.self.now was) was.account) (sym tells))
 
 pub returns-in_err-content-clause-serves : goal.returns-in_err-content-clause-serves
 returns-in_err-content-clause-serves c =
     let was : Stock = stock c.args.self.now.heap c.args.sliced.now c.args.memory.now c.args.map.now in
-    let size_is = sum_is c.checked_add.result c.ok_or.result _ c.in_ok-size.size (c.args.offset + length c.args.bytes.now) c.checked_add.ensures c.ok_or.ensures.ok_part c.in_ok-size.was in
+    let count_is = c.count-count.ensures c.args.sliced.now c.args.memory.now c.args.map.now c.requires.source in
+    let size_is = sum_is c.checked_add.result c.ok_or.result _ c.in_ok-size.size (c.args.offset + c.count-count.result) c.checked_add.ensures c.ok_or.ensures.ok_part c.in_ok-size.was ∙ ap (λ n. c.args.offset + n) count_is in
     let refused = err_case c.take_content.result c.map_err.result c.in_err-content.field-0.0 _ c.map_err.ensures.cases c.map_err.ensures.variant c.in_err-content.was in
     let error : model_error c.in_err-content.field-0.0 ≡ error_of refused.0 = err_and c.map_err.result c.in_err-content.field-0.0 _ c.in_err-content.was refused.1.1 in
     let tells : c.from_residual-in_err-content.result ≡ Err c.in_err-content.field-0.0 = search rules in
     let short = refused_short c.in_ok-size.size was.account refused.0 (omega (arith, size_is, c.requires.longer)) c.ram_fits.ensures (sym c.take_content.ensures.refusal ∙ ap result_err refused.1.0) in
-    serves_refused (served_in (Write c.args.found.node.name.items c.args.offset c.args.bytes.now) c.args.self.now was) _ c.args.self.now
+    serves_refused (served_in (Write c.args.found.node.name.items c.args.offset (bytes_from c.args.source c.args.memory.now)) c.args.self.now was) _ c.args.self.now
     c.args.sliced.now c.take_content.new.sliced c.args.memory.now c.take_content.new.memory c.args.map.now c.take_content.new.map c.requires.files
     (subst (λ r. OnErr r (c.take_content.new.sliced ≡ c.args.sliced.now)) refused.1.0 c.take_content.ensures.err)
     (subst (λ r. OnErr r (c.take_content.new.memory ≡ c.args.memory.now)) refused.1.0 c.take_content.ensures.memory_err)
     (subst (λ r. OnErr r (c.take_content.new.map ≡ c.args.map.now)) refused.1.0 c.take_content.ensures.map_err)
-    (longer_refused c.args.self.now was _ _ _ _ c.requires.found c.args.offset c.args.bytes.now c.requires.low c.requires.longer (error_of refused.0)
+    (longer_refused c.args.self.now was _ _ _ _ c.requires.found c.args.offset (bytes_from c.args.source c.args.memory.now) c.requires.low c.requires.longer (error_of refused.0)
     (ap (λ n. option_map error_of (shortage was.account (sliced_size n) 1)) (sym size_is) ∙ short)
     ∙ ap (λ e. told (Refused e) (files_in c.args.self.now was) was.account) (sym error)
     ∙ ap (λ r. told (counted_reply r) (files_in c.args.self.now was) was.account) (sym tells))
+
+pub returns-clause-keeps : goal.returns-clause-keeps
+returns-clause-keeps c =
+    keeps_both _ _ _ _ _ _ _ _ _ _ _ c.take_content.ensures.keeps
+    (keeps_both _ _ _ _ _ _ _ _ _ _ _ c.copy_content.ensures.keeps (keeps_both _ _ _ _ _ _ _ _ _ _ _ c.put_content.ensures.keeps c.replace.ensures.keeps))

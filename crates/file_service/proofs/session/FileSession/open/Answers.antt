@@ -5,6 +5,7 @@ use Rattle.file_service.proofs.session.FileSession.open.Goals as goal
 pub returns-clause-kept : goal.returns-clause-kept
 returns-clause-kept c share alone = record {
   nodes = c.new_nodes.ensures.kept share alone;
+  buffer = c.new_nodes.ensures.not_lent share alone;
   files = record {
     blocks = [];
     stand = record {

@@ -5,7 +5,7 @@ use Rattle.std.specs.Result.{result_ok}
 use Rattle.file_service.specs.Calls.{HasBytes}
 use Rattle.file_service.specs.Furnished.{Stock, stock}
 use Rattle.file_service.specs.Node.{value_of}
-use Rattle.file_service.specs.Session.{Finds, LinksTo}
+use Rattle.file_service.specs.Session.{Finds, KeepsOwn, LinksTo}
 use Rattle.file_service.specs.declared.session.FileSession.{FileSession}
 use Rattle.file_service.proofs.DropLemmas.{previous_there, linked_there, given_there, serves_empty, serves_full}
 use Rattle.file_service.proofs.session.FileSession.remove.Goals as goal
@@ -65,9 +65,9 @@ returns-then-node-gt0-clause-serves c =
     let given : Stock = stock c.give_node.new.heap c.args.sliced.now c.give_node.new.memory c.give_node.new.map in
     let later : FileSession = record c.link.new.self { heap = c.give_node.new.heap; last = c.last_without-self.result } in
     let last_is = c.last_without-self.ensures ∙ ap (λ (s : FileSession). if s.last == address then previous else s.last) c.link.ensures.same in
-    let label_is = ap (λ (s : FileSession). s.label) c.link.ensures.same in
+    let own : KeepsOwn c.args.self.now later = record { label = ap (λ (s : FileSession). s.label) c.link.ensures.same; buffer = ap (λ (s : FileSession). s.buffer) c.link.ensures.same } in
     let now : Stock = stock c.give_node.new.heap c.give_content.new.sliced c.give_content.new.memory c.give_content.new.map in
-    serves_full c.args.self.now later was linked given c.args.name.now previous address node found links rest c.give_node.ensures.given.is last_is label_is
+    serves_full c.args.self.now later was linked given c.args.name.now previous address node found links rest c.give_node.ensures.given.is last_is own
     now (omega arith) c.give_content.ensures.given
 
 pub returns-else-node-gt0-clause-serves : goal.returns-else-node-gt0-clause-serves
@@ -86,5 +86,5 @@ returns-else-node-gt0-clause-serves c =
     let given : Stock = stock c.give_node.new.heap c.args.sliced.now c.give_node.new.memory c.give_node.new.map in
     let later : FileSession = record c.link.new.self { heap = c.give_node.new.heap; last = c.last_without-self.result } in
     let last_is = c.last_without-self.ensures ∙ ap (λ (s : FileSession). if s.last == address then previous else s.last) c.link.ensures.same in
-    let label_is = ap (λ (s : FileSession). s.label) c.link.ensures.same in
-    serves_empty c.args.self.now later was linked given c.args.name.now previous address node found links rest c.give_node.ensures.given.is last_is label_is (omega arith)
+    let own : KeepsOwn c.args.self.now later = record { label = ap (λ (s : FileSession). s.label) c.link.ensures.same; buffer = ap (λ (s : FileSession). s.buffer) c.link.ensures.same } in
+    serves_empty c.args.self.now later was linked given c.args.name.now previous address node found links rest c.give_node.ensures.given.is last_is own (omega arith)

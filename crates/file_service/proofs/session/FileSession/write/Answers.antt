@@ -1,18 +1,16 @@
 -- The offset is looked at first, then whether the file gets longer.
-use Rattle.std.proofs.Common.{◌∙◌, length, sym, ap, subst, arith}
+use Rattle.std.proofs.Common.{◌∙◌, ap, subst, arith}
 use Rattle.std.specs.Prelude.{IfSome}
 use Rattle.std.specs.Result.{result_ok}
 use Rattle.own_model.specs.FileText.FileError.{Gap}
 use Rattle.own_model.specs.FileText.FileReply.{Refused}
 use Rattle.own_model.specs.FileText.FileRequest.{Write}
-use Rattle.file_service.specs.Calls.{content_written, HasBytes}
 use Rattle.file_service.specs.Files.{file_at}
 use Rattle.file_service.specs.Furnished.{Stock, stock}
 use Rattle.file_service.specs.Node.{value_of}
 use Rattle.file_service.specs.Session.{served_in, Finds}
-use Rattle.file_service.proofs.SearchLemmas.{found_named, found_long, found_has}
+use Rattle.file_service.proofs.SearchLemmas.{found_named, found_long}
 use Rattle.file_service.proofs.ServeLemmas.{serves_same, write_gap}
-use Rattle.file_service.proofs.WriteLemmas.{nothing_told, over_served}
 use Rattle.file_service.proofs.session.FileSession.write.Goals.{In_ok-found}
 use Rattle.file_service.proofs.session.FileSession.write.Goals as goal
 
@@ -22,10 +20,10 @@ finds c =
     let was : Stock = stock c.args.self.now.heap c.args.sliced.now c.args.memory.now c.args.map.now in
     subst (λ o. IfSome o (Finds c.args.self.now was c.args.name.now)) (c.ok_or.ensures.ok_part ∙ ap result_ok c.in_ok-found.was) c.find.ensures.some
 
-pub returns-then-offset-size-clause-serves : goal.returns-then-offset-size-clause-serves
-returns-then-offset-size-clause-serves c =
+pub returns-then-offset-found-clause-serves : goal.returns-then-offset-found-clause-serves
+returns-then-offset-found-clause-serves c =
     let was : Stock = stock c.args.self.now.heap c.args.sliced.now c.args.memory.now c.args.map.now in
-    let found = finds (goal.at.returns-then-offset-size-clause-serves c).In_ok-found in
+    let found = finds (goal.at.returns-then-offset-found-clause-serves c).In_ok-found in
     let previous = c.in_ok-found.found.previous in
     let address = c.in_ok-found.found.address in
     let node = value_of c.in_ok-found.found.node in
@@ -34,29 +32,3 @@ returns-then-offset-size-clause-serves c =
     c.requires.files c.find.ensures.memory
     (write_gap c.args.name.now c.args.self.now was c.args.offset c.args.bytes.now (file_at was.nodes was.contents address)
     (found_named c.args.self.now.first c.args.self.now.last was.nodes was.contents c.args.name.now previous address node found) (omega (arith, long)))
-
-pub write_content-requires-clause-there : goal.write_content-requires-clause-there
-write_content-requires-clause-there c =
-    let was : Stock = stock c.args.self.now.heap c.args.sliced.now c.args.memory.now c.args.map.now in
-    let found = finds (goal.at.write_content-requires-clause-there c).In_ok-found in
-    let node = value_of c.in_ok-found.found.node in
-    subst (λ m. HasBytes (stock c.args.self.now.heap c.args.sliced.now m c.args.map.now).contents node.content c.args.offset (length c.args.bytes.now)) (sym c.find.ensures.memory)
-    (found_has c.args.self.now.first c.args.self.now.last was.nodes was.contents c.args.name.now c.in_ok-found.found.previous c.in_ok-found.found.address node found
-    c.args.offset (length c.args.bytes.now) (omega arith) (omega arith))
-
-pub returns-then-count-gt0-clause-serves : goal.returns-then-count-gt0-clause-serves
-returns-then-count-gt0-clause-serves c =
-    let was : Stock = stock c.args.self.now.heap c.args.sliced.now c.args.memory.now c.args.map.now in
-    let now : Stock = stock c.args.self.now.heap c.args.sliced.now c.write_content.new.memory c.args.map.now in
-    let found = finds (goal.at.returns-then-count-gt0-clause-serves c).In_ok-found in
-    let node = value_of c.in_ok-found.found.node in
-    over_served c.args.self.now was _ _ _ node found c.args.offset c.args.bytes.now (omega arith) (omega arith) now
-    (c.write_content.ensures.written ∙ ap (λ m. content_written node.content c.args.offset c.args.bytes.now (stock c.args.self.now.heap c.args.sliced.now m c.args.map.now)) c.find.ensures.memory)
-
-pub returns-else-count-gt0-clause-serves : goal.returns-else-count-gt0-clause-serves
-returns-else-count-gt0-clause-serves c =
-    let was : Stock = stock c.args.self.now.heap c.args.sliced.now c.args.memory.now c.args.map.now in
-    let found = finds (goal.at.returns-else-count-gt0-clause-serves c).In_ok-found in
-    serves_same (served_in (Write c.args.name.now c.args.offset c.args.bytes.now) c.args.self.now was) _ c.args.self.now c.args.sliced.now c.args.memory.now c.find.new.memory c.args.map.now
-    c.requires.files c.find.ensures.memory
-    (nothing_told c.args.self.now was _ _ _ _ found c.args.offset c.args.bytes.now (omega arith) (omega arith))

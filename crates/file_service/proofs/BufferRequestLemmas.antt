@@ -1,0 +1,148 @@
+-- Requests of the buffer: why they are refused, and what they leave of a session.
+use Rattle.std.proofs.Common.{◌≡◌, ℕ, ◌+◌, ◌<◌, ◌≤◌, true, false, List, [], ◌++◌, length, take, drop, Option, Some, None, refl, sym, ap, subst, ◌∙◌, arith}
+use Rattle.std.proofs.lemmas.Bool.Decides.{nat_tests}
+use Rattle.std.specs.Prelude.{nat_lt}
+use Rattle.std.specs.Option.{option_map}
+use Rattle.trade_base.specs.Bytes.{with_bytes}
+use Rattle.trade_base.proofs.BytesLemmas.{with_bytes-nothing}
+use Rattle.own_model.specs.Account.{Account}
+use Rattle.own_model.specs.BufferService.{BufferServed, beside, range_refusal, part_of, put, got, session_request}
+use Rattle.own_model.specs.BufferService.SessionRequest.{OfFiles}
+use Rattle.own_model.specs.FileService.{File, Files, FileServed, told, written}
+use Rattle.own_model.specs.FileText as model
+use Rattle.own_model.specs.FileText.{file_reply}
+use Rattle.own_model.specs.FileText.FileError.{Gap}
+use Rattle.own_model.specs.FileText.FileReply.{Count, Refused}
+use Rattle.region_map.specs.Regions.{Regions}
+use Rattle.dataspace_core.specs.Store.{Store, space_at}
+use Rattle.sliced_heap.specs.declared.heap.SlicedHeap.{SlicedHeap}
+use Rattle.server_frame.specs.Lent.{bytes_lent}
+use Rattle.server_frame.specs.Session.{holding_of}
+use Rattle.server_frame.specs.Told.{Told, nothing_told}
+use Rattle.server_frame.specs.declared.effect.Effect.TheVariants.{Nothing}
+use Rattle.session_proto.specs.File.{model_request}
+use Rattle.session_proto.specs.declared.file.FileRequest.{FileRequest}
+use Rattle.file_service.specs.Furnished.{Stock, stock, KeepsSession, StaysFurnished}
+use Rattle.file_service.specs.Lent.{FillsBuffer, HasBuffer, buffer_key}
+use Rattle.file_service.specs.Session.{files_in, served_in, session_served, Answers, HasFiles, IsAnswered, IsReady, Leaves, LeavesSession, Serves}
+use Rattle.file_service.specs.declared.session.FileSession.{FileSession}
+use Rattle.file_service.specs.declared.session.Lent.{Lent}
+use Rattle.file_service.proofs.RequestLemmas.{told_text}
+use Rattle.file_service.proofs.SourceLemmas.{buffer_kept, buffer_same}
+
+-- ---- why a put or a get is refused
+
+module _ (offset place count : ℕ) (buffer : Option (List ℕ)) (files : Files) (account : Account) (file : File) where
+  pub put_gap : length file.bytes < offset → put offset place count buffer (Some file) files account ≡ beside buffer (told (Refused Gap) files account)
+  put_gap above = let t : nat_lt (length file.bytes) offset ≡ true = grind (arith, nat_tests) in rw t refl
+
+  pub got_gap : length file.bytes < offset → got offset place count buffer (Some file) files account ≡ beside buffer (told (Refused Gap) files account)
+  got_gap above = let t : nat_lt (length file.bytes) offset ≡ true = grind (arith, nat_tests) in rw t refl
+
+  module _ (low : offset ≤ length file.bytes) where
+    no_gap : nat_lt (length file.bytes) offset ≡ false
+    no_gap = grind (arith, nat_tests)
+
+    pub put_range : (e : model.FileError) → range_refusal place count buffer ≡ Some e → put offset place count buffer (Some file) files account ≡ beside buffer (told (Refused e) files account)
+    put_range e bad = rw (no_gap, bad) refl
+
+    pub got_range : (e : model.FileError) → range_refusal place count buffer ≡ Some e → got offset place count buffer (Some file) files account ≡ beside buffer (told (Refused e) files account)
+    got_range e bad = rw (no_gap, bad) refl
+
+    pub put_done : range_refusal place count buffer ≡ None → put offset place count buffer (Some file) files account ≡ beside buffer (written offset (part_of buffer place count) (Some file) files account)
+    put_done good = rw (no_gap, good) refl
+
+    pub got_done : (part : List ℕ) → range_refusal place count buffer ≡ None → take count (drop offset file.bytes) ≡ part →
+        got offset place count buffer (Some file) files account ≡ beside (option_map (λ bytes. with_bytes bytes place part) buffer) (told (Count (length part)) files account)
+    got_done part good is = rw (no_gap, good, is) refl
+
+-- a range that isn't refused is in the buffer
+pub range_within : (place count : ℕ) (bytes : List ℕ) → range_refusal place count (Some bytes) ≡ None → place + count ≤ length bytes
+range_within place count bytes good = grind (arith, nat_tests)
+
+-- nothing is put into a buffer
+pub nothing_got : (buffer : Option (List ℕ)) (place : ℕ) → option_map (λ bytes. with_bytes bytes place []) buffer ≡ buffer
+nothing_got None place = refl
+nothing_got (Some bytes) place = ap Some (with_bytes-nothing bytes place)
+
+-- what is read of a text is its request
+pub read_as : (text : List ℕ) (read request : FileRequest) → read ≡ request → Some (model_request read) ≡ session_request text → session_request text ≡ Some (model_request request)
+read_as text read request same is = sym is ∙ ap (λ r. Some (model_request r)) same
+
+-- ---- what they leave
+
+module _ {session : FileSession} {sliced : SlicedHeap} {store : Store} {regions : Regions} (ready : IsReady session sliced store regions) where
+  abbrev has : Stock
+  has = stock session.heap sliced store regions
+
+  abbrev lends : Option (List ℕ)
+  lends = bytes_lent store (buffer_key session.buffer)
+
+  -- a reply that leaves all
+  pub told_all : (reply : model.FileReply) (served : BufferServed) → served ≡ beside lends (told reply (files_in session has) has.account) → Answers served reply session session sliced store regions
+  told_all reply served is = record {
+    reply_is = ap (λ (o : BufferServed). o.reply) (sym is);
+    leaves = record {
+      ready = ready;
+      account = ap (λ (o : BufferServed). o.account) (sym is);
+      files = ap (λ (o : BufferServed). o.files) (sym is);
+      buffer = ap (λ (o : BufferServed). o.buffer) (sym is);
+      label = refl;
+    };
+  }
+
+  -- a request of files leaves the buffer
+  pub files_leave : {later : FileSession} {now : SlicedHeap} {new : Store} {after : Regions} (served : FileServed) → KeepsSession sliced later.heap now store new regions after →
+      Leaves served session later (stock later.heap now new after) → LeavesSession (beside lends served) session later now new after
+  files_leave {later} {now} {new} {after} served keeps leaves = record {
+    ready = record {
+      furnished = keeps.stays.furnished;
+      files = leaves.kept;
+      lent = subst (λ b. HasBuffer b (holding_of now new after)) (sym leaves.own.buffer) (buffer_kept ready.furnished keeps session.buffer ready.lent);
+    };
+    account = leaves.account;
+    files = leaves.files;
+    buffer = ap (λ b. bytes_lent new (buffer_key b)) leaves.own.buffer ∙ buffer_same ready.furnished keeps session.buffer ready.lent;
+    label = leaves.own.label;
+  }
+
+  -- a get fills the buffer
+  pub got_filled : (lent : Lent) (place n : ℕ) (bytes part : List ℕ) (served : BufferServed) {new : Store} → session.buffer ≡ Some lent →
+      FillsBuffer lent place bytes (stock session.heap sliced store regions) (stock session.heap sliced new regions) (holding_of sliced new regions) store new →
+      StaysFurnished sliced session.heap sliced store new regions regions → bytes ≡ part → length part ≡ n →
+      served ≡ beside (option_map (λ b. with_bytes b place part) lends) (told (Count (length part)) (files_in session has) has.account) →
+      Answers served (Count n) session session sliced new regions
+  got_filled lent place n bytes part served {new} lent_is filled stays same long is = record {
+    reply_is = ap (λ k. file_reply (Count k)) (sym long) ∙ ap (λ (o : BufferServed). o.reply) (sym is);
+    leaves = record {
+      ready = record {
+        furnished = stays.furnished;
+        files = subst (HasFiles session) (sym filled.stock) ready.files;
+        lent = subst (λ b. HasBuffer b (holding_of sliced new regions)) (sym lent_is) filled.stands;
+      };
+      account = ap (λ (s : Stock). s.account) filled.stock ∙ ap (λ (o : BufferServed). o.account) (sym is);
+      files = ap (files_in session) filled.stock ∙ ap (λ (o : BufferServed). o.files) (sym is);
+      buffer =
+          ap (λ b. bytes_lent new (buffer_key b)) lent_is
+          ∙ ap Some (filled.filled ∙ ap (with_bytes (space_at store lent.space.0).bytes place) same)
+          ∙ sym (ap (λ b. option_map (λ l. with_bytes l place part) (bytes_lent store (buffer_key b))) lent_is)
+          ∙ ap (λ (o : BufferServed). o.buffer) (sym is);
+      label = refl;
+    };
+  }
+
+  -- ---- what is told
+
+  -- a request of files is answered as it is served, and does nothing to the buffer
+  pub files_answered : {later : FileSession} {now : SlicedHeap} {new : Store} {after : Regions} (text : List ℕ) (request : model.FileRequest) (reply : model.FileReply) (told_now told_then : Told) →
+      session_request text ≡ Some (OfFiles request) → KeepsSession sliced later.heap now store new regions after →
+      Serves (served_in request session has) reply session later (stock later.heap now new after) →
+      told_then ≡ record told_now { text = told_now.text ++ file_reply reply } → told_now ≡ nothing_told →
+      IsAnswered (session_served (session_request text) session sliced store regions) Nothing told_then session later sliced now store new regions after
+  files_answered {later} {now} {new} {after} text request reply told_now told_then reads keeps serves tells none =
+      subst (λ r. IsAnswered (session_served r session sliced store regions) Nothing told_then session later sliced now store new regions after) (sym reads) (record {
+        text = told_text told_then told_now reply _ tells none serves.reply_is;
+        leaves = files_leave (served_in request session has) keeps serves.leaves;
+        effect_is = ap buffer_key serves.leaves.own.buffer;
+        stays = keeps.stays;
+      })

@@ -1,0 +1,136 @@
+-- What a session lends stands aside: neither its files nor what is true of it goes by the buffer's bytes.
+use Rattle.std.proofs.Common.{◌≡◌, ◌≢◌, ℕ, ◌==◌, true, false, true≢false, eqb-true, List, length, drop, Some, is_some, refl, sym, ap, subst, ◌∙◌, arith, inl, inr}
+use Rattle.std.proofs.lemmas.Bool.{cases_eq}
+use Rattle.std.proofs.lemmas.Bool.Decides.{nat_tests}
+use Rattle.std.proofs.lemmas.Option.{none-some, same_Some}
+use Rattle.std.specs.Prelude.{Option, None}
+use Rattle.std.specs.Option.{option_map}
+use Rattle.std.specs.FinMap.{get, empty, len}
+use Rattle.own_model.specs.NatMap.{NatMap}
+use Rattle.own_model.specs.Moved.{moved_up}
+use Rattle.own_model.specs.OwnHeap.{OwnHeap}
+use Rattle.own_model.specs.Region.{Region}
+use Rattle.own_model.specs.Sliced.{sliced_header}
+use Rattle.own_model.proofs.NatMapLemmas.{picked_alike, get-insert_same, get-insert_other, some_of}
+use Rattle.own_model.proofs.Totals.{len-insert_at}
+use Rattle.region_map.specs.Regions.{of_no_heap}
+use Rattle.dataspace_core.specs.Share.{Share}
+use Rattle.heap_core.specs.Heap.{heap_in}
+use Rattle.heap_core.proofs.StayLemmas.{laid_same, value_same}
+use Rattle.heap_window.specs.Window.{block_region}
+use Rattle.heap_window.proofs.ShareLemmas.{in_numbered, told_region}
+use Rattle.sliced_heap.specs.Heap.{IsNoBlock}
+use Rattle.sliced_heap.specs.Sliced.{sliced_of, sliced_tag, is_sliced_tag, block_regions, payload_of}
+use Rattle.server_frame.specs.Lent.{LendsAside, AllLendAside, share_with}
+use Rattle.file_service.specs.Files.{AreFiles, files_of}
+use Rattle.file_service.specs.Furnished.{IsShare, HoldsNodes, is_lent_tag}
+use Rattle.file_service.specs.Lent.{StandsLent, KeepsBuffer, buffer_key}
+use Rattle.own_model.specs.Session.{Labelled}
+use Rattle.own_model.specs.Session.ServiceState.{Filing}
+use Rattle.file_service.specs.Session.{IsSession, value_of}
+use Rattle.file_service.specs.declared.session.FileSession.{FileSession}
+use Rattle.file_service.specs.declared.session.Lent.{Lent}
+
+-- what passes for a number is that number
+lent_is : (o : Option ℕ) → is_lent_tag o ≡ true → o ≡ Some of_no_heap
+lent_is None e = absurd (true≢false (sym e))
+lent_is (Some k) e = ap Some (eqb-true k of_no_heap e)
+
+sliced_is : (o : Option ℕ) → is_sliced_tag o ≡ true → o ≡ Some sliced_tag
+sliced_is None e = absurd (true≢false (sym e))
+sliced_is (Some k) e = ap Some (eqb-true k sliced_tag e)
+
+module _ (session : FileSession) (lent : Lent) (share : Share) (is : IsSession session share) (stands : StandsLent lent share) (same : session.buffer ≡ Some lent) where
+  abbrev region : Region
+  region = record { of = lent.space.0; pages = stands.pages }
+
+  in_lent : (is_lent_tag (get share.tags lent.start) ≡ true) × (get share.heap lent.start ≡ Some region)
+  in_lent = in_numbered is_lent_tag share.heap share.tags lent.start region (ap (λ (m : NatMap Region). get m lent.start) stands.region ∙ get-insert_same empty lent.start region lent.start refl)
+
+  holds : HoldsNodes session.heap share
+  holds = is.nodes stands.possible
+
+  there : (bytes : List ℕ) × (get share.part.spaces lent.space.0 ≡ Some bytes)
+  there = some_of (get share.part.spaces lent.space.0) (stands.possible.paid lent.start region in_lent.1)
+
+  -- no region of another number shows the buffer
+  apart : (s k : ℕ) (r : Region) → get share.heap s ≡ Some r → get share.tags s ≡ Some k → (k == of_no_heap) ≡ false → r.of ≢ lent.space.0
+  apart s k r at tag other e =
+      let here = stands.possible.once s lent.start r region at in_lent.1 e in
+      let same_tag = same_Some k of_no_heap (sym tag ∙ ap (get share.tags) here ∙ lent_is _ in_lent.0) in
+      grind (arith, nat_tests)
+
+  no_block : IsNoBlock share lent.space.0
+  no_block s r block = let at = in_numbered is_sliced_tag share.heap share.tags s r block in apart s sliced_tag r at.1 (sliced_is _ at.0) refl
+
+  -- with other bytes in it
+  module _ (bytes : List ℕ) where
+    abbrev T : Share
+    T = share_with lent.space.0 bytes share
+
+    stands_still : (s : ℕ) → block_region T s ≡ block_region share s
+    stands_still s = refl
+
+    chunks_same : (s k : ℕ) (r : Region) → block_region share s ≡ Some (r, k) → get T.part.spaces r.of ≡ get share.part.spaces r.of
+    chunks_same s k r block =
+        let at = told_region share s k r block in
+        let low = at.few in
+        get-insert_other share.part.spaces lent.space.0 bytes r.of (apart s k r at.there at.tag (grind (arith, nat_tests)))
+
+    nodes_same : heap_in session.heap T ≡ heap_in session.heap share
+    nodes_same = value_same session.heap share T holds.laid stands_still chunks_same
+
+    contents_same : sliced_of T ≡ sliced_of share
+    unfolding sliced_of
+    contents_same =
+        ap (moved_up sliced_header) (picked_alike (payload_of T.part.spaces) (payload_of share.part.spaces) (block_regions share)
+        (λ s r block. ap (option_map (drop sliced_header)) (get-insert_other share.part.spaces lent.space.0 bytes r.of (no_block s r block))))
+
+    value_still : value_of session T ≡ value_of session share
+    value_still = λ i. value_by (nodes_same i) (contents_same i) where
+      value_by : OwnHeap → NatMap (List ℕ) → Labelled
+      value_by nodes contents = record { label = session.label.items; state = Filing (files_of session.first nodes contents) }
+
+    possible : IsShare T
+    possible = record {
+      paid = λ s r at. elim (cases_eq r.of lent.space.0) [
+        | inl here ↦ ap is_some (get-insert_same share.part.spaces lent.space.0 bytes r.of here)
+        | inr other ↦ ap is_some (get-insert_other share.part.spaces lent.space.0 bytes r.of other) ∙ stands.possible.paid s r at
+      ];
+      once = stands.possible.once;
+    }
+
+    buffer_still : StandsLent lent T
+    buffer_still = record { possible = possible; pages = stands.pages; region = stands.region }
+
+    kept_still : IsSession session T
+    kept_still = record {
+      nodes = λ _. record {
+        laid = laid_same session.heap share T holds.laid stands_still chunks_same;
+        no_large = ap (λ (h : OwnHeap). h.large) nodes_same ∙ holds.no_large;
+        all = let few = len-insert_at share.part.spaces lent.space.0 bytes there.0 there.1 in
+            let chunks = ap (λ (h : OwnHeap). length h.shape.chunks) nodes_same in
+            let contents = ap len contents_same in
+            let all = holds.all in
+            omega (arith, few, chunks, contents, all);
+      };
+      files = subst (λ (h : OwnHeap). AreFiles session.first session.last h (sliced_of T)) (sym nodes_same) (subst (λ m. AreFiles session.first session.last (heap_in session.heap share) m) (sym contents_same) is.files);
+      buffer = subst (λ b. KeepsBuffer b T) (sym same) buffer_still;
+    }
+
+  aside : LendsAside IsSession value_of session share lent.space.0
+  aside = record {
+    paid = ap is_some there.1;
+    no_block = no_block;
+    kept_still = λ bytes long. kept_still bytes;
+    value_same = λ bytes long. value_still bytes;
+  }
+
+by_buffer : (session : FileSession) (share : Share) (ds : ℕ) (b : Option Lent) → session.buffer ≡ b → IsSession session share → buffer_key b ≡ Some ds → LendsAside IsSession value_of session share ds
+by_buffer session share ds None same is lends = absurd (none-some ds lends)
+by_buffer session share ds (Some lent) same is lends =
+    subst (LendsAside IsSession value_of session share) (same_Some lent.space.0 ds lends) (aside session lent share is (subst (λ b. KeepsBuffer b share) same is.buffer) same)
+
+-- all that the file service lends does
+pub lends_aside : AllLendAside IsSession value_of (λ (session : FileSession). buffer_key session.buffer)
+lends_aside session share ds is lends = by_buffer session share ds session.buffer refl is lends
