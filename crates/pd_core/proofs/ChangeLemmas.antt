@@ -1,6 +1,6 @@
 -- A change of the core, whichever call makes it: what it has to say of the caller, of the one session that it touches and of
 -- the accounts, and that the core stays sound.
-use Rattle.std.proofs.Common.{◌≡◌, ◌≢◌, ℕ, ◌≤◌, Some, refl, sym, ap, subst, ◌∙◌, inl, inr}
+use Rattle.std.proofs.Common.{◌≡◌, ◌≢◌, ℕ, ◌≤◌, Some, refl, sym, ap, subst, ◌∙◌, inl, inr, None}
 use Rattle.std.proofs.lemmas.Bool.{cases_eq}
 use Rattle.std.specs.FinMap.{get}
 use Rattle.std.specs.Option.{option_map}
@@ -42,6 +42,7 @@ pub record Follows (store : Store) (before : Role) (store' : Store) (after : Rol
 pub record IsTouched (store : Store) (roles : Roles) (i server id : ℕ) (was is : Option (Row Labelled)) : Type 0 where
   pub was_its : (row : Row Labelled) → was ≡ Some row → Pays (roles i) row.client
   pub is_its : (row : Row Labelled) → is ≡ Some row → Pays (roles i) row.client
+  pub unlent : (row : Row Labelled) → is ≡ Some row → row.buffer ≡ None
   pub alone : (account : ℕ) → option_map (λ (row : Row Labelled). row.key) is ≡ Some account → (owner : Owner) → Owns store roles owner account → owner ≡ SessionAt server id
 
 -- the component at a place changes, and perhaps one session of it, under a key of the server at another place; the other roles
@@ -137,6 +138,12 @@ module _ {i s key : ℕ} {store store' : Store} {roles roles' : Roles} (core : I
     | inr touched ↦ not_place i (core.apart Init (Place i) (root_in store) refl (subst (Pays (roles i)) (e ∙ changes.root) (touched.1.is_its row there)))
   ]
 
+  unlent_after : (server id : ℕ) (row : Row Labelled) → get (rows_at store' roles' server) id ≡ Some row → row.buffer ≡ None
+  unlent_after server id row there = elim (each_row server id) [
+    | inl same ↦ core.unlent server id row (sym same ∙ there)
+    | inr touched ↦ touched.1.unlent row there
+  ]
+
   named_after : (k : ℕ) → k ≢ i → NamesItsSessions (rows_at store' roles') (roles' k)
   named_after k other =
       let follows = changes.others k other in
@@ -182,6 +189,7 @@ module _ {i s key : ℕ} {store store' : Store} {roles roles' : Roles} (core : I
     children = λ k account pays. changes.children k account (was_place k account pays) pays ∙ core.children k account (was_place k account pays) ∙ ap Some (sym changes.root);
     apart = apart_after;
     clients = clients_after;
+    unlent = unlent_after;
     named = at_each (λ k. NamesItsSessions (rows_at store' roles') (roles' k)) changes.named named_after;
     placed = at_each (λ k. HasPlaces (sessions_in store' roles') store' (roles' k)) changes.placed (λ k other.
         subst (λ o. IfSome o (λ places. caps_limits (own_in (sessions_in store' roles') store' (roles' k)) ≤ places)) (sym (changes.others k other).places)

@@ -127,6 +127,7 @@ module _ {store : Store} {roles : Roles} {i s : ℕ} {script : Script} (two : Ar
       there = its.there;
       client = λ r is. ap (λ (x : Row Labelled). x.client) (sym (same_Some row r is)) ∙ sym its.client;
       key = λ r is. ap (λ (x : Row Labelled). x.key) (sym (same_Some row r is));
+      unlent = λ r is. core.unlent s session.0 r (its.there ∙ is);
     }
 
     -- its account is its client's child
@@ -172,10 +173,10 @@ module _ {store : Store} {roles : Roles} {i s : ℕ} {script : Script} (two : Ar
           }
 
       -- its row is written
-      pub changes_written : {next : Row Labelled} {rows' : NatMap (Row Labelled)} → next.client ≡ row.client → next.key ≡ row.key → rows' ≡ insert rows session.0 next →
+      pub changes_written : {next : Row Labelled} {rows' : NatMap (Row Labelled)} → next.client ≡ row.client → next.key ≡ row.key → next.buffer ≡ None → rows' ≡ insert rows session.0 next →
           MovesAccounts payer row.key store store' → IsSoundScript store' script → ram_limits_in store' ≡ ram_limits_in store →
           ChangesSession row.key s q session store store' script script rows rows' (Some row) (Some next)
-      changes_written {next} {rows'} client key written moves sound ram = record {
+      changes_written {next} {rows'} client key unlent written moves sound ram = record {
         moves = moves;
         ram = ram;
         sound = sound;
@@ -189,6 +190,7 @@ module _ {store : Store} {roles : Roles} {i s : ℕ} {script : Script} (two : Ar
           there = ap (λ (m : NatMap (Row Labelled)). get m session.0) written ∙ get-insert_same rows session.0 next session.0 refl;
           client = λ r is. ap (λ (x : Row Labelled). x.client) (sym (same_Some next r is)) ∙ client ∙ sym its.client;
           key = λ r is. ap (λ (x : Row Labelled). x.key) (sym (same_Some next r is)) ∙ key;
+          unlent = λ r is. ap (λ (x : Row Labelled). x.buffer) (sym (same_Some next r is)) ∙ unlent;
         };
         below = λ _ _. refl;
       }
@@ -234,6 +236,7 @@ module _ {store : Store} {roles : Roles} {i s : ℕ} {script : Script} (two : Ar
             there = ap (λ (m : NatMap (Row Labelled)). get m session.0) written ∙ get-remove_same rows session.0 session.0 refl;
             client = λ r is. absurd (none-some r is);
             key = λ r is. absurd (none-some r is);
+            unlent = λ r is. absurd (none-some r is);
           };
           below = λ other is. absurd (key_gone other is);
         }
@@ -290,12 +293,13 @@ module _ {store : Store} {roles : Roles} {i s : ℕ} {script : Script} (two : Ar
         places = refl;
         caps_stay = λ p other. get-insert_other script.caps.caps selector (Session s session) p other;
         rows_stay = λ id other. ap (λ (m : NatMap (Row Labelled)). get m id) opens.sessions ∙ get-insert_other rows session.0 first_row id other;
-        tied = record { names = ap session_at free; there = opens.free; client = λ r is. absurd (none-some r is); key = λ r is. absurd (none-some r is) };
+        tied = record { names = ap session_at free; there = opens.free; client = λ r is. absurd (none-some r is); key = λ r is. absurd (none-some r is); unlent = λ r is. absurd (none-some r is) };
         tied_after = record {
           names = ap session_at (get-insert_same script.caps.caps selector (Session s session) selector refl);
           there = ap (λ (m : NatMap (Row Labelled)). get m session.0) opens.sessions ∙ get-insert_same rows session.0 first_row session.0 refl;
           client = λ r is. ap (λ (x : Row Labelled). x.client) (sym (same_Some first_row r is));
           key = λ r is. ap (λ (x : Row Labelled). x.key) (sym (same_Some first_row r is));
+          unlent = λ r is. ap (λ (x : Row Labelled). x.buffer) (sym (same_Some first_row r is));
         };
         below = λ _ _. refl;
       }

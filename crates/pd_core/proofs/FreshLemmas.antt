@@ -289,6 +289,7 @@ module _ (store : Store) (components : List Component) (fresh : AreFresh store c
         subst (λ n. IsChildIn store n (root_in store)) (at.1 d) (fresh.each k d at.0).child;
     apart = apart;
     clients = λ server id row there. no_row server id row there;
+    unlent = λ server id row there. no_row server id row there;
     named = all_roles (λ _ r. NamesItsSessions (rows_at store roles) r) components
         (λ _. record { its = λ q server session is. absurd (none-some (server, session) (sym (ap session_at (get-empty q)) ∙ is)); once = λ p q server a b is _ _. absurd (none-some (server, a) (sym (ap session_at (get-empty p)) ∙ is)) })
         (λ k h d. fresh_named store _ (fresh.each k d h) (rows_at store roles));

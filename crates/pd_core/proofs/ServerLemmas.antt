@@ -79,13 +79,6 @@ paid_in store (ALog account server) works id row there = row_paid log_value log_
 paid_in store (AFiles account server) works id row there = row_paid files_value files_buffer IsFilesKept server.sessions store server.map works id row there
 paid_in store AGone works id row there = absurd (none-some row (sym (get-empty id) ∙ there))
 
--- no session lends anything
-pub lends_nothing : (store : Store) (role : Role) (id : ℕ) (row : Row Labelled) → get (rows_in store role) id ≡ Some row → row.buffer ≡ None
-lends_nothing store (AScript script) id row there = absurd (none-some row (sym (get-empty id) ∙ there))
-lends_nothing store (ALog account server) id row there = sym (ap (λ (r : Row Labelled). r.buffer) (row_is log_value log_buffer server.sessions store server.map id row there).is)
-lends_nothing store (AFiles account server) id row there = sym (ap (λ (r : Row Labelled). r.buffer) (row_is files_value files_buffer server.sessions store server.map id row there).is)
-lends_nothing store AGone id row there = absurd (none-some row (sym (get-empty id) ∙ there))
-
 -- ---- servers
 
 -- a sound role works

@@ -65,12 +65,13 @@ pub record MovesAccounts (payer account : ℕ) (old new : Store) : Type 0 where
   pub caps : caps_limits_in new ≡ caps_limits_in old
   pub room : HasRoom new
 
--- a selector names a session of a client on an account, where there is a row of it, and else names none
+-- a selector names a session of a client on an account, where there is a row of it, which lends nothing, and else names none
 pub record IsTied (payer account s q : ℕ) (session : SessionId) (caps : NatMap Cap) (rows : NatMap (Row Labelled)) (row : Option (Row Labelled)) : Type 0 where
   pub names : session_at (get caps q) ≡ option_map (λ _. (s, session)) row
   pub there : get rows session.0 ≡ row
   pub client : (r : Row Labelled) → row ≡ Some r → r.client ≡ payer
   pub key : (r : Row Labelled) → row ≡ Some r → r.key ≡ account
+  pub unlent : (r : Row Labelled) → row ≡ Some r → r.buffer ≡ None
 
 -- a call of one session, from one row to another or none: no other selector and no other row changes
 pub record ChangesSession (account s q : ℕ) (session : SessionId) (old new : Store) (before after : Script) (rows rows' : NatMap (Row Labelled)) (was is : Option (Row Labelled)) : Type 0 where
@@ -319,6 +320,7 @@ module _ {store : Store} {roles : Roles} {i s : ℕ} {script : Script} (two : Ar
       row = inr (record {
         was_its = λ row there. subst (λ r. Pays r row.client) (sym is_script) (sym (changes.tied.client row (sym changes.tied.there ∙ there)));
         is_its = λ row there. subst (λ r. Pays r row.client) (sym is_script) (sym (changes.tied_after.client row (sym now_there ∙ there)));
+        unlent = λ row there. changes.tied_after.unlent row (sym now_there ∙ there);
         alone = λ one its owner owns. alone owner (subst (Owns store roles owner) (tied_key is changes.tied_after one (ap (option_map (λ (r : Row Labelled). r.key)) (sym now_there) ∙ its)) owns);
       });
       named = subst (NamesItsSessions (rows_at store' roles')) (sym replaced.client_at) named_after;

@@ -66,7 +66,7 @@ no_text_makes : (request : Option FileRequest) (files : Files) (account : Accoun
 no_text_makes None files account = refl
 no_text_makes (Some request) files account = refl
 
-none_lent : (x : AnOpenSession) (request : List ℕ) → (served None x request).buffer ≡ None
+pub none_lent : (x : AnOpenSession) (request : List ℕ) → (served None x request).buffer ≡ None
 none_lent x request = by_state x.state where
   by_state : (state : ServiceState) → (served_by state None x request).buffer ≡ None
   by_state (Logging partial) = refl

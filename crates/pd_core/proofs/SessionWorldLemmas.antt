@@ -43,10 +43,11 @@ use Rattle.pd_core.specs.declared.component.Role.{Role}
 use Rattle.pd_core.specs.declared.component.Role.TheVariants.{Script as AScript, Log as ALog, Files as AFiles, Gone as AGone}
 use Rattle.pd_core.specs.declared.script.Script.{Script}
 use Rattle.pd_core.proofs.PlainLemmas.{face_is}
-use Rattle.pd_core.proofs.ServerLemmas.{paid_in, lends_nothing}
+use Rattle.pd_core.proofs.ServerLemmas.{paid_in}
 use Rattle.pd_core.proofs.ClientServerLemmas.{its as its_row, row_paid, names_session, row_alone, raise_moves, serve_moves, changes_written, changes_closed, script_sound}
 use Rattle.pd_core.proofs.SessionChangeLemmas.{AreTwo, ReplacesTwo, session_goes, two_places}
 use Rattle.pd_core.proofs.NamedSessionLemmas.{closes_done, upgrades_done, serves_done, upgrade_unread, upgrade_refused}
+use Rattle.pd_core.proofs.SessionStepLemmas.{none_lent}
 use Rattle.pd_core.proofs.SessionOwnLemmas.{is_step}
 use Rattle.pd_core.proofs.SessionRefusedLemmas.{named_script}
 use Rattle.pd_core.proofs.WorldLemmas.{face_of, face_set, place_of, refused_goes, role_at, role_set, role_kept}
@@ -160,28 +161,39 @@ module _ {store : Store} (components : List Component) {i s : ℕ} {script : Scr
 
   -- ---- what is lent: nothing
 
+  unlent : row.buffer ≡ None
+  unlent = two.core.unlent s session.0 row (its_row two q session names).there
+
   -- so no buffer is told of
   pub none_told : (told : Option DsId) → ((store : Store) (one : Row Labelled) → get (rows_of store host) session.0 ≡ Some one → key_of told ≡ one.buffer) → (space : DsId) → told ≡ Some space → ⊥
-  none_told told tells space is = none-some space.0 (sym (lends_nothing store host.role session.0 row there) ∙ sym (tells store row there) ∙ ap key_of is)
+  none_told told tells space is = none-some space.0 (sym unlent ∙ sym (tells store row there) ∙ ap key_of is)
 
   module _ (store' : Store) (host' : Component) (request : List ℕ) (effect : Effect)
       (served_by : (one : Row Labelled) → get (rows_of store host) session.0 ≡ Some one → ServesSession one session.0 effect (row_served service_step request store one) store store' (rows_of store host) (rows_of store' host')) where
-    -- none is made
+    -- the request is one of a session without a buffer, and leaves it without one
+    alone : row_served service_step request store row ≡ service_step request row.account None row.value
+    alone = ap (λ o. service_step request row.account (bytes_lent store o) row.value) unlent
+
+    still_unlent : {rows rows' : NatMap (Row Labelled)} (serves : ServesSession row session.0 effect (service_step request row.account None row.value) store store' rows rows') → serves.lent ≡ None
+    still_unlent serves = no_bytes serves.lent (serves.bytes ∙ none_lent (row_session row) request)
+        where
+          no_bytes : (lent : Option ℕ) → bytes_lent store' lent ≡ None → lent ≡ None
+          no_bytes None none = refl
+          no_bytes (Some key) none = absurd (none-some _ (sym none))
+
+    -- so none is made
     pub none_made : (space : DsId) → effect ≡ MakesBuffer space → ⊥
     none_made space is =
-        let serves = served_by row there in
-        let after = row_served service_step request store row in
-        let next : Row Labelled = record row { account = after.account; value = after.value; buffer = serves.lent } in
-        let now = ap (λ (m : NatMap (Row Labelled)). get m session.0) serves.sessions ∙ get-insert_same (rows_of store host) session.0 next session.0 refl in
+        let serves = subst (λ o. ServesSession row session.0 effect o store store' (rows_of store host) (rows_of store' host')) alone (served_by row there) in
         let does = subst (λ e. IsEffect e row.buffer serves.lent) is serves.effect_is in
-        none-some space.0 (sym (lends_nothing store' host'.role session.0 next now) ∙ does.1)
+        none-some space.0 (sym (still_unlent serves) ∙ does.1)
 
     -- and none is given back
     pub none_given : (space : DsId) → effect ≡ GivesBuffer space → ⊥
     none_given space is =
         let serves = served_by row there in
         let does = subst (λ e. IsEffect e row.buffer serves.lent) is serves.effect_is in
-        none-some space.0 (sym (lends_nothing store host.role session.0 row there) ∙ does.0)
+        none-some space.0 (sym unlent ∙ does.0)
 
   -- ---- refusals of an upgrade
 
@@ -247,7 +259,7 @@ module _ {store : Store} (components : List Component) {i s : ℕ} {script : Scr
         let moves = raise_moves two q session names store' more.ram more.caps (subst (λ k. RaisesPart k row.key more.ram more.caps store store') pays raises)
         (covers (account_in store script.account.0) more.ram more.caps (ap (λ k. shortage (account_in store k) more.ram more.caps) (sym pays) ∙ enough)) in
         session_goes components (set components s host') two d host_is (host_put components two host') (face_set components s host' e (face ∙ ap face_of read)) (row_alone two q session names)
-        (changes_written two q session names store' refl refl (written_by row there ∙ ap (λ r. insert (rows_in store r) session.0 next) (sym host_is)) moves done.sound stays.machine) stays
+        (changes_written two q session names store' refl refl unlent (written_by row there ∙ ap (λ r. insert (rows_in store r) session.0 next) (sym host_is)) moves done.sound stays.machine) stays
         rules (Upgrade q text) refl Done [] (told_alone (reply_text Done)) refl refl done.does
 
     -- a request is served on it
@@ -258,7 +270,7 @@ module _ {store : Store} (components : List Component) {i s : ℕ} {script : Scr
         Goes rules (CallSession q request) i written store components store' (set components s host')
     call_goes e read request effect written served_by text lines =
         let step = service_step request row.account None row.value in
-        let alone : row_served service_step request store row ≡ step = ap (λ o. service_step request row.account (bytes_lent store o) row.value) (lends_nothing store host.role session.0 row there) in
+        let alone : row_served service_step request store row ≡ step = alone store' host' request effect served_by in
         let serves_at = subst (λ o. ServesSession row session.0 effect o store store' (rows_of store host) (rows_of store' host')) alone (served_by row there) in
         let serves = subst (λ r. ServesSession row session.0 effect step store store' (rows_in store r) (rows_of store' host')) (sym host_is) serves_at in
         let next : Row Labelled = record row { account = step.account; value = step.value; buffer = serves.lent } in
@@ -269,5 +281,5 @@ module _ {store : Store} (components : List Component) {i s : ℕ} {script : Scr
         let done = serves_done store store' script (rows_in store (roles_of components s)) q s session (script_sound two) named stays.machine request
         (serves.others script.account.0 (λ same. (row_paid two q session names).apart (pays ∙ same))) in
         session_goes components (set components s host') two d host_is (host_put components two host') (face_set components s host' e (face ∙ ap face_of read)) (row_alone two q session names)
-        (changes_written two q session names store' refl refl serves.sessions (serve_moves two q session names store' serves paid.opens (ap (λ (a : Account). a.caps_limit) paid.account ∙ limit)) done.sound stays.machine) stays
+        (changes_written two q session names store' refl refl (still_unlent store' host' request effect served_by serves) serves.sessions (serve_moves two q session names store' serves paid.opens (ap (λ (a : Account). a.caps_limit) paid.account ∙ limit)) done.sound stays.machine) stays
         rules (CallSession q request) refl (AnswerTold (served None (row_session row) request).reply) (served None (row_session row) request).lines written (text row there ∙ ap (λ (o : Served Labelled). o.text) alone) (lines row there ∙ ap (λ (o : Served Labelled). o.lines) alone) done.does

@@ -15,6 +15,7 @@ use Rattle.dataspace_core.specs.Store.{Store, account_in}
 use Rattle.server_frame.specs.Frame.{Row}
 use Rattle.server_frame.specs.Session.{HasBlocksAlone}
 use Rattle.log_service.specs.Session.{LabelledLine, as_kept}
+use Rattle.file_service.specs.Lent.{buffer_key}
 use Rattle.file_service.specs.Session.{value_of, IsSession as IsFileSession}
 use Rattle.file_service.specs.declared.session.FileSession.{FileSession}
 use Rattle.pd_core.specs.Own.{Sessions, own_at}
@@ -37,9 +38,9 @@ IsLogKept line share = HasBlocksAlone share
 abbrev pub files_value : FileSession → Share → Labelled
 files_value session share = value_of session share
 
--- it lends nothing yet
+-- it lends its buffer
 abbrev pub files_buffer : FileSession → Option ℕ
-files_buffer session = None
+files_buffer session = buffer_key session.buffer
 
 -- all that it keeps of a session in the memory is blocks and nodes
 abbrev pub IsFilesKept : FileSession → Share → Type 0
