@@ -1,5 +1,5 @@
 //! Laws of sessions: what is charged to them, what servers keep for them, and that a close returns what was donated.
-ghost use Rattle.own_model.specs.LentLaws.{StartsLent, RunKeepsLent, BuffersStandAlone};
+ghost use Rattle.own_model.specs.LentLaws.{StartsLent, RunKeepsLent, BuffersStandAlone, GoneBuffersHaveNoRegions};
 ghost use Rattle.own_model.specs.SessionLaws.{StartsWithoutSessions, RunKeepsCharges, RunKeepsKept, SessionsStandAlone, LimitsAreDonations, ClosesReturnDonations};
 
 /// Nobody starts with a session. After any calls each session's account uses exactly what the session is charged for,
@@ -22,9 +22,10 @@ pub fn sessions_stand_alone()
 {}
 
 /// A buffer stays as it is but for the calls of its session, and for pokes found in its own regions, which change its bytes
-/// alone.
+/// alone. Where a call takes it from its client's selectors no region shows it any more.
 pub fn buffers_stand_alone()
-    ensures { BuffersStandAlone }
+    ensures alone { BuffersStandAlone }
+    ensures gone { GoneBuffersHaveNoRegions }
 {}
 
 /// What a close returns to its client is the sum of what the client named in the open that was accepted and in the upgrades
