@@ -6,7 +6,7 @@ use Rattle.std.specs.Prelude.{Option, None, Result, Ok, Err}
 use Rattle.std.specs.FinMap.{get, insert, remove}
 use Rattle.trade_base.specs.Page.{page_of}
 use Rattle.trade_base.specs.declared.refusal.Refusal.{Refusal}
-use Rattle.own_model.proofs.LentLemmas.{buffer_there, lent_still}
+use Rattle.own_model.proofs.LentLemmas.{lent_still}
 use Rattle.own_model.proofs.LentKeptLemmas.{one_session}
 use Rattle.own_model.proofs.NatMapLemmas.{get-empty, get-insert_same, get-insert_other, get-remove_other, apart_from_free, IsSome-at}
 use Rattle.own_model.proofs.NewSelector.{new_selector_free}
@@ -22,7 +22,7 @@ use Rattle.own_model.specs.LentLaws.{IsPoked, BuffersStandAlone, GoneBuffersHave
 use Rattle.own_model.specs.NatMap.{NatMap}
 use Rattle.own_model.specs.OwnState.{OwnState, Object, NamedBuffer, is_buffer_of, buffer_of, bytes_of_buffer, new_selector, pages_in, zeros, with_part, object_with, named_bytes, session_named}
 use Rattle.own_model.specs.OwnState.Object.{Dataspace, RpcObject, OpenSession, Buffer}
-use Rattle.own_model.specs.OwnStep.{Outcome, own_step, entry_step, unless, turned_away, allocated, freed, with_region, attached_first, attached_at, region_detached, count_refusal, peeked, poked, poked_at, cap_allocated, cap_freed, large_in, small_new, grown_in, newed, given_back, deleted, sliced_in, sliced_freed, own_heap_gap, payload_poked, block_poked, opened_by, session_opened, upgraded_by, session_upgraded, session_called, session_closed, selectors_lent, regions_lent}
+use Rattle.own_model.specs.OwnStep.{Outcome, entry_step, unless, turned_away, allocated, freed, with_region, attached_first, attached_at, region_detached, count_refusal, peeked, poked, poked_at, cap_allocated, cap_freed, large_in, small_new, grown_in, newed, given_back, deleted, sliced_in, sliced_freed, own_heap_gap, payload_poked, block_poked, opened_by, session_opened, upgraded_by, session_upgraded, session_called, session_closed, selectors_lent, regions_lent}
 use Rattle.own_model.specs.Place.{Place, found}
 use Rattle.own_model.specs.Place.Place.{InDataspace, InPayload, InBlock}
 use Rattle.own_model.specs.Region.{Region, without, most_regions, user_gap, attach_refusal, attach_at_refusal, detach_refusal, resolved}
