@@ -1,5 +1,6 @@
 -- What a request leaves under its session's selector and its buffer's, and what it is answered of a new buffer.
-use Rattle.std.proofs.Common.{◌≡◌, ◌≢◌, ◌⊎◌, inl, inr, ℕ, ◌++◌, List, length, take, drop, codes, decimal, is_some, IsSome, Some, refl, sym, ap, subst, ◌∙◌, true≢false}
+use Rattle.std.proofs.Common.{false, ◌≡◌, ◌≢◌, ◌⊎◌, inl, inr, ℕ, ◌++◌, List, length, take, drop, codes, decimal, is_some, IsSome, Some, refl, sym, ap, subst, ◌∙◌, true≢false, cond, eqb-true, ◌==◌}
+use Rattle.std.proofs.lemmas.Bool.{false_from_ne_true}
 use Rattle.std.proofs.lemmas.Option.{none-some, same_Some}
 use Rattle.std.specs.Prelude.{Option, None}
 use Rattle.std.specs.Option.{option_map}
@@ -7,8 +8,8 @@ use Rattle.std.specs.FinMap.{get, insert}
 use Rattle.trade_base.specs.Page.{page_of}
 use Rattle.own_model.proofs.ByteLemmas.{length-zeros}
 use Rattle.own_model.proofs.LentKeptLemmas.{lent_selectors, lent_session, none_left}
-use Rattle.own_model.proofs.LentLemmas.{buffer_is, buffer_none, only_buffer, apart_from_buffer, lent_still}
-use Rattle.own_model.proofs.NatMapLemmas.{get-insert_same, get-insert_other, alike_insert, apart_from_free}
+use Rattle.own_model.proofs.LentLemmas.{buffer_is, buffer_none, only_buffer, apart_from_buffer, buffer_there, lent_still}
+use Rattle.own_model.proofs.NatMapLemmas.{get-insert_same, get-insert_other, get-remove_other, get-picked_at, alike_insert, apart_from_free}
 use Rattle.own_model.proofs.NewSelector.{new_selector_free}
 use Rattle.own_model.specs.Account.{Account}
 use Rattle.own_model.specs.BufferService.{SessionRequest, BufferServed, beside, part_of, unless_refused, make_refusal, move_refusal, made, given_back, put, got, session_request, session_request_served}
@@ -17,11 +18,12 @@ use Rattle.own_model.specs.BufferService.SessionRequest.{OfFiles, OfBuffer}
 use Rattle.own_model.specs.FileService.{Files, File, file_named, written, told as answered}
 use Rattle.own_model.specs.FileText.{FileError}
 use Rattle.own_model.specs.FileText.FileReply.{Count}
-use Rattle.own_model.specs.LentLaws.{IsServed, RequestsAreServed, lent_under}
+use Rattle.own_model.specs.LentLaws.{IsServed, RequestsAreServed, LeavesOthers, SessionCallsLeaveOthers, lent_under}
 use Rattle.own_model.specs.NatMap.{NatMap}
 use Rattle.own_model.specs.OwnState.{OwnState, Object, NamedBuffer, is_buffer_of, buffer_of, bytes_of_buffer, new_selector, zeros, session_named}
 use Rattle.own_model.specs.OwnState.Object.{OpenSession, Buffer}
-use Rattle.own_model.specs.OwnStep.{selectors_lent, session_called, completed}
+use Rattle.own_model.specs.OwnStep.{selectors_lent, regions_lent, session_called, session_closed, completed}
+use Rattle.own_model.specs.Region.{Region}
 use Rattle.own_model.specs.Reply.Reply.{Told}
 use Rattle.own_model.specs.Session.{Session, ServiceState, served, served_by}
 use Rattle.own_model.specs.Session.ServiceState.{Logging, Filing}
@@ -137,3 +139,38 @@ pub requests_served : RequestsAreServed
 requests_served s q x request lent there =
     let old = buffer_of q s.selectors in
     subst (λ found. IsServed q old (served (bytes_of_buffer old) x request) s (session_called q found request s)) (ap session_named (sym there)) (served_so s q x request lent there)
+
+-- ---- what a call of a session leaves
+
+-- regions of anything but the buffer stay
+regions_still : (s : OwnState) (q : ℕ) (old : Option NamedBuffer) (new : Option (List ℕ)) → buffer_of q s.selectors ≡ old → (start : ℕ) (region : Region) → get s.regions start ≡ Some region →
+    is_buffer_of q (get s.selectors region.of) ≡ false → get (regions_lent old new s.regions) start ≡ Some region
+regions_still s q None new found start region is other = is
+regions_still s q (Some b) (Some bytes) found start region is other = is
+regions_still s q (Some b) None found start region is other =
+    let apart = false_from_ne_true (region.of == b.selector) (λ same. true≢false (
+    sym (buffer_is q b.bytes) ∙ ap (is_buffer_of q) (sym (buffer_there q s.selectors b found) ∙ ap (get s.selectors) (sym (eqb-true region.of b.selector same))) ∙ other)) in
+    get-picked_at (λ r. cond (r.of == b.selector) None (Some r)) s.regions start region is ∙ ap (λ t. cond t None (Some region)) apart
+
+served_leaves : (s : OwnState) (q : ℕ) (found : Option Session) (request : List ℕ) → LeavesOthers q s (session_called q found request s).next
+served_leaves s q None request = record { selectors = λ k object apart is other. is; regions = λ start region is other. is }
+served_leaves s q (Some x) request =
+    let old = buffer_of q s.selectors in
+    let o = served (bytes_of_buffer old) x request in
+    record {
+      selectors = λ k object apart is other.
+          get-insert_other (selectors_lent q old o.buffer s.selectors) q (OpenSession o.session) k apart ∙ lent_still q s.selectors old o.buffer refl k object is other;
+      regions = regions_still s q old o.buffer refl;
+    }
+
+closed_leaves : (s : OwnState) (q : ℕ) (found : Option Session) → LeavesOthers q s (session_closed q found s).next
+closed_leaves s q None = record { selectors = λ k object apart is other. is; regions = λ start region is other. is }
+closed_leaves s q (Some x) =
+    let old = buffer_of q s.selectors in
+    record {
+      selectors = λ k object apart is other. get-remove_other (selectors_lent q old None s.selectors) q k apart ∙ lent_still q s.selectors old None refl k object is other;
+      regions = regions_still s q old None refl;
+    }
+
+pub others_left : SessionCallsLeaveOthers
+others_left s q request = (served_leaves s q (session_named (get s.selectors q)) request, closed_leaves s q (session_named (get s.selectors q)))

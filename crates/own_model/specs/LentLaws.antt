@@ -3,8 +3,8 @@ use Rattle.std.specs.Prelude.{◌≡◌, ◌≢◌, ◌⊎◌, ℕ, false, List,
 use Rattle.std.specs.Option.{option_map, unwrap_or}
 use Rattle.std.specs.FinMap.{get}
 use Rattle.own_model.specs.Call.{Call}
-use Rattle.own_model.specs.Call.Call.{Poke, CallSession}
-use Rattle.own_model.specs.OwnState.{OwnState, NamedBuffer, with_part, zeros, new_selector, buffer_of, bytes_of_buffer}
+use Rattle.own_model.specs.Call.Call.{Poke, CallSession, Close}
+use Rattle.own_model.specs.OwnState.{OwnState, Object, NamedBuffer, is_buffer_of, with_part, zeros, new_selector, buffer_of, bytes_of_buffer}
 use Rattle.own_model.specs.OwnState.Object.{OpenSession, Buffer}
 use Rattle.own_model.specs.OwnStep.{Outcome, own_step, own_run, script_step}
 use Rattle.own_model.specs.Region.{Region, resolved}
@@ -68,3 +68,18 @@ RequestsAreServed =
     get s.selectors q ≡ Some (OpenSession session) →
     let old = buffer_of q s.selectors in
     IsServed q old (served (bytes_of_buffer old) session request) s (script_step (CallSession q request) s)
+
+-- all that selectors name but the session under one of them and its buffer stays, and all regions but those of the buffer
+pub record LeavesOthers (q : ℕ) (s next : OwnState) : Type 0 where
+  pub selectors :
+      (k : ℕ) (object : Object) → k ≢ q → get s.selectors k ≡ Some object → is_buffer_of q (Some object) ≡ false →
+      get next.selectors k ≡ Some object
+  pub regions :
+      (start : ℕ) (region : Region) → get s.regions start ≡ Some region →
+      is_buffer_of q (get s.selectors region.of) ≡ false → get next.regions start ≡ Some region
+
+-- so it is after a request of the session, and after a close
+abbrev pub SessionCallsLeaveOthers : Type 0
+SessionCallsLeaveOthers =
+    (s : OwnState) (q : ℕ) (request : List ℕ) →
+    LeavesOthers q s (script_step (CallSession q request) s).next × LeavesOthers q s (script_step (Close q) s).next

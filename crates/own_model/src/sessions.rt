@@ -1,5 +1,5 @@
 //! Laws of sessions: what is charged to them, what servers keep for them, and that a close returns what was donated.
-ghost use Rattle.own_model.specs.LentLaws.{StartsLent, RunKeepsLent, BuffersStandAlone, GoneBuffersHaveNoRegions, RequestsAreServed};
+ghost use Rattle.own_model.specs.LentLaws.{StartsLent, RunKeepsLent, BuffersStandAlone, GoneBuffersHaveNoRegions, RequestsAreServed, SessionCallsLeaveOthers};
 ghost use Rattle.own_model.specs.SessionLaws.{StartsWithoutSessions, RunKeepsCharges, RunKeepsKept, SessionsStandAlone, LimitsAreDonations, ClosesReturnDonations};
 
 /// Nobody starts with a session. After any calls each session's account uses exactly what the session is charged for,
@@ -29,9 +29,11 @@ pub fn buffers_stand_alone()
 {}
 
 /// A request is served by the session that its selector names and by the buffer of that, as they are then: they are afterwards
-/// what it made of them. A buffer that it makes is all zero and stands under the new selector, which the reply tells.
+/// what it made of them. A buffer that it makes is all zero and stands under the new selector, which the reply tells. All that
+/// other selectors name stays, and all other regions; so it does at a close.
 pub fn requests_are_served()
-    ensures { RequestsAreServed }
+    ensures served { RequestsAreServed }
+    ensures others { SessionCallsLeaveOthers }
 {}
 
 /// What a close returns to its client is the sum of what the client named in the open that was accepted and in the upgrades
