@@ -4,3 +4,4 @@ pub mod AddressLemmas
 pub mod HexLemmas
 pub mod PairLemmas
 pub mod KindLemmas
+pub mod NameLemmas
