@@ -12,7 +12,7 @@ use Rattle.own_model.proofs.NatMapLemmas.{same, value_at, apart_from_free, befor
 use Rattle.own_model.proofs.Totals.{total-insert_new, total-insert_at, total-insert_same, total-remove, total-zero, total_same, total_parted}
 use Rattle.own_model.proofs.KeySums.{measured, measured_or, total-taken, total_keys_le}
 use Rattle.dataspace_core.specs.Store.{Store, Part, part, parted_part, raised_part, closed_part, accounts_in, parents_in, root_in, account_in, IsOpenIn, IsChildIn, caps_limits_in, ClosesPart}
-use Rattle.dataspace_core.specs.Room.{inner_weight, inner_accounts, IsOuter, HasRoom, RoomAtFirst, RoomForOneMore, RoomStays, RoomIsTaken, RoomIsRaised, RoomIsGivenBack}
+use Rattle.dataspace_core.specs.Room.{inner_weight, inner_accounts, IsOuter, HasRoom, RoomAtFirst, RoomForOneMore, RoomStays, RoomIsTaken, RoomIsRaised, RoomIsShifted, RoomIsGivenBack}
 use Rattle.dataspace_core.proofs.PartLaws.{account_of-part}
 use Rattle.dataspace_core.proofs.LimitLaws.{accounts_after}
 
@@ -209,34 +209,39 @@ room_is_taken parent child ram caps a old new opening opens outer not_root fits 
     }
 
 -- limits come to an account
-pub room_is_raised : RoomIsRaised
-room_is_raised parent child ram caps old new raises opens outer kin apart fits room =
-    let parted = account_parted parent ram caps old new raises.parted_one in
-    let more = account_raised child ram caps old new raises.raised_one in
-    let was : (k p : ℕ) → IsChildIn new k p → IsChildIn old k p = λ k p is. ap (λ (m : NatMap ℕ). get m k) (sym raises.parents) ∙ is in
+pub room_is_shifted : RoomIsShifted
+room_is_shifted from to ram caps old new moves opens to_opens outer apart fits room =
+    let parted = account_parted from ram caps old new moves.parted_one in
+    let more = account_raised to ram caps old new moves.raised_one in
+    let was : (k p : ℕ) → IsChildIn new k p → IsChildIn old k p = λ k p is. ap (λ (m : NatMap ℕ). get m k) (sym moves.parents) ∙ is in
     record {
       counted =
-          let inner = inner_same old new raises.root raises.parents in
-          let limits = limits_moved (λ x. x.caps_limit) parent child (parted_with (account_in old parent) ram caps) (raised (account_in old child) ram caps) old new parted more raises.others apart opens (room.there child parent kin)
+          let inner = inner_same old new moves.root moves.parents in
+          let limits = limits_moved (λ x. x.caps_limit) from to (parted_with (account_in old from) ram caps) (raised (account_in old to) ram caps) old new parted more moves.others apart opens to_opens
           (let fit = fits.caps_fit in omega arith) in
-          omega (arith, inner, limits, raises.room, room.counted);
-      there = λ k p is. elim (cases_eq k child) [
-        | inl own ↦ subst (IsOpenIn new) (sym own) (open_on new child _ more)
-        | inr other ↦ elim (cases_eq k parent) [
-          | inl its ↦ subst (IsOpenIn new) (sym its) (open_on new parent _ parted)
-          | inr both ↦ open_still old new k (raises.others k both other) (room.there k p (was k p is))
+          omega (arith, inner, limits, moves.room, room.counted);
+      there = λ k p is. elim (cases_eq k to) [
+        | inl own ↦ subst (IsOpenIn new) (sym own) (open_on new to _ more)
+        | inr other ↦ elim (cases_eq k from) [
+          | inl its ↦ subst (IsOpenIn new) (sym its) (open_on new from _ parted)
+          | inr both ↦ open_still old new k (moves.others k both other) (room.there k p (was k p is))
         ]
       ];
       paid = λ k p is inner.
-          let before = room.paid k p (was k p is) (λ e. inner (e ∙ sym raises.root)) in
-          elim (cases_eq k child) [
-            | inl own ↦ subst (λ q. 2 ≤ (account_in new q).caps_limit) (sym own) (paid_on old new child _ more (let at = subst (λ q. 2 ≤ (account_in old q).caps_limit) own before in omega arith))
-            | inr other ↦ elim (cases_eq k parent) [
-              | inl its ↦ absurd (inner (outer p (subst (λ q. IsChildIn old q p) its (was k p is)) ∙ sym raises.root))
-              | inr both ↦ paid_still old new k (raises.others k both other) before
+          let before = room.paid k p (was k p is) (λ e. inner (e ∙ sym moves.root)) in
+          elim (cases_eq k to) [
+            | inl own ↦ subst (λ q. 2 ≤ (account_in new q).caps_limit) (sym own) (paid_on old new to _ more (let at = subst (λ q. 2 ≤ (account_in old q).caps_limit) own before in omega arith))
+            | inr other ↦ elim (cases_eq k from) [
+              | inl its ↦ absurd (inner (outer p (subst (λ q. IsChildIn old q p) its (was k p is)) ∙ sym moves.root))
+              | inr both ↦ paid_still old new k (moves.others k both other) before
             ]
           ];
     }
+
+-- so do limits that come to a child
+pub room_is_raised : RoomIsRaised
+room_is_raised parent child ram caps old new raises opens outer kin apart fits room =
+    room_is_shifted parent child ram caps old new raises opens (room.there child parent kin) outer apart fits room
 
 -- who is a child once an account has gone was one before, and is another
 module _ {account parent : ℕ} {old new : Store} (closes : ClosesPart account parent old new) (k p : ℕ) (is : IsChildIn new k p) where
