@@ -16,7 +16,7 @@ use Rattle.dataspace_core.specs.Store.{Store, part, account_in}
 use Rattle.dataspace_core.specs.Share.{Share, KeepsShares}
 use Rattle.dataspace_core.proofs.PartLaws.{account_of-part}
 use Rattle.heap_core.specs.declared.heap.Heap.{Heap}
-use Rattle.heap_core.specs.Calls.{GivesAll, GivesLarge, IsNoBlock, KeepsElsewhere}
+use Rattle.heap_core.specs.Calls.{GivesAll, GivesLarge, IsNoBlock, Keeps, KeepsElsewhere}
 use Rattle.heap_core.specs.End.{EndsChunks, EndsLarge}
 use Rattle.heap_core.specs.Heap.{HasNoBlocks, IsSound, heap_at, heap_in, large_regions, large_tag, payer_of, share_at, times_in}
 use Rattle.heap_core.specs.Words.{is_among}
@@ -93,14 +93,14 @@ module _ (heap next later : Heap) (a : ℕ) (old mid new : Store) (regions betwe
   }
 
 -- one more is given back
-pub ends_large_more : (heap now next : Heap) (a : ℕ) (old mid new : Store) (regions between after : Regions) → EndsLarge heap now old mid regions between → GivesLarge now next a mid new between after → IsSound next new after →
-    KeepsShares (payer_of now) mid new between.heap between.tags after.heap after.tags → payer_of next ≡ payer_of now →
+pub ends_large_more : (heap now next : Heap) (a : ℕ) (old mid new : Store) (regions between after : Regions) → EndsLarge heap now old mid regions between → GivesLarge now next a mid new between after →
+    Keeps now next mid new between after →
     large_regions (share_at (payer_of now) new after) ≡ remove (large_regions (share_at (payer_of now) mid between)) a → EndsLarge heap next old new regions after
-ends_large_more heap now next a old mid new regions between after far one sound keeps payer left = record {
-  sound = sound;
-  payer = payer ∙ far.payer;
-  others = keeps_then (payer_of heap) old mid new regions between after far.others (subst (λ p. KeepsShares p mid new between.heap between.tags after.heap after.tags) far.payer keeps);
-  rest = λ later last all same rest. far.rest later last all same (gives_then now next later a mid new last between after all one payer left (same ∙ sym far.payer) rest);
+ends_large_more heap now next a old mid new regions between after far one keeps left = record {
+  sound = keeps.sound;
+  payer = keeps.payer ∙ far.payer;
+  others = keeps_then (payer_of heap) old mid new regions between after far.others (subst (λ p. KeepsShares p mid new between.heap between.tags after.heap after.tags) far.payer keeps.others);
+  rest = λ later last all same rest. far.rest later last all same (gives_then now next later a mid new last between after all one keeps.payer left (same ∙ sym far.payer) rest);
 }
 
 -- a list that isn't empty has an element

@@ -35,11 +35,11 @@ use Rattle.trade_base.specs.declared.refusal.Refusal.TheVariants.{PageFault}
 use Rattle.avl_alloc.specs.declared.best_fit.BlockAddr.{BlockAddr}
 use Rattle.heap_core.specs.Blocks.{Gives}
 use Rattle.heap_core.specs.Lookup.{LiesInChunk}
-use Rattle.heap_core.specs.Calls.{GivesSmall, free_refusal}
+use Rattle.heap_core.specs.Calls.{GivesSmall, Keeps, Unchanged, free_refusal}
 use Rattle.heap_core.specs.Heap.{IsSound, bytes_shown, chunk_at, heap_in, keys_in, large_regions, payer_of, payloads_of, share_at, starts_in, words_in}
 use Rattle.heap_core.specs.Words.{around, keys_of, words_of}
 use Rattle.heap_core.proofs.BlockLemmas.{length-heap_of}
-use Rattle.heap_core.proofs.ChangeLemmas.{later, large_apart, keeps_spaces, same_account, share_now, words_now}
+use Rattle.heap_core.proofs.ChangeLemmas.{later, large_apart, keeps_shares, keeps_spaces, still_sound, same_account, share_now, words_now}
 use Rattle.heap_core.proofs.FoundLemmas.{blocks_at, none_else, no_large_at, one_chunk, used_inside}
 use Rattle.heap_core.proofs.ChunkLemmas.{words_are}
 use Rattle.heap_core.proofs.LookupLemmas.{no_free, is_free}
@@ -198,38 +198,60 @@ tested_some : {X : Type 0} (o : Option X) → is_some o ≡ true → (x : X) × 
 tested_some None h = absurd (true≢false (sym h))
 tested_some (Some x) h = (x, refl)
 
-module _ (heap : Heap) (fit : BestFit) (addr : BlockAddr) (result : Option ℕ) (old new : Store) (regions : Regions) (sound : IsSound heap old regions) (kept : around (keys_in heap) new ≡ around (keys_in heap) old)
-    (gave : Gives addr result heap.fit fit (words_of (keys_in heap) old) (words_of (keys_in heap) new)) (address o : ℕ) (lies : LiesInChunk heap address addr.chunk o) (behind : 16 ≤ o) (at : addr.offset ≡ o - 16) where
-  result_is : result ≡ used_at addr.offset (blocks_at heap old regions sound addr.chunk)
-  result_is = gave.block ∙ ap (used_at addr.offset) (blocks_are heap old regions sound addr.chunk)
+module _ (heap : Heap) (fit : BestFit) (addr : BlockAddr) (result : Option ℕ) (old new : Store) (regions : Regions) (sound : IsSound heap old regions) (chunks : List Chunk) (are : chunks ≡ heap.chunks.items)
+    (around_kept : around (keys_of chunks) new ≡ around (keys_of chunks) old) (gives : Gives addr result heap.fit fit (words_of (keys_of chunks) old) (words_of (keys_of chunks) new)) where
+  kept : around (keys_in heap) new ≡ around (keys_in heap) old
+  kept = kept_there heap old new chunks are around_kept
 
-  -- no block was there
-  pub gave_none : result ≡ None → free_refusal (heap_in heap (share_at (payer_of heap) old regions)) address ≡ Some PageFault
-  gave_none none = no_free heap old regions sound address addr.chunk o lies (λ y n used is.
-      let same : y ≡ addr.offset = omega (arith, is, at, behind) in
-      none-some n (sym none ∙ result_is ∙ ap (λ z. used_at z (blocks_at heap old regions sound addr.chunk)) (sym same) ∙ used))
+  gave : Gives addr result heap.fit fit (words_of (keys_in heap) old) (words_of (keys_in heap) new)
+  gave = gave_there heap fit addr result old new chunks are gives
 
-  -- so the memory is as it was
-  pub gave_same : result ≡ None → new ≡ old
-  gave_same none = memory_same heap old new regions sound kept (subst (λ (r : Option ℕ). IfNone r (words_of (keys_in heap) new ≡ words_of (keys_in heap) old)) none gave.refused)
+  -- the heap is sound and the others' shares stay, whatever best fit answers
+  pub give_keeps : Keeps heap (record heap { fit = fit }) old new regions regions
+  give_keeps = record {
+    sound = still_sound heap fit old new regions sound kept gave.sound gave.sizes;
+    others = keeps_shares heap fit old new regions sound kept;
+    payer = refl;
+  }
 
-  module _ (some : is_some result ≡ true) where
-    size : (n : ℕ) × (result ≡ Some n)
-    size = tested_some result some
+  module _ (address o : ℕ) (lies : LiesInChunk heap address addr.chunk o) (behind : 16 ≤ o) (at : addr.offset ≡ o - 16) where
+    result_is : result ≡ used_at addr.offset (blocks_at heap old regions sound addr.chunk)
+    result_is = gave.block ∙ ap (used_at addr.offset) (blocks_are heap old regions sound addr.chunk)
 
-    used_there : used_at addr.offset (blocks_at heap old regions sound addr.chunk) ≡ Some size.0
-    used_there = sym result_is ∙ size.1
+    -- no block was there
+    pub gave_none : result ≡ None → free_refusal (heap_in heap (share_at (payer_of heap) old regions)) address ≡ Some PageFault
+    gave_none none = no_free heap old regions sound address addr.chunk o lies (λ y n used is.
+        let same : y ≡ addr.offset = omega (arith, is, at, behind) in
+        none-some n (sym none ∙ result_is ∙ ap (λ z. used_at z (blocks_at heap old regions sound addr.chunk)) (sym same) ∙ used))
 
-    -- the block that was there is gone
-    pub gave_free : free_refusal (heap_in heap (share_at (payer_of heap) old regions)) address ≡ None
-    gave_free = is_free heap old regions sound address addr.chunk o lies addr.offset size.0 used_there (omega (arith, at, behind))
+    -- so nothing has changed
+    gave_same : result ≡ None → new ≡ old
+    gave_same none = memory_same heap old new regions sound kept (subst (λ (r : Option ℕ). IfNone r (words_of (keys_in heap) new ≡ words_of (keys_in heap) old)) none gave.refused)
 
-    pub gave_small : GivesSmall heap (record heap { fit = fit }) address old new regions regions
-    gave_small =
-        let place = lies.at in
-        let is : (chunk_at heap addr.chunk).start + addr.offset + 16 ≡ address = omega (arith, place, at, behind) in
-        subst (λ a. GivesSmall heap (record heap { fit = fit }) a old new regions regions) is
-        (gives_small heap fit addr.chunk addr.offset size.0 old new regions sound kept lies.there used_there
-        (subst (λ (r : Option ℕ). OnSome r (heap_of fit (words_of (keys_in heap) new) ≡ given addr.chunk addr.offset (heap_of heap.fit (words_of (keys_in heap) old)))) size.1 gave.heap
-        ∙ ap (given addr.chunk addr.offset) (all_blocks_are heap old regions sound))
-        gave.sound gave.sizes gave.others)
+    pub gave_unchanged : result ≡ None → Unchanged (λ P. P) heap (record heap { fit = fit }) old new regions regions
+    gave_unchanged none = record {
+      same_memory = gave_same none;
+      same_map = refl;
+      same_heap = ap (λ f. record heap { fit = f }) (subst (λ (r : Option ℕ). IfNone r (fit ≡ heap.fit)) none gave.unchanged);
+    }
+
+    module _ (some : is_some result ≡ true) where
+      size : (n : ℕ) × (result ≡ Some n)
+      size = tested_some result some
+
+      used_there : used_at addr.offset (blocks_at heap old regions sound addr.chunk) ≡ Some size.0
+      used_there = sym result_is ∙ size.1
+
+      -- the block that was there is gone
+      pub gave_free : free_refusal (heap_in heap (share_at (payer_of heap) old regions)) address ≡ None
+      gave_free = is_free heap old regions sound address addr.chunk o lies addr.offset size.0 used_there (omega (arith, at, behind))
+
+      pub gave_small : GivesSmall heap (record heap { fit = fit }) address old new regions regions
+      gave_small =
+          let place = lies.at in
+          let is : (chunk_at heap addr.chunk).start + addr.offset + 16 ≡ address = omega (arith, place, at, behind) in
+          subst (λ a. GivesSmall heap (record heap { fit = fit }) a old new regions regions) is
+          (gives_small heap fit addr.chunk addr.offset size.0 old new regions sound kept lies.there used_there
+          (subst (λ (r : Option ℕ). OnSome r (heap_of fit (words_of (keys_in heap) new) ≡ given addr.chunk addr.offset (heap_of heap.fit (words_of (keys_in heap) old)))) size.1 gave.heap
+          ∙ ap (given addr.chunk addr.offset) (all_blocks_are heap old regions sound))
+          gave.sound gave.sizes gave.others)

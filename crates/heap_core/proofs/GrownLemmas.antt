@@ -39,7 +39,7 @@ use Rattle.dataspace_core.proofs.WindowLaws.{length_some, share_then, shares_the
 use Rattle.heap_core.specs.declared.heap.Heap.{Heap}
 use Rattle.heap_core.specs.declared.words.Chunk.{Chunk}
 use Rattle.heap_core.specs.Blocks.{Adds}
-use Rattle.heap_core.specs.Calls.{Grows}
+use Rattle.heap_core.specs.Calls.{Grows, Keeps}
 use Rattle.heap_core.specs.Heap.{IsLaid, IsSound, StandsChunk, StandsLarge, bytes_shown, chunk_at, heap_in, is_large_tag, keys_in, large_regions, payer_of, payloads_of, share_at, starts_in, words_in}
 use Rattle.heap_core.specs.Words.{Around, is_among, are_bytes, around, bytes_in_store, keys_of, words_of, word_in, spaces_but, blank_if}
 use Rattle.heap_core.proofs.AddLemmas.{among_more, are_then, blocks_then, key_other, keys_more, other_space, paid_then, word_then, word_low, word_out}
@@ -165,7 +165,7 @@ module _ (heap : Heap) (vec : ArrayVec Chunk) (fit : BestFit) (next ds asked sta
       ∙ (λ i. let s : Share = share_then account ds asked n start old mid regions.pages regions.heap_most regions.heap regions.tags sound.opens sound.window fresh becomes free i in
       record { part = part account new; heap = s.heap; tags = s.tags })
 
-  pub grown_others : KeepsShares account old new regions.heap regions.tags after.heap after.tags
+  grown_others : KeepsShares account old new regions.heap regions.tags after.heap after.tags
   grown_others =
       let first = shares_then account ds asked n start old mid regions.pages regions.heap_most regions.heap regions.tags sound.opens sound.window fresh becomes free in
       record {
@@ -296,7 +296,7 @@ module _ (heap : Heap) (vec : ArrayVec Chunk) (fit : BestFit) (next ds asked sta
     growth_most = next_most;
   }
 
-  pub grown_sound : IsSound later new after
+  grown_sound : IsSound later new after
   grown_sound = record {
     opens = open_in_part account new (ap is_some (now_account ∙ charge_then account ds asked n start old mid regions.pages regions.heap_most regions.heap regions.tags sound.opens sound.window fresh becomes free));
     window = window_after account (part account new) mid new now_becomes regions.pages regions.heap_most after.heap now_account
@@ -304,6 +304,9 @@ module _ (heap : Heap) (vec : ArrayVec Chunk) (fit : BestFit) (next ds asked sta
         (window_then account ds asked n start old mid regions.pages regions.heap_most regions.heap regions.tags sound.opens sound.window fresh becomes free some (gap_place regions (size / 4096) start gap));
     laid = subst (IsLaid later) (sym now) grown_laid;
   }
+
+  pub grown_keeps : Keeps heap later old new regions after
+  grown_keeps = record { sound = grown_sound; others = grown_others; payer = refl }
 
   -- ---- its value
 

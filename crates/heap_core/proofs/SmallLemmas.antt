@@ -28,7 +28,7 @@ use Rattle.heap_core.specs.Heap.{IsSound, chunk_at, heap_at, heap_in, keys_in, p
 use Rattle.heap_core.specs.Taken.{IsUsed, Clears}
 use Rattle.heap_core.specs.Words.{around}
 use Rattle.heap_core.proofs.ChangeLemmas.{keeps_shares, keeps_spaces, same_account}
-use Rattle.heap_core.proofs.ClearLemmas.{put_again}
+use Rattle.dataspace_core.proofs.PutLemmas.{put_again}
 use Rattle.heap_core.proofs.PayloadLemmas.{no_chunk}
 use Rattle.heap_core.proofs.StandLemmas.{each_at}
 use Rattle.heap_core.proofs.WordsLemmas.{length_keys}

@@ -20,7 +20,7 @@ use Rattle.dataspace_core.proofs.ShareLaws.{nothing_shown, in_share}
 use Rattle.dataspace_core.proofs.WindowLaws.{share_then, shares_then, window_then, open_then, unshown, others_there, new_there, count_then, charge_then}
 use Rattle.heap_core.specs.declared.heap.Heap.{Heap}
 use Rattle.heap_core.specs.Heap.{payer_of, share_at, large_tag, large_regions, heap_in, chunk_at, IsLaid, IsSound}
-use Rattle.heap_core.specs.Calls.{TakesLarge}
+use Rattle.heap_core.specs.Calls.{TakesLarge, Keeps}
 use Rattle.heap_core.proofs.LargeLemmas.{large_laid, large_value}
 use Rattle.heap_core.proofs.RoomLemmas.{few_large}
 use Rattle.heap_window.proofs.ShareLemmas.{large_there}
@@ -93,7 +93,7 @@ module _ (heap : Heap) (vec : ArrayVec ℕ) (n ds pages start : ℕ) (old new : 
   apart : (k : ℕ) → k < length heap.chunks.items → (start < (chunk_at heap k).start) ⊎ ((chunk_at heap k).start + avl.bytes_of heap.fit k ≤ start)
   apart = outside_chunks heap old regions pages start sound.laid gap (omega (arith, of_pages, least))
 
-  pub takes_sound : IsSound later new after
+  takes_sound : IsSound later new after
   takes_sound = record {
     opens = open_then account ds n large_tag start old new regions.pages regions.heap_most regions.heap regions.tags sound.opens sound.window fresh becomes free;
     window = window_then account ds n large_tag start old new regions.pages regions.heap_most regions.heap regions.tags sound.opens sound.window fresh becomes free (omega (arith, large)) (gap_place regions (page_of n / 4096) start (subst (λ p. heap_gap regions.pages regions.heap p ≡ Some start) of_pages gap));
@@ -101,8 +101,12 @@ module _ (heap : Heap) (vec : ArrayVec ℕ) (n ds pages start : ℕ) (old new : 
         (large_laid heap S (part account new) start (record { of = ds; pages = page_of n / 4096 }) (zeros (page_of n)) vec sound.laid free_here is there whole least keeps apart);
   }
 
-  pub takes_others : KeepsShares account old new regions.heap regions.tags after.heap after.tags
-  takes_others = shares_then account ds n large_tag start old new regions.pages regions.heap_most regions.heap regions.tags sound.opens sound.window fresh becomes free
+  pub takes_keeps : Keeps heap later old new regions after
+  takes_keeps = record {
+    sound = takes_sound;
+    others = shares_then account ds n large_tag start old new regions.pages regions.heap_most regions.heap regions.tags sound.opens sound.window fresh becomes free;
+    payer = refl;
+  }
 
   pub takes_large : TakesLarge heap later n start old new regions after
   takes_large = grind (arith, nat_tests, charge_then, now, large_value, free_here, there, whole, least, keeps, apart, others, count_then)
