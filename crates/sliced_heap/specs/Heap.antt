@@ -53,6 +53,12 @@ pub record KeepsOthers (account : ℕ) (old new : Store) (regions after : Region
   pub room : room_in new ≡ room_in old
   pub rest : after ≡ record regions { heap = after.heap; tags = after.tags }
 
+-- what a call that takes or gives back a block keeps: a sound heap of the same account, and all that isn't this account's
+pub record Keeps (heap later : SlicedHeap) (old new : Store) (regions after : Regions) : Type 0 where
+  pub sound : IsSound later new after
+  pub others : KeepsOthers (payer_of heap) old new regions after
+  pub payer : payer_of later ≡ payer_of heap
+
 -- a dataspace is entered as the first block, at the first gap of the heap window
 pub record Enters (account ds pages address : ℕ) (old new : Store) (regions after : Regions) : Type 0 where
   pub start : ℕ

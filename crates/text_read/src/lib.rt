@@ -13,4 +13,4 @@ pub use address::read_address;
 pub use bytes::find_byte;
 pub use hex_pairs::{decode_hex, decode_hex_from, encode_hex};
 pub use hex_text::read_hex;
-pub use words::{has_name_bytes, is_name, split_first_word};
+pub use words::{LONGEST_NAME, has_name_bytes, is_name, split_first_word};

@@ -6,8 +6,8 @@ ghost use Rattle.own_model.specs.Text.{first_word, is_name_byte, is_name};
 
 use crate::bytes::find_byte;
 
-/// The most bytes of a name.
-const LONGEST_NAME: usize = 32;
+/// The most bytes of a name, of a component or of a file.
+pub const LONGEST_NAME: usize = 32;
 
 /// A text up to its first space, and what stands after that space, if there is one.
 #[inline]
