@@ -33,7 +33,7 @@ use Rattle.heap_core.proofs.StandLemmas.{blocks, chunk_blocks, chunk_total, coun
 use Rattle.heap_core.proofs.TakenLemmas.{in_other, other_chunk}
 
 -- an entry of all chunks is one of a chunk
-from_chunk : (part : Part) (chunks : List Chunk) (heap : model.Heap) (q : ℕ) (w : List ℕ) → value_of q (payloads_of part chunks heap) ≡ Some w →
+pub from_chunk : (part : Part) (chunks : List Chunk) (heap : model.Heap) (q : ℕ) (w : List ℕ) → value_of q (payloads_of part chunks heap) ≡ Some w →
     (k : ℕ) × (k < length chunks) × (value_of q (entries_of part (get_or chunks k no_chunk) (chunk_of heap k)) ≡ Some w)
 from_chunk part [] heap q w h = absurd (none-some w h)
 from_chunk part (x ∷ xs) [] q w h = absurd (none-some w h)

@@ -45,9 +45,9 @@ use Rattle.heap_core.proofs.ChunkLemmas.{words_are}
 use Rattle.heap_core.proofs.LookupLemmas.{no_free, is_free}
 use Rattle.heap_core.proofs.MemoryLemmas.{memory_same}
 use Rattle.heap_core.proofs.FrameLemmas.{entries_same}
-use Rattle.heap_core.proofs.HoleLemmas.{used_no_hole}
+use Rattle.heap_core.proofs.HoleLemmas.{AreTold, are_told}
 use Rattle.heap_core.proofs.PayloadLemmas.{no_chunk, entries_of, value_of-payloads, told-given, payloads-less, payloads-same}
-use Rattle.heap_core.proofs.StandLemmas.{blocks, chunk_blocks, chunk_total, count_blocks, each_at}
+use Rattle.heap_core.proofs.StandLemmas.{blocks, chunk_blocks, chunk_total, count_blocks}
 
 -- one less in the first of two maps, where the second has none there
 joined-remove_first : {X : Type 0} (m n : NatMap X) (k : ℕ) → get n k ≡ None → joined (remove m k) n ≡ remove (joined m n) k
@@ -111,19 +111,11 @@ module _ (heap : Heap) (fit : BestFit) (c offset n : ℕ) (old new : Store) (reg
   G_sizes : length (sizes_of fit) ≡ length heap.chunks.items
   G_sizes = ap length sizes ∙ sound.laid.count
 
-  G_count : length G ≡ length heap.chunks.items
-  G_count = length-heap_of fit (words_of (keys_in heap) new) ∙ G_sizes
-
-  G_blocks : (k : ℕ) → k < length heap.chunks.items → AreBlocks (chunk_of G k)
-  G_blocks k in_heap = each_at AreBlocks G k [] (sound_told fit (words_of (keys_in heap) new) fit_sound).blocks (subst (λ m. k < m) (sym G_count) in_heap)
+  after : AreTold G fit (length heap.chunks.items)
+  after = are_told fit (words_of (keys_in heap) new) _ fit_sound G_sizes
 
   G_totals : (k : ℕ) → k < length heap.chunks.items → bytes_in (chunk_of G k) ≡ avl.bytes_of heap.fit k
-  G_totals k in_heap =
-      (chunk_there (words_of (keys_in heap) new) 0 (sizes_of fit) G k (sound_told fit (words_of (keys_in heap) new) fit_sound).laid.chunks (subst (λ m. k < m) (sym G_sizes) in_heap)).total
-      ∙ ap (λ xs. get_or xs k 0) sizes
-
-  G_no_hole : (k off m q : ℕ) → k < length heap.chunks.items → used_at off (chunk_of G k) ≡ Some m → place_at k off ≤ q → q < place_at k off + m → weigh_holes (whole q) G ≡ 0
-  G_no_hole k off m q in_heap at low high = used_no_hole fit (words_of (keys_in heap) new) k off m q fit_sound (subst (λ l. k < l) (sym G_count) in_heap) at low high
+  G_totals k in_heap = after.total k in_heap ∙ ap (λ xs. get_or xs k 0) sizes
 
   abbrev pub address : ℕ
   address = (chunk_at heap c).start + offset + 16
@@ -140,7 +132,7 @@ module _ (heap : Heap) (fit : BestFit) (c offset n : ℕ) (old new : Store) (reg
   each_entry : (q : ℕ) → value_of q (payloads_of (part account new) heap.chunks.items G) ≡ cond (eqb q address) None (value_of q (payloads_of S.part heap.chunks.items B))
   unfolding share_in
   each_entry q =
-      payloads-same (part account old) (part account new) q heap.chunks.items G (λ k in_heap. entries_same heap fit old new regions sound kept G G_no_hole changes G_blocks G_totals k in_heap q)
+      payloads-same (part account old) (part account new) q heap.chunks.items G (λ k in_heap. entries_same heap fit old new regions sound kept G after.no_hole changes after.each G_totals k in_heap q)
       ∙ ap (λ g. value_of q (payloads_of (part account old) heap.chunks.items g)) is
       ∙ payloads-less S.part address heap.chunks.items B c given_blocks q there (subst (λ m. c < m) (sym (count_blocks heap S sound.laid)) there) (one_less q)
       (λ k apart. none_else heap old regions sound k c address there (omega arith) inside apart)

@@ -48,11 +48,11 @@ use Rattle.heap_core.proofs.BlockLemmas.{length-heap_of}
 use Rattle.heap_core.proofs.ChangeLemmas.{chunk_now, keeps_spaces, large_apart}
 use Rattle.heap_core.proofs.ChunkLemmas.{are_sound, key_is, stand_in, words_are}
 use Rattle.heap_core.proofs.FrameLemmas.{entries_same}
-use Rattle.heap_core.proofs.HoleLemmas.{used_no_hole}
+use Rattle.heap_core.proofs.HoleLemmas.{AreTold, are_told}
 use Rattle.heap_core.proofs.PayloadLemmas.{no_chunk, payloads-hole, payloads-same}
 use Rattle.heap_core.proofs.RoomLemmas.{len_alike}
 use Rattle.heap_window.proofs.ShareLemmas.{get-large, large_there, numbered-insert_other}
-use Rattle.heap_core.proofs.StandLemmas.{chunk_total, each_at, payloads_alike}
+use Rattle.heap_core.proofs.StandLemmas.{payloads_alike}
 use Rattle.heap_core.proofs.TakeLargeLemmas.{gap_place}
 use Rattle.heap_core.proofs.WordsLemmas.{AreChunks, all_bytes, chunks_sound, sound_chunks, each_bytes, length_keys}
 
@@ -316,21 +316,8 @@ module _ (heap : Heap) (vec : ArrayVec Chunk) (fit : BestFit) (next ds asked sta
   H_is : heap_of heap.fit (words_in heap (part account old)) ≡ H
   H_is = ap (heap_of heap.fit) (words_are heap old regions sound)
 
-  H_sound : avl.IsSound heap.fit (words_of (keys_in heap) old)
-  H_sound = (stand_in heap old regions sound).sound
-
-  H_count : length H ≡ length heap.chunks.items
-  H_count = length-heap_of heap.fit (words_of (keys_in heap) old) ∙ sound.laid.count
-
-  H_blocks : (k : ℕ) → k < length heap.chunks.items → AreBlocks (chunk_of H k)
-  H_blocks k there = each_at AreBlocks H k [] (sound_told heap.fit (words_of (keys_in heap) old) H_sound).blocks (subst (λ m. k < m) (sym H_count) there)
-
-  H_totals : (k : ℕ) → k < length heap.chunks.items → bytes_in (chunk_of H k) ≡ avl.bytes_of heap.fit k
-  unfolding share_in
-  H_totals k there = ap (λ h. bytes_in (chunk_of h k)) (sym H_is) ∙ chunk_total heap S sound.laid k there
-
-  H_no_hole : (k off m q : ℕ) → k < length heap.chunks.items → used_at off (chunk_of H k) ≡ Some m → place_at k off ≤ q → q < place_at k off + m → weigh_holes (whole q) H ≡ 0
-  H_no_hole k off m q there at low high = used_no_hole heap.fit (words_of (keys_in heap) old) k off m q H_sound (subst (λ l. k < l) (sym H_count) there) at low high
+  before : AreTold H heap.fit (length heap.chunks.items)
+  before = are_told heap.fit (words_of (keys_in heap) old) _ (stand_in heap old regions sound).sound sound.laid.count
 
   H_now : heap_of fit (words_of ks new) ≡ H ++ (Hole size ∷ []) ∷ []
   H_now = adds.heap ∙ ap (λ h. h ++ (Hole size ∷ []) ∷ []) (blocks_then heap old mid regions ds asked sound fresh ok becomes room).1
@@ -340,7 +327,7 @@ module _ (heap : Heap) (vec : ArrayVec Chunk) (fit : BestFit) (next ds asked sta
   back_changes q clear = ⊎_elim
       (λ (low : q / 2 ^ 32 - 1 < n).
       let e = n_is in
-      let c = H_count in
+      let c = before.count in
       let past : whole q (place_at (0 + length H) 0) size ≡ 0 = within_below (place_at (0 + length H) 0) (place_at (0 + length H) 0 + size) q (omega (arith, low, e, c)) in
       let sum = weigh_all-append avl.none (whole q) 0 H ((Hole size ∷ []) ∷ []) in
       let none_now : weigh_holes (whole q) (heap_of fit (words_of ks new)) ≡ 0 = ap (weigh_holes (whole q)) H_now ∙ omega (arith, sum, past, clear) in
@@ -354,11 +341,11 @@ module _ (heap : Heap) (vec : ArrayVec Chunk) (fit : BestFit) (next ds asked sta
   small_same : from_entries {R = nat_cmp} (payloads_of (part account new) vec.items (H ++ (Hole size ∷ []) ∷ [])) ≡ from_entries {R = nat_cmp} (payloads_of (part account old) heap.chunks.items H)
   small_same =
       ap (λ cs. from_entries {R = nat_cmp} (payloads_of (part account new) cs (H ++ (Hole size ∷ []) ∷ []))) items
-      ∙ ap (from_entries {R = nat_cmp}) (payloads-hole (part account new) heap.chunks.items H (record { ds = record { 0 = ds }; start = start }) size (sym H_count))
+      ∙ ap (from_entries {R = nat_cmp}) (payloads-hole (part account new) heap.chunks.items H (record { ds = record { 0 = ds }; start = start }) size (sym before.count))
       ∙ ap (from_entries {R = nat_cmp}) (payloads_alike (part account back) (part account new) heap.chunks.items H (λ k there. ap (λ (o : Option (List ℕ)). unwrap_or o []) (part_back _ (chunk_other k (let e = n_is in omega (arith, e, there))))))
       ∙ same _ _ (λ q.
       get-from_entries nat_cmp_total _ q
-      ∙ payloads-same (part account old) (part account back) q heap.chunks.items H (λ k there. entries_same heap heap.fit old back regions sound back_kept H H_no_hole back_changes H_blocks H_totals k there q)
+      ∙ payloads-same (part account old) (part account back) q heap.chunks.items H (λ k there. entries_same heap heap.fit old back regions sound back_kept H before.no_hole back_changes before.each before.total k there q)
       ∙ sym (get-from_entries nat_cmp_total _ q))
 
   shown_same : bytes_shown (part account new).spaces (large_regions larger) ≡ bytes_shown (part account old).spaces (large_regions S)

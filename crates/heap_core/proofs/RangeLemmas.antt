@@ -39,6 +39,7 @@ use Rattle.heap_core.specs.Calls.{HoldsRange}
 use Rattle.heap_core.specs.Heap.{IsLaid, IsSound, chunk_at, heap_at, heap_in, keys_in, large_regions, large_tag, payer_of, payloads_of, share_at, words_in, bytes_shown}
 use Rattle.heap_core.specs.Laws.{Pokes, PayloadsArePoked, PayloadsAreRead, block_region}
 use Rattle.heap_core.specs.Words.{are_bytes, words_of}
+use Rattle.heap_core.proofs.FoundLemmas.{from_chunk}
 use Rattle.heap_core.proofs.ChunkLemmas.{key_is, words_are}
 use Rattle.heap_core.proofs.HeapLaws.{poke_sound, poke_value}
 use Rattle.heap_core.proofs.PayloadLemmas.{told, value_of-payloads, no_chunk, entries_of}
@@ -59,19 +60,6 @@ pub payload_read : PayloadsAreRead
 payload_read heap store regions ds offset address count held = grind (arith, nat_tests, range_in)
 
 -- ---- where a payload stands
-
--- what the payloads of chunks tell is a payload of one of them
-told_by_one : (part : Part) (chunks : List Chunk) (heap : model.Heap) (q : ℕ) (v : List ℕ) → value_of q (payloads_of part chunks heap) ≡ Some v →
-    (k : ℕ) × (k < length chunks) × (value_of q (entries_of part (get_or chunks k no_chunk) (chunk_of heap k)) ≡ Some v)
-told_by_one part [] heap q v h = absurd (none-some v h)
-told_by_one part (x ∷ xs) [] q v h = absurd (none-some v h)
-told_by_one part (x ∷ xs) (y ∷ ys) q v h = ⊎_elim
-    (λ (first : value_of q (entries_of part x y) ≡ Some v). (0, omega arith, first))
-    (λ (later : value_of q (payloads_of part xs ys) ≡ Some v).
-    let rest = told_by_one part xs ys q v later in
-    let l = rest.1 in
-    (suc rest.0, omega (arith, l), rest.2))
-    (from_either (value_of q (entries_of part x y)) (value_of q (payloads_of part xs ys)) v (sym (value_of-append q (entries_of part x y) (payloads_of part xs ys)) ∙ h))
 
 -- and one that a chunk tells is that of a used block
 told_block : (start : ℕ) (bytes : List ℕ) (blocks : List Block) (q : ℕ) (v : List ℕ) → told start 0 bytes blocks q ≡ Some v →
@@ -97,7 +85,7 @@ module _ (heap : Heap) (share : Share) (laid : IsLaid heap share) (q : ℕ) (v :
 
   in_chunk : value_of q (payloads_of share.part heap.chunks.items H) ≡ Some v → InChunk
   in_chunk h =
-      let one = told_by_one share.part heap.chunks.items H q v h in
+      let one = from_chunk share.part heap.chunks.items H q v h in
       let k = one.0 in
       let there = one.1 in
       let start = (chunk_at heap k).start in

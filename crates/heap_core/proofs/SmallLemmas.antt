@@ -30,7 +30,7 @@ use Rattle.heap_core.specs.Words.{around}
 use Rattle.heap_core.proofs.ChangeLemmas.{keeps_shares, keeps_spaces, same_account}
 use Rattle.dataspace_core.proofs.PutLemmas.{put_again}
 use Rattle.heap_core.proofs.PayloadLemmas.{no_chunk}
-use Rattle.heap_core.proofs.StandLemmas.{each_at}
+use Rattle.own_model.proofs.ListLemmas.{all_within}
 use Rattle.heap_core.proofs.WordsLemmas.{length_keys}
 
 -- where a hole is told, one is the best
@@ -77,7 +77,7 @@ module _ (heap later : Heap) (n : ℕ) (hole : Spot) (old mid : Store) (regions 
     chunk = in_later;
     used = ap (λ h. used_at hole.offset (chunk_of h hole.chunk)) blocks_then
         ∙ ap (used_at hole.offset) (get_or-set_same H hole.chunk _ [] is_hole.within)
-        ∙ used-taken (block_size n) hole.size hole.offset hole.offset (chunk_of H hole.chunk) (each_at AreBlocks H hole.chunk [] H_blocks is_hole.within) is_hole.there
+        ∙ used-taken (block_size n) hole.size hole.offset hole.offset (chunk_of H hole.chunk) (all_within AreBlocks H hole.chunk [] H_blocks is_hole.within) is_hole.there
         ∙ (let t : eqb hole.offset hole.offset ≡ true = grind (arith, nat_tests) in rw t refl);
   }
 

@@ -130,7 +130,8 @@ word_there bytes offset aligned long = grind (arith, nat_tests)
 
 -- ---- a store
 
-same_if : (b : Bool) (x y : ℕ) → (b ≡ true → x ≡ y) → cond b x 0 ≡ cond b y 0
+-- numbers that are equal where a test passes, or else 0
+pub same_if : (b : Bool) (x y : ℕ) → (b ≡ true → x ≡ y) → cond b x 0 ≡ cond b y 0
 same_if true x y h = h refl
 same_if false x y h = refl
 

@@ -12,7 +12,7 @@ use Rattle.heap_core.specs.Words.{around, bytes_around, keys_of, words_of}
 use Rattle.heap_core.proofs.ChangeLemmas.{keeps_shares, still_sound}
 use Rattle.heap_core.proofs.ChunkLemmas.{stand_in, words_are}
 use Rattle.heap_core.proofs.TakeLemmas.{takes_hole}
-use Rattle.heap_core.proofs.UnchangedLemmas.{store_same}
+use Rattle.heap_core.proofs.MemoryLemmas.{memory_same}
 use Rattle.heap_core.proofs.heap.Heap.take_hole.Goals as goal
 
 pub take-requires-clause-stand : goal.take-requires-clause-stand
@@ -51,7 +51,7 @@ where_none (Some x) then is = tt
 -- where no hole is large enough no word has changed, so nothing has
 pub returns-clause-none : goal.returns-clause-none
 returns-clause-none c = record {
-  same_memory = where_none c.take.result (store_same c.args.self.now c.args.memory.now c.take.new.memory c.args.map.now c.requires.sound (kept c)) (took c).refused;
+  same_memory = where_none c.take.result (memory_same c.args.self.now c.args.memory.now c.take.new.memory c.args.map.now c.requires.sound (kept c)) (took c).refused;
   same_map = where_none c.take.result (λ _. refl) (took c).refused;
   same_heap = where_none c.take.result (ap (λ f. record c.args.self.now { fit = f })) (took c).unchanged;
 }
