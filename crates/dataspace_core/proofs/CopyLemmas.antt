@@ -1,5 +1,5 @@
 -- Bytes of a dataspace put over a part of another, one piece after another.
-use Rattle.std.proofs.Common.{◌≡◌, ◌≢◌, ℕ, ◌+◌, ◌-◌, ◌%◌, ◌<◌, ◌≤◌, min, ◌++◌, List, [], length, take, drop, refl, sym, ap, subst, ◌∙◌, unwrap_or, Some, is_some, arith, take-add, drop-drop}
+use Rattle.std.proofs.Common.{◌≡◌, ◌≢◌, ℕ, ◌+◌, ◌-◌, ◌%◌, ◌<◌, ◌≤◌, min, ◌++◌, List, [], length, take, drop, refl, sym, ap, subst, ◌∙◌, unwrap_or, Some, is_some, arith, take-add, drop-drop, rules}
 use Rattle.std.proofs.lemmas.List.{length-take-le}
 use Rattle.std.specs.FinMap.{get, insert}
 use Rattle.std.specs.Prelude.{Option, slice_range}
@@ -14,10 +14,7 @@ use Rattle.dataspace_core.proofs.PutLemmas.{put_nothing, put_there, put_long, pu
 -- a piece is no more than is left, and as long as the part of the array that holds it
 pub piece_taken : (count done size at : ℕ) (buffer : List ℕ) → done < count → length buffer ≡ 4096 → size ≡ min (4096 - at % 4096) (count - done) →
     (done + size ≤ count) × (length (take size buffer) ≡ size)
-piece_taken count done size at buffer more long is =
-    let left : size ≤ count - done = omega (arith, is) in
-    let most : size ≤ 4096 = omega (arith, is) in
-    (omega (arith, left, more), length-take-le size buffer (omega (arith, most, long)))
+piece_taken count done size at buffer more long is = search (rules, length-take-le)
 
 -- where no less is done than is asked, all is
 pub done_all : (done count : ℕ) → count ≤ done → done ≤ count → done ≡ count

@@ -1,5 +1,5 @@
 -- Dataspaces stay laid out while one comes, goes or is written, and the others keep their bytes.
-use Rattle.std.proofs.Common.{◌≡◌, ◌≢◌, ℕ, ◌+◌, ◌-◌, ◌*◌, ◌<◌, ◌≤◌, cond, true, List, length, get_or, Option, Some, None, refl, sym, ap, subst, ◌∙◌, inl, inr, ◌⊎◌, arith, true≢false}
+use Rattle.std.proofs.Common.{◌≡◌, ◌≢◌, ℕ, ◌+◌, ◌-◌, ◌*◌, ◌<◌, ◌≤◌, cond, true, List, length, get_or, Option, Some, None, refl, sym, ap, subst, ◌∙◌, inl, inr, ◌⊎◌, arith, true≢false, rules}
 use Rattle.std.specs.Option.{option_map}
 use Rattle.std.specs.FinMap.{insert, remove}
 use Rattle.std.proofs.lemmas.Bool.{cases_eq, le-leb}
@@ -24,19 +24,11 @@ use Rattle.dataspace_core.proofs.GapLemmas.{starts_behind, before_gap-moved, mov
 
 -- what stands in a slab after an insertion is the new value, or stood there before
 after_insert : (old new : Slab Dataspace) (key : ℕ) (d : Dataspace) → Updates old new key (Some d) → (q : ℕ) (x : Dataspace) → slab.get new q ≡ Some x → ((q ≡ key) × (x ≡ d)) ⊎ ((q ≢ key) × (slab.get old q ≡ Some x))
-after_insert old new key d updates q x there =
-    elim (cases_eq q key) [
-      | inl here ↦ inl (here, same_Some x d (sym there ∙ ap (slab.get new) here ∙ updates.changed))
-      | inr apart ↦ inr (apart, sym (updates.others q apart) ∙ there)
-    ]
+after_insert old new key d updates q x there = search (rules, cases_eq, same_Some)
 
 -- what stands in a slab after a removal stood there before, elsewhere
 pub after_remove : (old new : Slab Dataspace) (key : ℕ) → Updates old new key None → (q : ℕ) (x : Dataspace) → slab.get new q ≡ Some x → (q ≢ key) × (slab.get old q ≡ Some x)
-after_remove old new key updates q x there =
-    elim (cases_eq q key) [
-      | inl here ↦ absurd (none-some x (sym updates.changed ∙ ap (slab.get new) (sym here) ∙ there))
-      | inr apart ↦ (apart, sym (updates.others q apart) ∙ there)
-    ]
+after_remove old new key updates q x there = search (rules, cases_eq, none-some)
 
 -- what every value was changed to comes from one
 after_map : (g : Dataspace → Dataspace) (o : Option Dataspace) (y : Dataspace) → option_map g o ≡ Some y → (x : Dataspace) × (o ≡ Some x) × (g x ≡ y)
@@ -48,11 +40,7 @@ after_map g (Some x) y there = (x, refl, same_Some (g x) y there)
 module _ (pages : List (Option (List ℕ))) (table : List PageNo) (spaces : Slab Dataspace) (laid_out : IsLaidOut pages table spaces) (ds : ℕ) (d : Dataspace) (there : slab.get spaces ds ≡ Some d) where
   -- its pages are a run
   pub IsRun-laid_out : IsRun pages table d.run.start d.run.count
-  IsRun-laid_out = record {
-    within = laid_out.within ds d there;
-    held = laid_out.held ds d there;
-    apart = λ i j p q e. (laid_out.apart ds ds d d there there i j p q e).1;
-  }
+  IsRun-laid_out = search (rules)
 
   -- its size
   pub length-space_of : length (space_of pages table d).bytes ≡ d.run.count * 4096
@@ -166,11 +154,7 @@ module _ (pages : List (Option (List ℕ))) (table : List PageNo) (spaces : Slab
 
     -- the dataspaces with the new one are laid out
     pub IsLaidOut-insert : IsLaidOut new_pages new_table new_spaces
-    IsLaidOut-insert = record {
-      within = λ a x there. within_each a x (after_insert spaces new_spaces key d updates a x there);
-      held = λ a x there. held_each a x (after_insert spaces new_spaces key d updates a x there);
-      apart = λ a b x y p q. apart_each a b x y (after_insert spaces new_spaces key d updates a x p) (after_insert spaces new_spaces key d updates b y q);
-    }
+    IsLaidOut-insert = search (rules, within_each, after_insert, held_each, apart_each)
 
     -- an old slot is read as it was
     read_old : (q : ℕ) (o : Option Dataspace) → slab.get spaces q ≡ o → option_map (space_of new_pages new_table) o ≡ option_map (space_of pages table) o
@@ -179,16 +163,7 @@ module _ (pages : List (Option (List ℕ))) (table : List PageNo) (spaces : Slab
 
     -- they are the old ones and the new one, all zero
     pub map_of-insert_space : map_of (space_of new_pages new_table) new_spaces ≡ insert (map_of (space_of pages table) spaces) key (record { payer = d.payer.0; bytes = zeros (d.run.count * 4096) })
-    map_of-insert_space = same _ _ (λ q.
-        elim (cases_eq q key) [
-          | inl here ↦
-              get-map_of (space_of new_pages new_table) new_spaces q ∙ ap (option_map (space_of new_pages new_table)) (ap (slab.get new_spaces) here ∙ updates.changed)
-              ∙ ap Some new_space ∙ sym (get-insert_same (map_of (space_of pages table) spaces) key _ q here)
-          | inr apart ↦
-              get-map_of (space_of new_pages new_table) new_spaces q ∙ ap (option_map (space_of new_pages new_table)) (updates.others q apart)
-              ∙ read_old q (slab.get spaces q) refl ∙ sym (get-map_of (space_of pages table) spaces q)
-              ∙ sym (get-insert_other (map_of (space_of pages table) spaces) key _ q apart)
-        ])
+    map_of-insert_space = search (rules, same, cases_eq, get-map_of, new_space, get-insert_same, read_old, get-insert_other)
 
 -- ---- a dataspace goes
 

@@ -1,5 +1,5 @@
 -- Bytes put into a dataspace, one piece behind another.
-use Rattle.std.proofs.Common.{◌≡◌, ℕ, ◌+◌, ◌≤◌, List, [], ◌++◌, length, refl, sym, ap, subst, ◌∙◌, unwrap_or, arith}
+use Rattle.std.proofs.Common.{◌≡◌, ℕ, ◌+◌, ◌≤◌, List, [], ◌++◌, length, refl, sym, ap, subst, ◌∙◌, unwrap_or, arith, rules}
 use Rattle.std.proofs.lemmas.Bool.Decides.{nat_tests}
 use Rattle.std.specs.FinMap.{insert}
 use Rattle.std.specs.Prelude.{Option}
@@ -33,11 +33,4 @@ module _ (store : Store) (ds : ℕ) (exists : Exists store ds) where
 
     -- and more that follow are put with them
     pub put_more : (more : List ℕ) → with_bytes_at now ds (offset + length done) more ≡ with_bytes_at store ds offset (done ++ more)
-    put_more more =
-        let before = (space_at store ds).bytes in
-        ap (λ (s : Store). with_bytes_at s ds (offset + length done) more) put
-        ∙ ap (λ (s : Space). record store { spaces = insert (with_bytes_at store ds offset done).spaces ds (record { payer = s.payer; bytes = with_bytes s.bytes (offset + length done) more }) })
-        (ap (λ (s : Store). space_at s ds) (sym put) ∙ put_space)
-        ∙ ap (λ (m : NatMap Space). record store { spaces = m }) (put_again store.spaces ds _ _)
-        ∙ ap (λ (bs : List ℕ). record store { spaces = insert store.spaces ds (record { payer = (space_at store ds).payer; bytes = bs }) })
-        (with_bytes-more before offset done more fits)
+    put_more more = search (rules, put_space, put_again, with_bytes-more)
