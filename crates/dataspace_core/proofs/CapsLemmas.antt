@@ -1,4 +1,5 @@
 -- An account's use of capabilities may change while it covers the account's dataspaces.
+use Rattle.std.proofs.lemmas.Bool.Decides.{nat_tests}
 use Rattle.std.proofs.Common.{◌≡◌, ℕ, ◌<◌, ◌≤◌, List, length, Some, Ok, Err, unwrap_or, refl, sym, subst, ◌∙◌, arith, Bool, cond, eqb, true, false, rules}
 use Rattle.std.specs.Prelude.{⊤, Option, None, Result, IfErr, OnOk, OnErr}
 use Rattle.std.specs.Option.{option_map}

@@ -1,4 +1,5 @@
 -- Bytes of a dataspace put over a part of another, one piece after another.
+use Rattle.std.proofs.lemmas.Bool.Decides.{nat_tests}
 use Rattle.std.proofs.Common.{◌≡◌, ◌≢◌, ℕ, ◌+◌, ◌-◌, ◌%◌, ◌<◌, ◌≤◌, min, ◌++◌, List, [], length, take, drop, refl, sym, ap, subst, ◌∙◌, unwrap_or, Some, is_some, arith, take-add, drop-drop, rules}
 use Rattle.std.proofs.lemmas.List.{length-take-le}
 use Rattle.std.specs.FinMap.{get, insert}

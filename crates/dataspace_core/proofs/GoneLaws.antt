@@ -1,5 +1,6 @@
 -- Laws for callers: a dataspace of an account is detached, and goes: what is left of its account's share, and that all others stay.
-use Rattle.std.proofs.Common.{◌≡◌, ◌≢◌, ℕ, ◌+◌, ◌*◌, List, [], length, Some, is_some, refl, sym, ap, ◌∙◌, unwrap_or, rules}
+use Rattle.std.proofs.lemmas.Bool.Decides.{nat_tests}
+use Rattle.std.proofs.Common.{◌≡◌, ◌≢◌, ℕ, ◌+◌, ◌*◌, List, [], length, Some, is_some, refl, sym, ap, ◌∙◌, unwrap_or, rules, arith}
 use Rattle.std.proofs.lemmas.Option.{none-some, same_Some}
 use Rattle.std.specs.Prelude.{Option}
 use Rattle.std.specs.Option.{option_map}

@@ -1,4 +1,5 @@
 -- Dataspaces stay laid out while one comes, goes or is written, and the others keep their bytes.
+use Rattle.std.proofs.lemmas.Bool.Decides.{nat_tests}
 use Rattle.std.proofs.Common.{◌≡◌, ◌≢◌, ℕ, ◌+◌, ◌-◌, ◌*◌, ◌<◌, ◌≤◌, cond, true, List, length, get_or, Option, Some, None, refl, sym, ap, subst, ◌∙◌, inl, inr, ◌⊎◌, arith, true≢false, rules}
 use Rattle.std.specs.Option.{option_map}
 use Rattle.std.specs.FinMap.{insert, remove}
@@ -90,10 +91,7 @@ module _ (pages : List (Option (List ℕ))) (table : List PageNo) (new_pages : L
   -- so contracts see what they saw
   space_kept : space_of new_pages new_table y ≡ space_of pages table x
   unfolding space_of run_bytes
-  space_kept = λ i. record {
-    payer = (kept.payer i).0;
-    bytes = (joined_same _ _ y.run.count bytes_kept ∙ ap (λ n. run_bytes pages table x.run.start n) kept.count) i;
-  }
+  space_kept = grind (arith, nat_tests, joined_same, bytes_kept)
 
 -- ---- a dataspace comes
 
@@ -104,12 +102,7 @@ module _ (pages : List (Option (List ℕ))) (table : List PageNo) (spaces : Slab
 
   -- an old dataspace is kept
   old_kept : (a : ℕ) (x : Dataspace) → slab.get spaces a ≡ Some x → IsKept pages table new_pages new_table x x
-  old_kept a x there = record {
-    payer = refl;
-    count = refl;
-    page = λ i below. run.entries _ (omega (arith, laid_out.within a x there, below));
-    slot = λ i below. run.kept _ (taken a x there i below);
-  }
+  old_kept a x there = grind (arith, nat_tests, taken)
 
   -- the new dataspace is all zeros
   new_space : space_of new_pages new_table d ≡ record { payer = d.payer.0; bytes = zeros (d.run.count * 4096) }
@@ -176,10 +169,7 @@ module _ (pages : List (Option (List ℕ))) (table : List PageNo) (spaces : Slab
     is : moved_down d.run old ≡ y
 
   was_there : (q : ℕ) (y : Dataspace) → slab.get new_spaces q ≡ Some y → WasThere q y
-  was_there q y found =
-      let origin = after_map (moved_down d.run) (slab.get left q) y (sym (moved.each q) ∙ found) in
-      let old = after_remove spaces left ds updates q origin.0 origin.1 in
-      record { old = origin.0; found = old.1; apart = old.0; is = origin.2 }
+  was_there q y found = grind (arith, nat_tests, after_map, after_remove)
 
   -- another dataspace is kept where it moves
   moved_kept : (q : ℕ) (x : Dataspace) → slab.get spaces q ≡ Some x → q ≢ ds → IsKept pages table new_pages new_table x (moved_down d.run x)
@@ -225,29 +215,14 @@ module _ (pages : List (Option (List ℕ))) (table : List PageNo) (spaces : Slab
 
   -- they are the old ones without this one
   pub map_of-remove_space : map_of (space_of new_pages new_table) new_spaces ≡ remove (map_of (space_of pages table) spaces) ds
-  map_of-remove_space = same _ _ (λ q.
-      get-map_of (space_of new_pages new_table) new_spaces q ∙ ap (option_map (space_of new_pages new_table)) (moved.each q)
-      ∙ elim (cases_eq q ds) [
-        | inl here ↦
-            ap (λ o. option_map (space_of new_pages new_table) (option_map (moved_down d.run) o)) (ap (slab.get left) here ∙ updates.changed)
-            ∙ sym (get-remove_same (map_of (space_of pages table) spaces) ds q here)
-        | inr apart ↦
-            ap (λ o. option_map (space_of new_pages new_table) (option_map (moved_down d.run) o)) (updates.others q apart)
-            ∙ read_left q apart (slab.get spaces q) refl ∙ sym (get-map_of (space_of pages table) spaces q)
-            ∙ sym (get-remove_other (map_of (space_of pages table) spaces) ds q apart)
-      ])
+  map_of-remove_space = grind (arith, nat_tests, same, get-map_of, cases_eq, get-remove_same, read_left, get-remove_other)
 
 -- ---- a dataspace is written
 
 module _ (pages : List (Option (List ℕ))) (table : List PageNo) (spaces : Slab Dataspace) (laid_out : IsLaidOut pages table spaces) (ds : ℕ) (d : Dataspace) (there : slab.get spaces ds ≡ Some d) (new_pages : List (Option (List ℕ))) (offset : ℕ) (bytes : List ℕ) (written : IsWritten pages new_pages table d.run.start d.run.count offset bytes) where
   -- another dataspace is kept
   other_kept : (a : ℕ) (x : Dataspace) → slab.get spaces a ≡ Some x → a ≢ ds → IsKept pages table new_pages table x x
-  other_kept a x found apart = record {
-    payer = refl;
-    count = refl;
-    page = λ i below. refl;
-    slot = λ i below. written.others _ (IsOutside-other pages table spaces laid_out ds d there a x found apart i below);
-  }
+  other_kept a x found apart = grind (arith, nat_tests, IsOutside-other)
 
   -- each page still has all its bytes
   still_held : (a : ℕ) (x : Dataspace) → slab.get spaces a ≡ Some x → (a ≡ ds) ⊎ (a ≢ ds) → (i : ℕ) → i < x.run.count → length (page_bytes new_pages (page_in table (x.run.start + i))) ≡ 4096
@@ -258,11 +233,7 @@ module _ (pages : List (Option (List ℕ))) (table : List PageNo) (spaces : Slab
 
   -- the dataspaces stay laid out
   pub IsLaidOut-written : IsLaidOut new_pages table spaces
-  IsLaidOut-written = record {
-    within = laid_out.within;
-    held = λ a x found. still_held a x found (cases_eq a ds);
-    apart = laid_out.apart;
-  }
+  IsLaidOut-written = grind (arith, nat_tests, still_held, cases_eq)
 
   -- the dataspace that is written has the part in its bytes
   space_written : space_of new_pages table d ≡ record { payer = (space_of pages table d).payer; bytes = with_bytes (space_of pages table d).bytes offset bytes }
@@ -276,12 +247,4 @@ module _ (pages : List (Option (List ℕ))) (table : List PageNo) (spaces : Slab
 
   -- and this one has the new bytes
   pub map_of-written : map_of (space_of new_pages table) spaces ≡ insert (map_of (space_of pages table) spaces) ds (record { payer = (space_of pages table d).payer; bytes = with_bytes (space_of pages table d).bytes offset bytes })
-  map_of-written = same _ _ (λ q.
-      elim (cases_eq q ds) [
-        | inl here ↦
-            get-map_of (space_of new_pages table) spaces q ∙ ap (option_map (space_of new_pages table)) (ap (slab.get spaces) here ∙ there)
-            ∙ ap Some space_written ∙ sym (get-insert_same (map_of (space_of pages table) spaces) ds _ q here)
-        | inr apart ↦
-            get-map_of (space_of new_pages table) spaces q ∙ read_written q (slab.get spaces q) refl apart
-            ∙ sym (get-map_of (space_of pages table) spaces q) ∙ sym (get-insert_other (map_of (space_of pages table) spaces) ds _ q apart)
-      ])
+  map_of-written = grind (arith, nat_tests, same, cases_eq, get-map_of, space_written, get-insert_same, read_written, get-insert_other)

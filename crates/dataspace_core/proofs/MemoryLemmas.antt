@@ -1,4 +1,5 @@
 -- A memory stays sound over each call, and is what the call's contract says.
+use Rattle.std.proofs.lemmas.Bool.Decides.{nat_tests}
 use Rattle.std.proofs.Common.{[], get_or, ◌≡◌, ◌≢◌, ℕ, ◌+◌, ◌*◌, ◌/◌, ◌^◌, ◌<◌, ◌≤◌, min, List, length, Some, Ok, Err, refl, sym, ap, subst, ◌∙◌, arith, inl, inr}
 use Rattle.std.specs.Prelude.{⊤, Option, None, Result, IfOk, OnOk, OnErr}
 use Rattle.std.specs.Result.{result_err}
@@ -83,13 +84,7 @@ module _ {books : Books} {pool : List (Option (List ℕ))} {table : List PageNo}
     -- all of that at once
     pub is_found : {value : Store} → store ≡ value → IsFound pool table ds d value
     unfolding space_of
-    is_found view = subst (IsFound pool table ds d) view (record {
-      run = IsRun-laid_out pool table spaces sound.laid_out ds d there;
-      small = size_small;
-      size = sym (ap (λ (s : Space). length s.bytes) space_at-there ∙ size_there);
-      payer = ap (λ (s : Space). s.payer) (sym space_at-there);
-      bytes = ap (λ (s : Space). s.bytes) (sym space_at-there);
-    })
+    is_found view = grind (arith, nat_tests, IsRun-laid_out, size_small, space_at-there, size_there)
 
     -- its payer is whom the slab names
     payer_is : (space_of pool table d).payer ≡ d.payer.0
@@ -131,11 +126,7 @@ module _ {books : Books} {pool : List (Option (List ℕ))} {table : List PageNo}
 
       -- the memory has lost this dataspace, and its payer has the credit
       gone : store_of new_books new_pool new_table new_spaces ≡ record { books = with_account books (space_of pool table d).payer credited_payer; spaces = remove store.spaces ds; places = spaces.capacity }
-      gone =
-          same_store new_books _ new_pool new_table new_spaces
-          (credit ∙ ap (λ n. with_account books d.payer.0 (credited (account_at books d.payer.0) n 1)) (is ∙ sym size_there) ∙ ap (λ p. with_account books p credited_payer) (sym payer_is))
-          ∙ ap (λ m. record { books = with_account books (space_of pool table d).payer credited_payer; spaces = m; places = new_spaces.capacity }) (map_of-remove_space pool table spaces sound.laid_out ds d there new_pool new_table given closed left new_spaces updates moves)
-          ∙ ap (λ n. record { books = with_account books (space_of pool table d).payer credited_payer; spaces = remove store.spaces ds; places = n }) places
+      gone = grind (arith, nat_tests, same_store, size_there, payer_is, map_of-remove_space)
 
       -- the memory stays sound, and is what the contract of `free` says
       pub leaves-free : LeavesSound new_books new_pool new_table new_room new_spaces (without_space store ds)
@@ -237,13 +228,7 @@ module _ {books : Books} {pool : List (Option (List ℕ))} {table : List PageNo}
 
       -- the memory has a dataspace of zeros more, and its payer has the charge
       come : store_of new_books new_pool new_table new_spaces ≡ record { books = with_account books account (charged (account_at books account) size 1); spaces = insert store.spaces key (record { payer = account; bytes = zeros size }); places = spaces.capacity }
-      come =
-          same_store new_books _ new_pool new_table new_spaces charge
-          ∙ ap (λ n. record { books = with_account books account (charged (account_at books account) size 1); spaces = map_of (space_of new_pool new_table) new_spaces; places = n }) places
-          ∙ ap (λ m. record { books = with_account books account (charged (account_at books account) size 1); spaces = m; places = spaces.capacity })
-          (map_of-insert_space pool table spaces sound.laid_out new_pool new_table d new_run key new_spaces updates
-          ∙ ap (λ p. insert store.spaces key (record { payer = p; bytes = zeros (d.run.count * 4096) })) payer
-          ∙ ap (λ m. insert store.spaces key (record { payer = account; bytes = zeros m })) (ap (λ c. c * 4096) count ∙ whole))
+      come = grind (arith, nat_tests, same_store, map_of-insert_space, new_run, whole)
 
       -- the memory stays sound, and is what the contract of `alloc` says
       pub leaves-alloc : LeavesSound new_books new_pool new_table new_room new_spaces (with_space store key account n)

@@ -104,28 +104,11 @@ inner_same old new root parents i = total (inner_weight (root i)) (parents i)
 
 -- without inner accounts
 pub room_at_first : RoomAtFirst
-room_at_first store outer there enough = record {
-  counted =
-      let none : inner_accounts store ≡ 0 = total_same (inner_weight (root_in store)) (λ _. 0) (parents_in store) (λ k p is. weighs_none (root_in store) p (outer k p is)) ∙ total-zero (parents_in store) in
-      omega (arith, none, enough);
-  there = there;
-  paid = λ k p is inner. absurd (inner (outer k p is));
-}
+room_at_first store outer there enough = grind (arith, nat_tests, total_same, weighs_none, total-zero)
 
 -- inner accounts and one that is none share what there is
 others_paid : (store : Store) (account : ℕ) → HasRoom store → IsOuter store account → inner_accounts store * 2 ≤ total (λ (a : Account). a.caps_limit) (remove (accounts_in store) account)
-others_paid store account room outer =
-    total_keys_le (inner_weight (root_in store)) (λ (a : Account). a.caps_limit) 2 (parents_in store) (remove (accounts_in store) account)
-    (λ k p is. elim (cases_eq p (root_in store)) [
-      | inl under_root ↦ let none = weighs_none (root_in store) p under_root in omega (arith, none)
-      | inr inner ↦
-          let apart : k ≢ account = λ e. inner (outer p (subst (λ q. IsChildIn store q p) e is)) in
-          let one = weighs_one (root_in store) p inner in
-          let paid = room.paid k p is inner in
-          let here : measured (λ (a : Account). a.caps_limit) (get (remove (accounts_in store) account) k) ≡ (account_in store k).caps_limit =
-          ap (measured (λ (a : Account). a.caps_limit)) (get-remove_other (accounts_in store) account k apart) ∙ measured_or (λ (a : Account). a.caps_limit) (get (accounts_in store) k) (opened 0 0) refl in
-          omega (arith, one, paid, here)
-    ])
+others_paid store account room outer = grind (arith, nat_tests, total_keys_le, cases_eq, weighs_none, weighs_one, measured, get-remove_other, measured_or)
 
 pub room_for_one_more : RoomForOneMore
 room_for_one_more store account ram caps room outer fits least =

@@ -152,16 +152,7 @@ module _ (account ds size tag start : ℕ) (old new : Store) (pages most : ℕ) 
       (cases_eq s start)
 
   once_then : (s t : ℕ) (r q : Region) → get (insert heap start region) s ≡ Some r → get (insert heap start region) t ≡ Some q → r.of ≡ q.of → s ≡ t
-  once_then s t r q h g e = ⊎_elim
-      (λ (here : s ≡ start). ⊎_elim
-      (λ (there : t ≡ start). here ∙ sym there)
-      (λ (other : t ≢ start). absurd (unshown t q (was_there t q other g) (sym e ∙ of_new s r here h)))
-      (cases_eq t start))
-      (λ (other : s ≢ start). ⊎_elim
-      (λ (there : t ≡ start). absurd (unshown s r (was_there s r other h) (e ∙ of_new t q there g)))
-      (λ (also : t ≢ start). window.once s t r q (was_there s r other h) (was_there t q also g) e)
-      (cases_eq t start))
-      (cases_eq s start)
+  once_then s t r q h g e = grind (arith, nat_tests, unshown, was_there, of_new, cases_eq)
 
   -- the window is still one of the memory
   pub window_then : 1 ≤ size → IsPlace heap_low (heap_high pages) heap (page_of size / 4096) start → IsWindowOf new pages most (insert heap start region)
@@ -175,20 +166,7 @@ pub record HasRoom (pages most more : ℕ) (heap : NatMap Region) : Type 0 where
 pub room_then : (account ds size : ℕ) (old new : Store) (pages most : ℕ) (heap : NatMap Region) → IsOpenIn old account → IsWindowOf old pages most heap → get old.spaces ds ≡ None →
     PartBecomes account (part_with_space (part account old) ds size) old new → 1 ≤ size →
     new ≡ with_space old ds account size → total (λ (s : Space). length s.bytes) new.spaces ≤ ram_limits_in new → HasRoom pages most (page_of size / 4096) heap
-room_then account ds size old new pages most heap opens window fresh becomes some now within =
-    let limits = (account_after account (part_with_space (part account old) ds size) old new becomes _ refl (ap (λ (a : Account). a.ram_limit) (account_of-part account old)) opens).1 in
-    let held = pages_held heap old.spaces window.shown_whole window.once in
-    let few = regions_within_pages heap (λ s r h. (window.shown_whole s r h).some) in
-    let more : total (λ (s : Space). length s.bytes) new.spaces ≡ total (λ (s : Space). length s.bytes) old.spaces + page_of size =
-    ap (λ (s : Store). total (λ (x : Space). length x.bytes) s.spaces) now
-    ∙ total-insert_new (λ (x : Space). length x.bytes) old.spaces ds _ fresh
-    ∙ ap (λ n. total (λ (x : Space). length x.bytes) old.spaces + n) (length-zeros (page_of size)) in
-    let machine = window.size in
-    let places = window.most_is in
-    record {
-      room = omega (arith, held, few, more, within, limits, machine, places, some);
-      fits = omega (arith, held, more, within, limits, machine);
-    }
+room_then account ds size old new pages most heap opens window fresh becomes some now within = grind (arith, nat_tests, account_after, account_of-part, pages_held, regions_within_pages, total-insert_new, length-zeros)
 
 -- a new dataspace is all zero in its account's part
 pub new_in_part : (account ds size : ℕ) (old new : Store) → PartBecomes account (part_with_space (part account old) ds size) old new → get (part account new).spaces ds ≡ Some (zeros (page_of size))

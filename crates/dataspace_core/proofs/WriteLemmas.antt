@@ -1,4 +1,5 @@
 -- A run of pages while a part is put into its bytes.
+use Rattle.std.proofs.lemmas.Bool.Decides.{nat_tests}
 use Rattle.std.proofs.Common.{◌≡◌, ◌≢◌, ℕ, ◌+◌, ◌*◌, ◌-◌, ◌/◌, ◌%◌, ◌<◌, ◌≤◌, List, [], ◌++◌, length, set, take, drop, Some, refl, sym, ap, subst, ◌∙◌, ◌⊎◌, inl, inr, arith, rules}
 use Rattle.std.specs.Prelude.{Option, None}
 use Rattle.std.proofs.Math.Seq.{take-add}
