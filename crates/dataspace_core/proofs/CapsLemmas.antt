@@ -1,6 +1,5 @@
 -- An account's use of capabilities may change while it covers the account's dataspaces.
-use Rattle.std.proofs.lemmas.Bool.Decides.{nat_tests}
-use Rattle.std.proofs.Common.{◌≡◌, ℕ, ◌<◌, ◌≤◌, List, length, Some, Ok, Err, unwrap_or, refl, sym, subst, ◌∙◌, arith, Bool, cond, eqb, true, false, rules}
+use Rattle.std.proofs.Common.{◌≡◌, ℕ, ◌<◌, ◌≤◌, List, length, Some, Ok, Err, unwrap_or, refl, sym, subst, arith, Bool, cond, true, false, rules}
 use Rattle.std.specs.Prelude.{⊤, Option, None, Result, IfErr, OnOk, OnErr}
 use Rattle.std.specs.Option.{option_map}
 use Rattle.std.specs.Result.{result_err}
@@ -16,7 +15,7 @@ use Rattle.own_model.proofs.Totals.{len-total, total_same, total-picked, owed-to
 use Rattle.own_model.proofs.StepLemmas.{covers, short_of_caps}
 use Rattle.quota_core.specs.Books.{Books, IsOpen, account_at, with_account}
 use Rattle.quota_core.proofs.BooksLaws.{account_there}
-use Rattle.dataspace_core.specs.Store.{Store, part, bytes_paid_by, PartBecomes, charged_part}
+use Rattle.dataspace_core.specs.Store.{Store, part, PartBecomes, charged_part}
 use Rattle.dataspace_core.specs.Layout.{store_of}
 use Rattle.dataspace_core.specs.Paid.{IsPaid, IsSound, payer_of}
 use Rattle.dataspace_core.specs.declared.dataspace.Dataspace.{Dataspace}

@@ -1,13 +1,10 @@
 -- Bytes of a dataspace put over a part of another, one piece after another.
-use Rattle.std.proofs.lemmas.Bool.Decides.{nat_tests}
-use Rattle.std.proofs.Common.{◌≡◌, ◌≢◌, ℕ, ◌+◌, ◌-◌, ◌%◌, ◌<◌, ◌≤◌, min, ◌++◌, List, [], length, take, drop, refl, sym, ap, subst, ◌∙◌, unwrap_or, Some, is_some, arith, take-add, drop-drop, rules}
+use Rattle.std.proofs.Common.{◌≡◌, ◌≢◌, ℕ, ◌+◌, ◌-◌, ◌%◌, ◌<◌, ◌≤◌, min, ◌++◌, List, [], length, take, drop, sym, ap, ◌∙◌, unwrap_or, is_some, arith, take-add, drop-drop, rules}
 use Rattle.std.proofs.lemmas.List.{length-take-le}
-use Rattle.std.specs.FinMap.{get, insert}
+use Rattle.std.specs.FinMap.{get}
 use Rattle.std.specs.Prelude.{Option, slice_range}
-use Rattle.trade_base.specs.Bytes.{with_bytes}
-use Rattle.trade_base.proofs.BytesLemmas.{length-slice_range, length-with_bytes, with_bytes-more, with_bytes-nothing}
-use Rattle.own_model.specs.NatMap.{NatMap}
-use Rattle.own_model.proofs.NatMapLemmas.{natmaps, same, value_at, insert_back, get-insert_same, get-insert_other, IsSome-insert_same}
+use Rattle.trade_base.proofs.BytesLemmas.{length-slice_range}
+use Rattle.own_model.proofs.NatMapLemmas.{value_at, get-insert_other}
 use Rattle.dataspace_core.specs.Store.{Store, Space, Exists, PartBecomes, part, part_with_bytes, space_at, with_bytes_at}
 use Rattle.dataspace_core.proofs.PartLemmas.{becomes-with_bytes_at}
 use Rattle.dataspace_core.proofs.PutLemmas.{put_nothing, put_there, put_long, put_more}

@@ -1,8 +1,6 @@
 -- Laws for callers: a dataspace of an account is detached, and goes: what is left of its account's share, and that all others stay.
-use Rattle.std.proofs.lemmas.Bool.Decides.{nat_tests}
-use Rattle.std.proofs.Common.{◌≡◌, ◌≢◌, ℕ, ◌+◌, ◌*◌, List, [], length, Some, is_some, refl, sym, ap, ◌∙◌, unwrap_or, rules, arith}
+use Rattle.std.proofs.Common.{◌≡◌, ◌≢◌, ℕ, ◌+◌, ◌*◌, List, length, Some, is_some, refl, sym, ap, ◌∙◌, rules}
 use Rattle.std.proofs.lemmas.Option.{none-some, same_Some}
-use Rattle.std.specs.Prelude.{Option}
 use Rattle.std.specs.Option.{option_map}
 use Rattle.std.specs.FinMap.{get, remove, len}
 use Rattle.own_model.specs.Account.{Account, credited}
@@ -12,7 +10,7 @@ use Rattle.own_model.specs.Region.{Region}
 use Rattle.own_model.proofs.ApartLemmas.{LieApart-fewer}
 use Rattle.own_model.proofs.NatMapLemmas.{before_remove, get-remove_same, get-remove_other, value_at}
 use Rattle.own_model.proofs.Totals.{len-remove_at}
-use Rattle.dataspace_core.specs.Store.{Store, Part, part, account_in, account_of, space_at, IsOpenIn, PartBecomes, part_without_space, ram_limits_in}
+use Rattle.dataspace_core.specs.Store.{Store, Part, part, account_in, space_at, IsOpenIn, PartBecomes, part_without_space, ram_limits_in}
 use Rattle.dataspace_core.specs.Share.{Share, share, share_in, IsWindowOf, KeepsShares}
 use Rattle.dataspace_core.proofs.PartLaws.{IsPaidBy, paid_in_part, becomes_paid, account_of-part}
 use Rattle.dataspace_core.proofs.ShareLaws.{share_detached, share_detached_other}

@@ -1,6 +1,5 @@
 -- Laws for callers: the limits of a memory after a call for one account, and the pages that a heap window shows of it.
-use Rattle.std.proofs.lemmas.Bool.Decides.{nat_tests}
-use Rattle.std.proofs.Common.{◌≡◌, ◌≢◌, ◌≤◌, ◌+◌, ◌*◌, ℕ, Some, length, refl, sym, ap, ◌∙◌, ⊎_elim, arith, zero-add, rules}
+use Rattle.std.proofs.Common.{◌≡◌, ◌≢◌, ◌≤◌, ◌+◌, ◌*◌, ℕ, Some, length, refl, sym, ap, ◌∙◌, arith, zero-add, rules}
 use Rattle.std.proofs.lemmas.Bool.{cases_eq}
 use Rattle.std.proofs.lemmas.Option.{none-some}
 use Rattle.std.specs.Prelude.{Option, None, unwrap_or}

@@ -4,7 +4,7 @@ use Rattle.std.proofs.lemmas.Bool.Decides.{nat_tests}
 use Rattle.std.proofs.lemmas.Option.{none-some}
 use Rattle.std.specs.Prelude.{Option, None}
 use Rattle.std.specs.Ordering.{nat_cmp}
-use Rattle.std.specs.FinMap.{get, insert, remove, empty, len, len-empty}
+use Rattle.std.specs.FinMap.{get, insert, remove, len, len-empty}
 use Rattle.own_model.specs.NatMap.{NatMap, total, owed}
 use Rattle.own_model.specs.Account.{Account, Fits, charged, credited, opened, parted_with}
 use Rattle.own_model.specs.Donation.{raised}

@@ -1,16 +1,13 @@
 -- What a change of the memory does to the part of each account.
-use Rattle.std.proofs.Common.{◌≡◌, ◌≢◌, ℕ, ◌<◌, List, [], length, Some, unwrap_or, refl, sym, ap, ◌∙◌, arith, rules}
+use Rattle.std.proofs.Common.{◌≡◌, ◌≢◌, ℕ, ◌<◌, List, [], Some, unwrap_or, refl, sym, ap, ◌∙◌, arith, rules}
 use Rattle.std.proofs.lemmas.Bool.Decides.{nat_tests}
 use Rattle.std.specs.Prelude.{Option, None}
 use Rattle.std.specs.Option.{option_and_then}
-use Rattle.std.specs.FinMap.{get, insert}
-use Rattle.trade_base.specs.Bytes.{with_bytes}
-use Rattle.trade_base.specs.Page.{page_of}
+use Rattle.std.specs.FinMap.{get}
 use Rattle.own_model.specs.NatMap.{NatMap, picked}
-use Rattle.own_model.specs.Account.{Account, credited, opened}
-use Rattle.own_model.specs.OwnState.{zeros}
+use Rattle.own_model.specs.Account.{Account}
 use Rattle.own_model.proofs.NatMapLemmas.{same, get-empty, get-insert_same, get-insert_other, get-remove_same, get-remove_other, get-picked, get-picked_none, get-picked_at, picked-insert_some, picked-insert_hidden, picked-insert_alike, picked-remove, picked-remove_hidden}
-use Rattle.dataspace_core.specs.Store.{Store, Space, space_at, with_space, without_space, with_bytes_at, account_in, with_account_in, with_child_in, with_moved_in, without_account_in, parent_in, room_in}
+use Rattle.dataspace_core.specs.Store.{Store, Space, space_at, with_space, without_space, with_bytes_at, with_account_in, with_child_in, with_moved_in, without_account_in, parent_in, room_in}
 use Rattle.dataspace_core.specs.Store.{Part, part, bytes_paid_by, bytes_of, part_with_space, part_without_space, part_with_bytes, PartBecomes, OpensPart, RaisesPart, ClosesPart}
 
 -- its payer has the bytes of a dataspace in its part, and nobody else

@@ -1,5 +1,5 @@
 -- Runs of pages, while pages are taken and given back, and while the table closes a gap.
-use Rattle.std.proofs.Common.{◌≡◌, ◌≢◌, ◌⊎◌, inl, inr, ℕ, zero, suc, ◌+◌, ◌-◌, ◌*◌, ◌<◌, ◌≤◌, true, false, List, [], ◌∷◌, ◌++◌, length, get_or, set, Option, Some, None, is_some, unwrap_or, refl, sym, ap, ◌∙◌, arith, true≢false}
+use Rattle.std.proofs.Common.{◌≡◌, ◌≢◌, ◌⊎◌, ℕ, zero, suc, ◌+◌, ◌-◌, ◌*◌, ◌<◌, ◌≤◌, true, false, List, [], ◌∷◌, ◌++◌, length, get_or, set, Option, Some, None, is_some, unwrap_or, refl, sym, ap, ◌∙◌, arith, true≢false}
 use Rattle.std.specs.Prelude.{slice_get, replicate}
 use Rattle.std.proofs.Math.Seq.{get_or-append_seam}
 use Rattle.std.specs.List.{CopiedTo, SameBelow}
@@ -11,7 +11,7 @@ use Rattle.page_pool.specs.Pages.{free_count, is_taken, page_bytes, zero_page}
 use Rattle.page_pool.proofs.PageLaws.{is_taken-lt-length, is_taken-free_page, length-zero_page}
 use Rattle.own_model.specs.OwnState.{zeros}
 use Rattle.page_pool.specs.declared.pool.PageNo.{PageNo}
-use Rattle.dataspace_core.specs.Layout.{page_in, joined, run_bytes, IsOutside, IsRun, IsNewRun, IsGiven, IsClosed, before_gap}
+use Rattle.dataspace_core.specs.Layout.{page_in, joined, run_bytes, IsOutside, IsRun, IsNewRun, IsGiven, IsClosed}
 
 -- ---- a page
 

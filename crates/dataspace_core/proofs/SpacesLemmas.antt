@@ -1,6 +1,5 @@
 -- Dataspaces and their starts, read as one slab.
-use Rattle.std.proofs.lemmas.Bool.Decides.{nat_tests}
-use Rattle.std.proofs.Common.{◌≡◌, ◌≢◌, ℕ, zero, suc, ◌+◌, ◌<◌, ◌≤◌, cond, max, List, [], ◌∷◌, drop, length, get_or, set, Some, is_some, count_by, true≢false, refl, sym, ap, subst, ◌∙◌, inl, inr, arith, length-set, get_or-set_same, get_or-set_other, rules}
+use Rattle.std.proofs.Common.{◌≡◌, ◌≢◌, ℕ, zero, suc, ◌+◌, ◌<◌, ◌≤◌, cond, max, List, [], ◌∷◌, drop, length, get_or, set, Some, is_some, count_by, refl, sym, ap, subst, ◌∙◌, arith, get_or-set_other, rules}
 use Rattle.std.specs.Prelude.{Option, None}
 use Rattle.std.specs.Option.{option_map}
 use Rattle.std.proofs.lemmas.Bool.{cases_eq}

@@ -1,6 +1,4 @@
 -- What the tests know of a memory after a call.
-use Rattle.std.proofs.lemmas.Bool.Decides.{nat_tests}
-use Rattle.std.proofs.Common.{arith}
 use Rattle.trade_base.proofs.BytesLemmas.{length-with_bytes}
 use Rattle.trade_base.proofs.WordLemmas.{length-word_bytes}
 use Rattle.own_model.proofs.NatMapLemmas.{natmaps}

@@ -1,6 +1,6 @@
 -- Where a position of a run lies, and how far a walk over the run goes in one step: to the end of the page, or of the walk.
 use Rattle.std.proofs.lemmas.Bool.Decides.{nat_tests}
-use Rattle.std.proofs.Common.{◌≡◌, ℕ, ◌+◌, ◌*◌, ◌-◌, ◌/◌, ◌%◌, ◌<◌, ◌≤◌, min, length, List, arith, ◌∙◌, take, drop, length-drop, rules}
+use Rattle.std.proofs.Common.{◌≡◌, ℕ, ◌+◌, ◌*◌, ◌-◌, ◌/◌, ◌%◌, ◌<◌, ◌≤◌, min, length, List, arith, ◌∙◌, take, drop, length-drop}
 use Rattle.std.proofs.lemmas.List.{length-take-le}
 
 -- so many bytes at a position lie in one page of a run

@@ -1,5 +1,5 @@
 -- Laws for callers: a heap window of the memory, and the shares in it, after calls for one account.
-use Rattle.std.proofs.Common.{◌≡◌, ◌≢◌, ◌≤◌, ◌<◌, ◌+◌, ◌*◌, ◌/◌, ◌||◌, ℕ, true, eqb, List, length, Some, is_some, refl, sym, ap, subst, ◌∙◌, ⊎_elim, unwrap_or, arith, rules}
+use Rattle.std.proofs.Common.{◌≡◌, ◌≢◌, ◌≤◌, ◌<◌, ◌+◌, ◌*◌, ◌/◌, ◌||◌, ℕ, eqb, List, length, Some, is_some, refl, sym, ap, subst, ◌∙◌, ⊎_elim, unwrap_or, arith, rules}
 use Rattle.std.proofs.lemmas.Bool.{cases_eq}
 use Rattle.std.proofs.lemmas.Bool.Decides.{nat_tests}
 use Rattle.std.proofs.lemmas.Option.{none-some, same_Some}

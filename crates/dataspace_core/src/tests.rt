@@ -227,5 +227,7 @@ fn shifted_limits_pay_where_they_came_to(rt: HostRuntime) {
         .shift(one, other, Ram(8192), Caps(2))
         .expect(&rt, "the one has it");
     assert_eq!(rt; refusal_of(&rt, &mut memory, one, 1), Refusal::OutOfRam);
-    memory.alloc(other, 8192).expect(&rt, "it came to the other");
+    memory
+        .alloc(other, 8192)
+        .expect(&rt, "it came to the other");
 }

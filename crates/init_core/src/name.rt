@@ -5,7 +5,10 @@ ghost use Rattle.init_core.specs.Members.{name_in};
 use arrayvec::ArrayString;
 use std::fmt;
 use std::marker::Model;
-use text_read::{LONGEST_NAME, is_name};
+use text_read::is_name;
+
+/// The most bytes of a name.
+const LONGEST_NAME: usize = 32;
 
 /// A name: 1 to 32 letters, digits, `_`, `-` and `.`.
 #[derive(Debug, Drop)]

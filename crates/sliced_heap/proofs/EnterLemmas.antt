@@ -1,15 +1,14 @@
 -- A dataspace is entered as the first block.
-use Rattle.std.proofs.Common.{◌≡◌, ◌≢◌, ◌<◌, ◌+◌, ◌^◌, ℕ, true, false, eqb, ◌||◌, List, [], ◌∷◌, drop, length, Some, is_some, refl, sym, ap, subst, ◌∙◌, ⊎_elim, inl, inr, true≢false, unwrap_or, arith, rules}
+use Rattle.std.proofs.Common.{◌≡◌, ◌≢◌, ◌<◌, ◌+◌, ◌^◌, ℕ, true, false, eqb, ◌||◌, List, [], ◌∷◌, drop, length, Some, is_some, refl, sym, ap, ◌∙◌, true≢false, unwrap_or, arith, rules}
 use Rattle.std.proofs.lemmas.Bool.{cases_eq}
 use Rattle.std.proofs.lemmas.Bool.Decides.{nat_tests}
-use Rattle.std.proofs.lemmas.Option.{none-some}
 use Rattle.std.specs.Prelude.{Option, None}
 use Rattle.std.specs.Option.{option_map}
 use Rattle.std.specs.FinMap.{get, insert}
 use Rattle.own_model.specs.NatMap.{NatMap}
-use Rattle.own_model.specs.Region.{Region, IsFirstGap}
+use Rattle.own_model.specs.Region.{Region}
 use Rattle.own_model.specs.Sliced.{sliced_header as header}
-use Rattle.own_model.specs.HeapWindow.{heap_low, heap_high, heap_gap, largest_machine}
+use Rattle.own_model.specs.HeapWindow.{heap_gap, largest_machine}
 use Rattle.own_model.proofs.NatMapLemmas.{after_insert, each_after_insert}
 use Rattle.own_model.proofs.RegionLemmas.{first_gap_least}
 use Rattle.region_map.specs.Regions.{Regions, heap_attached}

@@ -1,5 +1,5 @@
 -- A block is given back.
-use Rattle.std.proofs.Common.{◌≡◌, ◌≢◌, ◌+◌, ◌==◌, ℕ, true, false, cond, List, [], drop, length, Some, is_some, refl, sym, ap, ◌∙◌, true≢false, unwrap_or, arith, rules}
+use Rattle.std.proofs.Common.{◌≡◌, ◌≢◌, ◌+◌, ◌==◌, ℕ, true, cond, List, drop, length, Some, is_some, refl, sym, ap, ◌∙◌, unwrap_or, arith, rules}
 use Rattle.std.proofs.lemmas.List.{length-drop}
 use Rattle.std.proofs.lemmas.Option.{none-some}
 use Rattle.std.specs.Prelude.{Option}

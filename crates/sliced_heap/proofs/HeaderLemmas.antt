@@ -1,5 +1,5 @@
 -- What bytes put over those of a dataspace leave; a word of a header that is stored reads back, and all else stays.
-use Rattle.std.proofs.Common.{◌≡◌, ◌≢◌, ◌<◌, ◌≤◌, ◌^◌, ◌+◌, ◌-◌, ℕ, true, ◌⊎◌, List, [], ◌∷◌, drop, length, refl, sym, ap, ◌∙◌, ⊎_elim, unwrap_or, arith, rules}
+use Rattle.std.proofs.Common.{◌≡◌, ◌<◌, ◌≤◌, ◌^◌, ◌+◌, ◌-◌, ℕ, true, ◌⊎◌, List, [], ◌∷◌, drop, length, refl, ap, ◌∙◌, unwrap_or, arith, rules}
 use Rattle.std.proofs.lemmas.Bool.{cases_eq}
 use Rattle.std.proofs.lemmas.Bool.Decides.{nat_tests}
 use Rattle.std.specs.Prelude.{Option, Some, slice_range}

@@ -1,5 +1,5 @@
 -- Laws for callers: what other calls leave of a heap, what a range of a payload is, and where blocks stand.
-use Rattle.std.proofs.Common.{◌≡◌, ◌≢◌, ◌+◌, ◌-◌, ◌*◌, ◌≤◌, ℕ, List, [], ◌++◌, take, drop, length, inl, Some, IsSome, is_some, refl, sym, ap, subst, ◌∙◌, ⊎_elim, true≢false, unwrap_or, arith, rules}
+use Rattle.std.proofs.Common.{◌≡◌, ◌≢◌, ◌+◌, ◌-◌, ◌≤◌, ℕ, List, [], ◌++◌, take, drop, length, inl, Some, IsSome, is_some, refl, sym, ap, ◌∙◌, ⊎_elim, true≢false, unwrap_or, arith, rules}
 use Rattle.std.proofs.lemmas.Bool.{cases_eq}
 use Rattle.std.proofs.lemmas.List.{length-drop, length-take-le, take-append-drop, drop-drop}
 use Rattle.std.proofs.Math.Seq.{drop-append_seam}

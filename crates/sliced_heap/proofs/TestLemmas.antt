@@ -1,5 +1,5 @@
 -- Two heaps on one map: both stay sound over each other's calls, and a write into a payload of the one.
-use Rattle.std.proofs.Common.{◌≡◌, ◌+◌, ◌*◌, ◌≤◌, ℕ, List, length, is_some, refl, sym, ap, subst, ◌∙◌, rules}
+use Rattle.std.proofs.Common.{◌≡◌, ◌+◌, ◌*◌, ◌≤◌, ℕ, List, length, is_some, refl, sym, ap, subst, ◌∙◌}
 use Rattle.std.specs.FinMap.{get}
 use Rattle.std.specs.Prelude.{None}
 use Rattle.own_model.proofs.NatMapLemmas.{apart_from_free}

@@ -1,6 +1,6 @@
 -- What a contract sees of a sliced heap: its blocks, as the account's share of the memory and of the heap window holds them.
-use Rattle.std.specs.Prelude.{◌≡◌, ◌≢◌, ℕ, ◌+◌, ◌*◌, ◌%◌, ◌≤◌, ◌==◌, Bool, true, false, cond, ◌⊎◌, List, [], ◌∷◌, Option, Some, None, drop, length, slice_range}
-use Rattle.std.specs.FinMap.{get, len, retain_keys}
+use Rattle.std.specs.Prelude.{◌≡◌, ◌≢◌, ℕ, ◌+◌, ◌*◌, ◌%◌, ◌≤◌, ◌==◌, true, false, cond, ◌⊎◌, List, [], ◌∷◌, Option, Some, drop, length, slice_range}
+use Rattle.std.specs.FinMap.{get, len}
 use Rattle.std.specs.Option.{option_map}
 use Rattle.trade_base.specs.Word.{word_of}
 use Rattle.own_model.specs.NatMap.{NatMap, picked}
