@@ -1,5 +1,5 @@
 -- Zeros put over a part of a dataspace, one piece after another.
-use Rattle.std.proofs.Common.{◌≡◌, ℕ, ◌+◌, ◌≤◌, List, ◌++◌, length, take, sym, ap, ◌∙◌, arith}
+use Rattle.std.proofs.Common.{◌≡◌, ℕ, ◌+◌, ◌≤◌, List, ◌++◌, length, take, sym, ap, ◌∙◌, arith, rules}
 use Rattle.std.proofs.lemmas.List.{take-replicate, replicate-append-replicate}
 use Rattle.std.specs.Prelude.{replicate}
 use Rattle.own_model.specs.OwnState.{zeros}
@@ -35,10 +35,7 @@ module _ (store : Store) (ds : ℕ) (exists : Exists store ds) where
     piece_there = put_there store ds exists now offset (zeros done) put fits_so_far
 
     pub piece_fits : offset + done + length (take piece blank) ≤ length (space_at now ds).bytes
-    piece_fits =
-        let size = ap length taken ∙ length-zeros piece in
-        let long = put_long store ds exists now offset (zeros done) put fits_so_far in
-        omega (arith, size, long, fits)
+    piece_fits = search (rules, taken, length-zeros, put_long, fits_so_far)
 
     pub piece_put : with_bytes_at now ds (offset + done) (take piece blank) ≡ with_bytes_at store ds offset (zeros (done + piece))
     piece_put =

@@ -1,11 +1,10 @@
 -- A heap's large blocks are given back, one after another.
-use Rattle.std.proofs.Common.{rules, ◌≡◌, ℕ, ◌+◌, ◌-◌, ◌*◌, ◌≤◌, ◌==◌, Bool, List, length, get_or, false, Some, refl, sym, ap, subst, ◌∙◌, unwrap_or, arith}
+use Rattle.std.proofs.Common.{rules, ◌≡◌, ℕ, ◌+◌, ◌-◌, ◌*◌, ◌≤◌, ◌==◌, Bool, List, length, get_or, false, Some, sym, ap, subst, ◌∙◌, unwrap_or, arith}
 use Rattle.std.proofs.lemmas.Bool.Decides.{nat_tests}
 use Rattle.std.specs.Prelude.{Option}
 use Rattle.std.specs.Option.{option_and_then}
 use Rattle.std.specs.FinMap.{get, remove, len}
 use Rattle.own_model.specs.Account.{Account, credited, opened}
-use Rattle.own_model.specs.NatMap.{NatMap}
 use Rattle.own_model.specs.OwnHeap.{OwnHeap}
 use Rattle.own_model.specs.Region.{Region}
 use Rattle.own_model.specs.Use.{heap_count, heap_size}
@@ -19,8 +18,7 @@ use Rattle.heap_core.specs.declared.heap.Heap.{Heap}
 use Rattle.heap_core.specs.Calls.{GivesAll, GivesLarge, IsNoBlock, Keeps, KeepsElsewhere}
 use Rattle.heap_core.specs.End.{EndsChunks, EndsLarge}
 use Rattle.heap_core.specs.Heap.{HasNoBlocks, IsSound, heap_at, heap_in, large_regions, large_tag, payer_of, share_at, times_in}
-use Rattle.heap_core.specs.Words.{is_among}
-use Rattle.heap_window.proofs.ShareLemmas.{large_kept, get-large}
+use Rattle.heap_window.proofs.ShareLemmas.{large_kept}
 use Rattle.dataspace_core.proofs.ShareLaws.{in_tags}
 use Rattle.own_model.proofs.AccountLemmas.{credit_twice}
 use Rattle.heap_core.proofs.EndChunkLemmas.{keeps_then, elsewhere_gone, elsewhere_then}

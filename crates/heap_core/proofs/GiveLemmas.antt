@@ -1,11 +1,9 @@
 -- A used block of a chunk is given back: its payload is gone, and all else stays.
 use Rattle.std.proofs.lemmas.Bool.Decides.{nat_tests}
-use Rattle.std.proofs.Common.{rules, ◌≡◌, ℕ, ◌+◌, ◌-◌, ◌*◌, ◌<◌, ◌≤◌, true, false, cond, eqb, eqb-true, List, [], length, get_or, refl, sym, ap, subst, ◌∙◌, true≢false, arith, Some}
+use Rattle.std.proofs.Common.{rules, ◌≡◌, ℕ, ◌+◌, ◌-◌, ◌<◌, ◌≤◌, true, cond, eqb, eqb-true, List, length, get_or, refl, sym, ap, subst, ◌∙◌, true≢false, arith, Some}
 use Rattle.std.proofs.lemmas.Option.{none-some}
 use Rattle.std.proofs.lemmas.List.{get_or-map, length-map}
 use Rattle.std.specs.Prelude.{Option, None, IfNone, OnSome, is_some}
-use Rattle.std.specs.Option.{option_or, option_and_then}
-use Rattle.std.specs.Cmp.{nat_cmp_total}
 use Rattle.std.specs.Ordering.{nat_cmp}
 use Rattle.std.specs.FinMap.{get, remove, from_entries, get-from_entries}
 use Rattle.own_model.specs.BestFit.{chunk_of, given, given_in, used_at}
@@ -14,20 +12,18 @@ use Rattle.own_model.specs.Growth.{shape_given}
 use Rattle.own_model.specs.Heap as model
 use Rattle.own_model.specs.Heap.{Block, AreBlocks, bytes_in}
 use Rattle.own_model.specs.HeapStep.{without_block}
-use Rattle.own_model.specs.NatMap.{NatMap, picked, joined}
+use Rattle.own_model.specs.NatMap.{NatMap, joined}
 use Rattle.own_model.specs.OwnHeap.{OwnHeap, chunk_with, offset_of, start_of}
 use Rattle.own_model.specs.Region.{Region}
 use Rattle.own_model.proofs.BlockLemmas.{AreBlocks-given}
 use Rattle.own_model.proofs.ChunkLemmas.{Lies, chunk_from_is}
 use Rattle.own_model.proofs.JoinedLemmas.{get-joined}
-use Rattle.own_model.proofs.NatMapLemmas.{same, get-picked, get-picked_none, get-remove, picked_alike}
+use Rattle.own_model.proofs.NatMapLemmas.{same, get-picked_none, get-remove, picked_alike}
 use Rattle.avl_alloc.specs.declared.best_fit.BestFit.{BestFit}
 use Rattle.avl_alloc.specs.Layout as avl
 use Rattle.avl_alloc.specs.Layout.{heap_of, sizes_of, ChangesHoles, weigh_holes, whole}
-use Rattle.avl_alloc.specs.Words.{place_at}
-use Rattle.avl_alloc.proofs.LayoutLemmas.{sound_told, chunk_there}
 use Rattle.region_map.specs.Regions.{Regions}
-use Rattle.dataspace_core.specs.Store.{Store, part, bytes_of}
+use Rattle.dataspace_core.specs.Store.{Store, part}
 use Rattle.dataspace_core.specs.Share.{Share, share_in}
 use Rattle.heap_core.specs.declared.words.Chunk.{Chunk}
 use Rattle.heap_core.specs.declared.heap.Heap.{Heap}
@@ -38,7 +34,6 @@ use Rattle.heap_core.specs.Lookup.{LiesInChunk}
 use Rattle.heap_core.specs.Calls.{GivesSmall, Keeps, Unchanged, free_refusal}
 use Rattle.heap_core.specs.Heap.{IsSound, bytes_shown, chunk_at, heap_in, keys_in, large_regions, payer_of, payloads_of, share_at, starts_in, words_in}
 use Rattle.heap_core.specs.Words.{around, keys_of, words_of}
-use Rattle.heap_core.proofs.BlockLemmas.{length-heap_of}
 use Rattle.heap_core.proofs.ChangeLemmas.{later, large_apart, keeps_shares, keeps_spaces, still_sound, same_account, share_now, words_now}
 use Rattle.heap_core.proofs.FoundLemmas.{blocks_at, none_else, no_large_at, one_chunk, used_inside}
 use Rattle.heap_core.proofs.ChunkLemmas.{words_are}
@@ -221,11 +216,7 @@ module _ (heap : Heap) (fit : BestFit) (addr : BlockAddr) (result : Option ℕ) 
     gave_same none = memory_same heap old new regions sound kept (subst (λ (r : Option ℕ). IfNone r (words_of (keys_in heap) new ≡ words_of (keys_in heap) old)) none gave.refused)
 
     pub gave_unchanged : result ≡ None → Unchanged (λ P. P) heap (record heap { fit = fit }) old new regions regions
-    gave_unchanged none = record {
-      same_memory = gave_same none;
-      same_map = refl;
-      same_heap = ap (λ f. record heap { fit = f }) (subst (λ (r : Option ℕ). IfNone r (fit ≡ heap.fit)) none gave.unchanged);
-    }
+    gave_unchanged none = search (rules, gave_same, gave)
 
     module _ (some : is_some result ≡ true) where
       size : (n : ℕ) × (result ≡ Some n)

@@ -1,5 +1,5 @@
 -- A heap has grown by a chunk: it is sound, and else as it was.
-use Rattle.std.proofs.Common.{rules, ◌≡◌, ◌≢◌, ℕ, ◌+◌, ◌-◌, ◌*◌, ◌/◌, ◌^◌, ◌<◌, ◌≤◌, ◌==◌, ◌++◌, Bool, true, false, cond, List, [], ◌∷◌, length, get_or, map, refl, sym, ap, subst, ◌∙◌, ⊎_elim, unwrap_or, arith, Some, is_some}
+use Rattle.std.proofs.Common.{rules, ◌≡◌, ◌≢◌, ℕ, ◌+◌, ◌-◌, ◌/◌, ◌^◌, ◌<◌, ◌≤◌, ◌==◌, ◌++◌, true, false, cond, List, [], ◌∷◌, length, get_or, map, refl, sym, ap, subst, ◌∙◌, ⊎_elim, unwrap_or, arith, Some, is_some}
 use Rattle.std.proofs.Math.ListN.{get_or-append}
 use Rattle.std.proofs.Math.Seq.{get_or-append_seam}
 use Rattle.std.proofs.lemmas.Bool.{cases_eq, cases_lt}
@@ -13,12 +13,11 @@ use Rattle.std.specs.Ordering.{nat_cmp}
 use Rattle.std.specs.FinMap.{get, insert, remove, empty, len, from_entries, get-from_entries}
 use Rattle.arrayvec.specs.ArrayVec.{ArrayVec}
 use Rattle.trade_base.specs.Page.{page_of}
-use Rattle.own_model.specs.BestFit.{used_at, chunk_of}
 use Rattle.own_model.specs.Heap as model
 use Rattle.own_model.specs.Heap.{Hole, AreBlocks, bytes_in}
 use Rattle.own_model.specs.HeapStep.{with_chunk}
 use Rattle.own_model.specs.HeapWindow.{heap_gap, largest_machine}
-use Rattle.own_model.specs.NatMap.{NatMap, picked, joined}
+use Rattle.own_model.specs.NatMap.{NatMap, joined}
 use Rattle.own_model.specs.OwnState.{zeros}
 use Rattle.own_model.specs.Region.{Region}
 use Rattle.own_model.proofs.ByteLemmas.{length-zeros}
@@ -28,7 +27,6 @@ use Rattle.avl_alloc.specs.Layout as avl
 use Rattle.avl_alloc.specs.Layout.{heap_of, sizes_of, ChangesHoles, weigh_holes, whole}
 use Rattle.avl_alloc.specs.Words.{place_at}
 use Rattle.avl_alloc.proofs.HoleLemmas.{within_below}
-use Rattle.avl_alloc.proofs.LayoutLemmas.{sound_told}
 use Rattle.avl_alloc.proofs.WeightLemmas.{weigh_all-append}
 use Rattle.region_map.specs.Regions.{Regions, heap_attached}
 use Rattle.dataspace_core.specs.Store.{Store, Space, part, bytes_of, bytes_paid_by, PartBecomes, part_with_space, with_space}
@@ -44,14 +42,13 @@ use Rattle.heap_core.specs.Heap.{IsLaid, IsSound, StandsChunk, StandsLarge, byte
 use Rattle.heap_core.specs.Words.{Around, is_among, are_bytes, around, bytes_in_store, keys_of, words_of, word_in, spaces_but, blank_if}
 use Rattle.heap_core.proofs.AddLemmas.{among_more, are_then, blocks_then, key_other, keys_more, other_space, paid_then, word_then, word_low, word_out}
 use Rattle.heap_core.proofs.AroundLemmas.{get-part, bytes_of-part, part_lengths, account_kept, around_becomes, words_of-part}
-use Rattle.heap_core.proofs.BlockLemmas.{length-heap_of}
 use Rattle.heap_core.proofs.ChangeLemmas.{chunk_now, keeps_spaces, large_apart}
 use Rattle.heap_core.proofs.ChunkLemmas.{are_sound, key_is, stand_in, words_are}
 use Rattle.heap_core.proofs.FrameLemmas.{entries_same}
 use Rattle.heap_core.proofs.HoleLemmas.{AreTold, are_told}
 use Rattle.heap_core.proofs.PayloadLemmas.{no_chunk, payloads-hole, payloads-same}
 use Rattle.heap_core.proofs.RoomLemmas.{len_alike}
-use Rattle.heap_window.proofs.ShareLemmas.{get-large, large_there, numbered-insert_other}
+use Rattle.heap_window.proofs.ShareLemmas.{large_there, numbered-insert_other}
 use Rattle.heap_core.proofs.StandLemmas.{payloads_alike}
 use Rattle.heap_core.proofs.TakeLargeLemmas.{gap_place}
 use Rattle.heap_core.proofs.WordsLemmas.{AreChunks, all_bytes, chunks_sound, sound_chunks, each_bytes, length_keys}

@@ -1,7 +1,6 @@
 -- Laws for callers: what a poke of a payload leaves of a heap.
-use Rattle.std.proofs.Common.{rules, ◌≡◌, ◌≢◌, ℕ, ◌+◌, ◌-◌, ◌*◌, ◌<◌, ◌≤◌, true, cond, eqb, List, [], length, get_or, refl, sym, ap, subst, ◌∙◌, ◌⊎◌, unwrap_or, arith, Some, is_some}
+use Rattle.std.proofs.Common.{rules, ◌≡◌, ◌≢◌, ℕ, ◌+◌, ◌-◌, ◌<◌, ◌≤◌, true, cond, eqb, List, [], length, get_or, refl, sym, ap, subst, ◌∙◌, ◌⊎◌, unwrap_or, arith, Some, is_some}
 use Rattle.std.specs.Prelude.{Option, None, slice_range}
-use Rattle.std.specs.Option.{option_and_then}
 use Rattle.std.specs.Cmp.{nat_cmp_total}
 use Rattle.std.specs.Ordering.{nat_cmp}
 use Rattle.std.specs.FinMap.{get, insert, from_entries, get-from_entries}
@@ -10,19 +9,18 @@ use Rattle.own_model.specs.BestFit.{used_at, chunk_of}
 use Rattle.own_model.specs.Entries.{value_of}
 use Rattle.own_model.specs.Heap as model
 use Rattle.own_model.specs.Heap.{AreBlocks, bytes_in}
-use Rattle.own_model.specs.NatMap.{picked, joined}
+use Rattle.own_model.specs.NatMap.{joined}
 use Rattle.own_model.specs.OwnState.{with_part}
 use Rattle.own_model.specs.Region.{Region}
 use Rattle.own_model.proofs.BlockLemmas.{used_within}
 use Rattle.own_model.proofs.JoinedLemmas.{joined-insert_first}
-use Rattle.own_model.proofs.NatMapLemmas.{same, get-picked, get-insert, picked_alike}
-use Rattle.avl_alloc.specs.Layout as avl
+use Rattle.own_model.proofs.NatMapLemmas.{same, get-insert, picked_alike}
 use Rattle.avl_alloc.specs.Layout.{heap_of}
 use Rattle.region_map.specs.Regions.{Regions}
 use Rattle.dataspace_core.specs.Store.{Store, part, bytes_of}
 use Rattle.dataspace_core.specs.Share.{Share, share_in}
 use Rattle.heap_core.specs.declared.heap.Heap.{Heap}
-use Rattle.heap_core.specs.Heap.{IsSound, bytes_shown, chunk_at, heap_in, keys_in, large_regions, payer_of, payloads_from, payloads_of, share_at, starts_in, words_in}
+use Rattle.heap_core.specs.Heap.{IsSound, bytes_shown, chunk_at, heap_in, keys_in, large_regions, payer_of, payloads_from, payloads_of, share_at, words_in}
 use Rattle.heap_core.specs.Words.{are_bytes, around, bytes_in_store, words_of}
 use Rattle.heap_core.proofs.AroundLemmas.{bytes_of-part}
 use Rattle.heap_core.proofs.ChangeLemmas.{keeps_spaces, large_apart, share_now, still_sound, words_now, chunk_now, part_there}

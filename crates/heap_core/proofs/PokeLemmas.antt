@@ -1,12 +1,10 @@
 -- Bytes are put over those of a used block's payload: the heap stays but for these bytes.
-use Rattle.std.proofs.Common.{rules, ◌≡◌, ◌≢◌, ℕ, ◌+◌, ◌-◌, ◌/◌, ◌%◌, ◌^◌, ◌<◌, ◌≤◌, ◌==◌, ◌&&◌, Bool, true, false, cond, List, [], length, get_or, refl, sym, ap, subst, ◌∙◌, ⊎_elim, ◌⊎◌, inl, inr, unwrap_or, arith, Some}
+use Rattle.std.proofs.Common.{rules, ◌≡◌, ℕ, ◌+◌, ◌-◌, ◌/◌, ◌%◌, ◌^◌, ◌<◌, ◌≤◌, true, List, [], length, get_or, sym, ap, subst, ◌∙◌, ◌⊎◌, unwrap_or, arith, Some}
 use Rattle.std.proofs.lemmas.Bool.{cases_eq, cases_lt}
-use Rattle.std.proofs.lemmas.Bool.Decides.{nat_tests}
-use Rattle.std.specs.Prelude.{Option, nat_lt, nat_le, slice_range}
+use Rattle.std.specs.Prelude.{Option}
 use Rattle.std.specs.Option.{IsSome}
 use Rattle.std.specs.FinMap.{get}
 use Rattle.trade_base.specs.Bytes.{with_bytes}
-use Rattle.trade_base.specs.Word.{word_of}
 use Rattle.trade_base.proofs.BytesLemmas.{length-with_bytes}
 use Rattle.trade_base.proofs.ElsewhereLemmas.{range_before, range_after}
 use Rattle.own_model.specs.BestFit.{used_at, chunk_of}
@@ -15,8 +13,7 @@ use Rattle.own_model.specs.Heap.{Block, AreBlocks, bytes_in}
 use Rattle.own_model.proofs.BlockLemmas.{used_within}
 use Rattle.avl_alloc.specs.Layout as avl
 use Rattle.avl_alloc.specs.Layout.{heap_of, kept_at}
-use Rattle.avl_alloc.specs.Words.{place_at}
-use Rattle.avl_alloc.proofs.LayoutLemmas.{sound_kept, sound_told}
+use Rattle.avl_alloc.proofs.LayoutLemmas.{sound_kept}
 use Rattle.region_map.specs.Regions.{Regions}
 use Rattle.dataspace_core.specs.Store.{Store, part}
 use Rattle.dataspace_core.specs.Share.{share_in}
@@ -25,7 +22,6 @@ use Rattle.heap_core.specs.declared.heap.Heap.{Heap}
 use Rattle.heap_core.specs.Heap.{IsSound, keys_in, payer_of, share_at, words_in}
 use Rattle.heap_core.specs.Words.{are_bytes, around, bytes_in_store, words_of, word_in, word_from}
 use Rattle.heap_core.proofs.AroundLemmas.{bytes_of-part}
-use Rattle.heap_core.proofs.BlockLemmas.{length-heap_of}
 use Rattle.heap_core.proofs.ChunkLemmas.{in_chunks, chunk_there, chunk_paid, are_sound, stand_in, words_are}
 use Rattle.heap_core.proofs.FrameLemmas.{used_even}
 use Rattle.heap_core.proofs.HoleLemmas.{AreTold, are_told, payload_unkept}

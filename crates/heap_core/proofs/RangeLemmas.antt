@@ -1,15 +1,14 @@
 -- A range of a payload: where it stands, what is read there, and what a poke there leaves.
-use Rattle.std.proofs.Common.{◌≡◌, ◌≢◌, ℕ, suc, ◌+◌, ◌-◌, ◌*◌, ◌<◌, ◌≤◌, true, false, List, [], ◌∷◌, length, get_or, refl, sym, ap, subst, ◌∙◌, ⊎_elim, ◌⊎◌, inl, inr, arith, rules, Some}
+use Rattle.std.proofs.Common.{◌≡◌, ◌≢◌, ℕ, ◌+◌, ◌-◌, ◌*◌, ◌<◌, ◌≤◌, true, List, length, get_or, refl, sym, ap, subst, ◌∙◌, ⊎_elim, ◌⊎◌, inl, inr, arith, rules, Some}
 use Rattle.std.proofs.lemmas.Bool.{cases_eq, cases_lt}
 use Rattle.std.proofs.lemmas.Bool.Decides.{nat_tests}
 use Rattle.std.proofs.lemmas.List.{same_lists, places}
 use Rattle.std.proofs.lemmas.Option.{none-some, same_Some}
-use Rattle.std.specs.Prelude.{None, nat_lt, slice_range}
+use Rattle.std.specs.Prelude.{None, slice_range}
 use Rattle.std.specs.Option.{option_map, option_or}
 use Rattle.std.specs.Cmp.{nat_cmp_total}
 use Rattle.std.specs.Ordering.{nat_cmp}
 use Rattle.std.specs.FinMap.{get, insert, from_entries, get-from_entries}
-use Rattle.trade_base.specs.Bytes.{with_bytes}
 use Rattle.trade_base.proofs.BytesLemmas.{length-slice_range}
 use Rattle.own_model.specs.BestFit.{used_at, chunk_of}
 use Rattle.own_model.specs.Entries.{value_of}
@@ -19,9 +18,8 @@ use Rattle.own_model.specs.HeapStep.{with_poked}
 use Rattle.own_model.specs.OwnState.{with_part}
 use Rattle.own_model.specs.Region.{Region}
 use Rattle.own_model.proofs.BlockLemmas.{used_within}
-use Rattle.own_model.proofs.EntryLemmas.{value_of-append}
 use Rattle.own_model.proofs.HeapStepLemmas.{not_both}
-use Rattle.own_model.proofs.JoinedLemmas.{from_either, get-joined, joined-insert_second}
+use Rattle.own_model.proofs.JoinedLemmas.{get-joined, joined-insert_second}
 use Rattle.own_model.proofs.NatMapLemmas.{same, and_then_alike, and_then_from, get-picked, get-picked_at, get-insert_same, get-insert_other, value_at}
 use Rattle.avl_alloc.specs.Layout as avl
 use Rattle.avl_alloc.specs.Layout.{heap_of}
@@ -33,7 +31,6 @@ use Rattle.dataspace_core.proofs.PartLemmas.{becomes-with_bytes_at}
 use Rattle.dataspace_core.proofs.PokedLaws.{poked_there, poked_other, poked_length}
 use Rattle.dataspace_core.proofs.ShareLaws.{share_alike, some_alike, in_share}
 use Rattle.dataspace_core.proofs.WindowLaws.{in_memory, window_after}
-use Rattle.heap_core.specs.declared.words.Chunk.{Chunk}
 use Rattle.heap_core.specs.declared.heap.Heap.{Heap}
 use Rattle.heap_core.specs.Calls.{HoldsRange}
 use Rattle.heap_core.specs.Heap.{IsLaid, IsSound, chunk_at, heap_at, heap_in, keys_in, large_regions, large_tag, payer_of, payloads_of, share_at, words_in, bytes_shown}
@@ -42,7 +39,7 @@ use Rattle.heap_core.specs.Words.{are_bytes, words_of}
 use Rattle.heap_core.proofs.FoundLemmas.{from_chunk}
 use Rattle.heap_core.proofs.ChunkLemmas.{key_is, words_are}
 use Rattle.heap_core.proofs.HeapLaws.{poke_sound, poke_value}
-use Rattle.heap_core.proofs.PayloadLemmas.{told, value_of-payloads, no_chunk, entries_of}
+use Rattle.heap_core.proofs.PayloadLemmas.{told, value_of-payloads}
 use Rattle.heap_core.proofs.PokedLemmas.{put_part}
 use Rattle.heap_window.proofs.ShareLemmas.{large_there, told_region, large_region}
 use Rattle.heap_core.proofs.StandLemmas.{chunk_blocks, chunk_bytes, chunk_total}

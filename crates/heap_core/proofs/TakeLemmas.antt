@@ -1,37 +1,34 @@
 -- The best hole is taken: its payload is one more, of whatever bytes it has, and all else stays.
-use Rattle.std.proofs.Common.{rules, ◌≡◌, ℕ, ◌+◌, ◌*◌, ◌<◌, ◌≤◌, cond, eqb, List, [], length, refl, sym, ap, subst, ◌∙◌, ◌⊎◌, arith, Some}
+use Rattle.std.proofs.Common.{rules, ◌≡◌, ℕ, ◌+◌, ◌<◌, ◌≤◌, cond, eqb, List, length, sym, ap, subst, ◌∙◌, ◌⊎◌, arith, Some}
 use Rattle.std.proofs.lemmas.List.{get_or-map}
-use Rattle.std.specs.Prelude.{Option, None, slice_range}
-use Rattle.std.specs.Option.{option_and_then}
+use Rattle.std.specs.Prelude.{None, slice_range}
 use Rattle.std.specs.Cmp.{nat_cmp_total}
 use Rattle.std.specs.Ordering.{nat_cmp}
 use Rattle.std.specs.FinMap.{get, insert, from_entries, get-from_entries}
-use Rattle.own_model.specs.BestFit.{Spot, best_hole, block_size, holes_of, taken, taken_in, taken_at, used_at, chunk_of}
+use Rattle.own_model.specs.BestFit.{Spot, best_hole, block_size, holes_of, taken, taken_in, taken_at, chunk_of}
 use Rattle.own_model.specs.Entries.{value_of}
 use Rattle.own_model.specs.Heap as model
 use Rattle.own_model.specs.Heap.{Block, AreBlocks, bytes_in}
 use Rattle.own_model.specs.HeapStep.{size_taken}
-use Rattle.own_model.specs.NatMap.{picked, joined}
+use Rattle.own_model.specs.NatMap.{joined}
 use Rattle.own_model.specs.OwnHeap.{payload_start}
 use Rattle.own_model.specs.Growth.{shape_taken}
 use Rattle.own_model.specs.Region.{Region}
 use Rattle.own_model.proofs.BlockLemmas.{AreBlocks-taken, block_size-fits, hole_within}
 use Rattle.own_model.proofs.BestFitLemmas.{best_is_hole, IsHoleOf}
 use Rattle.own_model.proofs.JoinedLemmas.{joined-insert_first}
-use Rattle.own_model.proofs.NatMapLemmas.{same, get-picked, get-insert, picked_alike}
+use Rattle.own_model.proofs.NatMapLemmas.{same, get-insert, picked_alike}
 use Rattle.avl_alloc.specs.declared.best_fit.BestFit.{BestFit}
 use Rattle.avl_alloc.specs.Layout as avl
 use Rattle.avl_alloc.specs.Layout.{heap_of, sizes_of, ChangesHoles, weigh_holes, whole}
-use Rattle.avl_alloc.specs.Words.{place_at}
 use Rattle.avl_alloc.proofs.LayoutLemmas.{sound_told}
 use Rattle.region_map.specs.Regions.{Regions}
 use Rattle.dataspace_core.specs.Store.{Store, part, bytes_of}
 use Rattle.dataspace_core.specs.Share.{Share, share_in}
 use Rattle.heap_core.specs.declared.heap.Heap.{Heap}
 use Rattle.heap_core.specs.declared.words.Chunk.{Chunk}
-use Rattle.heap_core.specs.Heap.{IsSound, bytes_shown, chunk_at, heap_in, keys_in, large_regions, payer_of, payloads_of, share_at, shape_in, starts_in, words_in}
+use Rattle.heap_core.specs.Heap.{IsSound, bytes_shown, chunk_at, heap_in, keys_in, large_regions, payer_of, payloads_of, share_at, shape_in, words_in}
 use Rattle.heap_core.specs.Words.{around, words_of}
-use Rattle.heap_core.proofs.BlockLemmas.{length-heap_of}
 use Rattle.heap_core.proofs.ChangeLemmas.{later, large_apart, keeps_spaces, same_account, share_now, words_now}
 use Rattle.heap_core.specs.Calls.{TakesHole}
 use Rattle.heap_core.proofs.WordsLemmas.{length_keys}
