@@ -15,4 +15,4 @@ pub use byte_kinds::{is_key_byte, is_name_byte, is_quotable};
 pub use bytes::find_byte;
 pub use hex_pairs::{decode_hex, decode_hex_from, encode_hex};
 pub use hex_text::read_hex;
-pub use words::{has_name_bytes, is_name, split_first_word, split_name};
+pub use words::{LONGEST_NAME, has_name_bytes, is_name, split_first_word, split_name};

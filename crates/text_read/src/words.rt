@@ -8,8 +8,8 @@ ghost use Rattle.text_read.specs.Names.{name_len};
 use crate::byte_kinds::is_name_byte;
 use crate::bytes::find_byte;
 
-/// The most bytes of a name.
-const LONGEST_NAME: usize = 32;
+/// The most bytes of a name, of a component or of a file.
+pub const LONGEST_NAME: usize = 32;
 
 /// A text up to its first space, and what stands after that space, if there is one.
 #[inline]
