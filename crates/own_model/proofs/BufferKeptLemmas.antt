@@ -151,7 +151,7 @@ pub same_fits : (buffer : Option (List ℕ)) → FitsBuffer buffer buffer
 same_fits None = tt
 same_fits (Some bytes) = refl
 
-none_fits : (buffer : Option (List ℕ)) → FitsBuffer buffer None
+pub none_fits : (buffer : Option (List ℕ)) → FitsBuffer buffer None
 none_fits None = tt
 none_fits (Some bytes) = tt
 

@@ -6,7 +6,7 @@ use Rattle.std.specs.Prelude.{Option, None, Result, Ok, Err}
 use Rattle.std.specs.FinMap.{get, insert, remove}
 use Rattle.trade_base.specs.Page.{page_of}
 use Rattle.trade_base.specs.declared.refusal.Refusal.{Refusal}
-use Rattle.own_model.proofs.LentLemmas.{buffer_there, lent_still}
+use Rattle.own_model.proofs.LentLemmas.{lent_still}
 use Rattle.own_model.proofs.LentKeptLemmas.{one_session}
 use Rattle.own_model.proofs.NatMapLemmas.{get-empty, get-insert_same, get-insert_other, get-remove_other, apart_from_free, IsSome-at}
 use Rattle.own_model.proofs.NewSelector.{new_selector_free}
@@ -22,10 +22,10 @@ use Rattle.own_model.specs.LentLaws.{IsPoked, BuffersStandAlone, GoneBuffersHave
 use Rattle.own_model.specs.NatMap.{NatMap}
 use Rattle.own_model.specs.OwnState.{OwnState, Object, NamedBuffer, is_buffer_of, buffer_of, bytes_of_buffer, new_selector, pages_in, zeros, with_part, object_with, named_bytes, session_named}
 use Rattle.own_model.specs.OwnState.Object.{Dataspace, RpcObject, OpenSession, Buffer}
-use Rattle.own_model.specs.OwnStep.{Outcome, own_step, entry_step, unless, turned_away, allocated, freed, with_region, attached_first, attached_at, region_detached, count_refusal, peeked, poked, poked_at, cap_allocated, cap_freed, large_in, small_new, grown_in, newed, given_back, deleted, sliced_in, sliced_freed, own_heap_gap, payload_poked, block_poked, opened_by, session_opened, upgraded_by, session_upgraded, session_called, session_closed, selectors_lent, regions_lent}
+use Rattle.own_model.specs.OwnStep.{Outcome, entry_step, unless, turned_away, allocated, freed, with_region, attached_first, attached_at, region_detached, count_refusal, peeked, poked, poked_at, cap_allocated, cap_freed, large_in, small_new, grown_in, newed, given_back, deleted, sliced_in, sliced_freed, own_heap_gap, payload_poked, block_poked, opened_by, session_opened, upgraded_by, session_upgraded, session_called, session_closed, selectors_lent, regions_lent}
 use Rattle.own_model.specs.Place.{Place, found}
 use Rattle.own_model.specs.Place.Place.{InDataspace, InPayload, InBlock}
-use Rattle.own_model.specs.Region.{Region, most_regions, user_gap, attach_refusal, attach_at_refusal, detach_refusal, resolved}
+use Rattle.own_model.specs.Region.{Region, without, most_regions, user_gap, attach_refusal, attach_at_refusal, detach_refusal, resolved}
 use Rattle.own_model.specs.Session.{Session, Wish, wish, donation_refusal, new_session, upgraded, served}
 use Rattle.own_model.specs.SessionArgs.{Arguments, arguments_of}
 use Rattle.own_model.specs.SessionLaws.{is_of}
@@ -235,3 +235,73 @@ module _ (selector q : ℕ) (bytes : List ℕ) (s : OwnState) (there : get s.sel
 pub buffers_alone : BuffersStandAlone
 buffers_alone entry call s selector q bytes there other =
     left_by selector q bytes s there call (turned_away entry.kind s) (entry_step entry call s) (leaves selector q bytes s there entry call other)
+
+-- ---- a buffer that goes
+
+module _ (selector q : ℕ) (bytes : List ℕ) (s : OwnState) (there : get s.selectors selector ≡ Some (Buffer q bytes)) where
+  -- no region is of the selector
+  abbrev HasNone : NatMap Region → Type 0
+  HasNone regions = (start : ℕ) (region : Region) → get regions start ≡ Some region → region.of ≢ selector
+
+  -- a selector that names something isn't gone
+  not_gone : {A : Type 0} (o : Option Object) (object : Object) → o ≡ Some object → o ≡ None → A
+  not_gone o object still none = absurd (none-some object (sym none ∙ still))
+
+  -- what a request leaves of a buffer, it leaves regions of
+  lent_none : (of : ℕ) (old : Option NamedBuffer) (new : Option (List ℕ)) → get (selectors_lent of old new s.selectors) selector ≡ None → HasNone (regions_lent old new s.regions)
+  lent_none of None None none = not_gone (get s.selectors selector) (Buffer q bytes) there none
+  lent_none of None (Some b) none = not_gone (get (insert s.selectors (new_selector s.selectors) (Buffer of b)) selector) (Buffer q bytes) (beside_new selector q bytes s there (Buffer of b)) none
+  lent_none of (Some old) (Some b) none =
+      let m = insert s.selectors old.selector (Buffer of b) in
+      elim (eqb selector old.selector) as (λ t. eqb selector old.selector ≡ t → HasNone s.regions) [
+        | true ↦ λ at. not_gone (get m selector) (Buffer of b) (get-insert_same s.selectors old.selector (Buffer of b) selector (eqb-true selector old.selector at)) none
+        | false ↦ λ other. not_gone (get m selector) (Buffer q bytes) (get-insert_other s.selectors old.selector (Buffer of b) selector (eqb-false selector old.selector other) ∙ there) none
+      ] refl
+  lent_none of (Some old) None none =
+      let m = remove s.selectors old.selector in
+      elim (eqb selector old.selector) as (λ t. eqb selector old.selector ≡ t → HasNone (without old.selector s.regions)) [
+        | true ↦ λ at. λ start region is same. (left_without old.selector s.regions start region is).1 (same ∙ eqb-true selector old.selector at)
+        | false ↦ λ other. not_gone (get m selector) (Buffer q bytes) (get-remove_other s.selectors old.selector selector (eqb-false selector old.selector other) ∙ there) none
+      ] refl
+
+  served_none : (of : ℕ) (o : Option Session) → session_named (get s.selectors of) ≡ o → (request : List ℕ) → get (session_called of o request s).next.selectors selector ≡ None → HasNone (session_called of o request s).next.regions
+  served_none of None is request none = not_gone (get s.selectors selector) (Buffer q bytes) there none
+  served_none of (Some x) is request none =
+      let buffer = buffer_of of s.selectors in
+      let o = served (bytes_of_buffer buffer) x request in
+      lent_none of buffer o.buffer (sym (get-insert_other (selectors_lent of buffer o.buffer s.selectors) of (OpenSession o.session) selector (named_apart selector q bytes s there of x is)) ∙ none)
+
+  closed_none : (of : ℕ) (o : Option Session) → session_named (get s.selectors of) ≡ o → get (session_closed of o s).next.selectors selector ≡ None → HasNone (session_closed of o s).next.regions
+  closed_none of None is none = not_gone (get s.selectors selector) (Buffer q bytes) there none
+  closed_none of (Some x) is none =
+      let buffer = buffer_of of s.selectors in
+      lent_none of buffer None (sym (get-remove_other (selectors_lent of buffer None s.selectors) of selector (named_apart selector q bytes s there of x is)) ∙ none)
+
+  -- a call of the session, or one that leaves the buffer
+  gone_by_own : (entry : Entry) (call : Call) → is_of q call ≡ true → get (entry_step entry call s).next.selectors selector ≡ None → HasNone (entry_step entry call s).next.regions
+  gone_by_own entry (Upgrade of text) is none =
+      not_gone (get (upgraded_by of (session_named (get s.selectors of)) (arguments_of text) s).next.selectors selector) (Buffer q bytes)
+      (upgrades selector q bytes s there of (session_named (get s.selectors of)) refl (arguments_of text)) none
+  gone_by_own entry (CallSession of request) is none = served_none of (session_named (get s.selectors of)) refl request none
+  gone_by_own entry (Close of) is none = closed_none of (session_named (get s.selectors of)) refl none
+  gone_by_own entry Exit is none = λ start region at. absurd (none-some region (sym (get-empty start) ∙ at))
+  gone_by_own entry call is none = absurd (true≢false (sym is))
+
+  gone_by_other : (call : Call) (o : Outcome) → IsThere selector q bytes s there o ⊎ IsPoked call s o.next selector q bytes → get o.next.selectors selector ≡ None → HasNone o.next.regions
+  gone_by_other call o (inl still) none = not_gone (get o.next.selectors selector) (Buffer q bytes) still none
+  gone_by_other call o (inr poke) none = not_gone (get o.next.selectors selector) (Buffer q (with_part bytes poke.offset poke.part)) poke.poked none
+
+  gone_by : (entry : Entry) (call : Call) → get (entry_step entry call s).next.selectors selector ≡ None → HasNone (entry_step entry call s).next.regions
+  gone_by entry call none = elim (is_of q call) as (λ b. is_of q call ≡ b → HasNone (entry_step entry call s).next.regions) [
+    | true ↦ λ own. gone_by_own entry call own none
+    | false ↦ λ other. gone_by_other call (entry_step entry call s) (leaves selector q bytes s there entry call other) none
+  ] refl
+
+  -- whether it is turned away or not
+  none_left : (why : Option Refusal) (o : Outcome) → (get o.next.selectors selector ≡ None → HasNone o.next.regions) → get (unless why s o).next.selectors selector ≡ None → HasNone (unless why s o).next.regions
+  none_left (Some refusal) o after none = not_gone (get s.selectors selector) (Buffer q bytes) there none
+  none_left None o after none = after none
+
+pub gone_has_none : GoneBuffersHaveNoRegions
+gone_has_none entry call s selector q bytes there none =
+    none_left selector q bytes s there (turned_away entry.kind s) (entry_step entry call s) (gone_by selector q bytes s there entry call) none

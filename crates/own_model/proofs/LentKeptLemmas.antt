@@ -101,12 +101,11 @@ pub one_session : (q of : ℕ) (bytes : List ℕ) → is_buffer_of q (Some (Buff
 one_session q of bytes is = eqb-true of q is
 
 module _ (m : NatMap Object) (h : AreLent m) (q : ℕ) (x : Session) (there : get m q ≡ Some (OpenSession x)) where
-  -- the session is open after a buffer of it came, changed or went
-  still_open : (old : Option NamedBuffer) (new : Option (List ℕ)) → buffer_of q m ≡ old → (k : ℕ) (y : Session) → session_named (get m k) ≡ Some y → IsSome (session_named (get (selectors_lent q old new m) k))
-  still_open old new found k y named = ap (λ o. is_some (session_named o)) (lent_still q m old new found k (OpenSession y) (named_there (get m k) y named) refl)
-
+  -- who was open is open after a buffer of the session came, changed or went
   open_after : (old : Option NamedBuffer) (new : Option (List ℕ)) → buffer_of q m ≡ old → (k : ℕ) → IsSome (session_named (get m k)) → IsSome (session_named (get (selectors_lent q old new m) k))
-  open_after old new found k is = let at = some_of (session_named (get m k)) is in still_open old new found k at.0 at.1
+  open_after old new found k is =
+      let at = some_of (session_named (get m k)) is in
+      ap (λ o. is_some (session_named o)) (lent_still q m old new found k (OpenSession at.0) (named_there (get m k) at.0 at.1) refl)
 
   module _ (bytes : List ℕ) (none : buffer_of q m ≡ None) where
     abbrev made : NatMap Object

@@ -1,12 +1,12 @@
 -- The buffer of a session among what its client's selectors name, and what a request leaves of the others.
 use Rattle.std.proofs.Common.{◌≡◌, ◌≢◌, ℕ, Bool, true, false, List, Some, refl, sym, ap, ◌∙◌, eqb-true, true≢false, find, arith}
 use Rattle.std.proofs.lemmas.Bool.{eq-eqb}
-use Rattle.std.proofs.lemmas.Option.{none-some, same_Some}
+use Rattle.std.proofs.lemmas.Option.{same_Some}
 use Rattle.std.specs.Prelude.{Option, None}
 use Rattle.std.specs.Option.{option_map}
 use Rattle.std.specs.FinMap.{get, entries}
 use Rattle.own_model.proofs.EntryLemmas.{found_in_map, not_found_in_map, finds_in_map, finds_none_in_map}
-use Rattle.own_model.proofs.NatMapLemmas.{apart_from_free, IsSome-at, get-insert_other, get-remove_other}
+use Rattle.own_model.proofs.NatMapLemmas.{mapped_from, nothing_from, apart_from_free, IsSome-at, get-insert_other, get-remove_other}
 use Rattle.own_model.proofs.NewSelector.{new_selector_free}
 use Rattle.own_model.proofs.Totals.{total-insert_new, total-insert_same, total-remove}
 use Rattle.own_model.specs.NatMap.{NatMap, total}
@@ -28,16 +28,6 @@ pub buffer_is : (q : ℕ) (bytes : List ℕ) → is_buffer_of q (Some (Buffer q 
 buffer_is q bytes = eq-eqb q q refl
 
 -- ---- the buffer that is found
-
--- what is answered for an option is of what it has
-mapped_from : {X Y : Type 0} (f : X → Y) (o : Option X) (y : Y) → option_map f o ≡ Some y → (x : X) × (o ≡ Some x) × (f x ≡ y)
-mapped_from f None y is = absurd (none-some y is)
-mapped_from f (Some x) y is = (x, refl, same_Some (f x) y is)
-
--- where nothing is answered there is nothing
-nothing_from : {X Y : Type 0} (f : X → Y) (o : Option X) → option_map f o ≡ None → o ≡ None
-nothing_from f None is = refl
-nothing_from f (Some x) is = absurd (none-some (f x) (sym is))
 
 module _ (q : ℕ) (m : NatMap Object) where
   abbrev is_its : ℕ × Object → Bool

@@ -59,6 +59,7 @@ pub mod SessionSoundLemmas
 pub mod RouteLemmas
 pub mod AloneLemmas
 pub mod LentAloneLemmas
+pub mod LentServedLemmas
 pub mod ListedLemmas
 pub mod SaidByLemmas
 pub mod AccountLemmas

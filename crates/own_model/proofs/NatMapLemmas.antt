@@ -82,6 +82,16 @@ pub some_of : {X : Type 0} (o : Option X) → IsSome o → (v : X) × (o ≡ Som
 some_of None h = absurd (true≢false (sym h))
 some_of (Some v) h = (v, refl)
 
+-- what is answered for an option is of what it has
+pub mapped_from : {X Y : Type 0} (f : X → Y) (o : Option X) (y : Y) → option_map f o ≡ Some y → (x : X) × (o ≡ Some x) × (f x ≡ y)
+mapped_from f None y is = absurd (none-some y is)
+mapped_from f (Some x) y is = (x, refl, same_Some (f x) y is)
+
+-- where nothing is answered there is nothing
+pub nothing_from : {X Y : Type 0} (f : X → Y) (o : Option X) → option_map f o ≡ None → o ≡ None
+nothing_from f None is = refl
+nothing_from f (Some x) is = absurd (none-some (f x) (sym is))
+
 module _ {X : Type 0} (m : NatMap X) (k : ℕ) (v : X) where
   -- what a map has after an insertion is the new value, or was there before
   pub after_insert : (q : ℕ) (w : X) → get (insert m k v) q ≡ Some w → ((q ≡ k) × (w ≡ v)) ⊎ ((q ≢ k) × (get m q ≡ Some w))

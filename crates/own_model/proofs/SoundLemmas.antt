@@ -16,7 +16,7 @@ use Rattle.own_model.specs.Session.{Session, ServiceState, new_session, upgraded
 use Rattle.own_model.specs.Session.ServiceState.{Logging, Filing}
 use Rattle.own_model.specs.BufferLaws.{FitsBuffer}
 use Rattle.own_model.specs.BufferService.{session_request}
-use Rattle.own_model.proofs.BufferKeptLemmas.{all_fit, same_fits}
+use Rattle.own_model.proofs.BufferKeptLemmas.{all_fit, same_fits, none_fits}
 use Rattle.own_model.proofs.LentLemmas.{buffer_there, lent_still}
 use Rattle.own_model.proofs.StepLemmas.{KeptBySessions, KeptByEffects, valid_some}
 use Rattle.own_model.proofs.TableLemmas.{step_keeps, run_keeps}
@@ -387,11 +387,6 @@ sound_lent s q (Some b) None found fits h = sound_dropped b.selector s.account s
 serve_fits : (state : ServiceState) (buffer : Option (List ℕ)) (x : Session) (request : List ℕ) → FitsBuffer buffer (served_by state buffer x request).buffer
 serve_fits (Logging partial) buffer x request = same_fits buffer
 serve_fits (Filing files) buffer x request = all_fit (session_request request) buffer files x.account
-
--- what is given back has no length
-none_fits : (buffer : Option (List ℕ)) → FitsBuffer buffer None
-none_fits None = tt
-none_fits (Some bytes) = tt
 
 -- nor do calls of sessions
 pub sessions_sound : (s : OwnState) → IsSound s → KeptBySessions IsSound s

@@ -61,8 +61,8 @@ pub use rows::{
 pub use runs::{own_part_over_append, own_run_over_append};
 pub use session_args::arguments_are_read_back;
 pub use sessions::{
-    buffers_are_of_sessions, buffers_stand_alone, closes_return_donations, sessions_stand_alone,
-    sessions_stay_sound,
+    buffers_are_of_sessions, buffers_stand_alone, closes_return_donations, requests_are_served,
+    sessions_stand_alone, sessions_stay_sound,
 };
 pub use sliced::{
     gaps_fit_the_machine, new_blocks_are_zero, payloads_are_found, payloads_lie_apart,

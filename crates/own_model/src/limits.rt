@@ -23,7 +23,8 @@ pub fn capalloc_lacks_caps_alone()
 {}
 
 /// At the start and after any calls an account uses exactly what its component's dataspaces and heap are charged for, and a
-/// capability for each of these and each RPC object. Sessions are charged to accounts of their own.
+/// capability for each of these and each RPC object. Sessions and their buffers are charged to
+/// accounts of their own.
 pub fn use_is_what_is_held()
     ensures start { StartsWithoutUse }
     ensures run { RunKeepsUse }

@@ -1,8 +1,8 @@
-//! Laws of regions: each is of a dataspace that its component's selectors name, and lies apart from the others.
+//! Laws of regions: each is of what its component's selectors name by its bytes, and lies apart from the others.
 ghost use Rattle.own_model.specs.Laws.{StartsSound, StepKeepsSound, RunKeepsSound, FreedHasNoRegions, FullMapsRefuse, FoundRangesFit, PokesAreRead, UnnamedIsRefused};
 
 /// At the start, after each call and after any calls, each region of a component is of a live selector that names a
-/// dataspace of as many pages, lies within the user window and overlaps no other.
+/// dataspace or a buffer of as many pages, lies within the user window and overlaps no other.
 pub fn regions_stay_sound()
     ensures start { StartsSound }
     ensures step { StepKeepsSound }
@@ -20,7 +20,7 @@ pub fn full_maps_refuse()
     ensures unnamed { UnnamedIsRefused }
 {}
 
-/// What a peek or a poke finds lies within one dataspace.
+/// What a peek or a poke finds lies within one dataspace, or one buffer.
 pub fn found_ranges_fit()
     ensures { FoundRangesFit }
 {}

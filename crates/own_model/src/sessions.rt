@@ -1,5 +1,5 @@
 //! Laws of sessions: what is charged to them, what servers keep for them, and that a close returns what was donated.
-ghost use Rattle.own_model.specs.LentLaws.{StartsLent, RunKeepsLent, BuffersStandAlone};
+ghost use Rattle.own_model.specs.LentLaws.{StartsLent, RunKeepsLent, BuffersStandAlone, GoneBuffersHaveNoRegions, RequestsAreServed, SessionCallsLeaveOthers};
 ghost use Rattle.own_model.specs.SessionLaws.{StartsWithoutSessions, RunKeepsCharges, RunKeepsKept, SessionsStandAlone, LimitsAreDonations, ClosesReturnDonations};
 
 /// Nobody starts with a session. After any calls each session's account uses exactly what the session is charged for,
@@ -22,9 +22,18 @@ pub fn sessions_stand_alone()
 {}
 
 /// A buffer stays as it is but for the calls of its session, and for pokes found in its own regions, which change its bytes
-/// alone.
+/// alone. Where a call takes it from its client's selectors no region shows it any more.
 pub fn buffers_stand_alone()
-    ensures { BuffersStandAlone }
+    ensures alone { BuffersStandAlone }
+    ensures gone { GoneBuffersHaveNoRegions }
+{}
+
+/// A request is served by the session that its selector names and by the buffer of that, as they are then: they are afterwards
+/// what it made of them. A buffer that it makes is all zero and stands under the new selector, which the reply tells. All that
+/// other selectors name stays, and all other regions; so it does at a close.
+pub fn requests_are_served()
+    ensures served { RequestsAreServed }
+    ensures others { SessionCallsLeaveOthers }
 {}
 
 /// What a close returns to its client is the sum of what the client named in the open that was accepted and in the upgrades

@@ -61,7 +61,7 @@ named_script AGone selector named is = absurd (none-some named (ap result_ok is)
 -- ---- refusals
 
 -- a dataspace is none
-no_space : (o : Option (List ℕ)) → session_named (option_map ADataspace o) ≡ None
+pub no_space : (o : Option (List ℕ)) → session_named (option_map ADataspace o) ≡ None
 no_space None = refl
 no_space (Some bytes) = refl
 

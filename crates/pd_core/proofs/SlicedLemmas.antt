@@ -23,6 +23,7 @@ use Rattle.own_model.specs.Sound.{LieApart}
 use Rattle.own_model.proofs.HeapRangeLemmas.{new_page, range_at}
 use Rattle.own_model.proofs.NatMapLemmas.{after_insert, before_remove, apart_from_free, get-insert_same, get-insert_other, get-remove_same, get-remove_other, some_of}
 use Rattle.own_model.proofs.RegionLemmas.{first_gap_alike}
+use Rattle.region_map.proofs.FoundLaws.{told_from}
 use Rattle.region_map.specs.Regions.{Regions}
 use Rattle.cap_space.specs.declared.cap.Cap.TheVariants.{Dataspace}
 use Rattle.dataspace_core.specs.Store.{Store, part, account_in, account_of, root_in, parents_in, room_in, IsOpenIn}
@@ -46,11 +47,6 @@ use Rattle.heap_core.proofs.BlockRangeLemmas.{blocks_are_regions as heap_blocks_
 use Rattle.pd_core.proofs.OwnLemmas.{slices}
 use Rattle.pd_core.specs.Does.{Does}
 use Rattle.pd_core.proofs.ScriptLemmas.{at_heap, block_there, is_region}
-
--- what is made of something comes of something
-mapped_some : {X Y : Type 0} (f : X → Y) (o : Option X) (y : Y) → option_map f o ≡ Some y → (x : X) × (o ≡ Some x)
-mapped_some f None y h = absurd (none-some y h)
-mapped_some f (Some x) y h = (x, refl)
 
 -- where no payload starts, none goes
 none_freed : (address : ℕ) (refusal : Refusal) (b : OwnState) (o : Option (List ℕ)) → Some refusal ≡ (if is_some o then None else Some PageFault) → refused b refusal ≡ sliced_freed address o b
@@ -311,7 +307,7 @@ module _ (store : Store) (script : Script) (sound : IsSoundScript store script) 
       tag =
           let payload : get (sliced_at store script) (given.start + sliced_header) ≡ Some given.payload = ap (get (sliced_at store script)) (sym given.at) ∙ given.was in
           let range = sym (same_ranges given.start) ∙ range_at (sliced_at store script) given.start given.payload payload in
-          let one = mapped_some (λ (r : Region). record { of = 0; pages = r.pages }) (get (block_regions (share_at script.account.0 store script.regions)) given.start) _ range in
+          let one = told_from (λ (r : Region). record { of = 0; pages = r.pages }) (get (block_regions (share_at script.account.0 store script.regions)) given.start) _ range in
           (shown_block script.account.0 store script.regions given.start one.0 one.1).tag
 
       -- the account is credited

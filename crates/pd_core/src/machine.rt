@@ -1,7 +1,6 @@
 //! The core: the memory, and the components whose calls it carries out.
-ghost use Rattle.std.specs.Prelude.{◌<◌, length};
 ghost use Rattle.pd_core.specs.Call.{model_call, IsWellFormed};
-ghost use Rattle.pd_core.specs.Core.{IsCore};
+ghost use Rattle.pd_core.specs.Core.{IsCoreAt};
 ghost use Rattle.pd_core.specs.SessionCalls.{Agrees, Goes};
 
 use crate::answer::tell;
@@ -110,9 +109,8 @@ fn carry_out<R: Router>(
     call: Call<'_>,
     reply: &mut Reply,
 )
-    requires core { IsCore memory.old components.old }
+    requires at { IsCoreAt caller memory.old components.old }
     requires routes { Agrees (R.rules routes.now) (R.leads routes.now) components.old }
-    requires caller { caller < length components.old }
     requires call { IsWellFormed call }
     ensures { Goes (R.rules routes.now) (model_call call.entry) caller reply.new
         memory.old components.old memory.new components.new }

@@ -18,7 +18,7 @@ use Rattle.pd_core.proofs.machine.carry_out.Goals as goal
 
 pub step-requires-clause-sound : goal.step-requires-clause-sound
 step-requires-clause-sound g c =
-    subst (IsSoundRole c.args.memory.now) (role_at c.args.components.now c.args.caller c.index-components-caller.result c.requires.caller) (c.requires.core.sound c.args.caller)
+    subst (IsSoundRole c.args.memory.now) (role_at c.args.components.now c.args.caller c.index-components-caller.result c.requires.at.caller) (c.requires.at.core.sound c.args.caller)
 
 pub step-requires-clause-plain : goal.step-requires-clause-plain
 step-requires-clause-plain g c = search rules
@@ -34,9 +34,9 @@ returns-in_default g c =
     let rules = g.R.Router.rules c.args.routes.now in
     let call = model_call c.args.call in
     let roles = roles_of components in
-    let ready = subst (λ r. HasSessions (sessions_in memory roles) (caps_in r)) (role_at components i d c.requires.caller) (names_open c.requires.core i) in
+    let ready = subst (λ r. HasSessions (sessions_in memory roles) (caps_in r)) (role_at components i d c.requires.at.caller) (names_open c.requires.at.core i) in
     let on : is_exit call ≡ false = (let is_not = c.in_default.not-Exit in grind (arith, common_steps, is_not)) in
-    plain_goes memory components i d c.requires.caller c.requires.core step.memory step.self done.keeps done.stays rules call step.reply on (done.outcome (rules i) (sessions_in memory roles) ready)
+    plain_goes memory components i d c.requires.at.caller c.requires.at.core step.memory step.self done.keeps done.stays rules call step.reply on (done.outcome (rules i) (sessions_in memory roles) ready)
 
 pub returns-in-CallSession : goal.returns-in-CallSession
 returns-in-CallSession g c = goes_as (ap model_call c.in-CallSession.is) refl (c.call.ensures (g.R.Router.rules c.args.routes.now))
