@@ -109,7 +109,8 @@ impl FileSession {
         requires low { offset ≤ found.node.size }
         requires source { HasSource source sliced.old memory.old map.old }
         ensures serves { Serves
-            (served_in (Write found.node.name.items offset (bytes_from source.entry memory.old)) self.old
+            (served_in
+            (Write found.node.name.items offset (bytes_from source.entry memory.old)) self.old
             (stock self.old.heap sliced.old memory.old map.old)) (counted_reply result)
             self.old self.new (stock self.new.heap sliced.new memory.new map.new) }
         ensures keeps { KeepsSession sliced.old self.new.heap sliced.new
@@ -276,7 +277,8 @@ impl FileSession {
         requires longer { found.node.size < offset + length (bytes_from source memory.old) }
         requires source { HasSource source sliced.old memory.old map.old }
         ensures serves { Serves
-            (served_in (Write found.node.name.items offset (bytes_from source.entry memory.old)) self.old
+            (served_in
+            (Write found.node.name.items offset (bytes_from source.entry memory.old)) self.old
             (stock self.old.heap sliced.old memory.old map.old))
             (counted_reply result) self.old self.new
             (stock self.new.heap sliced.new memory.new map.new) }
