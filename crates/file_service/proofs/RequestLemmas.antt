@@ -3,6 +3,8 @@ use Rattle.std.proofs.Common.{◌≡◌, ◌++◌, ℕ, ◌≤◌, List, [], len
 use Rattle.std.specs.Prelude.{IsSome, slice_get}
 use Rattle.std.specs.Option.{option_map, unwrap_or}
 use Rattle.own_model.specs.Account.{Account}
+use Rattle.own_model.specs.BufferService.{beside, session_request_served, text_served}
+use Rattle.own_model.specs.BufferService.SessionRequest.{OfFiles}
 use Rattle.own_model.specs.FileService.{File, Files, named, request_served, file_served, told}
 use Rattle.own_model.specs.FileText as model
 use Rattle.own_model.specs.FileText.{file_request, file_reply}
@@ -61,3 +63,10 @@ named_served text place name session sliced old new regions files same is name_i
     serves_same (file_served (files_in session has) has.account text) (name_reply name) session sliced old new regions files same
     (ap (λ o. request_served o (files_in session has) has.account) is ∙ named_by (slice_get (files_in session has).files place) (files_in session has) has.account
     ∙ ap (λ o. told (name_reply o) (files_in session has) has.account) (sym name_is))
+
+-- no text is a request of the buffer yet, so a session without one is served by its files alone
+pub served_as_files : (files : Files) (account : Account) (request : List ℕ) → text_served None files account request ≡ beside None (file_served files account request)
+served_as_files files account request = by_request (file_request request) where
+  by_request : (o : Option model.FileRequest) → session_request_served (option_map OfFiles o) None files account ≡ beside None (request_served o files account)
+  by_request None = refl
+  by_request (Some r) = refl

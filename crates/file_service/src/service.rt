@@ -1,5 +1,5 @@
 //! The file service: what it answers to the requests of a session.
-ghost use Rattle.std.specs.Prelude.{◌≡◌, ◌*◌, ◌/◌, ◌≤◌, length, [], Some};
+ghost use Rattle.std.specs.Prelude.{◌≡◌, ◌*◌, ◌/◌, ◌≤◌, length, [], Some, None};
 ghost use Rattle.own_model.specs.FileService.{file_served};
 ghost use Rattle.own_model.specs.FileText.FileRequest.{Write};
 ghost use Rattle.own_model.specs.Routes.Service.{Files};
@@ -7,6 +7,7 @@ ghost use Rattle.own_model.specs.Session.{Labelled, state_at_first};
 ghost use Rattle.own_model.specs.Text.{bytes_of_hex, hex_bytes};
 ghost use Rattle.dataspace_core.specs.Store.{account_in, IsOpenIn};
 ghost use Rattle.sliced_heap.specs.Heap.{payer_of};
+ghost use Rattle.server_frame.proofs.LentLaws.{lends_nothing};
 ghost use Rattle.server_frame.specs.Session.{service_step};
 ghost use Rattle.server_frame.specs.Told.{nothing_told};
 ghost use Rattle.session_proto.specs.FileReply.{model_reply, account_of};
@@ -17,11 +18,11 @@ use crate::furnished::{end_nodes, furnish};
 use crate::session::FileSession;
 use dataspace_core::Memory;
 use region_map::RegionMap;
-use server_frame::{Reply, Service};
+use server_frame::{Effect, Reply, Service};
 use session_proto::{FileError, FileReply, FileRequest, Shares};
 use sliced_heap::SlicedHeap;
 use text_read::decode_hex;
-use trade_base::AccountId;
+use trade_base::{AccountId, DsId};
 
 /// The most bytes that a request writes.
 const MOST_WRITTEN: usize = 4096;
@@ -42,6 +43,8 @@ impl Service for FileService {
 
     ghost value = { value_of };
 
+    ghost buffer = { λ session. None };
+
     ghost IsKept = { IsSession };
 
     ghost first = { λ label. record { label = label; state = state_at_first Files } };
@@ -52,6 +55,10 @@ impl Service for FileService {
         FileSession::open(account, label)
     }
 
+    fn buffer(&self, _session: &FileSession) -> Option<DsId> {
+        None
+    }
+
     fn serve(
         &self,
         session: &mut FileSession,
@@ -60,9 +67,10 @@ impl Service for FileService {
         map: &mut RegionMap,
         request: &[u8],
         reply: &mut Reply,
-    ) {
+    ) -> Effect {
         furnish(&mut session.heap, heap, memory, map);
         answer(session, heap, memory, map, request, reply);
+        Effect::Nothing
     }
 
     fn end(
@@ -76,6 +84,8 @@ impl Service for FileService {
         furnish(&mut nodes, heap, memory, map);
         end_nodes(&mut nodes, heap, memory, map);
     }
+
+    ghost lends_aside = { lends_nothing };
 }
 
 /// Answers a request of a session.

@@ -1,19 +1,20 @@
 //! The log service: what it answers to the requests of a session.
-ghost use Rattle.std.specs.Prelude.{◌≡◌, []};
+ghost use Rattle.std.specs.Prelude.{◌≡◌, [], None};
 ghost use Rattle.own_model.specs.LogService.{log_served};
 ghost use Rattle.own_model.specs.Session.{Labelled};
 ghost use Rattle.own_model.specs.Session.ServiceState.{Logging};
 ghost use Rattle.log_service.specs.Session.{lines_text, as_kept};
+ghost use Rattle.server_frame.proofs.LentLaws.{lends_nothing};
 ghost use Rattle.server_frame.specs.Session.{HasBlocksAlone, service_step};
 ghost use Rattle.server_frame.specs.Told.{nothing_told};
 
 use crate::session::LogSession;
 use dataspace_core::Memory;
 use region_map::RegionMap;
-use server_frame::{Reply, Service};
+use server_frame::{Effect, Reply, Service};
 use session_proto::{LogReply, LogRequest};
 use sliced_heap::SlicedHeap;
-use trade_base::AccountId;
+use trade_base::{AccountId, DsId};
 
 /// The log service. It keeps nothing but its sessions.
 #[derive(Clone, Copy)]
@@ -50,6 +51,8 @@ impl Service for LogService {
 
     ghost value = { λ session share. as_kept session };
 
+    ghost buffer = { λ session. None };
+
     ghost IsKept = { λ session share. HasBlocksAlone share };
 
     ghost first = { λ label. record { label = label; state = Logging [] } };
@@ -60,6 +63,10 @@ impl Service for LogService {
         LogSession::open(label)
     }
 
+    fn buffer(&self, _session: &LogSession) -> Option<DsId> {
+        None
+    }
+
     fn serve(
         &self,
         session: &mut LogSession,
@@ -68,8 +75,9 @@ impl Service for LogService {
         _map: &mut RegionMap,
         request: &[u8],
         reply: &mut Reply,
-    ) {
+    ) -> Effect {
         self.answer(session, request, reply);
+        Effect::Nothing
     }
 
     fn end(
@@ -79,4 +87,6 @@ impl Service for LogService {
         _memory: &mut Memory,
         _map: &mut RegionMap,
     ) {}
+
+    ghost lends_aside = { lends_nothing };
 }

@@ -1,6 +1,6 @@
 -- A session stays as it is but for the calls that are of it.
 use Rattle.std.proofs.lemmas.Bool.Decides.{nat_tests}
-use Rattle.std.proofs.Common.{arith, rules, ◌≡◌, ◌≢◌, ℕ, ◌==◌, Bool, true, false, List, Some, refl, sym, ap, ◌∙◌, true≢false, eqb-true, eqb}
+use Rattle.std.proofs.Common.{arith, rules, ◌≡◌, ◌≢◌, ℕ, ◌==◌, Bool, true, false, List, Some, refl, sym, ap, ◌∙◌, true≢false, eqb-true}
 use Rattle.std.proofs.lemmas.Bool.{eqb-false}
 use Rattle.std.proofs.lemmas.Option.{none-some, same_Some}
 use Rattle.std.specs.Prelude.{Option, None, Result, Ok, Err}
@@ -13,7 +13,7 @@ use Rattle.own_model.proofs.TableLemmas.{others_go_on}
 use Rattle.own_model.specs.Account.{shortage}
 use Rattle.own_model.specs.Call.{Call, is_of_session, is_exit}
 use Rattle.own_model.specs.Call.Call.{Alloc, Free, Attach, AttachAt, Detach, Peek, Poke, Capalloc, Capfree, New, Del, Snew, Sdel, Quota, Open, Upgrade, CallSession, Close, Exit}
-use Rattle.own_model.specs.OwnState.{OwnState, Object, new_selector, zeros, object_with, session_named}
+use Rattle.own_model.specs.OwnState.{OwnState, Object, new_selector, object_with}
 use Rattle.own_model.specs.OwnState.Object.{Dataspace, RpcObject, OpenSession, Buffer}
 use Rattle.own_model.specs.OwnStep.{Outcome, own_step, unless, turned_away, opened_by, session_opened, upgraded_by, session_upgraded, session_called, session_closed}
 use Rattle.own_model.specs.Session.{Session, Wish, wish, donation_refusal, new_session, upgraded, served}
@@ -78,7 +78,7 @@ module _ (selector : ℕ) (session : Session) where
 
       serves : (found : Option Session) (request : List ℕ) → IsThere (session_called of found request s).next
       serves None request = there
-      serves (Some x) request = replaced of (OpenSession (served x request).session) other
+      serves (Some x) request = replaced of (OpenSession (served None x request).session) other
 
       closes : (found : Option Session) → IsThere (session_closed of found s).next
       closes None = there

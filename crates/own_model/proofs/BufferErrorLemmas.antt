@@ -1,12 +1,12 @@
 -- Requests of a buffer are refused for the first reason on their line, and what a put and a get do with the bytes.
-use Rattle.std.proofs.Common.{◌≡◌, ◌≢◌, ◌⊎◌, ℕ, ◌+◌, ◌-◌, ◌<◌, ◌≤◌, ◌++◌, ◌&&◌, Bool, true, false, cond, not, List, [], ◌∷◌, length, nat_lt, Some, refl, sym, ap, subst, ◌∙◌, arith, take, drop, slice_range, get_or, inl, inr, length-take, length-drop, length-append, true≢false}
+use Rattle.std.proofs.Common.{◌≡◌, ℕ, ◌+◌, ◌-◌, ◌<◌, ◌≤◌, ◌++◌, ◌&&◌, Bool, true, false, cond, not, List, [], ◌∷◌, length, nat_lt, Some, refl, sym, ap, subst, ◌∙◌, arith, take, drop, slice_range, get_or, inl, inr, length-take, length-append, true≢false}
 use Rattle.std.proofs.lemmas.Bool.{ltb-false}
 use Rattle.std.proofs.lemmas.Bool.Decides.{nat_tests}
 use Rattle.std.proofs.lemmas.List.{get_or-take, get_or-drop, get_or-append_right}
 use Rattle.std.proofs.Math.ListN.{get_or-append}
 use Rattle.std.proofs.lemmas.Option.{none-some}
-use Rattle.std.specs.Prelude.{Option, None, is_some, is_none}
-use Rattle.std.specs.Option.{option_map, option_or, unwrap_or}
+use Rattle.std.specs.Prelude.{Option, None, is_some}
+use Rattle.std.specs.Option.{option_or}
 use Rattle.trade_base.specs.Bytes.{with_bytes}
 use Rattle.trade_base.specs.Page.{page_of, is_valid_size}
 use Rattle.trade_base.proofs.BytesLemmas.{length-slice_range, length-with_bytes, slice_range-with_bytes}
@@ -14,15 +14,15 @@ use Rattle.own_model.proofs.BufferKeptLemmas.{taken_le}
 use Rattle.own_model.proofs.FileErrorLemmas as files_errors
 use Rattle.own_model.proofs.FileErrorLemmas.{IsGood, shortage_same, written_answers, no_error_good}
 use Rattle.own_model.specs.Account.{Account}
-use Rattle.own_model.specs.BufferLaws.{is_bad_range, move_errors, buffer_errors, BufferErrorsComeInOrder, OtherBuffersAreServed, PutsAreWrites, Copies, GetsCopy}
-use Rattle.own_model.specs.BufferService.{BufferRequest, BufferServed, beside, make_refusal, move_refusal, unless_refused, made, given_back, part_of, put, got, buffer_served}
+use Rattle.own_model.specs.BufferLaws.{move_errors, buffer_errors, BufferErrorsComeInOrder, OtherBuffersAreServed, PutsAreWrites, Copies, GetsCopy}
+use Rattle.own_model.specs.BufferService.{BufferRequest, BufferServed, beside, make_refusal, unless_refused, made, given_back, put, got, buffer_served}
 use Rattle.own_model.specs.BufferService.BufferRequest.{Make, GiveBack, Put, Get}
-use Rattle.own_model.specs.FileLaws.{ErrorTest, when, first_error, write_errors}
+use Rattle.own_model.specs.FileLaws.{when, first_error, write_errors}
 use Rattle.own_model.specs.FileService.{Files, File, FileServed, file_named, is_longer, content_refusal, told, written}
 use Rattle.own_model.specs.FileService.{unless_refused as unless_write}
-use Rattle.own_model.specs.FileText.{FileError, file_reply}
+use Rattle.own_model.specs.FileText.{FileError}
 use Rattle.own_model.specs.FileText.FileError.{Exists, NotFound, Gap, OutOfRam, OutOfCaps, InvalidSize, NoBuffer, BadRange}
-use Rattle.own_model.specs.FileText.FileReply.{Count, Refused}
+use Rattle.own_model.specs.FileText.FileReply.{Refused}
 use Rattle.own_model.specs.Sliced.{sliced_size}
 use Rattle.own_model.specs.Table.{lacks_ram, lacks_caps}
 

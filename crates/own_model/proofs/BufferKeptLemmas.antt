@@ -1,5 +1,5 @@
 -- What requests of a buffer can do, and what they keep.
-use Rattle.std.proofs.Common.{◌≡◌, ℕ, ◌+◌, ◌≤◌, Bool, true, false, cond, not, List, [], length, nat_lt, Some, refl, sym, ap, arith, take, drop, subst, ◌∙◌, length-take, length-drop}
+use Rattle.std.proofs.Common.{◌≡◌, ℕ, ◌+◌, ◌≤◌, Bool, true, false, cond, not, List, length, nat_lt, Some, refl, sym, ap, arith, take, drop, subst, length-take}
 use Rattle.std.proofs.lemmas.Bool.{ltb-false}
 use Rattle.std.proofs.lemmas.Bool.Decides.{nat_tests}
 use Rattle.std.proofs.lemmas.Option.{none-some}
@@ -13,14 +13,14 @@ use Rattle.own_model.proofs.ByteLemmas.{length-zeros}
 use Rattle.own_model.proofs.FileChargeLemmas.{charges_kept, limits_kept, within_kept, SameLimits}
 use Rattle.own_model.proofs.FileRequestLemmas.{KeptByRequests, request_kept, neither_of, untold}
 use Rattle.own_model.proofs.FileServiceLemmas.{files_kept}
-use Rattle.own_model.proofs.StepLemmas.{covers, valid_parts}
+use Rattle.own_model.proofs.StepLemmas.{covers}
 use Rattle.own_model.specs.Account.{Account, WithinLimits, shortage, charged, credited}
 use Rattle.own_model.specs.BufferLaws.{AllKeepFiles, AllKeepCharges, AllKeepLimits, AllKeepWithinLimits, FitsBuffer, AllFitBuffers}
-use Rattle.own_model.specs.BufferService.{BufferRequest, SessionRequest, BufferServed, beside, make_refusal, range_refusal, move_refusal, unless_refused, made, given_back, part_of, put, got, buffer_served, session_request_served, buffer_ram, buffer_caps}
+use Rattle.own_model.specs.BufferService.{BufferRequest, SessionRequest, BufferServed, make_refusal, range_refusal, move_refusal, unless_refused, made, given_back, part_of, put, got, buffer_served, session_request_served, buffer_ram, buffer_caps}
 use Rattle.own_model.specs.BufferService.BufferRequest.{Make, GiveBack, Put, Get}
 use Rattle.own_model.specs.BufferService.SessionRequest.{OfFiles, OfBuffer}
-use Rattle.own_model.specs.FileService.{Files, File, AreFiles, IsCharged, error_of, file_named, gap_refusal, told, written, request_served}
-use Rattle.own_model.specs.FileText.{FileRequest, FileError}
+use Rattle.own_model.specs.FileService.{Files, File, AreFiles, IsCharged, error_of, file_named, gap_refusal, written}
+use Rattle.own_model.specs.FileText.{FileError}
 use Rattle.own_model.specs.FileText.FileRequest.{Write}
 use Rattle.own_model.specs.FileText.FileError.{InvalidSize, Exists, BadRange}
 use Rattle.own_model.specs.Zeros.{zeros}

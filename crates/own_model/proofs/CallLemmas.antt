@@ -1,5 +1,5 @@
 -- What a peek and a poke do, by what their lookups find.
-use Rattle.std.proofs.Common.{rules, ◌≡◌, ℕ, ◌+◌, List, [], Some, length, ap, slice_range, ◌∙◌}
+use Rattle.std.proofs.Common.{rules, ◌≡◌, ℕ, ◌+◌, List, [], Some, length, ap, slice_range}
 use Rattle.std.specs.Prelude.{Option, None}
 use Rattle.std.specs.Option.{option_map, option_or}
 use Rattle.std.specs.FinMap.{get}
@@ -9,7 +9,7 @@ use Rattle.own_model.specs.OwnState.{OwnState, Object, named_bytes}
 use Rattle.own_model.specs.Place.{Place, found, in_dataspace, in_payload, in_block}
 use Rattle.own_model.specs.Place.Place.{InDataspace, InPayload, InBlock}
 use Rattle.own_model.specs.Sliced.{block_found}
-use Rattle.own_model.specs.OwnStep.{refused, unless, count_refusal, peeked, poked, poked_at, payload_poked, block_poked, script_step}
+use Rattle.own_model.specs.OwnStep.{refused, count_refusal, poked_at, payload_poked, block_poked, script_step}
 use Rattle.own_model.specs.Region.{resolved}
 use Rattle.own_model.specs.Reply.Reply.{Bytes}
 

@@ -99,9 +99,9 @@ module _ (selector : ℕ) where
           IsCounted (CallSession of request) sum (session_called of found request s)
       serves request None at = h
       serves request (Some x) at =
-          let same = serve_keeps x.state x request in
+          let same = serve_keeps x.state None x request in
           subst (λ d. AreCounted d (session_called of (Some x) request s).next) (either (of == selector) sum)
-          (puts (of == selector) of refl sum sum s s.account (served x request).session (λ here. let before = h of x (at x refl) here in (same.0 ∙ before.0, same.1 ∙ before.1)) h)
+          (puts (of == selector) of refl sum sum s s.account (served None x request).session (λ here. let before = h of x (at x refl) here in (same.0 ∙ before.0, same.1 ∙ before.1)) h)
 
       -- a close
       closes : (found : Option Session) → IsCounted (Close of) sum (session_closed of found s)

@@ -1,12 +1,13 @@
 -- What a call leaves of limits.
 use Rattle.std.proofs.lemmas.Bool.Decides.{nat_tests}
 use Rattle.std.proofs.Common.{rules, ◌≡◌, ℕ, false, cond, lit≤, Option, Some, None, List, [], ◌∷◌, refl, arith}
-use Rattle.own_model.proofs.FileChargeLemmas as charge
+use Rattle.own_model.proofs.BufferKeptLemmas.{all_keep_limits, all_keep_within}
 use Rattle.std.specs.FinMap.{insert}
 use Rattle.trade_base.specs.declared.refusal.Refusal.{Refusal}
 use Rattle.trade_base.specs.declared.refusal.Refusal.TheVariants.{OutOfCaps}
 use Rattle.own_model.proofs.StepLemmas.{KeptBySessions, KeptByEffects, covers, short_of_caps, accepted_size, accepted_block, accepted_growth}
 use Rattle.own_model.specs.Account.{Account, WithinLimits, shortage}
+use Rattle.own_model.specs.BufferService.{session_request}
 use Rattle.own_model.specs.Call.{Call, is_exit}
 use Rattle.own_model.specs.Call.Call.{Capalloc}
 use Rattle.own_model.specs.OwnState.{OwnState, Object, EachSession, new_selector, object_with}
@@ -19,7 +20,7 @@ use Rattle.own_model.proofs.SessionLemmas.{donation_covered, large_enough, effec
 use Rattle.own_model.proofs.Totals.{total-empty, total-insert_new, total-insert_same, total-insert_at, total-remove}
 use Rattle.own_model.specs.Limits.{ram_with, caps_with, ram_limits, caps_limits, init_after, AreWithinLimits}
 use Rattle.own_model.specs.NatMap.{total}
-use Rattle.own_model.specs.OwnState.{Object, EachSession, new_selector, zeros, object_with}
+use Rattle.own_model.specs.OwnState.{Object, EachSession, new_selector, object_with}
 use Rattle.own_model.specs.OwnState.Object.{Dataspace, RpcObject, OpenSession, Buffer}
 use Rattle.own_model.specs.Routes.{Rule}
 use Rattle.own_model.specs.Session.{Session, ServiceState, served_by}
@@ -64,9 +65,9 @@ abbrev IsWithin : Session → Type 0
 IsWithin session = WithinLimits session.account
 
 -- a session that serves stays within its limits
-serve_within : (state : ServiceState) (x : Session) (request : List ℕ) → IsWithin x → IsWithin (served_by state x request).session
-serve_within (Logging partial) x request within = within
-serve_within (Filing files) x request within = charge.within_stays files x.account request within
+serve_within : (state : ServiceState) (buffer : Option (List ℕ)) (x : Session) (request : List ℕ) → IsWithin x → IsWithin (served_by state buffer x request).session
+serve_within (Logging partial) buffer x request within = within
+serve_within (Filing files) buffer x request within = all_keep_within (session_request request) buffer files x.account within
 
 -- no calls do
 pub run_within : (entry : Entry) (calls : List Call) (s : OwnState) → WithinLimits s.account → WithinLimits (own_run entry calls s).account
@@ -127,10 +128,10 @@ effects_in_all : (s : OwnState) → KeptByEffects (SameInAll s) s
 effects_in_all s = search (rules, adds_nothing, total-remove, counts-with, total-insert_same)
 
 -- a session that serves keeps its limits
-pub serve_keeps : (state : ServiceState) (x : Session) (request : List ℕ) →
-    ((served_by state x request).session.account.ram_limit ≡ x.account.ram_limit) × ((served_by state x request).session.account.caps_limit ≡ x.account.caps_limit)
-serve_keeps (Logging partial) x request = (refl, refl)
-serve_keeps (Filing files) x request = charge.limits_stay files x.account request
+pub serve_keeps : (state : ServiceState) (buffer : Option (List ℕ)) (x : Session) (request : List ℕ) →
+    ((served_by state buffer x request).session.account.ram_limit ≡ x.account.ram_limit) × ((served_by state buffer x request).session.account.caps_limit ≡ x.account.caps_limit)
+serve_keeps (Logging partial) buffer x request = (refl, refl)
+serve_keeps (Filing files) buffer x request = all_keep_limits (session_request request) buffer files x.account
 
 -- calls of sessions move limits
 sessions_move : (s : OwnState) → KeptBySessions (SameInAll s) s

@@ -1,10 +1,8 @@
 -- A name's lines in the transcript of all are told as they are alone: other lines make no call of its component.
-use Rattle.std.proofs.Common.{◌≡◌, ℕ, ◌++◌, ◌&&◌, Bool, true, false, List, [], ◌∷◌, length, nat_le, refl, ap, sym, ◌∙◌, cond, subst, arith, true≢false, eqb, eqb-true, append-nil}
+use Rattle.std.proofs.Common.{◌≡◌, ℕ, ◌++◌, ◌&&◌, Bool, true, false, List, [], ◌∷◌, length, nat_le, refl, ap, sym, ◌∙◌, cond, subst, true≢false, eqb, eqb-true, append-nil}
 use Rattle.std.specs.Prelude.{Option, Some, None}
-use Rattle.std.specs.List.{filter, flat_map, position}
 use Rattle.std.specs.Str.{bytes_eq}
 use Rattle.std.proofs.lemmas.List.Quantifiers.{position-Some}
-use Rattle.std.proofs.lemmas.Option.{none-some}
 use Rattle.std.proofs.lemmas.Slice.Eq.{bytes_eq-Decides}
 use Rattle.own_model.proofs.RunLemmas.{own_part-append}
 use Rattle.own_model.specs.Call.{Call, Spoken, spoken}
@@ -12,7 +10,7 @@ use Rattle.own_model.specs.OwnState.{OwnState}
 use Rattle.own_model.specs.OwnStep.{own_run, own_step}
 use Rattle.own_model.specs.SaidBy.{Piece, PiecesAreTold, PiecesStandAlone, StateStandsAlone, component_of, is_said_by, is_under, joined, pieces, pieces_for, said_by}
 use Rattle.own_model.specs.StartList.{Entry}
-use Rattle.own_model.specs.Transcript.{Made, Heard, own_part, nobody, entry_at, state_at, state_after, heard, heard_call, heard_spoken, calls_in, calls_of, longest_line, outcome_text, told, told_after}
+use Rattle.own_model.specs.Transcript.{Made, Heard, own_part, nobody, entry_at, state_at, heard, heard_call, heard_spoken, calls_in, calls_of, longest_line, outcome_text, told, told_after}
 use Rattle.own_model.specs.Transcript.Heard.{NoCall}
 
 -- the pieces are what is told

@@ -9,7 +9,7 @@ use Rattle.own_model.proofs.NatMapLemmas.{each_after_insert, before_remove, get-
 use Rattle.own_model.proofs.StepLemmas.{KeptByEffects, KeptBySessions, covers}
 use Rattle.own_model.specs.Account.{Account, Fits}
 use Rattle.own_model.specs.NatMap.{NatMap}
-use Rattle.own_model.specs.OwnState.{OwnState, Object, EachSession, session_named, new_selector, zeros, object_with}
+use Rattle.own_model.specs.OwnState.{OwnState, Object, EachSession, session_named, new_selector, object_with}
 use Rattle.own_model.specs.OwnState.Object.{Dataspace, RpcObject, OpenSession, Buffer}
 use Rattle.own_model.specs.Session.{Session, Wish, donation_refusal, too_small, new_session, upgraded, served, session_ram, session_caps}
 use Rattle.trade_base.specs.declared.refusal.Refusal.{Refusal}
@@ -100,11 +100,11 @@ module _ (Q : Session → Type 0) where
 
   -- calls of sessions keep what holds of a new session, of one with more, and of one that has served
   pub sessions_each : ((wish : Wish) → too_small wish.ram wish.caps ≡ None → Q (new_session wish)) →
-      ((x : Session) (ram caps : ℕ) → Q x → Q (upgraded x ram caps)) → ((x : Session) (request : List ℕ) → Q x → Q (served x request).session) →
+      ((x : Session) (ram caps : ℕ) → Q x → Q (upgraded x ram caps)) → ((x : Session) (request : List ℕ) → Q x → Q (served None x request).session) →
       (s : OwnState) → EachSession Q s → KeptBySessions (EachSession Q) s
   sessions_each new more serve s h = record {
     opens = λ wish accepted. after_one Named s.selectors (new_selector s.selectors) (OpenSession (new_session wish)) h (new wish (donation_covered s.account wish.ram wish.caps accepted).1);
     upgrades = λ selector x given there accepted. after_one Named s.selectors selector (OpenSession (upgraded x given.ram given.caps)) h (more x given.ram given.caps (h selector x there));
-    serves = λ selector x request there. after_one Named s.selectors selector (OpenSession (served x request).session) h (serve x request (h selector x there));
+    serves = λ selector x request there. after_one Named s.selectors selector (OpenSession (served None x request).session) h (serve x request (h selector x there));
     closes = λ selector x there. λ q y is. h q y (before_remove s.selectors selector q (OpenSession y) is);
   }

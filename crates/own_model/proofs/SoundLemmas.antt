@@ -1,5 +1,5 @@
 -- Calls keep an own state sound: each region is of bytes that a selector names, and lies apart from the others.
-use Rattle.std.proofs.Common.{◌≡◌, ◌≢◌, ℕ, ◌+◌, ◌-◌, ◌*◌, ◌/◌, ◌<◌, ◌≤◌, true, false, cond, eqb, List, length, nat_le, Some, refl, sym, ap, subst, ◌∙◌, eqb-true, nat_cmp, arith, is_some, Bool, rules}
+use Rattle.std.proofs.Common.{◌≡◌, ◌≢◌, ℕ, ◌+◌, ◌-◌, ◌*◌, ◌/◌, ◌<◌, ◌≤◌, true, false, eqb, List, length, nat_le, Some, refl, sym, ap, subst, ◌∙◌, eqb-true, nat_cmp, arith, is_some, Bool, rules}
 use Rattle.std.proofs.lemmas.Bool.Decides.{nat_tests}
 use Rattle.std.proofs.lemmas.Option.{none-some, same_Some}
 use Rattle.std.specs.Prelude.{Option, None}
@@ -22,8 +22,8 @@ use Rattle.own_model.specs.Call.Call.{Free, Attach, AttachAt}
 use Rattle.own_model.specs.NatMap.{NatMap, joined}
 use Rattle.own_model.specs.OwnState.{OwnState, Object, zeros, new_selector, pages_in, with_part, object_with, named_bytes, heap_ranges}
 use Rattle.own_model.specs.OwnState.Object.{Dataspace, RpcObject, OpenSession, Buffer}
-use Rattle.own_model.specs.OwnStep.{gone_state, own_step, own_run, script_step, refused, unless, allocated, freed, with_region, attached_first, attached_at, region_detached, poked_at, payload_poked, sliced_at, sliced_freed, own_heap_gap, cap_allocated, cap_freed}
-use Rattle.own_model.specs.Region.{Region, user_low, user_high, most_regions, can_stand, first_gap, user_gap, IsPlace, without}
+use Rattle.own_model.specs.OwnStep.{gone_state, own_step, own_run, script_step, refused, allocated, freed, with_region, attached_first, attached_at, region_detached, poked_at, payload_poked, sliced_at, sliced_freed, own_heap_gap, cap_allocated, cap_freed}
+use Rattle.own_model.specs.Region.{Region, user_low, user_high, most_regions, can_stand, IsPlace, without}
 use Rattle.own_model.specs.Sound.{IsPages, NamesBytes, LieApart, AreMapped, IsBlock, KeysApart, IsSound}
 use Rattle.own_model.specs.OwnHeap.{ranges_of_heap, no_heap}
 use Rattle.own_model.specs.HeapWindow.{heap_low, heap_high, largest_machine}
@@ -355,7 +355,7 @@ sessions_sound s h = record {
       sound_named s (insert s.selectors key session) (parted_with s.account wish.ram wish.caps) (whole_after s.selectors key session h.whole (bytes_none session refl))
       (λ region. named_new s.selectors key session region (new_selector_free s.selectors)) h;
   upgrades = λ selector session more there accepted. sound_session s selector session (upgraded session more.ram more.caps) (parted_with s.account more.ram more.caps) there h;
-  serves = λ selector session request there. sound_session s selector session (served session request).session s.account there h;
+  serves = λ selector session request there. sound_session s selector session (served None session request).session s.account there h;
   closes = λ selector session there.
       sound_named s (remove s.selectors selector) (raised s.account session.account.ram_limit session.account.caps_limit)
       (whole_left s.selectors selector h.whole)

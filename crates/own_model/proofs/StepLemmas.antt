@@ -67,7 +67,7 @@ pub record KeptBySessions (P : OwnState → Type 0) (s : OwnState) : Type 0 wher
   pub upgrades : (selector : ℕ) (session : Session) (more : Arguments) → get s.selectors selector ≡ Some (OpenSession session) → shortage s.account more.ram more.caps ≡ None →
       P (session_upgraded selector session more s).next
   -- a request of a session
-  pub serves : (selector : ℕ) (session : Session) (request : List ℕ) → get s.selectors selector ≡ Some (OpenSession session) → P (session_served selector (served session request) s).next
+  pub serves : (selector : ℕ) (session : Session) (request : List ℕ) → get s.selectors selector ≡ Some (OpenSession session) → P (session_served selector (served None session request) s).next
   -- a session closed
   pub closes : (selector : ℕ) (session : Session) → get s.selectors selector ≡ Some (OpenSession session) → P (session_closed selector (Some session) s).next
 

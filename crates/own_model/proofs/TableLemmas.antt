@@ -347,7 +347,7 @@ module _ (session ends : Bool) (P : OwnState → Type 0) (s : OwnState) (h : P s
         Explained session P s (session_called selector found request s) (when (is_none found) InvalidSession ∷ [])
     serves (Some x) at request of = record {
       why = None;
-      accepted = session_served selector (served x request) s;
+      accepted = session_served selector (served None x request) s;
       told = refl;
       quiet = λ other. absurd (true≢false (sym of ∙ other));
       is = refl;

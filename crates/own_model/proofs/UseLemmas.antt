@@ -19,7 +19,7 @@ use Rattle.own_model.proofs.TableLemmas.{run_keeps}
 pub use Rattle.own_model.proofs.ByteLemmas.{length-zeros, length-with_part}
 use Rattle.own_model.proofs.Totals.{total-empty, total-insert_new, total-insert_same, total-remove, len-insert_new, len-insert_at, len-remove_at}
 use Rattle.own_model.specs.Call.{Call}
-use Rattle.own_model.specs.OwnState.{OwnState, Object, zeros, new_selector, with_part, object_with}
+use Rattle.own_model.specs.OwnState.{OwnState, Object, zeros, new_selector, object_with}
 use Rattle.own_model.specs.OwnState.Object.{Dataspace, RpcObject, OpenSession, Buffer}
 use Rattle.own_model.specs.OwnStep.{gone_state, own_run, allocated, freed, poked_at, payload_poked, block_taken, chunk_added, large_at, given_back, sliced_at, sliced_freed, own_heap_gap, cap_allocated, cap_freed}
 use Rattle.own_model.specs.Account.{Account, opened, parted_with, alloc_refusal}
@@ -157,7 +157,7 @@ sessions_use s h = record {
       let free = new_selector_free s.selectors in
       record { ram = omega (arith, h.ram, total-insert_new object_size s.selectors key session free); caps = omega (arith, h.caps, total-insert_new object_caps s.selectors key session free) };
   upgrades = λ selector session more there accepted. replaced_uses s selector session (upgraded session more.ram more.caps) (parted_with s.account more.ram more.caps) refl refl there h;
-  serves = λ selector session request there. replaced_uses s selector session (served session request).session s.account refl refl there h;
+  serves = λ selector session request there. replaced_uses s selector session (served None session request).session s.account refl refl there h;
   closes = λ selector session there. record {
     ram = omega (arith, h.ram, total-remove object_size s.selectors selector (OpenSession session) there);
     caps = omega (arith, h.caps, total-remove object_caps s.selectors selector (OpenSession session) there);

@@ -1,14 +1,13 @@
 -- The laws of the buffer that a client shares with its session, as statements.
-use Rattle.std.specs.Prelude.{◌≡◌, ◌≢◌, ◌⊎◌, ℕ, ◌+◌, ◌≤◌, ◌<◌, ◌&&◌, Bool, true, false, not, List, [], ◌∷◌, length, nat_lt, slice_range, get_or, take, drop, Option, Some, None, is_none, is_some}
+use Rattle.std.specs.Prelude.{◌≡◌, ◌≢◌, ◌⊎◌, ℕ, ◌+◌, ◌≤◌, ◌<◌, ◌&&◌, Bool, true, not, List, [], ◌∷◌, length, nat_lt, slice_range, get_or, take, drop, Option, Some, None, is_none, is_some}
 use Rattle.std.specs.Option.{unwrap_or}
 use Rattle.trade_base.specs.Page.{page_of, is_valid_size}
 use Rattle.own_model.specs.Account.{Account, WithinLimits}
-use Rattle.own_model.specs.BufferService.{BufferRequest, SessionRequest, beside, buffer_served, session_request_served, buffer_ram, buffer_caps, part_of}
+use Rattle.own_model.specs.BufferService.{BufferRequest, SessionRequest, beside, buffer_served, session_request_served, buffer_ram, buffer_caps}
 use Rattle.own_model.specs.BufferService.BufferRequest.{Make, GiveBack, Put, Get}
-use Rattle.own_model.specs.BufferService.SessionRequest.{OfFiles, OfBuffer}
 use Rattle.own_model.specs.FileLaws.{ErrorTest, when, first_error}
-use Rattle.own_model.specs.FileService.{Files, File, AreFiles, IsCharged, file_named, files_ram, files_caps, is_longer, told, request_served}
-use Rattle.own_model.specs.FileText.{FileRequest, FileError, file_reply}
+use Rattle.own_model.specs.FileService.{Files, File, AreFiles, IsCharged, file_named, is_longer, told, request_served}
+use Rattle.own_model.specs.FileText.{FileError, file_reply}
 use Rattle.own_model.specs.FileText.FileRequest.{Write}
 use Rattle.own_model.specs.FileText.FileError.{Exists, NotFound, Gap, OutOfRam, OutOfCaps, InvalidSize, NoBuffer, BadRange}
 use Rattle.own_model.specs.FileText.FileReply.{Count, Refused}

@@ -5,7 +5,7 @@ use Rattle.trade_base.specs.Bytes.{with_bytes}
 use Rattle.trade_base.specs.Page.{page_of, is_valid_size}
 use Rattle.own_model.specs.Account.{Account, shortage, charged, credited}
 use Rattle.own_model.specs.FileService.{Files, File, FileServed, file_named, error_of, gap_refusal, told, written, request_served}
-use Rattle.own_model.specs.FileText.{FileRequest, FileError, FileReply, file_request, file_reply}
+use Rattle.own_model.specs.FileText.{FileRequest, FileError, file_request, file_reply}
 use Rattle.own_model.specs.FileText.FileError.{BadRequest, Exists, NotFound, InvalidSize, NoBuffer, BadRange}
 use Rattle.own_model.specs.FileText.FileReply.{Done, Count, Lent, Refused}
 use Rattle.own_model.specs.Zeros.{zeros}

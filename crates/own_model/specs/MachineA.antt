@@ -1,6 +1,6 @@
 -- The built-in machine A, as its text tells it.
-use Rattle.std.specs.Prelude.{ℕ, List, [], ◌∷◌, true, false, codes, Some, None}
-use Rattle.own_model.specs.Listed.{Listed, ListedEntry, ListedRule, Binary}
+use Rattle.std.specs.Prelude.{[], ◌∷◌, true, false, codes, None}
+use Rattle.own_model.specs.Listed.{Listed}
 use Rattle.own_model.specs.Listed.Binary.{Script, LogServer, FileServer}
 use Rattle.own_model.specs.Listed.Target.{AnyChild}
 

@@ -300,7 +300,7 @@ session_served selector o s = record {
 }
 
 abbrev pub session_called : ℕ → Option Session → List ℕ → OwnState → Outcome
-session_called selector (Some session) request s = session_served selector (served session request) s
+session_called selector (Some session) request s = session_served selector (served None session request) s
 session_called selector None request s = refused s InvalidSession
 
 -- a session goes, and all that was donated for it comes back to the client's limits

@@ -5,7 +5,7 @@ use Rattle.std.specs.Str.{bytes_eq}
 use Rattle.own_model.specs.Call.{Spoken, spoken}
 use Rattle.own_model.specs.OwnState.{OwnState}
 use Rattle.own_model.specs.StartList.{Entry}
-use Rattle.own_model.specs.Transcript.{Made, calls_in, calls_of, heard, longest_line, state_at, state_after, told, told_after}
+use Rattle.own_model.specs.Transcript.{Made, calls_in, calls_of, heard, longest_line, state_after, told, told_after}
 
 -- what a line says is a call under this name
 abbrev pub is_under : List ℕ → Option Spoken → Bool

@@ -5,7 +5,8 @@ use Rattle.trade_base.specs.declared.refusal.Refusal.{Refusal}
 use Rattle.trade_base.specs.declared.refusal.Refusal.TheVariants.{BadArgs, ServiceDenied, InsufficientRamQuota, InsufficientCapQuota}
 use Rattle.own_model.specs.Account.{Account, shortage, charged, opened}
 use Rattle.own_model.specs.Donation.{raised}
-use Rattle.own_model.specs.FileService.{Files, FileServed, AreFiles, no_files, file_served}
+use Rattle.own_model.specs.BufferService.{BufferServed, text_served}
+use Rattle.own_model.specs.FileService.{Files, AreFiles, no_files}
 use Rattle.own_model.specs.LogService.{LogServed, IsPartial, labelled, log_served}
 use Rattle.own_model.specs.Reply.{LogLine}
 use Rattle.own_model.specs.Routes.{Rule, Service, provider}
@@ -114,33 +115,38 @@ upgraded session ram caps = record session { account = raised session.account ra
 
 -- ---- requests
 
--- what a request is answered, the lines that it finished, and the session after it
+-- what a request is answered, the lines that it finished, and after it the session, and its buffer's bytes, if it has one then
 pub record Served : Type 0 where
   pub reply : List ℕ
   pub lines : List LogLine
   pub session : Session
+  pub buffer : Option (List ℕ)
 
-abbrev pub logged_by : Session → LogServed → Served
-logged_by session o = record {
+-- a request of a log leaves the account, and a buffer, which no log has
+abbrev pub logged_by : Option (List ℕ) → Session → LogServed → Served
+logged_by buffer session o = record {
   reply = o.reply;
   lines = labelled session.label o.lines;
   session = record session { state = Logging o.partial };
+  buffer = buffer;
 }
 
--- a request of files changes the session's account, and finishes no lines
-abbrev pub filed_by : Session → FileServed → Served
+-- a request of files or of the buffer changes the session's account, and finishes no lines
+abbrev pub filed_by : Session → BufferServed → Served
 filed_by session o = record {
   reply = o.reply;
   lines = [];
   session = record session { account = o.account; state = Filing o.files };
+  buffer = o.buffer;
 }
 
-abbrev pub served_by : ServiceState → Session → List ℕ → Served
-served_by (Logging partial) session request = logged_by session (log_served partial request)
-served_by (Filing files) session request = filed_by session (file_served files session.account request)
+abbrev pub served_by : ServiceState → Option (List ℕ) → Session → List ℕ → Served
+served_by (Logging partial) buffer session request = logged_by buffer session (log_served partial request)
+served_by (Filing files) buffer session request = filed_by session (text_served buffer files session.account request)
 
-abbrev pub served : Session → List ℕ → Served
-served session request = served_by session.state session request
+-- what a request of a session does, by the bytes of the session's buffer, if it has one
+abbrev pub served : Option (List ℕ) → Session → List ℕ → Served
+served buffer session request = served_by session.state buffer session request
 
 -- ---- as a server keeps it: the account stands elsewhere
 

@@ -23,7 +23,8 @@ use Rattle.dataspace_core.specs.Store.{Store, Part, part, account_in, account_of
 use Rattle.dataspace_core.proofs.LimitLaws.{accounts_after}
 use Rattle.dataspace_core.proofs.PartLaws.{account_of-part, open_in_part, part_open}
 use Rattle.dataspace_core.proofs.RoomLaws.{limits_moved, limits_opened, room_for_one_more, room_is_taken, room_is_raised, room_stays, room_is_given_back}
-use Rattle.server_frame.specs.Frame.{OpensSession, ServesSession, Row}
+use Rattle.server_frame.specs.declared.effect.Effect.{Effect}
+use Rattle.server_frame.specs.Frame.{new_row, OpensSession, ServesSession, Row}
 use Rattle.server_frame.specs.Session.{Served}
 use Rattle.server_frame.proofs.PlaceLaws.{opens_an_account}
 use Rattle.server_frame.proofs.RowLaws.{IsNoRows}
@@ -151,7 +152,7 @@ module _ {store : Store} {roles : Roles} {i s : ℕ} {script : Script} (two : Ar
       }
 
       -- a request is served
-      pub serve_moves : {served : Served Labelled} {rows' : NatMap (Row Labelled)} → ServesSession row session.0 served store store' rows rows' → IsOpenIn store' row.key →
+      pub serve_moves : {effect : Effect} {served : Served Labelled} {rows' : NatMap (Row Labelled)} → ServesSession row session.0 effect served store store' rows rows' → IsOpenIn store' row.key →
           (account_in store' row.key).caps_limit ≡ row.account.caps_limit → MovesAccounts payer row.key store store'
       serve_moves serves opens same_limit =
           let becomes : PartBecomes row.key (part row.key store') store store' = record { own = refl; others = serves.others; root = serves.root; parents = serves.parents; room = serves.room } in
@@ -266,11 +267,11 @@ module _ {store : Store} {roles : Roles} {i s : ℕ} {script : Script} (two : Ar
       pub new_alone : (owner : Owner) → Owns store roles owner opens.key → owner ≡ SessionAt s session.0
       new_alone owner owns = absurd (apart_from_free (accounts_in store) opens.key opens.key opens.fresh (owned_open core owner opens.key owns) refl)
 
-      abbrev pub new_row : Row Labelled
-      new_row = record { client = payer; key = opens.key; account = session_account ram caps; value = first }
+      abbrev pub first_row : Row Labelled
+      first_row = new_row payer opens.key ram caps first
 
       pub changes_opened : (selector : ℕ) → get script.caps.caps selector ≡ None → IsSoundScript store' (script_with script selector s session) → ram_limits_in store' ≡ ram_limits_in store →
-          ChangesSession opens.key s selector session store store' script (script_with script selector s session) rows rows' None (Some new_row)
+          ChangesSession opens.key s selector session store store' script (script_with script selector s session) rows rows' None (Some first_row)
       changes_opened selector free sound limits = record {
         moves = record {
           others = opens.others;
@@ -288,13 +289,13 @@ module _ {store : Store} {roles : Roles} {i s : ℕ} {script : Script} (two : Ar
         pays = refl;
         places = refl;
         caps_stay = λ p other. get-insert_other script.caps.caps selector (Session s session) p other;
-        rows_stay = λ id other. ap (λ (m : NatMap (Row Labelled)). get m id) opens.sessions ∙ get-insert_other rows session.0 new_row id other;
+        rows_stay = λ id other. ap (λ (m : NatMap (Row Labelled)). get m id) opens.sessions ∙ get-insert_other rows session.0 first_row id other;
         tied = record { names = ap session_at free; there = opens.free; client = λ r is. absurd (none-some r is); key = λ r is. absurd (none-some r is) };
         tied_after = record {
           names = ap session_at (get-insert_same script.caps.caps selector (Session s session) selector refl);
-          there = ap (λ (m : NatMap (Row Labelled)). get m session.0) opens.sessions ∙ get-insert_same rows session.0 new_row session.0 refl;
-          client = λ r is. ap (λ (x : Row Labelled). x.client) (sym (same_Some new_row r is));
-          key = λ r is. ap (λ (x : Row Labelled). x.key) (sym (same_Some new_row r is));
+          there = ap (λ (m : NatMap (Row Labelled)). get m session.0) opens.sessions ∙ get-insert_same rows session.0 first_row session.0 refl;
+          client = λ r is. ap (λ (x : Row Labelled). x.client) (sym (same_Some first_row r is));
+          key = λ r is. ap (λ (x : Row Labelled). x.key) (sym (same_Some first_row r is));
         };
         below = λ _ _. refl;
       }

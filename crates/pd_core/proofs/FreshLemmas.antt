@@ -40,7 +40,7 @@ use Rattle.heap_core.specs.Laws.{IsMapOf}
 use Rattle.heap_core.proofs.StayLemmas.{empty_map as empty_heap_map}
 use Rattle.sliced_heap.specs.Heap.{payer_of as sliced_payer, share_at, MapsMemory, HasNoBlocks}
 use Rattle.sliced_heap.specs.Sliced.{block_regions, payload_of, sliced_of}
-use Rattle.pd_core.specs.Sessions.{log_value, IsLogKept, files_value, IsFilesKept}
+use Rattle.pd_core.specs.Sessions.{log_value, log_buffer, IsLogKept, files_value, files_buffer, IsFilesKept}
 use Rattle.pd_core.specs.declared.component.Component.{Component}
 use Rattle.pd_core.specs.declared.component.Role.{Role}
 use Rattle.own_model.specs.OwnHeap.{no_heap}
@@ -179,14 +179,14 @@ module _ (store : Store) (ram caps : ℕ) where
     sound = server_sound IsLogKept account.0 server.sessions server.map unused new;
     state = λ sessions. server_state account unused;
     no_caps = refl;
-    no_rows = map_of-empty (row_of log_value store server.map) server.sessions new.none;
+    no_rows = map_of-empty (row_of log_value log_buffer store server.map) server.sessions new.none;
     places = tt;
   }
   role_fresh (AFiles account server) unused fresh heap new = record {
     sound = server_sound IsFilesKept account.0 server.sessions server.map unused new;
     state = λ sessions. server_state account unused;
     no_caps = refl;
-    no_rows = map_of-empty (row_of files_value store server.map) server.sessions new.none;
+    no_rows = map_of-empty (row_of files_value files_buffer store server.map) server.sessions new.none;
     places = tt;
   }
   role_fresh AGone unused fresh heap new = absurd heap

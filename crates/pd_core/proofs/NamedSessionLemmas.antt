@@ -141,12 +141,12 @@ module _ (store store' : Store) (script : Script) (rows : NatMap (Row Labelled))
       ∙ ap {B = Outcome} (λ s. record { reply = Done; lines = []; next = s }) (sym (put_still S'))
 
   serves_does : (request : List ℕ) → a ≡ account_of p →
-      DoesSession (CallSession selector request) (Told (served (row_session names.row) request).reply) (served (row_session names.row) request).lines server session.0 (Some (row_session names.row))
-      (Some (served (row_session names.row) request).session) store script store' script
+      DoesSession (CallSession selector request) (Told (served None (row_session names.row) request).reply) (served None (row_session names.row) request).lines server session.0 (Some (row_session names.row))
+      (Some (served None (row_session names.row) request).session) store script store' script
   serves_does request same_one entry S S' kind agree was is =
       serves_own S S' p p' script.caps.caps script.caps.caps selector (put_changes S S' agree) script.regions.user (own_heap_at store script) (sliced_at store script) sound.own.named.one sound.own.attached
       entry server session (row_session names.row) names.named was request names.named is (account_is ∙ same_one)
-      ∙ ap {B = Outcome} (λ s. record { reply = Told (served (row_session names.row) request).reply; lines = (served (row_session names.row) request).lines; next = s }) (sym (put_still S'))
+      ∙ ap {B = Outcome} (λ s. record { reply = Told (served None (row_session names.row) request).reply; lines = (served None (row_session names.row) request).lines; next = s }) (sym (put_still S'))
 
   -- where the model tells of it, and it uses what it did of no higher limits, the script is sound
   put_sound : (call : Call) (reply : Reply) (lines : List LogLine) (x : AnOpenSession) → DoesSession call reply lines server session.0 (Some (row_session names.row)) (Some x) store script store' script →
@@ -241,8 +241,8 @@ module _ (store store' : Store) (script : Script) (rows : NatMap (Row Labelled))
 
   -- a request is served, which leaves the client's part
   pub serves_done : (request : List ℕ) → part script.account.0 store' ≡ part_at store script →
-      IsDone (CallSession selector request) (Told (served (row_session names.row) request).reply) (served (row_session names.row) request).lines server session.0 was
-      (Some (served (row_session names.row) request).session) store script store' script
+      IsDone (CallSession selector request) (Told (served None (row_session names.row) request).reply) (served None (row_session names.row) request).lines server session.0 was
+      (Some (served None (row_session names.row) request).session) store script store' script
   serves_done request same_part =
       let there = some_of (part_at store script).account sound.own.paid.is_open in
       let own : part script.account.0 store' ≡ record (part_at store script) { account = Some there.0 } = same_part ∙ ap {B = Part} (λ o. record (part_at store script) { account = o }) there.1 in
@@ -250,6 +250,6 @@ module _ (store store' : Store) (script : Script) (rows : NatMap (Row Labelled))
       let does = serves_does store store' script rows selector server session sound names limits there.0 own request same_account in
       record {
         does = does;
-        sound = put_sound store store' script rows selector server session sound names limits there.0 own (CallSession selector request) (Told (served (row_session names.row) request).reply)
-            (served (row_session names.row) request).lines (served (row_session names.row) request).session does (ap (λ (x : Account). x.caps_used) same_account) (omega (arith, ap (λ (x : Account). x.caps_limit) same_account));
+        sound = put_sound store store' script rows selector server session sound names limits there.0 own (CallSession selector request) (Told (served None (row_session names.row) request).reply)
+            (served None (row_session names.row) request).lines (served None (row_session names.row) request).session does (ap (λ (x : Account). x.caps_used) same_account) (omega (arith, ap (λ (x : Account). x.caps_limit) same_account));
       }

@@ -149,10 +149,10 @@ served_where {store} {components} {i} {d} q {named} core here read is =
     record { row = its.row; there = its.there; within = within; its = λ e. ap (λ r. get (rows_in store r) named.1.0) (sym (role_at components named.0 e within)) ∙ its.there }
 
 -- the account that a server tells of a session is its row's
-module _ {T : Type 0} (value : T → Share → Labelled) (sessions : Slab (Kept T)) (store : Store) (regions : Regions) (id : ℕ) (account : AccountId)
+module _ {T : Type 0} (value : T → Share → Labelled) (buffer : T → Option ℕ) (sessions : Slab (Kept T)) (store : Store) (regions : Regions) (id : ℕ) (account : AccountId)
     (is : IfSome (slab.get sessions id) (λ session. account ≡ session.account)) where
-  pub account_of_row : (row : Row Labelled) → get (sessions_of value sessions store regions) id ≡ Some row → account_in store account.0 ≡ row.account
+  pub account_of_row : (row : Row Labelled) → get (sessions_of value buffer sessions store regions) id ≡ Some row → account_in store account.0 ≡ row.account
   account_of_row row there =
-      let its = row_is value sessions store regions id row there in
+      let its = row_is value buffer sessions store regions id row there in
       let same : account ≡ its.session.account = subst (λ o. IfSome o (λ session. account ≡ session.account)) its.there is in
       ap (λ (a : AccountId). account_in store a.0) same ∙ ap (λ (r : Row Labelled). r.account) its.is

@@ -24,7 +24,7 @@ use Rattle.server_frame.proofs.FrameLemmas.{Stays, row_stays}
 use Rattle.server_frame.proofs.FrameLaws.{server_stays}
 use Rattle.pd_core.specs.Own.{Sessions, no_sessions, object_of, regions_of, own_of, own_at, own_heap_at, sliced_at, part_at}
 use Rattle.pd_core.specs.declared.script.Script.{Script}
-use Rattle.pd_core.specs.Sessions.{log_value, IsLogKept, files_value, IsFilesKept}
+use Rattle.pd_core.specs.Sessions.{log_value, log_buffer, IsLogKept, files_value, files_buffer, IsFilesKept}
 use Rattle.pd_core.specs.Sound.{session_at}
 use Rattle.pd_core.specs.Component.{Pays, caps_in, rows_in, own_in, IsSoundServer, IsSoundRole}
 use Rattle.pd_core.specs.declared.component.Role.{Role}
@@ -75,16 +75,16 @@ module _ (store store' : Store) (Beside : ℕ → Type 0) (stays : (regions : Re
   AreBeside rows = (id : ℕ) (row : Row Labelled) → get rows id ≡ Some row → Beside row.key
 
   -- a server, all of whose sessions are on such accounts
-  module _ {T : Type 0} (value : T → Share → Labelled) (kept : T → Share → Type 0) (sessions : Slab (Kept T)) (regions : Regions) (beside : AreBeside (sessions_of value sessions store regions)) where
+  module _ {T : Type 0} (value : T → Share → Labelled) (buffer : T → Option ℕ) (kept : T → Share → Type 0) (sessions : Slab (Kept T)) (regions : Regions) (beside : AreBeside (sessions_of value buffer sessions store regions)) where
     session_stays : (id : ℕ) (session : Kept T) → slab.get sessions id ≡ Some session → Stays session.account.0 store store' regions regions
     session_stays id session there =
-        stays regions session.account.0 (beside id (row_of value store regions session) (get-map_of_at (row_of value store regions) sessions id session there))
+        stays regions session.account.0 (beside id (row_of value buffer store regions session) (get-map_of_at (row_of value buffer store regions) sessions id session there))
 
     -- has the rows that it had
-    table_stays : sessions_of value sessions store' regions ≡ sessions_of value sessions store regions
+    table_stays : sessions_of value buffer sessions store' regions ≡ sessions_of value buffer sessions store regions
     table_stays =
-        map_of_alike (row_of value store regions) (row_of value store' regions) sessions
-        (λ id session there. row_stays store store' regions regions session value (session_stays id session there))
+        map_of_alike (row_of value buffer store regions) (row_of value buffer store' regions) sessions
+        (λ id session there. row_stays store store' regions regions session value buffer (session_stays id session there))
 
     -- and is sound, if its own account is such a one
     table_sound : (account : ℕ) → Beside account → IsSoundServer kept store account sessions regions → IsSoundServer kept store' account sessions regions
@@ -97,15 +97,15 @@ module _ (store store' : Store) (Beside : ℕ → Type 0) (stays : (regions : Re
   -- a role has the rows that it had
   pub rows_stay : (role : Role) → AreBeside (rows_in store role) → rows_in store' role ≡ rows_in store role
   rows_stay (AScript script) beside = refl
-  rows_stay (ALog account server) beside = table_stays log_value IsLogKept server.sessions server.map beside
-  rows_stay (AFiles account server) beside = table_stays files_value IsFilesKept server.sessions server.map beside
+  rows_stay (ALog account server) beside = table_stays log_value log_buffer IsLogKept server.sessions server.map beside
+  rows_stay (AFiles account server) beside = table_stays files_value files_buffer IsFilesKept server.sessions server.map beside
   rows_stay AGone beside = refl
 
   -- it stays sound
   pub role_sound : (role : Role) → IsSoundRole store role → ((account : ℕ) → Pays role account → Beside account) → AreBeside (rows_in store role) → IsSoundRole store' role
   role_sound (AScript script) sound apart beside = (stays_elsewhere store script sound store' (stays script.regions script.account.0 (apart _ refl)).own limits).sound
-  role_sound (ALog account server) sound apart beside = table_sound log_value IsLogKept server.sessions server.map beside account.0 (apart _ refl) sound
-  role_sound (AFiles account server) sound apart beside = table_sound files_value IsFilesKept server.sessions server.map beside account.0 (apart _ refl) sound
+  role_sound (ALog account server) sound apart beside = table_sound log_value log_buffer IsLogKept server.sessions server.map beside account.0 (apart _ refl) sound
+  role_sound (AFiles account server) sound apart beside = table_sound files_value files_buffer IsFilesKept server.sessions server.map beside account.0 (apart _ refl) sound
   role_sound AGone sound apart beside = tt
 
   -- the own state of a server

@@ -1,7 +1,7 @@
 -- Servers, whichever their service is: their rows, and what is so of each that is sound.
 use Rattle.std.proofs.Common.{◌≡◌, ◌≢◌, ℕ, ◌+◌, ◌*◌, ◌<◌, ◌≤◌, Some, false, true, is_some, refl, sym, ap, subst, ◌∙◌}
 use Rattle.std.proofs.lemmas.Option.{none-some, same_Some}
-use Rattle.std.specs.Prelude.{None, IsSome}
+use Rattle.std.specs.Prelude.{Option, None, IsSome}
 use Rattle.std.specs.Option.{option_map}
 use Rattle.std.specs.FinMap.{get, empty}
 use Rattle.slab.specs.Slab.{Slab, ContainsKey}
@@ -27,27 +27,27 @@ use Rattle.file_service.specs.declared.service.FileService.{FileService}
 use Rattle.file_service.specs.declared.session.FileSession.{FileSession}
 use Rattle.pd_core.specs.Component.{payer_in, caps_in, places_in, rows_in, capacity_in, served_by, own_in, HasPlace, Works, IsSoundRole}
 use Rattle.pd_core.specs.Own.{Sessions, no_sessions, own_of}
-use Rattle.pd_core.specs.Sessions.{log_value, IsLogKept, files_value, IsFilesKept}
+use Rattle.pd_core.specs.Sessions.{log_value, log_buffer, IsLogKept, files_value, files_buffer, IsFilesKept}
 use Rattle.pd_core.specs.declared.component.Role.{Role}
 use Rattle.pd_core.specs.declared.component.Role.TheVariants.{Script as AScript, Log as ALog, Files as AFiles, Gone as AGone}
 use Rattle.pd_core.specs.declared.script.Script.{Script}
 
 -- ---- rows
 
-module _ {T : Type 0} (value : T → Share → Labelled) (sessions : Slab (Kept T)) (store : Store) (regions : Regions) (id : ℕ) where
+module _ {T : Type 0} (value : T → Share → Labelled) (buffer : T → Option ℕ) (sessions : Slab (Kept T)) (store : Store) (regions : Regions) (id : ℕ) where
   -- a row that is there is an open session's
   pub record IsRow (row : Row Labelled) : Type 0 where
     pub session : Kept T
     pub there : slab.get sessions id ≡ Some session
-    pub is : row_of value store regions session ≡ row
+    pub is : row_of value buffer store regions session ≡ row
 
-  pub row_is : (row : Row Labelled) → get (sessions_of value sessions store regions) id ≡ Some row → IsRow row
+  pub row_is : (row : Row Labelled) → get (sessions_of value buffer sessions store regions) id ≡ Some row → IsRow row
   row_is row there = elim (slab.get sessions id) as (λ o. slab.get sessions id ≡ o → IsRow row) [
-    | None ↦ λ e. absurd (none-some row (sym (get-map_of (row_of value store regions) sessions id ∙ ap (option_map (row_of value store regions)) e) ∙ there))
+    | None ↦ λ e. absurd (none-some row (sym (get-map_of (row_of value buffer store regions) sessions id ∙ ap (option_map (row_of value buffer store regions)) e) ∙ there))
     | Some session ↦ λ e. record {
       session = session;
       there = e;
-      is = same_Some _ _ (sym (get-map_of (row_of value store regions) sessions id ∙ ap (option_map (row_of value store regions)) e) ∙ there);
+      is = same_Some _ _ (sym (get-map_of (row_of value buffer store regions) sessions id ∙ ap (option_map (row_of value buffer store regions)) e) ∙ there);
     }
   ] refl
 
@@ -59,10 +59,10 @@ pub record IsPaidRow (store : Store) (row : Row Labelled) : Type 0 where
   pub account : account_in store row.key ≡ row.account
 
 -- so each row of a server is
-row_paid : {T : Type 0} (value : T → Share → Labelled) (kept : T → Share → Type 0) (sessions : Slab (Kept T)) (store : Store) (regions : Regions) → IsServer kept sessions store regions →
-    (id : ℕ) (row : Row Labelled) → get (sessions_of value sessions store regions) id ≡ Some row → IsPaidRow store row
-row_paid value kept sessions store regions server id row there =
-    let its = row_is value sessions store regions id row there in
+row_paid : {T : Type 0} (value : T → Share → Labelled) (buffer : T → Option ℕ) (kept : T → Share → Type 0) (sessions : Slab (Kept T)) (store : Store) (regions : Regions) → IsServer kept sessions store regions →
+    (id : ℕ) (row : Row Labelled) → get (sessions_of value buffer sessions store regions) id ≡ Some row → IsPaidRow store row
+row_paid value buffer kept sessions store regions server id row there =
+    let its = row_is value buffer sessions store regions id row there in
     let holds = server.each id its.session its.there in
     subst (IsPaidRow store) its.is (record {
       child = holds.child;
@@ -73,9 +73,16 @@ row_paid value kept sessions store regions server id row there =
 
 pub paid_in : (store : Store) (role : Role) → Works store role → (id : ℕ) (row : Row Labelled) → get (rows_in store role) id ≡ Some row → IsPaidRow store row
 paid_in store (AScript script) works id row there = absurd (none-some row (sym (get-empty id) ∙ there))
-paid_in store (ALog account server) works id row there = row_paid log_value IsLogKept server.sessions store server.map works id row there
-paid_in store (AFiles account server) works id row there = row_paid files_value IsFilesKept server.sessions store server.map works id row there
+paid_in store (ALog account server) works id row there = row_paid log_value log_buffer IsLogKept server.sessions store server.map works id row there
+paid_in store (AFiles account server) works id row there = row_paid files_value files_buffer IsFilesKept server.sessions store server.map works id row there
 paid_in store AGone works id row there = absurd (none-some row (sym (get-empty id) ∙ there))
+
+-- no session lends anything
+pub lends_nothing : (store : Store) (role : Role) (id : ℕ) (row : Row Labelled) → get (rows_in store role) id ≡ Some row → row.buffer ≡ None
+lends_nothing store (AScript script) id row there = absurd (none-some row (sym (get-empty id) ∙ there))
+lends_nothing store (ALog account server) id row there = sym (ap (λ (r : Row Labelled). r.buffer) (row_is log_value log_buffer server.sessions store server.map id row there).is)
+lends_nothing store (AFiles account server) id row there = sym (ap (λ (r : Row Labelled). r.buffer) (row_is files_value files_buffer server.sessions store server.map id row there).is)
+lends_nothing store AGone id row there = absurd (none-some row (sym (get-empty id) ∙ there))
 
 -- ---- servers
 
@@ -126,42 +133,42 @@ sound_server store AGone serving works is_open places = absurd (cc)
 abbrev pub AreClients : Store → Role → Type 0
 AreClients store role = (id : ℕ) (row : Row Labelled) → get (rows_in store role) id ≡ Some row → row.client ≢ root_in store
 
-module _ {T : Type 0} (value : T → Share → Labelled) (kept : T → Share → Type 0) (sessions : Slab (Kept T)) (store : Store) (regions : Regions) (server : IsServer kept sessions store regions)
-    (clients : (id : ℕ) (row : Row Labelled) → get (sessions_of value sessions store regions) id ≡ Some row → row.client ≢ root_in store) (room : HasRoom store)
-    (places : caps_limits_in store ≤ sessions.capacity * 2 + 1) (client ram caps : ℕ) (none : IsNoRows (sessions_of value sessions store regions) client) where
+module _ {T : Type 0} (value : T → Share → Labelled) (buffer : T → Option ℕ) (kept : T → Share → Type 0) (sessions : Slab (Kept T)) (store : Store) (regions : Regions) (server : IsServer kept sessions store regions)
+    (clients : (id : ℕ) (row : Row Labelled) → get (sessions_of value buffer sessions store regions) id ≡ Some row → row.client ≢ root_in store) (room : HasRoom store)
+    (places : caps_limits_in store ≤ sessions.capacity * 2 + 1) (client ram caps : ℕ) (none : IsNoRows (sessions_of value buffer sessions store regions) client) where
   -- a table with so many places has one for a client that has no session
   table_place : Fits (account_in store client) ram caps → 2 ≤ caps → slab.slab_len sessions < sessions.capacity
   table_place fits least =
       table_has_place kept sessions store regions client ram caps sessions.capacity server
-      (λ id session is. clients id (row_of value store regions session) (get-map_of_at (row_of value store regions) sessions id session is)) room
-      (no_session_by_rows value sessions store regions client none) fits least places
+      (λ id session is. clients id (row_of value buffer store regions session) (get-map_of_at (row_of value buffer store regions) sessions id session is)) room
+      (no_session_by_rows value buffer sessions store regions client none) fits least places
 
 -- a sound server has a place for one more session of a client that can pay for it
 pub place_in : (store : Store) (role : Role) → IsSome (served_by role) → IsSoundRole store role → AreClients store role → HasRoom store → (client ram caps : ℕ) → IsNoRows (rows_in store role) client →
     Fits (account_in store client) ram caps → 2 ≤ caps → HasPlace role
 place_in store (AScript script) serving sound clients room client ram caps none fits least = absurd (cc)
 place_in store (ALog account server) serving sound clients room client ram caps none fits least =
-    table_place log_value IsLogKept server.sessions store server.map sound.server clients room sound.places client ram caps none fits least
+    table_place log_value log_buffer IsLogKept server.sessions store server.map sound.server clients room sound.places client ram caps none fits least
 place_in store (AFiles account server) serving sound clients room client ram caps none fits least =
-    table_place files_value IsFilesKept server.sessions store server.map sound.server clients room sound.places client ram caps none fits least
+    table_place files_value files_buffer IsFilesKept server.sessions store server.map sound.server clients room sound.places client ram caps none fits least
 place_in store AGone serving sound clients room client ram caps none fits least = absurd (cc)
 
 -- ---- what its own calls ask for
 
-module _ {T : Type 0} (value : T → Share → Labelled) (sessions : Slab (Kept T)) (store : Store) (regions : Regions) (role : Role) (rows : rows_in store role ≡ sessions_of value sessions store regions) where
+module _ {T : Type 0} (value : T → Share → Labelled) (buffer : T → Option ℕ) (sessions : Slab (Kept T)) (store : Store) (regions : Regions) (role : Role) (rows : rows_in store role ≡ sessions_of value buffer sessions store regions) where
   -- a session with a row is open
   is_there : (id : ℕ) → IsSome (get (rows_in store role) id) → ContainsKey sessions id
-  is_there id there = ContainsKey-map_of (row_of value store regions) sessions id (ap (λ m. is_some (get m id)) (sym rows) ∙ there)
+  is_there id there = ContainsKey-map_of (row_of value buffer store regions) sessions id (ap (λ m. is_some (get m id)) (sym rows) ∙ there)
 
   -- an account of no row is no session's
   pub is_none : (client : ℕ) → IsNoRows (rows_in store role) client → IsNoSession sessions client
-  is_none client none = no_session_by_rows value sessions store regions client (subst (λ m. IsNoRows m client) rows none)
+  is_none client none = no_session_by_rows value buffer sessions store regions client (subst (λ m. IsNoRows m client) rows none)
 
 pub log_open : (store : Store) (role : Role) (account : AccountId) (server : Server LogService LabelledLine) (id : ℕ) → role ≡ ALog account server → IsSome (get (rows_in store role) id) → ContainsKey server.sessions id
-log_open store role account server id is = is_there log_value server.sessions store server.map role (ap (rows_in store) is) id
+log_open store role account server id is = is_there log_value log_buffer server.sessions store server.map role (ap (rows_in store) is) id
 
 pub files_open : (store : Store) (role : Role) (account : AccountId) (server : Server FileService FileSession) (id : ℕ) → role ≡ AFiles account server → IsSome (get (rows_in store role) id) → ContainsKey server.sessions id
-files_open store role account server id is = is_there files_value server.sessions store server.map role (ap (rows_in store) is) id
+files_open store role account server id is = is_there files_value files_buffer server.sessions store server.map role (ap (rows_in store) is) id
 
 -- a script has no session
 pub script_open : (store : Store) (role : Role) (script : Script) (id : ℕ) → role ≡ AScript script → IsSome (get (rows_in store role) id) → ⊥

@@ -130,12 +130,12 @@ module _ (S S' : Sessions) (p p' : Part) (caps caps' : NatMap Cap) (selector : �
         ∙ ap {B = Outcome} (λ s. record { reply = Done; lines = []; next = s }) (sym (own_put server session (upgraded x more.ram more.caps) _ names put account))
 
     -- it serves a request
-    pub serves_own : (request : List ℕ) → get caps' selector ≡ Some (Session server session) → S' server session.0 ≡ Some (served x request).session → account_of p' ≡ account_of p →
-        entry_step entry (CallSession selector request) before ≡ record { reply = Told (served x request).reply; lines = (served x request).lines; next = after }
+    pub serves_own : (request : List ℕ) → get caps' selector ≡ Some (Session server session) → S' server session.0 ≡ Some (served None x request).session → account_of p' ≡ account_of p →
+        entry_step entry (CallSession selector request) before ≡ record { reply = Told (served None x request).reply; lines = (served None x request).lines; next = after }
     unfolding own_of
     serves_own request names put account =
         ap (λ o. session_called selector o request before) named_before
-        ∙ ap {B = Outcome} (λ s. record { reply = Told (served x request).reply; lines = (served x request).lines; next = s }) (sym (own_put server session (served x request).session _ names put account))
+        ∙ ap {B = Outcome} (λ s. record { reply = Told (served None x request).reply; lines = (served None x request).lines; next = s }) (sym (own_put server session (served None x request).session _ names put account))
 
   -- a session is opened
   pub opens_own : (entry : Entry) (service text : List ℕ) (w : Wish) (server : ℕ) (session : SessionId) → wish entry.name entry.routes service text ≡ Ok w → donation_refusal (account_of p) w.ram w.caps ≡ None →

@@ -24,8 +24,10 @@ use Rattle.cap_space.specs.Space.{without_cap}
 use Rattle.cap_space.specs.declared.cap.Cap.{Cap}
 use Rattle.cap_space.specs.declared.cap.Cap.TheVariants.{Dataspace, RpcObject, Session, Buffer}
 use Rattle.dataspace_core.specs.Store.{Store, account_in, ClosesPart, RaisesPart}
-use Rattle.server_frame.specs.Frame.{Row, ServesSession}
-use Rattle.server_frame.specs.Session.{service_step}
+use Rattle.server_frame.specs.Frame.{Row, row_served, ServesSession}
+use Rattle.server_frame.specs.Lent.{bytes_lent}
+use Rattle.server_frame.specs.declared.effect.Effect.{Effect}
+use Rattle.server_frame.specs.Session.{Served, service_step}
 use Rattle.server_frame.specs.Told.{Told}
 use Rattle.pd_core.specs.Answer.{told_alone}
 use Rattle.pd_core.specs.Component.{entry_of, kind_of, served_by, caps_in, rows_in, rows_of, own_in, IsSoundRole, Serves, StaysServer}
@@ -39,7 +41,7 @@ use Rattle.pd_core.specs.declared.component.Role.{Role}
 use Rattle.pd_core.specs.declared.component.Role.TheVariants.{Script as AScript, Log as ALog, Files as AFiles, Gone as AGone}
 use Rattle.pd_core.specs.declared.script.Script.{Script}
 use Rattle.pd_core.proofs.PlainLemmas.{face_is}
-use Rattle.pd_core.proofs.ServerLemmas.{paid_in}
+use Rattle.pd_core.proofs.ServerLemmas.{paid_in, lends_nothing}
 use Rattle.pd_core.proofs.ClientServerLemmas.{its as its_row, row_paid, names_session, row_alone, raise_moves, serve_moves, changes_written, changes_closed, script_sound}
 use Rattle.pd_core.proofs.SessionChangeLemmas.{AreTwo, ReplacesTwo, session_goes, two_places}
 use Rattle.pd_core.proofs.NamedSessionLemmas.{closes_done, upgrades_done, serves_done, upgrade_unread, upgrade_refused}
@@ -222,21 +224,23 @@ module _ {store : Store} (components : List Component) {i s : ℕ} {script : Scr
         rules (Upgrade q text) refl Done [] (told_alone (reply_text Done)) refl refl done.does
 
     -- a request is served on it
-    pub call_goes : (e : Component) → host ≡ get_or components s e → (request : List ℕ) (written : Told) →
-        ((one : Row Labelled) → get (rows_of store host) session.0 ≡ Some one → ServesSession one session.0 (service_step request one.account one.value) store store' (rows_of store host) (rows_of store' host')) →
-        ((one : Row Labelled) → get (rows_of store host) session.0 ≡ Some one → written.text ≡ (service_step request one.account one.value).text) →
-        ((one : Row Labelled) → get (rows_of store host) session.0 ≡ Some one → written.lines ≡ (service_step request one.account one.value).lines) →
+    pub call_goes : (e : Component) → host ≡ get_or components s e → (request : List ℕ) (effect : Effect) (written : Told) →
+        ((one : Row Labelled) → get (rows_of store host) session.0 ≡ Some one → ServesSession one session.0 effect (row_served service_step request store one) store store' (rows_of store host) (rows_of store' host')) →
+        ((one : Row Labelled) → get (rows_of store host) session.0 ≡ Some one → written.text ≡ (row_served service_step request store one).text) →
+        ((one : Row Labelled) → get (rows_of store host) session.0 ≡ Some one → written.lines ≡ (row_served service_step request store one).lines) →
         Goes rules (CallSession q request) i written store components store' (set components s host')
-    call_goes e read request written served_by text lines =
-        let step = service_step request row.account row.value in
-        let serves = subst (λ r. ServesSession row session.0 step store store' (rows_in store r) (rows_of store' host')) (sym host_is) (served_by row there) in
-        let next : Row Labelled = record row { account = step.account; value = step.value } in
+    call_goes e read request effect written served_by text lines =
+        let step = service_step request row.account None row.value in
+        let alone : row_served service_step request store row ≡ step = ap (λ o. service_step request row.account (bytes_lent store o) row.value) (lends_nothing store host.role session.0 row there) in
+        let serves_at = subst (λ o. ServesSession row session.0 effect o store store' (rows_of store host) (rows_of store' host')) alone (served_by row there) in
+        let serves = subst (λ r. ServesSession row session.0 effect step store store' (rows_in store r) (rows_of store' host')) (sym host_is) serves_at in
+        let next : Row Labelled = record row { account = step.account; value = step.value; buffer = serves.lent } in
         let now : get (rows_of store' host') session.0 ≡ Some next
         = ap (λ (m : NatMap (Row Labelled)). get m session.0) serves.sessions ∙ get-insert_same (rows_in store (roles_of components s)) session.0 next session.0 refl in
         let paid = paid_in store' host'.role stays.works session.0 next now in
-        let limit = (serve_keeps (row_session row).state (row_session row) request).1 in
+        let limit = (serve_keeps (row_session row).state None (row_session row) request).1 in
         let done = serves_done store store' script (rows_in store (roles_of components s)) q s session (script_sound two) named stays.machine request
         (serves.others script.account.0 (λ same. (row_paid two q session names).apart (pays ∙ same))) in
         session_goes components (set components s host') two d host_is (host_put components two host') (face_set components s host' e (face ∙ ap face_of read)) (row_alone two q session names)
         (changes_written two q session names store' refl refl serves.sessions (serve_moves two q session names store' serves paid.opens (ap (λ (a : Account). a.caps_limit) paid.account ∙ limit)) done.sound stays.machine) stays
-        rules (CallSession q request) refl (AnswerTold (served (row_session row) request).reply) (served (row_session row) request).lines written (text row there) (lines row there) done.does
+        rules (CallSession q request) refl (AnswerTold (served None (row_session row) request).reply) (served None (row_session row) request).lines written (text row there ∙ ap (λ (o : Served Labelled). o.text) alone) (lines row there ∙ ap (λ (o : Served Labelled). o.lines) alone) done.does

@@ -23,7 +23,7 @@ use Rattle.dataspace_core.specs.Share.{Share}
 use Rattle.server_frame.specs.Frame.{Row, sessions_of, IsServer}
 use Rattle.server_frame.specs.declared.server.Session.{Session as Kept}
 use Rattle.pd_core.specs.Own.{Sessions, no_sessions, own_of, own_at}
-use Rattle.pd_core.specs.Sessions.{log_value, IsLogKept, files_value, IsFilesKept}
+use Rattle.pd_core.specs.Sessions.{log_value, log_buffer, IsLogKept, files_value, files_buffer, IsFilesKept}
 use Rattle.pd_core.specs.Sound.{session_at, IsNewHeap, IsNewSliced, IsSoundScript}
 use Rattle.pd_core.specs.declared.component.Role.{Role}
 use Rattle.pd_core.specs.declared.component.Role.TheVariants.{Script, Log, Files, Gone}
@@ -116,8 +116,8 @@ places_of component = places_in component.role
 -- the sessions that a component serves, by their keys
 abbrev pub rows_in : Store → Role → NatMap (Row Labelled)
 rows_in store (Script script) = empty
-rows_in store (Log account server) = sessions_of log_value server.sessions store server.map
-rows_in store (Files account server) = sessions_of files_value server.sessions store server.map
+rows_in store (Log account server) = sessions_of log_value log_buffer server.sessions store server.map
+rows_in store (Files account server) = sessions_of files_value files_buffer server.sessions store server.map
 rows_in store Gone = empty
 
 abbrev pub rows_of : Store → Component → NatMap (Row Labelled)

@@ -1,5 +1,5 @@
 -- The sessions of servers, as their clients see them.
-use Rattle.std.specs.Prelude.{◌≡◌, ℕ, ◌+◌, ◌≤◌, List, Option, Some}
+use Rattle.std.specs.Prelude.{◌≡◌, ℕ, ◌+◌, ◌≤◌, List, Option, Some, None}
 use Rattle.std.specs.FinMap.{get}
 use Rattle.trade_base.specs.declared.id.SessionId.{SessionId}
 use Rattle.own_model.specs.Call.{Call}
@@ -25,6 +25,10 @@ use Rattle.pd_core.specs.declared.script.Script.{Script}
 abbrev pub log_value : LabelledLine → Share → Labelled
 log_value line share = as_kept line
 
+-- it lends nothing
+abbrev pub log_buffer : LabelledLine → Option ℕ
+log_buffer line = None
+
 -- all that it keeps of a session in the memory is blocks
 abbrev pub IsLogKept : LabelledLine → Share → Type 0
 IsLogKept line share = HasBlocksAlone share
@@ -32,6 +36,10 @@ IsLogKept line share = HasBlocksAlone share
 -- what the file service keeps of a session to its client: its files, as its account's blocks hold them
 abbrev pub files_value : FileSession → Share → Labelled
 files_value session share = value_of session share
+
+-- it lends nothing yet
+abbrev pub files_buffer : FileSession → Option ℕ
+files_buffer session = None
 
 -- all that it keeps of a session in the memory is blocks and nodes
 abbrev pub IsFilesKept : FileSession → Share → Type 0

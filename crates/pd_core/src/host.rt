@@ -2,7 +2,7 @@
 
 use crate::component::{Component, Role};
 use dataspace_core::Memory;
-use server_frame::{LONGEST_LABEL, Reply};
+use server_frame::{Effect, LONGEST_LABEL, Reply};
 use trade_base::{AccountId, Caps, Ram, Refusal, SessionId};
 
 impl Component {
@@ -14,7 +14,7 @@ impl Component {
     ghost use Rattle.own_model.specs.Routes.{Service};
     ghost use Rattle.own_model.specs.Session.{donation_refusal, state_at_first};
     ghost use Rattle.dataspace_core.specs.Store.{account_in, RaisesPart, ClosesPart};
-    ghost use Rattle.server_frame.specs.Frame.{AtRow, OpensSession, ServesSession};
+    ghost use Rattle.server_frame.specs.Frame.{AtRow, row_served, OpensSession, ServesSession};
     ghost use Rattle.server_frame.specs.Session.{service_step};
     ghost use Rattle.server_frame.specs.Told.{nothing_told};
     ghost use Rattle.pd_core.specs.Component.{rows_of, service_of, Admits, Serves, StaysServer};
@@ -78,7 +78,7 @@ impl Component {
         }
     }
 
-    /// Answers a request of a session.
+    /// Answers a request of a session, and tells what it did to what the session lends.
     #[tactic(auto, using(crate::proofs::ServerLemmas::log_open, crate::proofs::ServerLemmas::files_open, crate::proofs::ServerLemmas::script_open, crate::proofs::ServerLemmas::gone_open))]
     pub(crate) fn serve_session(
         &mut self,
@@ -86,15 +86,15 @@ impl Component {
         id: SessionId,
         request: &[u8],
         reply: &mut Reply,
-    )
+    ) -> Effect
         requires serves { Serves memory.old self.old id.0 }
         requires reply { reply.old ≡ nothing_told }
         ensures text { AtRow (rows_of memory.old self.old) id.0 (λ row.
-            reply.new.text ≡ (service_step request.now row.account row.value).text) }
+            reply.new.text ≡ (row_served service_step request.now memory.old row).text) }
         ensures lines { AtRow (rows_of memory.old self.old) id.0 (λ row.
-            reply.new.lines ≡ (service_step request.now row.account row.value).lines) }
+            reply.new.lines ≡ (row_served service_step request.now memory.old row).lines) }
         ensures serves { AtRow (rows_of memory.old self.old) id.0 (λ row.
-            ServesSession row id.0 (service_step request.now row.account row.value)
+            ServesSession row id.0 result (row_served service_step request.now memory.old row)
             memory.old memory.new (rows_of memory.old self.old) (rows_of memory.new self.new)) }
         ensures stays { StaysServer memory.old self.old memory.new self.new }
     {

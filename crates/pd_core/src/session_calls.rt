@@ -69,7 +69,8 @@ pub(crate) fn call(
         Err(refusal) => return refuse(refusal, reply),
     };
     reply.clear();
-    components[entry].serve_session(memory, session, request, reply);
+    // No session lends anything yet.
+    let _ = components[entry].serve_session(memory, session, request, reply);
 }
 
 /// A session of the service is opened for the component at a place, by the text of arguments, or why not: `NotAScript`, then

@@ -1,7 +1,7 @@
 -- What a close does to the sessions of a server.
 use Rattle.std.proofs.Common.{◌≡◌, ◌≢◌, ℕ, ◌+◌, Some, IsSome, is_some, unwrap_or, sym, ap, subst, ◌∙◌}
 use Rattle.std.proofs.lemmas.Option.{same_Some}
-use Rattle.std.specs.Prelude.{None}
+use Rattle.std.specs.Prelude.{Option, None}
 use Rattle.std.specs.FinMap.{get, remove}
 use Rattle.slab.specs.Slab.{Slab, Updates}
 use Rattle.slab.specs.Slab as slab
@@ -20,7 +20,7 @@ use Rattle.server_frame.specs.declared.server.Session.{Session}
 use Rattle.server_frame.proofs.HoldingLemmas.{same_part}
 use Rattle.server_frame.proofs.FrameLemmas.{Stays, row_stays, map_of-emptied, server_without}
 
-module _ {T V : Type 0} (kept : T → Share → Type 0) (value : T → Share → V) (sessions now : Slab (Session T)) (old mid : Store) (regions between : Regions) (server : IsServer kept sessions old regions) (id : ℕ) (session : Session T) (there : slab.get sessions id ≡ Some session)
+module _ {T V : Type 0} (kept : T → Share → Type 0) (value : T → Share → V) (buffer : T → Option ℕ) (sessions now : Slab (Session T)) (old mid : Store) (regions between : Regions) (server : IsServer kept sessions old regions) (id : ℕ) (session : Session T) (there : slab.get sessions id ≡ Some session)
     (removed : Updates sessions now id None) (heap : SlicedHeap) (payer : payer_of heap ≡ payer_of session.heap) (others_by : KeepsOthers (payer_of session.heap) old mid regions between)
     (ram : (account_in mid (payer_of heap)).ram_limit ≡ (account_in old (payer_of session.heap)).ram_limit) (caps : (account_in mid (payer_of heap)).caps_limit ≡ (account_in old (payer_of session.heap)).caps_limit) where
   holds : Holds kept session old regions
@@ -80,8 +80,8 @@ module _ {T V : Type 0} (kept : T → Share → Type 0) (value : T → Share →
         (λ s found. ap (λ (x : Session T). x.account.0) (same_Some _ _ (sym found ∙ there)))
         removed (ap (λ (p : Part). p.spaces) closes.closed_one)
 
-    pub rows_close : sessions_of value now new after ≡ remove (sessions_of value sessions old regions) id
-    rows_close = map_of-emptied (row_of value old regions) (row_of value new after) sessions now id (λ q x other found. row_stays old new regions after x value (stays q x other found)) removed
+    pub rows_close : sessions_of value buffer now new after ≡ remove (sessions_of value buffer sessions old regions) id
+    rows_close = map_of-emptied (row_of value buffer old regions) (row_of value buffer new after) sessions now id (λ q x other found. row_stays old new regions after x value buffer (stays q x other found)) removed
 
     -- the client's part has the limits
     raised_one : part session.client.0 new ≡ raised_part (part session.client.0 old) (account_of (part session.account.0 old)).ram_limit (account_of (part session.account.0 old)).caps_limit
@@ -101,5 +101,5 @@ module _ {T V : Type 0} (kept : T → Share → Type 0) (value : T → Share →
       room = closes.room ∙ ap (λ n. n + 1) others.room;
     }
 
-    pub closes_row : (row : Row V) → row_of value old regions session ≡ row → ClosesPart row.key row.client old new
+    pub closes_row : (row : Row V) → row_of value buffer old regions session ≡ row → ClosesPart row.key row.client old new
     closes_row row is = subst (λ (r : Row V). ClosesPart r.key r.client old new) is closes_session

@@ -27,7 +27,7 @@ use Rattle.server_frame.proofs.HoldingLemmas.{session_heap_held}
 -- ---- a slab read in two ways
 
 -- what two readings of an option answer
-read_alike : {T X : Type 0} (f g : T → X) (o : Option T) → ((x : T) → o ≡ Some x → g x ≡ f x) → option_map g o ≡ option_map f o
+pub read_alike : {T X : Type 0} (f g : T → X) (o : Option T) → ((x : T) → o ≡ Some x → g x ≡ f x) → option_map g o ≡ option_map f o
 read_alike f g None alike = refl
 read_alike f g (Some x) alike = ap Some (alike x refl)
 
@@ -85,8 +85,8 @@ module _ (old new : Store) (regions after : Regions) where
         }
 
     -- and is the same
-    pub row_stays : {V : Type 0} (value : T → Share → V) → Stays session.account.0 old new regions after → row_of value new after session ≡ row_of value old regions session
-    row_stays value stays i = record { client = session.client.0; key = session.account.0; account = account_stays session.account.0 stays.own i; value = value session.state (stays.held i) }
+    pub row_stays : {V : Type 0} (value : T → Share → V) (buffer : T → Option ℕ) → Stays session.account.0 old new regions after → row_of value buffer new after session ≡ row_of value buffer old regions session
+    row_stays value buffer stays i = record { client = session.client.0; key = session.account.0; account = account_stays session.account.0 stays.own i; value = value session.state (stays.held i); buffer = buffer session.state }
 
 -- ---- the regions of a map
 

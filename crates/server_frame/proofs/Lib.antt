@@ -7,3 +7,4 @@ pub mod CloseLemmas
 pub mod FrameLaws
 pub mod PlaceLaws
 pub mod RowLaws
+pub mod LentLaws

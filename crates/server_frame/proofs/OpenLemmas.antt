@@ -16,13 +16,13 @@ use Rattle.dataspace_core.specs.Share.{Share}
 use Rattle.dataspace_core.proofs.PartLaws.{account_of-part}
 use Rattle.sliced_heap.specs.Heap.{share_at}
 use Rattle.server_frame.specs.Session.{holding, holding_of, HasBlocksAlone}
-use Rattle.server_frame.specs.Frame.{row_of, sessions_of, Holds, IsServer, IsNoSession, Furnishes, OpensSession}
+use Rattle.server_frame.specs.Frame.{row_of, new_row, sessions_of, Holds, IsServer, IsNoSession, Furnishes, OpensSession}
 use Rattle.server_frame.specs.declared.server.Session.{Session}
 use Rattle.server_frame.proofs.FrameLemmas.{Stays, row_stays, map_of-written, server_with}
 
-module _ {T V : Type 0} (kept : T → Share → Type 0) (value : T → Share → V) (sessions now : Slab (Session T)) (old new : Store) (regions after : Regions) (server : IsServer kept sessions old regions) (id : ℕ) (vacant : slab.get sessions id ≡ None)
+module _ {T V : Type 0} (kept : T → Share → Type 0) (value : T → Share → V) (buffer : T → Option ℕ) (sessions now : Slab (Session T)) (old new : Store) (regions after : Regions) (server : IsServer kept sessions old regions) (id : ℕ) (vacant : slab.get sessions id ≡ None)
     (session : Session T) (ram caps : ℕ) (client_open : IsOpenIn old session.client.0) (no_session : IsNoSession sessions session.client.0) (furnishes : Furnishes session.client.0 ram caps session.account.0 session.heap old new regions after)
-    (written : Updates sessions now id (Some session)) (first : V) (is_first : (share : Share) → HasBlocksAlone share → value session.state share ≡ first) (is_kept : (share : Share) → HasBlocksAlone share → kept session.state share) where
+    (written : Updates sessions now id (Some session)) (first : V) (is_first : (share : Share) → HasBlocksAlone share → value session.state share ≡ first) (is_kept : (share : Share) → HasBlocksAlone share → kept session.state share) (nothing_lent : buffer session.state ≡ None) where
   -- another session is not the one under the key
   other_id : (k : ℕ) (s : Session T) → slab.get sessions k ≡ Some s → k ≢ id
   other_id k s found e = none-some s (sym vacant ∙ ap (slab.get sessions) (sym e) ∙ found)
@@ -63,19 +63,19 @@ module _ {T V : Type 0} (kept : T → Share → Type 0) (value : T → Share →
       (λ s found. absurd (none-some s (sym vacant ∙ found))) session written refl (λ k s other found. other_account k s found) holds
 
   -- the new session as its client sees it
-  new_row : row_of value new after session ≡ record { client = session.client.0; key = session.account.0; account = session_account ram caps; value = first }
-  new_row =
+  is_new_row : row_of value buffer new after session ≡ new_row session.client.0 session.account.0 ram caps first
+  is_new_row =
       let account = sym (account_of-part session.account.0 new) ∙ ap (λ (o : Option Account). unwrap_or o (opened 0 0)) furnishes.charge in
-      λ i. record { client = session.client.0; key = session.account.0; account = account i; value = is_first (holding (share_at session.account.0 new after)) alone i }
+      λ i. record { client = session.client.0; key = session.account.0; account = account i; value = is_first (holding (share_at session.account.0 new after)) alone i; buffer = nothing_lent i }
 
-  pub opens : OpensSession session.client.0 ram caps id first old new (sessions_of value sessions old regions) (sessions_of value now new after)
+  pub opens : OpensSession session.client.0 ram caps id first old new (sessions_of value buffer sessions old regions) (sessions_of value buffer now new after)
   opens = record {
     key = session.account.0;
     fresh = furnishes.fresh;
-    free = get-map_of_none (row_of value old regions) sessions id vacant;
+    free = get-map_of_none (row_of value buffer old regions) sessions id vacant;
     sessions =
-        map_of-written (row_of value old regions) (row_of value new after) sessions now id (λ q x other found. row_stays old new regions after x value (stays q x other found)) session written
-        ∙ ap (insert (sessions_of value sessions old regions) id) new_row;
+        map_of-written (row_of value buffer old regions) (row_of value buffer new after) sessions now id (λ q x other found. row_stays old new regions after x value buffer (stays q x other found)) session written
+        ∙ ap (insert (sessions_of value buffer sessions old regions) id) is_new_row;
     charge = furnishes.charge;
     parted = furnishes.parted;
     others = furnishes.parts;

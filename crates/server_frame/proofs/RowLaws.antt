@@ -20,11 +20,12 @@ use Rattle.dataspace_core.specs.Store.{Store, Part, part, accounts_in, room_in, 
 use Rattle.dataspace_core.specs.Share.{Share}
 use Rattle.dataspace_core.proofs.PartLaws.{open_in_part, part_open}
 use Rattle.server_frame.specs.Session.{Served}
-use Rattle.server_frame.specs.Frame.{Row, row_of, sessions_of, IsServer, IsNoSession, Admits, OpensSession, ServesSession}
+use Rattle.server_frame.specs.Frame.{Row, row_of, new_row, sessions_of, IsServer, IsNoSession, Admits, OpensSession, ServesSession}
+use Rattle.server_frame.specs.declared.effect.Effect.{Effect}
 use Rattle.server_frame.specs.declared.server.Session.{Session}
 
 -- a value that is read is one that was there
-read_from : {T X : Type 0} (f : T → X) (o : Option T) (x : X) → option_map f o ≡ Some x → (t : T) × (o ≡ Some t) × (f t ≡ x)
+pub read_from : {T X : Type 0} (f : T → X) (o : Option T) (x : X) → option_map f o ≡ Some x → (t : T) × (o ≡ Some t) × (f t ≡ x)
 read_from f None x is = cc
 read_from f (Some t) x is = (t, refl, same_Some _ _ is)
 
@@ -32,23 +33,23 @@ read_from f (Some t) x is = (t, refl, same_Some _ _ is)
 abbrev pub IsNoRows : {V : Type 0} → NatMap (Row V) → ℕ → Type 0
 IsNoRows {V} rows account = (id : ℕ) (row : Row V) → get rows id ≡ Some row → row.key ≢ account
 
-module _ {T V : Type 0} (value : T → Share → V) (sessions : Slab (Session T)) (store : Store) (regions : Regions) (account : ℕ) where
+module _ {T V : Type 0} (value : T → Share → V) (buffer : T → Option ℕ) (sessions : Slab (Session T)) (store : Store) (regions : Regions) (account : ℕ) where
   -- an account that is no session's is none in the rows
-  pub no_rows : IsNoSession sessions account → IsNoRows (sessions_of value sessions store regions) account
+  pub no_rows : IsNoSession sessions account → IsNoRows (sessions_of value buffer sessions store regions) account
   no_rows no_session id row there e =
-      let was = read_from (row_of value store regions) (slab.get sessions id) row (sym (get-map_of (row_of value store regions) sessions id) ∙ there) in
+      let was = read_from (row_of value buffer store regions) (slab.get sessions id) row (sym (get-map_of (row_of value buffer store regions) sessions id) ∙ there) in
       no_session id was.0 was.1 (ap (λ (r : Row V). r.key) was.2 ∙ e)
 
   -- and the other way round
-  pub no_session_by_rows : IsNoRows (sessions_of value sessions store regions) account → IsNoSession sessions account
-  no_session_by_rows none id session there = none id (row_of value store regions session) (get-map_of_at (row_of value store regions) sessions id session there)
+  pub no_session_by_rows : IsNoRows (sessions_of value buffer sessions store regions) account → IsNoSession sessions account
+  no_session_by_rows none id session there = none id (row_of value buffer store regions session) (get-map_of_at (row_of value buffer store regions) sessions id session there)
 
 -- an open session has a row
-pub row_at : {T V : Type 0} (value : T → Share → V) (sessions : Slab (Session T)) (store : Store) (regions : Regions) (id : ℕ) → slab.ContainsKey sessions id →
-    (row : Row V) × (get (sessions_of value sessions store regions) id ≡ Some row)
-row_at value sessions store regions id present =
+pub row_at : {T V : Type 0} (value : T → Share → V) (buffer : T → Option ℕ) (sessions : Slab (Session T)) (store : Store) (regions : Regions) (id : ℕ) → slab.ContainsKey sessions id →
+    (row : Row V) × (get (sessions_of value buffer sessions store regions) id ≡ Some row)
+row_at value buffer sessions store regions id present =
     let session = some_of (slab.get sessions id) present in
-    (row_of value store regions session.0, get-map_of_at (row_of value store regions) sessions id session.0 session.1)
+    (row_of value buffer store regions session.0, get-map_of_at (row_of value buffer store regions) sessions id session.0 session.1)
 
 -- a session's account is open
 pub account_open : {T : Type 0} (kept : T → Share → Type 0) (sessions : Slab (Session T)) (store : Store) (regions : Regions) → IsServer kept sessions store regions → (id : ℕ) (account : AccountId) →
@@ -66,34 +67,33 @@ module _ {V : Type 0} (rows : NatMap (Row V)) (account : ℕ) (none : IsNoRows r
   no_rows_remove : (id : ℕ) → IsNoRows (remove rows id) account
   no_rows_remove id q row there = none q row (before_remove rows id q row there)
 
-module _ {T V : Type 0} (value : T → Share → V) (sessions now : Slab (Session T)) (old new : Store) (regions after : Regions) where
+module _ {T V : Type 0} (value : T → Share → V) (buffer : T → Option ℕ) (sessions now : Slab (Session T)) (old new : Store) (regions after : Regions) where
   -- the rows before and after
   abbrev rows : NatMap (Row V)
-  rows = sessions_of value sessions old regions
+  rows = sessions_of value buffer sessions old regions
 
   abbrev rows' : NatMap (Row V)
-  rows' = sessions_of value now new after
+  rows' = sessions_of value buffer now new after
 
   -- as many sessions are open as there are rows
   many_before : len rows ≡ slab_len sessions
-  many_before = len-map_of (row_of value old regions) sessions
+  many_before = len-map_of (row_of value buffer old regions) sessions
 
   many_now : len rows' ≡ slab_len now
-  many_now = len-map_of (row_of value new after) now
+  many_now = len-map_of (row_of value buffer new after) now
 
   -- one more is open after an open
   pub open_opened : {client ram caps id : ℕ} {first : V} → OpensSession client ram caps id first old new rows rows' → slab_len now ≡ slab_len sessions + 1
   open_opened {client} {ram} {caps} {id} {first} opens =
-      let row : Row V = record { client = client; key = opens.key; account = session_account ram caps; value = first } in
-      omega (arith, many_now, many_before, ap len opens.sessions, len-insert_new rows id row opens.free)
+      omega (arith, many_now, many_before, ap len opens.sessions, len-insert_new rows id (new_row client opens.key ram caps first) opens.free)
 
   -- as many where a row is written over another
   open_written : (id : ℕ) (row next : Row V) → get rows id ≡ Some row → rows' ≡ insert rows id next → slab_len now ≡ slab_len sessions
   open_written id row next there is = omega (arith, many_now, many_before, ap len is, len-insert_at rows id next row there)
 
   -- as after a request
-  pub open_served : (id : ℕ) (row : Row V) → get rows id ≡ Some row → (served : Served V) → ServesSession row id served old new rows rows' → slab_len now ≡ slab_len sessions
-  open_served id row there served serves = open_written id row (record row { account = served.account; value = served.value }) there serves.sessions
+  pub open_served : (id : ℕ) (row : Row V) → get rows id ≡ Some row → {effect : Effect} {served : Served V} → ServesSession row id effect served old new rows rows' → slab_len now ≡ slab_len sessions
+  open_served id row there {effect} {served} serves = open_written id row (record row { account = served.account; value = served.value; buffer = serves.lent }) there serves.sessions
 
   -- and one less after a close
   pub open_closed : (id : ℕ) (row : Row V) → get rows id ≡ Some row → rows' ≡ remove rows id → slab_len now + 1 ≡ slab_len sessions
@@ -105,22 +105,21 @@ module _ {T V : Type 0} (value : T → Share → V) (sessions now : Slab (Sessio
     admits_by opens none places = record {
       server = server;
       is_open = opens;
-      no_session = no_session_by_rows value now new after client none;
+      no_session = no_session_by_rows value buffer now new after client none;
       places = omega (arith, admits.places, capacity);
       room = omega (arith, admits.room, places);
     }
 
     -- none of the rows before is on the client's account
     none_before : IsNoRows rows client
-    none_before = no_rows value sessions old regions client admits.no_session
+    none_before = no_rows value buffer sessions old regions client admits.no_session
 
     -- a session of the client is opened
     pub admits_opened : {ram caps id : ℕ} {first : V} → OpensSession client ram caps id first old new rows rows' → Admits kept now client most new after
     admits_opened {ram} {caps} {id} {first} opens =
         let apart = apart_from_free (accounts_in old) opens.key client opens.fresh admits.is_open in
-        let row : Row V = record { client = client; key = opens.key; account = session_account ram caps; value = first } in
         admits_by (open_in_part client new (ap (λ (p : Part). is_some p.account) opens.parted))
-        (subst (λ r. IsNoRows r client) (sym opens.sessions) (no_rows_insert rows client none_before id row (λ e. apart (sym e))))
+        (subst (λ r. IsNoRows r client) (sym opens.sessions) (no_rows_insert rows client none_before id (new_row client opens.key ram caps first) (λ e. apart (sym e))))
         (omega (arith, opens.room, open_opened opens))
 
     module _ (id : ℕ) (row : Row V) (there : get rows id ≡ Some row) where
@@ -140,9 +139,9 @@ module _ {T V : Type 0} (value : T → Share → V) (sessions now : Slab (Sessio
           (omega (arith, room, open_written id row next there is))
 
       -- a request of a session is answered
-      pub admits_served : (served : Served V) → ServesSession row id served old new rows rows' → Admits kept now client most new after
-      admits_served served serves =
-          admits_written (record row { account = served.account; value = served.value }) refl serves.sessions (open_stays (serves.others client apart)) serves.room
+      pub admits_served : {effect : Effect} {served : Served V} → ServesSession row id effect served old new rows rows' → Admits kept now client most new after
+      admits_served {effect} {served} serves =
+          admits_written (record row { account = served.account; value = served.value; buffer = serves.lent }) refl serves.sessions (open_stays (serves.others client apart)) serves.room
 
       -- limits come to a session, of the client or of another
       pub admits_raised : {ram caps : ℕ} → RaisesPart row.client row.key ram caps old new → rows' ≡ insert rows id (record row { account = raised row.account ram caps }) → Admits kept now client most new after

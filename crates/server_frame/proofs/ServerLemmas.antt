@@ -1,7 +1,7 @@
 -- What each call of a server does to its sessions.
 use Rattle.std.proofs.Common.{◌≡◌, ◌≢◌, ℕ, List, Some, is_some, refl, sym, ap, subst, ◌∙◌}
 use Rattle.std.proofs.lemmas.Option.{same_Some}
-use Rattle.std.specs.Prelude.{⊤, Result, Ok, Err, OnOk, OnErr}
+use Rattle.std.specs.Prelude.{⊤, Option, Result, Ok, Err, OnOk, OnErr}
 use Rattle.std.specs.FinMap.{get, insert}
 use Rattle.slab.specs.Slab.{Slab, Updates, with_value}
 use Rattle.slab.specs.Slab as slab
@@ -18,7 +18,9 @@ use Rattle.dataspace_core.proofs.PartLaws.{account_of-part, open_in_part}
 use Rattle.sliced_heap.specs.Heap.{payer_of, share_at, MapsMemory, KeepsOthers}
 use Rattle.sliced_heap.specs.declared.heap.SlicedHeap.{SlicedHeap}
 use Rattle.server_frame.specs.Session.{Served, IsSessionHeap, holding, holding_of}
-use Rattle.server_frame.specs.Frame.{Row, row_of, sessions_of, Holds, IsServer, ServesSession}
+use Rattle.server_frame.specs.Frame.{Row, row_of, row_served, sessions_of, Holds, IsServer, ServesSession}
+use Rattle.server_frame.specs.Lent.{IsEffect, bytes_lent}
+use Rattle.server_frame.specs.declared.effect.Effect.{Effect}
 use Rattle.server_frame.specs.declared.server.Session.{Session}
 use Rattle.server_frame.proofs.HoldingLemmas.{same_part, held_by, maps_books, session_heap_held}
 use Rattle.server_frame.proofs.FrameLemmas.{Stays, row_stays, map_of-written, server_with}
@@ -32,14 +34,14 @@ stays_by account other old new regions after others apart = record {
   leaf = λ leaf k is. leaf k (ap (λ (m : NatMap ℕ). get m k) (sym others.parents) ∙ is);
 }
 
-module _ {T V : Type 0} (kept : T → Share → Type 0) (value : T → Share → V) (sessions : Slab (Session T)) (old : Store) (regions : Regions) (server : IsServer kept sessions old regions) (id : ℕ) (session : Session T) (there : slab.get sessions id ≡ Some session) where
+module _ {T V : Type 0} (kept : T → Share → Type 0) (value : T → Share → V) (buffer : T → Option ℕ) (sessions : Slab (Session T)) (old : Store) (regions : Regions) (server : IsServer kept sessions old regions) (id : ℕ) (session : Session T) (there : slab.get sessions id ≡ Some session) where
   -- the session holds
   pub holds : Holds kept session old regions
   holds = server.each id session there
 
   -- its row is read out of it
-  pub row_there : (row : Row V) → get (sessions_of value sessions old regions) id ≡ Some row → row_of value old regions session ≡ row
-  row_there row is = same_Some _ _ (sym (get-map_of_at (row_of value old regions) sessions id session there) ∙ is)
+  pub row_there : (row : Row V) → get (sessions_of value buffer sessions old regions) id ≡ Some row → row_of value buffer old regions session ≡ row
+  row_there row is = same_Some _ _ (sym (get-map_of_at (row_of value buffer old regions) sessions id session there) ∙ is)
 
   -- another session has another account
   other_account : (k : ℕ) (s : Session T) → k ≢ id → slab.get sessions k ≡ Some s → s.account.0 ≢ session.account.0
@@ -81,31 +83,36 @@ module _ {T V : Type 0} (kept : T → Share → Type 0) (value : T → Share →
         (λ s found. ap (λ (x : Session T). x.account.0) (same_Some _ _ (sym found ∙ there)))
         next written refl other_account next_holds
 
-    rows_serve : sessions_of value (with_value sessions id next) new after ≡ insert (sessions_of value sessions old regions) id (row_of value new after next)
-    rows_serve = map_of-written (row_of value old regions) (row_of value new after) sessions (with_value sessions id next) id (λ q x other found. row_stays old new regions after x value (stays q x other found)) next written
+    rows_serve : sessions_of value buffer (with_value sessions id next) new after ≡ insert (sessions_of value buffer sessions old regions) id (row_of value buffer new after next)
+    rows_serve = map_of-written (row_of value buffer old regions) (row_of value buffer new after) sessions (with_value sessions id next) id (λ q x other found. row_stays old new regions after x value buffer (stays q x other found)) next written
 
-    module _ (step : Account → V → Served V) (text lines : List ℕ)
-        (served : ◌≡◌ {A = Served V} (record { text = text; lines = lines; account = account_in new (payer_of heap); value = value state (holding_of heap new after) }) (step (account_in old (payer_of session.heap)) (value session.state (holding_of session.heap old regions)))) where
+    module _ (step : List ℕ → Account → Option (List ℕ) → V → Served V) (request text lines : List ℕ) (effect : Effect) (effect_is : IsEffect effect (buffer session.state) (buffer state))
+        (served : ◌≡◌ {A = Served V} (record { text = text; lines = lines; account = account_in new (payer_of heap); value = value state (holding_of heap new after); buffer = bytes_lent new (buffer state) })
+        (step request (account_in old (payer_of session.heap)) (bytes_lent old (buffer session.state)) (value session.state (holding_of session.heap old regions)))) where
       -- the same of the session's row
-      served_row : (row : Row V) → row_of value old regions session ≡ row → ◌≡◌ {A = Served V} (record { text = text; lines = lines; account = account_in new session.account.0; value = value state (holding (share_at session.account.0 new after)) }) (step row.account row.value)
+      served_row : (row : Row V) → row_of value buffer old regions session ≡ row →
+          ◌≡◌ {A = Served V} (record { text = text; lines = lines; account = account_in new session.account.0; value = value state (holding (share_at session.account.0 new after)); buffer = bytes_lent new (buffer state) }) (row_served step request old row)
       served_row row is =
-          ap {B = Served V} (λ k. record { text = text; lines = lines; account = account_in new k; value = value state (holding (share_at k new after)) }) (sym (payer ∙ holds.payer))
+          ap {B = Served V} (λ k. record { text = text; lines = lines; account = account_in new k; value = value state (holding (share_at k new after)); buffer = bytes_lent new (buffer state) }) (sym (payer ∙ holds.payer))
           ∙ served
-          ∙ ap (λ k. step (account_in old k) (value session.state (holding (share_at k old regions)))) holds.payer
-          ∙ ap (λ (r : Row V). step r.account r.value) is
+          ∙ ap (λ k. step request (account_in old k) (bytes_lent old (buffer session.state)) (value session.state (holding (share_at k old regions)))) holds.payer
+          ∙ ap (row_served step request old) is
 
-      pub text_served : (row : Row V) → row_of value old regions session ≡ row → text ≡ (step row.account row.value).text
+      pub text_served : (row : Row V) → row_of value buffer old regions session ≡ row → text ≡ (row_served step request old row).text
       text_served row is = ap (λ (s : Served V). s.text) (served_row row is)
 
-      pub lines_served : (row : Row V) → row_of value old regions session ≡ row → lines ≡ (step row.account row.value).lines
+      pub lines_served : (row : Row V) → row_of value buffer old regions session ≡ row → lines ≡ (row_served step request old row).lines
       lines_served row is = ap (λ (s : Served V). s.lines) (served_row row is)
 
-      pub serves : (row : Row V) → row_of value old regions session ≡ row → ServesSession row id (step row.account row.value) old new (sessions_of value sessions old regions) (sessions_of value (with_value sessions id next) new after)
+      pub serves : (row : Row V) → row_of value buffer old regions session ≡ row → ServesSession row id effect (row_served step request old row) old new (sessions_of value buffer sessions old regions) (sessions_of value buffer (with_value sessions id next) new after)
       serves row is = record {
+        lent = buffer state;
+        effect_is = subst (λ (r : Row V). IsEffect effect r.buffer (buffer state)) is effect_is;
         sessions =
             rows_serve
-            ∙ ap (λ (s : Served V). insert (sessions_of value sessions old regions) id (record { client = session.client.0; key = session.account.0; account = s.account; value = s.value })) (served_row row is)
-            ∙ ap (λ (r : Row V). insert (sessions_of value sessions old regions) id (record { client = r.client; key = r.key; account = (step row.account row.value).account; value = (step row.account row.value).value })) is;
+            ∙ ap (λ (s : Served V). insert (sessions_of value buffer sessions old regions) id (record { client = session.client.0; key = session.account.0; account = s.account; value = s.value; buffer = buffer state })) (served_row row is)
+            ∙ ap (λ (r : Row V). insert (sessions_of value buffer sessions old regions) id (record r { account = (row_served step request old row).account; value = (row_served step request old row).value; buffer = buffer state })) is;
+        bytes = ap (λ (s : Served V). s.buffer) (served_row row is);
         others = λ other apart. same_part other old new regions after (others.shares other (λ e. apart (e ∙ ap (λ (r : Row V). r.key) is)));
         root = others.root;
         parents = others.parents;
@@ -152,11 +159,11 @@ module _ {T V : Type 0} (kept : T → Share → Type 0) (value : T → Share →
         (λ s found. ap (λ (x : Session T). x.account.0) (same_Some _ _ (sym found ∙ there)))
         session as_it_was refl other_account raised_holds
 
-    rows_raise : sessions_of value sessions new regions ≡ insert (sessions_of value sessions old regions) id (record (row_of value old regions session) { account = raised (account_in old session.account.0) ram caps })
+    rows_raise : sessions_of value buffer sessions new regions ≡ insert (sessions_of value buffer sessions old regions) id (record (row_of value buffer old regions session) { account = raised (account_in old session.account.0) ram caps })
     rows_raise =
-        map_of-written (row_of value old regions) (row_of value new regions) sessions sessions id (λ q x other found. row_stays old new regions regions x value (stays_raised q x other found)) session as_it_was
-        ∙ ap (λ a. insert (sessions_of value sessions old regions) id (record { client = session.client.0; key = session.account.0; account = a; value = value session.state (holding (share_at session.account.0 new regions)) })) raised_account
-        ∙ ap (λ h. insert (sessions_of value sessions old regions) id (record { client = session.client.0; key = session.account.0; account = raised (account_in old session.account.0) ram caps; value = value session.state h })) (held_by old new _ is session.account.0 regions)
+        map_of-written (row_of value buffer old regions) (row_of value buffer new regions) sessions sessions id (λ q x other found. row_stays old new regions regions x value buffer (stays_raised q x other found)) session as_it_was
+        ∙ ap (λ a. insert (sessions_of value buffer sessions old regions) id (record { client = session.client.0; key = session.account.0; account = a; value = value session.state (holding (share_at session.account.0 new regions)); buffer = buffer session.state })) raised_account
+        ∙ ap (λ h. insert (sessions_of value buffer sessions old regions) id (record { client = session.client.0; key = session.account.0; account = raised (account_in old session.account.0) ram caps; value = value session.state h; buffer = buffer session.state })) (held_by old new _ is session.account.0 regions)
 
   -- where they are granted, and where they are refused
   module _ (ram caps : ℕ) (new : Store) (ram_moved : ram_limits_in new ≡ ram_limits_in old) where
@@ -164,7 +171,7 @@ module _ {T V : Type 0} (kept : T → Share → Type 0) (value : T → Share →
     server_upgrades (Ok done) is raises stays = server_raises ram caps new is raises ram_moved
     server_upgrades (Err e) is raises stays = subst (λ s. IsServer kept sessions s regions) (sym stays) server
 
-    pub rows_upgrade : (r : Result ⊤ Refusal) (row : Row V) → row_of value old regions session ≡ row → OnOk r (new ≡ with_moved_in old session.client.0 session.account.0 ram caps) → OnOk r (RaisesPart session.client.0 session.account.0 ram caps old new) →
-        OnOk r (sessions_of value sessions new regions ≡ insert (sessions_of value sessions old regions) id (record row { account = raised row.account ram caps }))
-    rows_upgrade (Ok done) row at is raises = rows_raise ram caps new is raises ram_moved ∙ ap (λ (r : Row V). insert (sessions_of value sessions old regions) id (record r { account = raised r.account ram caps })) at
+    pub rows_upgrade : (r : Result ⊤ Refusal) (row : Row V) → row_of value buffer old regions session ≡ row → OnOk r (new ≡ with_moved_in old session.client.0 session.account.0 ram caps) → OnOk r (RaisesPart session.client.0 session.account.0 ram caps old new) →
+        OnOk r (sessions_of value buffer sessions new regions ≡ insert (sessions_of value buffer sessions old regions) id (record row { account = raised row.account ram caps }))
+    rows_upgrade (Ok done) row at is raises = rows_raise ram caps new is raises ram_moved ∙ ap (λ (r : Row V). insert (sessions_of value buffer sessions old regions) id (record r { account = raised r.account ram caps })) at
     rows_upgrade (Err e) row at is raises = tt

@@ -1,5 +1,5 @@
 -- What a contract sees of a server: its sessions, each by itself.
-use Rattle.std.specs.Prelude.{◌≡◌, ◌≢◌, ℕ, ◌+◌, ◌≤◌, Some, None}
+use Rattle.std.specs.Prelude.{◌≡◌, ◌≢◌, ℕ, ◌+◌, ◌≤◌, List, Option, Some, None}
 use Rattle.std.specs.FinMap.{get, insert}
 use Rattle.slab.specs.Slab.{Slab, slab_len}
 use Rattle.slab.specs.Slab as slab
@@ -13,35 +13,44 @@ use Rattle.dataspace_core.specs.Store.{Store, part, parted_part, space_at, accou
 use Rattle.dataspace_core.specs.Share.{Share}
 use Rattle.sliced_heap.specs.Heap.{payer_of, share_at, MapsMemory}
 use Rattle.sliced_heap.specs.declared.heap.SlicedHeap.{SlicedHeap}
+use Rattle.server_frame.specs.Lent.{IsEffect, bytes_lent}
 use Rattle.server_frame.specs.Session.{Served, IsSessionHeap, HasBlocksAlone, holding, holding_of}
+use Rattle.server_frame.specs.declared.effect.Effect.{Effect}
 use Rattle.server_frame.specs.declared.server.Session.{Session}
 
--- an open session: its client's account, its own account under its key, and its value
+-- an open session: its client's account, its own account under its key, its value, and the key of the dataspace that it
+-- lends its client, if it lends one
 pub record Row (Value : Type 0) : Type 0 where
   pub client : ℕ
   pub key : ℕ
   pub account : Account
   pub value : Value
+  pub buffer : Option ℕ
 
 -- a session, read out of what the server keeps and out of what the session's account has
-abbrev pub row_of : {T V : Type 0} → (T → Share → V) → Store → Regions → Session T → Row V
-row_of value store regions session = record {
+abbrev pub row_of : {T V : Type 0} → (T → Share → V) → (T → Option ℕ) → Store → Regions → Session T → Row V
+row_of value buffer store regions session = record {
   client = session.client.0;
   key = session.account.0;
   account = account_in store session.account.0;
   value = value session.state (holding (share_at session.account.0 store regions));
+  buffer = buffer session.state;
 }
 
 -- the open sessions of a server, by their keys
-abbrev pub sessions_of : {T V : Type 0} → (T → Share → V) → Slab (Session T) → Store → Regions → NatMap (Row V)
-sessions_of value sessions store regions = map_of (row_of value store regions) sessions
+abbrev pub sessions_of : {T V : Type 0} → (T → Share → V) → (T → Option ℕ) → Slab (Session T) → Store → Regions → NatMap (Row V)
+sessions_of value buffer sessions store regions = map_of (row_of value buffer store regions) sessions
+
+-- what a request does to a session, as a step of its service has it
+abbrev pub row_served : {V : Type 0} → (List ℕ → Account → Option (List ℕ) → V → Served V) → List ℕ → Store → Row V → Served V
+row_served step request store row = step request row.account (bytes_lent store row.buffer) row.value
 
 -- what is so of the session under a key, where there is one
 abbrev pub AtRow : {V : Type 0} → NatMap (Row V) → ℕ → (Row V → Type 0) → Type 0
 AtRow {V} rows id P = (row : Row V) → get rows id ≡ Some row → P row
 
-abbrev pub AtSession : {T V : Type 0} → (T → Share → V) → Slab (Session T) → Store → Regions → ℕ → (Row V → Type 0) → Type 0
-AtSession value sessions store regions id P = AtRow (sessions_of value sessions store regions) id P
+abbrev pub AtSession : {T V : Type 0} → (T → Share → V) → (T → Option ℕ) → Slab (Session T) → Store → Regions → ℕ → (Row V → Type 0) → Type 0
+AtSession value buffer sessions store regions id P = AtRow (sessions_of value buffer sessions store regions) id P
 
 -- ---- what is true between calls
 
@@ -99,13 +108,18 @@ pub record Furnishes (client ram caps account : ℕ) (taken : SlicedHeap) (old n
   pub room : room_in new + 1 ≡ room_in old
   pub rest : after ≡ record regions { heap = after.heap; tags = after.tags }
 
--- a session is opened under a key that was free, on an account that nobody had: its client parts with the limits, and every
--- other account's part stays
+-- a session at first
+abbrev pub new_row : {V : Type 0} → ℕ → ℕ → ℕ → ℕ → V → Row V
+new_row client key ram caps first =
+    record { client = client; key = key; account = session_account ram caps; value = first; buffer = None }
+
+-- a session that lends nothing is opened under a key that was free, on an account that nobody had: its client parts with the
+-- limits, and every other account's part stays
 pub record OpensSession {V : Type 0} (client ram caps id : ℕ) (first : V) (old new : Store) (rows after : NatMap (Row V)) : Type 0 where
   pub key : ℕ
   pub fresh : get (accounts_in old) key ≡ None
   pub free : get rows id ≡ None
-  pub sessions : after ≡ insert rows id (record { client = client; key = key; account = session_account ram caps; value = first })
+  pub sessions : after ≡ insert rows id (new_row client key ram caps first)
   pub charge : (part key new).account ≡ Some (session_account ram caps)
   pub parted : part client new ≡ parted_part (part client old) ram caps
   pub others : (other : ℕ) → other ≢ client → other ≢ key → part other new ≡ part other old
@@ -113,9 +127,12 @@ pub record OpensSession {V : Type 0} (client ram caps id : ℕ) (first : V) (old
   pub parents : parents_in new ≡ insert (parents_in old) key client
   pub room : room_in new + 1 ≡ room_in old
 
--- a request is answered on a session: its account's part may change, and no other's
-pub record ServesSession {V : Type 0} (row : Row V) (id : ℕ) (served : Served V) (old new : Store) (rows after : NatMap (Row V)) : Type 0 where
-  pub sessions : after ≡ insert rows id (record row { account = served.account; value = served.value })
+-- a request is answered on a session, which lends after it what the effect tells: its account's part may change, and no other's
+pub record ServesSession {V : Type 0} (row : Row V) (id : ℕ) (effect : Effect) (served : Served V) (old new : Store) (rows after : NatMap (Row V)) : Type 0 where
+  pub lent : Option ℕ
+  pub effect_is : IsEffect effect row.buffer lent
+  pub sessions : after ≡ insert rows id (record row { account = served.account; value = served.value; buffer = lent })
+  pub bytes : bytes_lent new lent ≡ served.buffer
   pub others : (other : ℕ) → other ≢ row.key → part other new ≡ part other old
   pub root : root_in new ≡ root_in old
   pub parents : parents_in new ≡ parents_in old

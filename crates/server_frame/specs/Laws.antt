@@ -1,16 +1,17 @@
--- Laws for callers, as statements: that the table of a server has a place for each session that can be paid for, and what an
--- open does to the room for accounts.
-use Rattle.std.specs.Prelude.{◌≡◌, ◌≢◌, ℕ, ◌+◌, ◌*◌, ◌<◌, ◌≤◌, Some}
+-- Laws for callers, as statements: that the table of a server has a place for each session that can be paid for, what an
+-- open does to the room for accounts, and what a client's writes to what its session lends leave.
+use Rattle.std.specs.Prelude.{◌≡◌, ◌≢◌, ℕ, ◌+◌, ◌*◌, ◌<◌, ◌≤◌, List, length, Option, Some}
+use Rattle.std.specs.FinMap.{get}
 use Rattle.slab.specs.Slab.{Slab, slab_len}
 use Rattle.slab.specs.Slab as slab
 use Rattle.own_model.specs.Account.{Fits}
 use Rattle.own_model.specs.NatMap.{NatMap}
 use Rattle.own_model.specs.Session.{session_account}
 use Rattle.region_map.specs.Regions.{Regions}
-use Rattle.dataspace_core.specs.Store.{Store, account_in, root_in, caps_limits_in}
+use Rattle.dataspace_core.specs.Store.{Store, part, bytes_of, space_at, part_with_bytes, account_in, root_in, ram_limits_in, caps_limits_in, PartBecomes}
 use Rattle.dataspace_core.specs.Room.{HasRoom, OpensBelow}
 use Rattle.dataspace_core.specs.Share.{Share}
-use Rattle.server_frame.specs.Frame.{Row, IsServer, IsNoSession, OpensSession}
+use Rattle.server_frame.specs.Frame.{Row, sessions_of, AtSession, IsServer, IsNoSession, OpensSession}
 use Rattle.server_frame.specs.declared.server.Session.{Session}
 
 -- no client is the root
@@ -29,3 +30,29 @@ abbrev pub OpensAnAccount : Type 0 → Type 0
 OpensAnAccount V =
     (client ram caps id : ℕ) (first : V) (old new : Store) (rows after : NatMap (Row V)) →
     (opens : OpensSession client ram caps id first old new rows after) → OpensBelow client opens.key ram caps (session_account ram caps) old new
+
+-- ---- what sessions lend
+
+-- what a session lends is a dataspace of its account's part
+abbrev pub LentArePaid : {T V : Type 0} → (T → Share → Type 0) → (T → Share → V) → (T → Option ℕ) → Type 0
+LentArePaid {T} {V} kept value buffer =
+    (sessions : Slab (Session T)) (store : Store) (regions : Regions) (id ds : ℕ) →
+    IsServer kept sessions store regions → AtSession value buffer sessions store regions id (λ (row : Row V).
+    row.buffer ≡ Some ds → get (part row.key store).spaces ds ≡ Some (space_at store ds).bytes)
+
+-- bytes are put at an offset of the dataspace that a session lends, within it: the part of the session's account has them, and
+-- every other part stays
+pub record WritesLent {V : Type 0} (row : Row V) (ds offset : ℕ) (bytes : List ℕ) (old new : Store) : Type 0 where
+  pub lends : row.buffer ≡ Some ds
+  pub within : offset + length bytes ≤ length (bytes_of (part row.key old) ds)
+  pub becomes : PartBecomes row.key (part_with_bytes (part row.key old) ds offset bytes) old new
+  pub machine : ram_limits_in new ≡ ram_limits_in old
+
+-- that leaves the server and all its sessions as they were
+abbrev pub WritesLeaveSessions : {T V : Type 0} → (T → Share → Type 0) → (T → Share → V) → (T → Option ℕ) → Type 0
+WritesLeaveSessions {T} {V} kept value buffer =
+    (sessions : Slab (Session T)) (old new : Store) (regions : Regions) (id ds offset : ℕ) (bytes : List ℕ) →
+    IsServer kept sessions old regions → AtSession value buffer sessions old regions id (λ (row : Row V).
+    WritesLent row ds offset bytes old new →
+    IsServer kept sessions new regions
+    × (sessions_of value buffer sessions new regions ≡ sessions_of value buffer sessions old regions))

@@ -1,5 +1,5 @@
 -- What a service is asked for, and what it may rely on.
-use Rattle.std.specs.Prelude.{◌≡◌, ℕ, ◌+◌, List, None}
+use Rattle.std.specs.Prelude.{◌≡◌, ℕ, ◌+◌, List, Option, None}
 use Rattle.std.specs.FinMap.{len}
 use Rattle.std.specs.List.{flat_map}
 use Rattle.own_model.specs.Account.{Account}
@@ -12,19 +12,27 @@ use Rattle.sliced_heap.specs.Sliced.{sliced_of}
 use Rattle.sliced_heap.specs.Heap.{IsSound, payer_of, share_at}
 use Rattle.sliced_heap.specs.declared.heap.SlicedHeap.{SlicedHeap}
 
--- what a request is answered, the text of the lines that it finished, and the session's account and value after it
+-- what a request is answered, the text of the lines that it finished, and after it the session's account and value, and the
+-- bytes of what it lends its client, if it lends anything
 pub record Served (Value : Type 0) : Type 0 where
   pub text : List ℕ
   pub lines : List ℕ
   pub account : Account
   pub value : Value
+  pub buffer : Option (List ℕ)
 
 -- the step of a service that keeps a session as the one-client model does: what is kept and the account are a session, which
 -- serves the request
-abbrev pub service_step : List ℕ → Account → Labelled → Served Labelled
-service_step request account kept =
-    let o = served (session_with account kept) request in
-    record { text = o.reply; lines = flat_map log_text o.lines; account = o.session.account; value = kept_of o.session }
+abbrev pub service_step : List ℕ → Account → Option (List ℕ) → Labelled → Served Labelled
+service_step request account buffer kept =
+    let o = served buffer (session_with account kept) request in
+    record {
+      text = o.reply;
+      lines = flat_map log_text o.lines;
+      account = o.session.account;
+      value = kept_of o.session;
+      buffer = o.buffer;
+    }
 
 -- what an account has of the memory and of the map, whatever its limits and its use are
 abbrev pub holding : Share → Share

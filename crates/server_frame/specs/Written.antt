@@ -1,4 +1,4 @@
--- What is in a buffer.
+-- What is in bytes in memory that doesn't grow.
 use Rattle.std.specs.Prelude.{ℕ, List}
 
 -- the bytes that are written, and how many there can be at most

@@ -3,7 +3,7 @@ ghost use Rattle.std.specs.Prelude.{◌≡◌, ◌+◌, ◌*◌, ◌≤◌, [], 
 ghost use Rattle.own_model.specs.Reply.{hex_text, log_text};
 ghost use Rattle.server_frame.specs.Told.{nothing_told};
 
-use crate::buffer::Buffer;
+use crate::bounded_bytes::BoundedBytes;
 use std::alloc::Global;
 use std::marker::Model;
 use trade_base::NoMemory;
@@ -17,8 +17,8 @@ pub const MOST_LINES: usize = 1 << 20;
 /// Finished log lines and a reply, as they are written. All memory is taken at the boot.
 #[derive(Drop)]
 pub struct Reply {
-    lines: Buffer,
-    text: Buffer,
+    lines: BoundedBytes,
+    text: BoundedBytes,
 }
 
 impl Model for Reply {
@@ -38,8 +38,8 @@ impl Reply {
         ensures { IfOk result (λ reply. reply ≡ nothing_told) }
     {
         Ok(Reply {
-            lines: Buffer::boot(alloc, MOST_LINES)?,
-            text: Buffer::boot(alloc, LONGEST_TEXT)?,
+            lines: BoundedBytes::boot(alloc, MOST_LINES)?,
+            text: BoundedBytes::boot(alloc, LONGEST_TEXT)?,
         })
     }
 

@@ -9,9 +9,11 @@ ghost use Rattle.own_model.specs.Donation.{raised};
 ghost use Rattle.own_model.specs.Session.{donation_refusal};
 ghost use Rattle.region_map.specs.Regions.{fresh_regions};
 ghost use Rattle.dataspace_core.specs.Store.{Store, account_in, ram_limits_in, IsOpenIn, room_in, RaisesPart, ClosesPart};
-ghost use Rattle.server_frame.specs.Frame.{sessions_of, AtSession, IsServer, IsNoSession, OpensSession, ServesSession};
+ghost use Rattle.server_frame.specs.Frame.{sessions_of, row_served, AtSession, IsServer, IsNoSession, OpensSession, ServesSession};
+ghost use Rattle.server_frame.specs.Lent.{key_of};
 ghost use Rattle.server_frame.specs.Told.{nothing_told};
 
+use crate::effect::Effect;
 use crate::furniture::{dismiss, furnish, test_donation};
 use crate::reply::Reply;
 use crate::service::{LONGEST_LABEL, Service};
@@ -20,7 +22,7 @@ use region_map::RegionMap;
 use slab::Slab;
 use sliced_heap::SlicedHeap;
 use std::alloc::Global;
-use trade_base::{AccountId, Caps, NoMemory, Ram, Refusal, SessionId};
+use trade_base::{AccountId, Caps, DsId, NoMemory, Ram, Refusal, SessionId};
 
 /// A session: its account and its client's, the sliced heap of its account, and what the service keeps for it.
 #[derive(Drop)]
@@ -80,6 +82,15 @@ impl<S: Service + Drop> Server<S> {
         self.sessions[id.0].account
     }
 
+    /// The dataspace that a session lends its client, if it lends one.
+    pub fn buffer(&self, id: SessionId) -> Option<DsId>
+        requires { ContainsKey self.now.sessions id.0 }
+        ensures { IfSome (slab.get self.now.sessions id.0) (λ session.
+            key_of result ≡ S.buffer session.state) }
+    {
+        self.service.buffer(&self.sessions[id.0].state)
+    }
+
     /// Opens a session on an account of its own, with a donation of its client: RAM in bytes, and capabilities. The account is
     /// charged for the session and for an object of 256 bytes. It tells the session's key.
     ///
@@ -107,8 +118,8 @@ impl<S: Service + Drop> Server<S> {
         ensures server { IsServer S.IsKept self.new.sessions memory.new self.new.map }
         ensures opens { IfOk result (λ id.
             OpensSession client.0 ram.0 caps.0 id.0 (S.first label.now) memory.old memory.new
-            (sessions_of S.value self.old.sessions memory.old self.old.map)
-            (sessions_of S.value self.new.sessions memory.new self.new.map)) }
+            (sessions_of S.value S.buffer self.old.sessions memory.old self.old.map)
+            (sessions_of S.value S.buffer self.new.sessions memory.new self.new.map)) }
         ensures places { self.new.sessions.capacity ≡ self.old.sessions.capacity }
         ensures machine { ram_limits_in memory.new ≡ ram_limits_in memory.old }
         ensures err { OnErr result (self.new ≡ self.old) }
@@ -139,14 +150,17 @@ impl<S: Service + Drop> Server<S> {
     ) -> Result<(), Refusal>
         requires server { IsServer S.IsKept self.old.sessions memory.old self.old.map }
         requires open { ContainsKey self.old.sessions id.0 }
-        ensures refusal { AtSession S.value self.old.sessions memory.old self.old.map id.0 (λ row.
+        ensures refusal { AtSession S.value S.buffer
+            self.old.sessions memory.old self.old.map id.0 (λ row.
             result_err result ≡ shortage (account_in memory.old row.client) ram.0 caps.0) }
         ensures server { IsServer S.IsKept self.new.sessions memory.new self.new.map }
-        ensures raises { AtSession S.value self.old.sessions memory.old self.old.map id.0 (λ row.
+        ensures raises { AtSession S.value S.buffer
+            self.old.sessions memory.old self.old.map id.0 (λ row.
             OnOk result (RaisesPart row.client row.key ram.0 caps.0 memory.old memory.new)) }
-        ensures sessions { AtSession S.value self.old.sessions memory.old self.old.map id.0 (λ row.
-            OnOk result (sessions_of S.value self.new.sessions memory.new self.new.map
-            ≡ insert (sessions_of S.value self.old.sessions memory.old self.old.map) id.0
+        ensures sessions { AtSession S.value S.buffer
+            self.old.sessions memory.old self.old.map id.0 (λ row.
+            OnOk result (sessions_of S.value S.buffer self.new.sessions memory.new self.new.map
+            ≡ insert (sessions_of S.value S.buffer self.old.sessions memory.old self.old.map) id.0
             (record row { account = raised row.account ram.0 caps.0 }))) }
         ensures same { self.new ≡ self.old }
         ensures machine { ram_limits_in memory.new ≡ ram_limits_in memory.old }
@@ -156,20 +170,30 @@ impl<S: Service + Drop> Server<S> {
         memory.raise(session.client, session.account, ram, caps)
     }
 
-    /// Answers a request of a session.
-    pub fn serve(&mut self, memory: &mut Memory, id: SessionId, request: &[u8], reply: &mut Reply)
+    /// Answers a request of a session, and tells what it did to what the session lends.
+    pub fn serve(
+        &mut self,
+        memory: &mut Memory,
+        id: SessionId,
+        request: &[u8],
+        reply: &mut Reply,
+    ) -> Effect
         requires server { IsServer S.IsKept self.old.sessions memory.old self.old.map }
         requires open { ContainsKey self.old.sessions id.0 }
         requires reply { reply.old ≡ nothing_told }
         ensures server { IsServer S.IsKept self.new.sessions memory.new self.new.map }
-        ensures text { AtSession S.value self.old.sessions memory.old self.old.map id.0 (λ row.
-            reply.new.text ≡ (S.step request.now row.account row.value).text) }
-        ensures lines { AtSession S.value self.old.sessions memory.old self.old.map id.0 (λ row.
-            reply.new.lines ≡ (S.step request.now row.account row.value).lines) }
-        ensures serves { AtSession S.value self.old.sessions memory.old self.old.map id.0 (λ row.
-            ServesSession row id.0 (S.step request.now row.account row.value) memory.old memory.new
-            (sessions_of S.value self.old.sessions memory.old self.old.map)
-            (sessions_of S.value self.new.sessions memory.new self.new.map)) }
+        ensures text { AtSession S.value S.buffer
+            self.old.sessions memory.old self.old.map id.0 (λ row.
+            reply.new.text ≡ (row_served S.step request.now memory.old row).text) }
+        ensures lines { AtSession S.value S.buffer
+            self.old.sessions memory.old self.old.map id.0 (λ row.
+            reply.new.lines ≡ (row_served S.step request.now memory.old row).lines) }
+        ensures serves { AtSession S.value S.buffer
+            self.old.sessions memory.old self.old.map id.0 (λ row.
+            ServesSession row id.0 result (row_served S.step request.now memory.old row)
+            memory.old memory.new
+            (sessions_of S.value S.buffer self.old.sessions memory.old self.old.map)
+            (sessions_of S.value S.buffer self.new.sessions memory.new self.new.map)) }
         ensures places { self.new.sessions.capacity ≡ self.old.sessions.capacity }
         ensures machine { ram_limits_in memory.new ≡ ram_limits_in memory.old }
     {
@@ -181,7 +205,7 @@ impl<S: Service + Drop> Server<S> {
             &mut self.map,
             request,
             reply,
-        );
+        )
     }
 
     /// Closes a session: all that it has is given back, and its client's limits are raised by those of its account.
@@ -189,10 +213,11 @@ impl<S: Service + Drop> Server<S> {
         requires server { IsServer S.IsKept self.old.sessions memory.old self.old.map }
         requires open { ContainsKey self.old.sessions id.0 }
         ensures server { IsServer S.IsKept self.new.sessions memory.new self.new.map }
-        ensures closes { AtSession S.value self.old.sessions memory.old self.old.map id.0 (λ row.
+        ensures closes { AtSession S.value S.buffer
+            self.old.sessions memory.old self.old.map id.0 (λ row.
             ClosesPart row.key row.client memory.old memory.new) }
-        ensures sessions { sessions_of S.value self.new.sessions memory.new self.new.map
-            ≡ remove (sessions_of S.value self.old.sessions memory.old self.old.map) id.0 }
+        ensures sessions { sessions_of S.value S.buffer self.new.sessions memory.new self.new.map
+            ≡ remove (sessions_of S.value S.buffer self.old.sessions memory.old self.old.map) id.0 }
         ensures places { self.new.sessions.capacity ≡ self.old.sessions.capacity }
         ensures machine { ram_limits_in memory.new ≡ ram_limits_in memory.old }
     {

@@ -42,4 +42,4 @@ returns c = λ rules.
     let e = c.index-components-entry.result in
     let done = c.serve_session in
     call_goes components two c.index-components-caller.result (get_or components c.in-Ok.named.0 e) (role_at components c.in-Ok.named.0 e (host_within components c.in-Ok.named.0 two.serving)) c.args.selector c.in-Ok.named.1
-    (named_cap names) done.new.memory done.new.self done.ensures.stays rules e refl c.args.request.now done.new.reply done.ensures.serves done.ensures.text done.ensures.lines
+    (named_cap names) done.new.memory done.new.self done.ensures.stays rules e refl c.args.request.now done.result done.new.reply done.ensures.serves done.ensures.text done.ensures.lines

@@ -11,34 +11,34 @@ end-requires-clause-kept g c = (c.requires.server.each c.args.id.0 c.remove-sess
 
 pub dismiss-requires-clause-payer : goal.dismiss-requires-clause-payer
 dismiss-requires-clause-payer g c =
-    payer_is g.S.Service.IsKept g.S.Service.value c.args.self.now.sessions c.remove-session.new.self c.args.memory.now c.end.new.memory c.args.self.now.map c.end.new.map c.requires.server c.args.id.0 c.remove-session.result c.remove-session.ensures.value
+    payer_is g.S.Service.IsKept g.S.Service.value g.S.Service.buffer c.args.self.now.sessions c.remove-session.new.self c.args.memory.now c.end.new.memory c.args.self.now.map c.end.new.map c.requires.server c.args.id.0 c.remove-session.result c.remove-session.ensures.value
     c.remove-session.ensures.updates c.end.new.heap c.end.ensures.payer c.end.ensures.others c.end.ensures.ram c.end.ensures.caps
 
 pub dismiss-requires-clause-child : goal.dismiss-requires-clause-child
 dismiss-requires-clause-child g c =
-    child_there g.S.Service.IsKept g.S.Service.value c.args.self.now.sessions c.remove-session.new.self c.args.memory.now c.end.new.memory c.args.self.now.map c.end.new.map c.requires.server c.args.id.0 c.remove-session.result c.remove-session.ensures.value
+    child_there g.S.Service.IsKept g.S.Service.value g.S.Service.buffer c.args.self.now.sessions c.remove-session.new.self c.args.memory.now c.end.new.memory c.args.self.now.map c.end.new.map c.requires.server c.args.id.0 c.remove-session.result c.remove-session.ensures.value
     c.remove-session.ensures.updates c.end.new.heap c.end.ensures.payer c.end.ensures.others c.end.ensures.ram c.end.ensures.caps
 
 pub dismiss-requires-clause-leaf : goal.dismiss-requires-clause-leaf
 dismiss-requires-clause-leaf g c =
-    leaf g.S.Service.IsKept g.S.Service.value c.args.self.now.sessions c.remove-session.new.self c.args.memory.now c.end.new.memory c.args.self.now.map c.end.new.map c.requires.server c.args.id.0 c.remove-session.result c.remove-session.ensures.value
+    leaf g.S.Service.IsKept g.S.Service.value g.S.Service.buffer c.args.self.now.sessions c.remove-session.new.self c.args.memory.now c.end.new.memory c.args.self.now.map c.end.new.map c.requires.server c.args.id.0 c.remove-session.result c.remove-session.ensures.value
     c.remove-session.ensures.updates c.end.new.heap c.end.ensures.payer c.end.ensures.others c.end.ensures.ram c.end.ensures.caps
 
 pub returns-clause-server : goal.returns-clause-server
 returns-clause-server g c =
-    server_closes g.S.Service.IsKept g.S.Service.value c.args.self.now.sessions c.remove-session.new.self c.args.memory.now c.end.new.memory c.args.self.now.map c.end.new.map c.requires.server c.args.id.0 c.remove-session.result c.remove-session.ensures.value
+    server_closes g.S.Service.IsKept g.S.Service.value g.S.Service.buffer c.args.self.now.sessions c.remove-session.new.self c.args.memory.now c.end.new.memory c.args.self.now.map c.end.new.map c.requires.server c.args.id.0 c.remove-session.result c.remove-session.ensures.value
     c.remove-session.ensures.updates c.end.new.heap c.end.ensures.payer c.end.ensures.others c.end.ensures.ram c.end.ensures.caps
     c.dismiss.new.memory c.dismiss.new.map c.dismiss.ensures.closes c.dismiss.ensures.maps c.dismiss.ensures.holdings
 
 pub returns-clause-closes : goal.returns-clause-closes
 returns-clause-closes g c = λ row is.
-    closes_row g.S.Service.IsKept g.S.Service.value c.args.self.now.sessions c.remove-session.new.self c.args.memory.now c.end.new.memory c.args.self.now.map c.end.new.map c.requires.server c.args.id.0 c.remove-session.result c.remove-session.ensures.value
+    closes_row g.S.Service.IsKept g.S.Service.value g.S.Service.buffer c.args.self.now.sessions c.remove-session.new.self c.args.memory.now c.end.new.memory c.args.self.now.map c.end.new.map c.requires.server c.args.id.0 c.remove-session.result c.remove-session.ensures.value
     c.remove-session.ensures.updates c.end.new.heap c.end.ensures.payer c.end.ensures.others c.end.ensures.ram c.end.ensures.caps
     c.dismiss.new.memory c.dismiss.new.map c.dismiss.ensures.closes c.dismiss.ensures.maps c.dismiss.ensures.holdings
-    row (row_there g.S.Service.IsKept g.S.Service.value c.args.self.now.sessions c.args.memory.now c.args.self.now.map c.requires.server c.args.id.0 c.remove-session.result c.remove-session.ensures.value row is)
+    row (row_there g.S.Service.IsKept g.S.Service.value g.S.Service.buffer c.args.self.now.sessions c.args.memory.now c.args.self.now.map c.requires.server c.args.id.0 c.remove-session.result c.remove-session.ensures.value row is)
 
 pub returns-clause-sessions : goal.returns-clause-sessions
 returns-clause-sessions g c =
-    rows_close g.S.Service.IsKept g.S.Service.value c.args.self.now.sessions c.remove-session.new.self c.args.memory.now c.end.new.memory c.args.self.now.map c.end.new.map c.requires.server c.args.id.0 c.remove-session.result c.remove-session.ensures.value
+    rows_close g.S.Service.IsKept g.S.Service.value g.S.Service.buffer c.args.self.now.sessions c.remove-session.new.self c.args.memory.now c.end.new.memory c.args.self.now.map c.end.new.map c.requires.server c.args.id.0 c.remove-session.result c.remove-session.ensures.value
     c.remove-session.ensures.updates c.end.new.heap c.end.ensures.payer c.end.ensures.others c.end.ensures.ram c.end.ensures.caps
     c.dismiss.new.memory c.dismiss.new.map c.dismiss.ensures.closes c.dismiss.ensures.maps c.dismiss.ensures.holdings

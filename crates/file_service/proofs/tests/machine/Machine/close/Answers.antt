@@ -1,21 +1,24 @@
 -- The client has the session's limits, and can open as many sessions as before.
-use Rattle.std.proofs.Common.{rules, arith}
+use Rattle.std.proofs.Common.{rules, arith, ℕ}
+use Rattle.std.specs.Prelude.{Option, None}
 use Rattle.slab.specs.Slab as slab
-use Rattle.file_service.specs.Session.{value_of, IsSession}
+use Rattle.file_service.specs.Session.{value_of}
+use Rattle.file_service.specs.declared.session.FileSession.{FileSession}
 use Rattle.server_frame.proofs.RowLaws.{row_at, admits_closed, open_closed}
 use Rattle.file_service.proofs.tests.machine.Machine.close.Goals as goal
 
 pub invariant_of-self : goal.invariant_of-self
 invariant_of-self g c =
     let was = c.self.inside in
+    let lends_none : FileSession → Option ℕ = λ session. None in
     let present : slab.ContainsKey was.server.sessions c.args.id.0 = search rules in
-    let row = row_at value_of was.server.sessions was.memory was.server.map c.args.id.0 present in (
-      admits_closed value_of was.server.sessions c.close.new.self.sessions was.memory c.close.new.memory was.server.map c.close.new.self.map
+    let row = row_at value_of lends_none was.server.sessions was.memory was.server.map c.args.id.0 present in (
+      admits_closed value_of lends_none was.server.sessions c.close.new.self.sessions was.memory c.close.new.memory was.server.map c.close.new.self.map
           c.self.invariant.0 c.close.ensures.server c.close.ensures.places c.args.id.0 row.0 row.1 (c.close.ensures.closes row.0 row.1) c.close.ensures.sessions,
       omega (
         arith,
         c.self.invariant.1,
-        open_closed value_of was.server.sessions c.close.new.self.sessions was.memory c.close.new.memory was.server.map c.close.new.self.map
+        open_closed value_of lends_none was.server.sessions c.close.new.self.sessions was.memory c.close.new.memory was.server.map c.close.new.self.map
             c.args.id.0 row.0 row.1 c.close.ensures.sessions,
       ),
     )

@@ -1,18 +1,21 @@
 -- A session is opened in one of the places.
-use Rattle.std.proofs.Common.{arith}
-use Rattle.file_service.specs.Session.{value_of, IsSession}
+use Rattle.std.proofs.Common.{arith, ℕ}
+use Rattle.std.specs.Prelude.{Option, None}
+use Rattle.file_service.specs.Session.{value_of}
+use Rattle.file_service.specs.declared.session.FileSession.{FileSession}
 use Rattle.server_frame.proofs.RowLaws.{admits_opened, open_opened}
 use Rattle.file_service.proofs.tests.machine.Machine.open.Goals as goal
 
 pub invariant_of-self-2 : goal.invariant_of-self-2
 invariant_of-self-2 g c =
-    let was = c.self.inside in (
-      admits_opened value_of was.server.sessions c.open.new.self.sessions was.memory c.open.new.memory was.server.map c.open.new.self.map
+    let was = c.self.inside in
+    let lends_none : FileSession → Option ℕ = λ session. None in (
+      admits_opened value_of lends_none was.server.sessions c.open.new.self.sessions was.memory c.open.new.memory was.server.map c.open.new.self.map
           c.self.invariant.0 c.in_ok-id.ensures.server c.in_ok-id.ensures.places c.in_ok-id.ensures.opens,
       omega (
         arith,
         c.self.invariant.1,
-        open_opened value_of was.server.sessions c.open.new.self.sessions was.memory c.open.new.memory was.server.map c.open.new.self.map
+        open_opened value_of lends_none was.server.sessions c.open.new.self.sessions was.memory c.open.new.memory was.server.map c.open.new.self.map
             c.in_ok-id.ensures.opens,
       ),
     )

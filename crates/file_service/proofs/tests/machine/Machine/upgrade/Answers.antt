@@ -1,17 +1,20 @@
 -- Limits go from the client to the session, or nothing has changed.
-use Rattle.std.proofs.Common.{rules, ap, sym, ◌∙◌}
+use Rattle.std.proofs.Common.{rules, ap, sym, ◌∙◌, ℕ}
+use Rattle.std.specs.Prelude.{Option, None}
 use Rattle.slab.specs.Slab.{slab_len}
 use Rattle.slab.specs.Slab as slab
-use Rattle.file_service.specs.Session.{value_of, IsSession}
+use Rattle.file_service.specs.Session.{value_of}
+use Rattle.file_service.specs.declared.session.FileSession.{FileSession}
 use Rattle.server_frame.proofs.RowLaws.{row_at, admits_upgraded}
 use Rattle.file_service.proofs.tests.machine.Machine.upgrade.Goals as goal
 
 pub invariant_of-self : goal.invariant_of-self
 invariant_of-self g c =
     let was = c.self.inside in
+    let lends_none : FileSession → Option ℕ = λ session. None in
     let present : slab.ContainsKey was.server.sessions c.args.id.0 = search rules in
-    let row = row_at value_of was.server.sessions was.memory was.server.map c.args.id.0 present in (
-      admits_upgraded value_of was.server.sessions c.upgrade.new.self.sessions was.memory c.upgrade.new.memory was.server.map c.upgrade.new.self.map
+    let row = row_at value_of lends_none was.server.sessions was.memory was.server.map c.args.id.0 present in (
+      admits_upgraded value_of lends_none was.server.sessions c.upgrade.new.self.sessions was.memory c.upgrade.new.memory was.server.map c.upgrade.new.self.map
           c.self.invariant.0 c.upgrade.ensures.server (ap (λ server. server.sessions.capacity) c.upgrade.ensures.same) c.args.id.0 row.0 row.1 c.args.ram c.args.caps c.upgrade.result (ap (λ server. server.sessions) c.upgrade.ensures.same)
           (c.upgrade.ensures.raises row.0 row.1) (c.upgrade.ensures.sessions row.0 row.1) c.upgrade.ensures.memory_err,
       c.self.invariant.1 ∙ sym (ap (λ server. slab_len server.sessions) c.upgrade.ensures.same),

@@ -1,5 +1,6 @@
 -- The client has the session's limits, and can open as many sessions as before.
-use Rattle.std.proofs.Common.{rules, arith}
+use Rattle.std.proofs.Common.{rules, arith, ℕ}
+use Rattle.std.specs.Prelude.{Option, None}
 use Rattle.slab.specs.Slab as slab
 use Rattle.dataspace_core.specs.Share.{Share}
 use Rattle.own_model.specs.Session.{Labelled}
@@ -13,13 +14,14 @@ invariant_of-self g c =
     let was = c.self.inside in
     let present : slab.ContainsKey was.server.sessions c.args.id.0 = search rules in
     let value : LabelledLine → Share → Labelled = λ session share. as_kept session in
-    let row = row_at value was.server.sessions was.memory was.server.map c.args.id.0 present in (
-      admits_closed value was.server.sessions c.close.new.self.sessions was.memory c.close.new.memory was.server.map c.close.new.self.map
+    let buffer : LabelledLine → Option ℕ = λ session. None in
+    let row = row_at value buffer was.server.sessions was.memory was.server.map c.args.id.0 present in (
+      admits_closed value buffer was.server.sessions c.close.new.self.sessions was.memory c.close.new.memory was.server.map c.close.new.self.map
           c.self.invariant.0 c.close.ensures.server c.close.ensures.places c.args.id.0 row.0 row.1 (c.close.ensures.closes row.0 row.1) c.close.ensures.sessions,
       omega (
         arith,
         c.self.invariant.1,
-        open_closed value was.server.sessions c.close.new.self.sessions was.memory c.close.new.memory was.server.map c.close.new.self.map
+        open_closed value buffer was.server.sessions c.close.new.self.sessions was.memory c.close.new.memory was.server.map c.close.new.self.map
             c.args.id.0 row.0 row.1 c.close.ensures.sessions,
       ),
     )

@@ -1,12 +1,12 @@
 -- A request leaves the client's account, and all places.
-use Rattle.std.proofs.Common.{rules, sym, ◌∙◌}
+use Rattle.std.proofs.Common.{rules, sym, ◌∙◌, ℕ}
+use Rattle.std.specs.Prelude.{Option, None}
 use Rattle.slab.specs.Slab as slab
 use Rattle.dataspace_core.specs.Share.{Share}
 use Rattle.own_model.specs.Session.{Labelled}
 use Rattle.log_service.specs.Session.{LabelledLine, as_kept}
 use Rattle.server_frame.specs.Session.{HasBlocksAlone}
 use Rattle.server_frame.proofs.RowLaws.{row_at, admits_served, open_served}
-use Rattle.server_frame.specs.Session.{service_step}
 use Rattle.log_service.proofs.tests.machine.Machine.tells.Goals as goal
 
 pub invariant_of-self : goal.invariant_of-self
@@ -14,9 +14,10 @@ invariant_of-self g c =
     let was = c.self.inside in
     let present : slab.ContainsKey was.server.sessions c.args.id.0 = search rules in
     let value : LabelledLine → Share → Labelled = λ session share. as_kept session in
-    let row = row_at value was.server.sessions was.memory was.server.map c.args.id.0 present in (
-      admits_served value was.server.sessions c.serve.new.self.sessions was.memory c.serve.new.memory was.server.map c.serve.new.self.map
-          c.self.invariant.0 c.serve.ensures.server c.serve.ensures.places c.args.id.0 row.0 row.1 (service_step c.args.request.now row.0.account row.0.value) (c.serve.ensures.serves row.0 row.1),
-      c.self.invariant.1 ∙ sym (open_served value was.server.sessions c.serve.new.self.sessions was.memory c.serve.new.memory was.server.map c.serve.new.self.map
-          c.args.id.0 row.0 row.1 (service_step c.args.request.now row.0.account row.0.value) (c.serve.ensures.serves row.0 row.1)),
+    let buffer : LabelledLine → Option ℕ = λ session. None in
+    let row = row_at value buffer was.server.sessions was.memory was.server.map c.args.id.0 present in (
+      admits_served value buffer was.server.sessions c.serve.new.self.sessions was.memory c.serve.new.memory was.server.map c.serve.new.self.map
+          c.self.invariant.0 c.serve.ensures.server c.serve.ensures.places c.args.id.0 row.0 row.1 (c.serve.ensures.serves row.0 row.1),
+      c.self.invariant.1 ∙ sym (open_served value buffer was.server.sessions c.serve.new.self.sessions was.memory c.serve.new.memory was.server.map c.serve.new.self.map
+          c.args.id.0 row.0 row.1 (c.serve.ensures.serves row.0 row.1)),
     )

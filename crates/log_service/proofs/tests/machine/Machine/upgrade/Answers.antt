@@ -1,5 +1,6 @@
 -- Limits go from the client to the session, or nothing has changed.
-use Rattle.std.proofs.Common.{rules, ap, sym, ◌∙◌}
+use Rattle.std.proofs.Common.{rules, ap, sym, ◌∙◌, ℕ}
+use Rattle.std.specs.Prelude.{Option, None}
 use Rattle.slab.specs.Slab.{slab_len}
 use Rattle.slab.specs.Slab as slab
 use Rattle.dataspace_core.specs.Share.{Share}
@@ -14,8 +15,9 @@ invariant_of-self g c =
     let was = c.self.inside in
     let present : slab.ContainsKey was.server.sessions c.args.id.0 = search rules in
     let value : LabelledLine → Share → Labelled = λ session share. as_kept session in
-    let row = row_at value was.server.sessions was.memory was.server.map c.args.id.0 present in (
-      admits_upgraded value was.server.sessions c.upgrade.new.self.sessions was.memory c.upgrade.new.memory was.server.map c.upgrade.new.self.map
+    let buffer : LabelledLine → Option ℕ = λ session. None in
+    let row = row_at value buffer was.server.sessions was.memory was.server.map c.args.id.0 present in (
+      admits_upgraded value buffer was.server.sessions c.upgrade.new.self.sessions was.memory c.upgrade.new.memory was.server.map c.upgrade.new.self.map
           c.self.invariant.0 c.upgrade.ensures.server (ap (λ server. server.sessions.capacity) c.upgrade.ensures.same) c.args.id.0 row.0 row.1 c.args.ram c.args.caps c.upgrade.result (ap (λ server. server.sessions) c.upgrade.ensures.same)
           (c.upgrade.ensures.raises row.0 row.1) (c.upgrade.ensures.sessions row.0 row.1) c.upgrade.ensures.memory_err,
       c.self.invariant.1 ∙ sym (ap (λ server. slab_len server.sessions) c.upgrade.ensures.same),

@@ -14,36 +14,36 @@ const LONGEST_NUMBER: usize = 20;
 
 /// Bytes with all the memory that they may take, from the boot on: a boxed slice can't grow.
 #[derive(Drop)]
-pub(crate) struct Buffer {
+pub(crate) struct BoundedBytes {
     bytes: BoxedSlice<u8>,
     /// How many of them are written.
     len: usize,
 }
 
-impl Model for Buffer {
+impl Model for BoundedBytes {
     ghost use Rattle.std.specs.Prelude.{◌≤◌, take};
     ghost use Rattle.std.specs.Box.{boxed_slice_items, boxed_slice_len};
     ghost use Rattle.server_frame.specs.Written.{Written};
 
     ghost Value = { Written };
 
-    ghost view = { λ buffer.
+    ghost view = { λ written.
         record {
-          text = take buffer.len
-              (boxed_slice_items buffer.bytes);
-          size = boxed_slice_len buffer.bytes;
+          text = take written.len
+              (boxed_slice_items written.bytes);
+          size = boxed_slice_len written.bytes;
         } };
 
-    ghost invariant = { λ buffer. buffer.len ≤ boxed_slice_len buffer.bytes };
+    ghost invariant = { λ written. written.len ≤ boxed_slice_len written.bytes };
 }
 
-impl Buffer {
+impl BoundedBytes {
     /// No bytes, with memory for so many.
-    pub(crate) fn boot(alloc: Global, size: usize) -> Result<Buffer, NoMemory>
-        ensures { IfOk result (λ buffer. buffer ≡ record { text = []; size = size }) }
+    pub(crate) fn boot(alloc: Global, size: usize) -> Result<BoundedBytes, NoMemory>
+        ensures { IfOk result (λ written. written ≡ record { text = []; size = size }) }
     {
         let bytes = vec![in alloc; 0u8; size].map_err(|_| NoMemory)?;
-        Ok(Buffer {
+        Ok(BoundedBytes {
             bytes: bytes.into_boxed_slice(),
             len: 0,
         })
