@@ -29,6 +29,9 @@ three_digits n large small = omega (arith, digit_more n (omega arith) (omega ari
 pub four_digits : (n : ℕ) → 1000 ≤ n → n < 10000 → length (decimal n) ≡ 4
 four_digits n large small = omega (arith, digit_more n (omega arith) (omega arith), three_digits (n / 10) (omega arith) (omega arith))
 
+pub five_digits : (n : ℕ) → 10000 ≤ n → n < 100000 → length (decimal n) ≡ 5
+five_digits n large small = omega (arith, digit_more n (omega arith) (omega arith), four_digits (n / 10) (omega arith) (omega arith))
+
 -- what is written from a place on, with what stood before, is all up to its end
 pub written_from : (old new digits : List ℕ) (at start end : ℕ) → start + length digits ≡ end → end ≡ at + length digits → end ≤ length old →
     take start new ≡ take start old → drop start new ≡ digits ++ drop end old → take end new ≡ take at old ++ digits

@@ -10,6 +10,11 @@ pub(crate) fn write_number(number: u64, text: &mut [u8], at: usize) -> usize
     ensures end { result ≡ at + length (decimal number) }
     ensures written { take result text.new ≡ take at text.old ++ decimal number }
 {
+    // Most numbers that are told have one digit, or five: these need no division.
+    if number < 10 {
+        text[at] = b'0' + number as u8;
+        return at + 1;
+    }
     let end = at + digit_count(number);
     write_digits(number, text, end);
     end
@@ -20,6 +25,9 @@ pub(crate) fn write_number(number: u64, text: &mut [u8], at: usize) -> usize
 fn digit_count(number: u64) -> usize
     ensures { result ≡ length (decimal number) }
 {
+    if 10_000 <= number && number < 100_000 {
+        return 5;
+    }
     let mut left = number;
     let mut count = 0;
     while left >= 10_000 {

@@ -1,7 +1,7 @@
 -- Four digits are counted at a step, and the last ones by how large they are.
-use Rattle.std.proofs.Common.{arith}
+use Rattle.std.proofs.Common.{arith, sym}
 use Rattle.std.proofs.lemmas.Fmt.{length-decimal-le}
-use Rattle.server_frame.proofs.DigitLemmas.{one_digit, two_digits, three_digits, four_digits, four_digits_more}
+use Rattle.server_frame.proofs.DigitLemmas.{one_digit, two_digits, three_digits, four_digits, five_digits, four_digits_more}
 use Rattle.server_frame.proofs.digits.digit_count.Goals as goal
 
 pub overflow_add-count : goal.overflow_add-count
@@ -38,3 +38,6 @@ returns-then-left-lt1000 c = omega (arith, c.loop-left.invariant, three_digits c
 
 pub returns-else-left-lt1000 : goal.returns-else-left-lt1000
 returns-else-left-lt1000 c = omega (arith, c.loop-left.invariant, four_digits c.loop-left.left c.if-left-lt1000.false c.loop-left-test.false)
+
+pub returns-then-number-lt100000 : goal.returns-then-number-lt100000
+returns-then-number-lt100000 c = sym (five_digits c.args.number c.if-number-ge10000.true c.if-number-lt100000.true)
