@@ -10,8 +10,8 @@ unfolding digits
 whole n = refl
 
 -- before any digit is written
-pub spelled_first : (n : ℕ) (text : List ℕ) → length text ≡ 96 → digits_onto 64 16 false n (drop 96 text) ≡ digits 16 false n
-spelled_first n text len = ap (digits_onto 64 16 false n) (drop_all 96 text (omega (arith, len))) ∙ whole n
+pub spelled_first : (n : ℕ) (text : List ℕ) → length text ≡ 16 → digits_onto 64 16 false n (drop 16 text) ≡ digits 16 false n
+spelled_first n text len = ap (digits_onto 64 16 false n) (drop_all 16 text (omega (arith, len))) ∙ whole n
 
 -- a digit less leaves room for a digit less
 pub room_after : (start rest : ℕ) → 0 < start → rest < 16 ^ start → rest / 16 < 16 ^ (start - 1)
@@ -49,7 +49,3 @@ module _ (fuel start rest digit : ℕ) (text spelled : List ℕ) (room : 0 < fue
   spelled_last none =
       let e : eqb (rest / 16) 0 ≡ true = grind (arith, nat_tests) in
       write_digit start digit _ text some within is ∙ sym (step fuel rest (drop start text) true room e) ∙ before
-
--- a place less of the last sixteen
-pub less_room : (start : ℕ) → 80 < start → start - 1 - 80 ≡ start - 80 - 1
-less_room start some = omega arith

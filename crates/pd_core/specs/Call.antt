@@ -1,5 +1,5 @@
 -- A call as the model sees it.
-use Rattle.std.specs.Prelude.{◌≡◌, ℕ, false, List, [], IsSome}
+use Rattle.std.specs.Prelude.{◌≡◌, ◌||◌, ℕ, Bool, false, List, [], IsSome}
 use Rattle.std.specs.Option.{unwrap_or}
 use Rattle.own_model.specs.Call.{Call as Modelled, is_of_session, is_exit}
 use Rattle.own_model.specs.Call.Call.{Alloc as ModelledAlloc, Free as ModelledFree, Attach as ModelledAttach, AttachAt as ModelledAttachAt, Detach as ModelledDetach, Peek as ModelledPeek, Poke as ModelledPoke, Capalloc as ModelledCapalloc, Capfree as ModelledCapfree, New as ModelledNew, Del as ModelledDel, Snew as ModelledSnew, Sdel as ModelledSdel, Quota as ModelledQuota, Open as ModelledOpen, Upgrade as ModelledUpgrade, CallSession as ModelledCallSession, Close as ModelledClose, Exit as ModelledExit}
@@ -32,6 +32,10 @@ model_call (Upgrade selector args) = ModelledUpgrade selector args.now
 model_call (CallSession selector request) = ModelledCallSession selector request.now
 model_call (Close selector) = ModelledClose selector
 model_call Exit = ModelledExit
+
+-- it goes beyond the component that makes it: it is one of a session, or an exit
+abbrev pub goes_beyond : Modelled → Bool
+goes_beyond call = is_of_session call || is_exit call
 
 -- it is none of a session, and no exit
 pub record IsPlain (call : Call) : Type 0 where

@@ -1,10 +1,10 @@
 //! The answers to calls, and their texts.
-ghost use Rattle.std.specs.Prelude.{◌≡◌, ◌+◌, ◌*◌, ◌≤◌, ◌++◌, length};
-ghost use Rattle.own_model.specs.Reply.{reply_text, share_text};
+ghost use Rattle.std.specs.Prelude.{◌≡◌, ◌+◌, ◌≤◌, ◌++◌, length, codes};
+ghost use Rattle.own_model.specs.Reply.{address_text, reply_text, share_text};
 ghost use Rattle.trade_base.specs.Refusal.{refusal_name};
 ghost use Rattle.pd_core.specs.Answer.{reply_of, told_alone};
 
-use crate::short_text::ShortText;
+use crate::hex_digits::{MOST_DIGITS, write_hex};
 use server_frame::Reply;
 use trade_base::{Caps, Ram, Refusal, Selector};
 
@@ -69,53 +69,59 @@ impl Answer {
     fn tell(self, reply: &mut Reply)
         ensures { reply.new ≡ told_alone (reply_text (model_answer self)) }
     {
-        let mut text = ShortText::new();
         match self {
             Answer::Selected(selector) => {
-                text.put_number(u64::from(selector.0));
-                text.put(b"cap ");
+                tell_text(b"cap ", reply);
+                reply.add_number(u64::from(selector.0));
             }
-            Answer::Attached(address) => {
-                text.set_hex(address);
-                text.put(b"at 0x");
-            }
-            Answer::Done => text.put(b"ok"),
-            Answer::Quotas(quotas) => quotas.put(&mut text),
+            Answer::Attached(address) => tell_address(address, reply),
+            Answer::Done => tell_text(b"ok", reply),
+            Answer::Quotas(quotas) => quotas.tell(reply),
         }
-        tell_text(text.as_bytes(), reply);
     }
 }
 
 impl Quotas {
-    ghost use Rattle.std.specs.Prelude.{◌≡◌, []};
+    ghost use Rattle.std.specs.Prelude.{◌≡◌};
     ghost use Rattle.own_model.specs.Reply.{quota_text};
-    ghost use Rattle.pd_core.specs.Answer.{quotas_account};
+    ghost use Rattle.pd_core.specs.Answer.{quotas_account, told_alone};
 
-    /// Puts use and limit of each.
-    fn put(self, text: &mut ShortText)
-        requires { text.old ≡ [] }
-        ensures { text.new ≡ quota_text (quotas_account self) }
+    /// Writes use and limit of each in place of what the reply was.
+    fn tell(self, reply: &mut Reply)
+        ensures { reply.new ≡ told_alone (quota_text (quotas_account self)) }
     {
-        put_share(
-            text,
+        tell_text(b"ram ", reply);
+        add_share(self.ram_used.0, self.ram_limit.0, reply);
+        reply.add_text(b" caps ");
+        add_share(
             u64::from(self.caps_used.0),
             u64::from(self.caps_limit.0),
+            reply,
         );
-        text.put(b" caps ");
-        put_share(text, self.ram_used.0, self.ram_limit.0);
-        text.put(b"ram ");
     }
 }
 
-/// Puts a use and a limit before a text.
-fn put_share(text: &mut ShortText, used: u64, limit: u64)
-    requires { length text.old ≤ 47 }
-    ensures put { text.new ≡ share_text used limit ++ text.old }
-    ensures len { length text.new ≤ length text.old + 41 }
+/// Appends a use and a limit.
+#[inline]
+fn add_share(used: u64, limit: u64, reply: &mut Reply)
+    requires { length reply.old.text + 41 ≤ 2100 }
+    ensures added { reply.new
+        ≡ record reply.old { text = reply.old.text ++ share_text used limit } }
+    ensures len { length reply.new.text ≤ length reply.old.text + 41 }
 {
-    text.put_number(limit);
-    text.put(b"/");
-    text.put_number(used);
+    reply.add_number(used);
+    reply.add_text(b"/");
+    reply.add_number(limit);
+}
+
+/// Writes where a new region starts in place of what the reply was.
+fn tell_address(address: u64, reply: &mut Reply)
+    ensures { reply.new ≡ told_alone (codes "at " ++ address_text address) }
+{
+    let mut digits = [0; MOST_DIGITS];
+    let start = write_hex(address, &mut digits);
+    tell_text(b"at 0x", reply);
+    reply.add_text(&digits[start..]);
 }
 
 #[cfg(test)]

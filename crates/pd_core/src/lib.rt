@@ -3,10 +3,12 @@
 
 mod accounts;
 mod answer;
+mod beyond;
 mod bytes;
 mod call;
 mod component;
 mod exiting;
+mod hex_digits;
 mod host;
 mod label;
 mod machine;
@@ -14,7 +16,6 @@ mod release;
 mod router;
 mod script;
 mod session_calls;
-mod short_text;
 
 pub use answer::Quotas;
 pub use call::Call;

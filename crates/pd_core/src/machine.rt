@@ -3,12 +3,10 @@ ghost use Rattle.pd_core.specs.Call.{model_call, IsWellFormed};
 ghost use Rattle.pd_core.specs.Core.{IsCoreAt};
 ghost use Rattle.pd_core.specs.SessionCalls.{Agrees, Goes};
 
-use crate::answer::tell;
+use crate::beyond::carry_out_beyond;
 use crate::call::Call;
 use crate::component::Component;
-use crate::exiting::exit;
 use crate::router::Router;
-use crate::session_calls::{self, close, open, upgrade};
 use dataspace_core::Memory;
 use server_frame::Reply;
 use std::boxed::BoxedSlice;
@@ -115,15 +113,12 @@ fn carry_out<R: Router>(
     ensures { Goes (R.rules routes.now) (model_call call.entry) caller reply.new
         memory.old components.old memory.new components.new }
 {
-    let outcome = match call {
-        Call::Open { service, args } => open(memory, components, routes, caller, service, args),
-        Call::Upgrade { selector, args } => upgrade(memory, components, caller, selector, args),
-        Call::Close(selector) => close(memory, components, caller, selector),
-        Call::Exit => exit(memory, components, caller),
-        Call::CallSession { selector, request } => {
-            return session_calls::call(memory, components, caller, selector, request, reply);
-        }
-        _ => return components[caller].step(memory, call, reply),
-    };
-    tell(outcome, reply);
+    match call {
+        Call::Open { .. }
+        | Call::Upgrade { .. }
+        | Call::CallSession { .. }
+        | Call::Close(_)
+        | Call::Exit => carry_out_beyond(memory, components, routes, caller, call, reply),
+        _ => components[caller].step(memory, call, reply),
+    }
 }

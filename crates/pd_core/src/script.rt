@@ -24,7 +24,7 @@ pub(crate) struct Script {
 }
 
 impl Script {
-    ghost use Rattle.std.specs.Prelude.{◌≡◌, ◌≢◌, ℕ, Some, IfOk, IsSome};
+    ghost use Rattle.std.specs.Prelude.{◌≡◌, Some, IfOk, IsSome};
     ghost use Rattle.std.specs.Result.{result_err};
     ghost use Rattle.std.specs.FinMap.{get};
     ghost use Rattle.own_model.specs.Call.Call.{Alloc as ModelledAlloc, Free as ModelledFree, Attach as ModelledAttach};
@@ -35,41 +35,25 @@ impl Script {
     ghost use Rattle.dataspace_core.specs.Store.{account_in};
     ghost use Rattle.pd_core.specs.Answer.{quotas_account, reply_of};
     ghost use Rattle.pd_core.specs.Call.{model_call, bytes_in};
-    ghost use Rattle.pd_core.specs.declared.call.Call.TheVariants.{Peek};
     ghost use Rattle.pd_core.specs.Does.{Does, DoesTold, CanDo};
     ghost use Rattle.pd_core.specs.Own.{part_at, own_heap_at, sliced_at, lent_in, sized_at, range_refusal, IsFound};
     ghost use Rattle.pd_core.specs.Sound.{IsSoundScript, Keeps};
 
     /// Carries a call out that is none of a session and no exit, and writes what it is answered in place of what the reply was.
+    /// Its arms share one place for their outcomes, which a function clears as it is entered.
     pub(crate) fn step(&mut self, memory: &mut Memory, call: Call<'_>, reply: &mut Reply)
         requires { CanDo call memory.old self.old }
         ensures outcome { DoesTold (model_call call.entry) reply.new
             memory.old self.old memory.new self.new }
         ensures keeps { Keeps memory.old self.old memory.new self.new }
     {
-        match call {
-            Call::Peek { address, count } => self.peek(memory, address, count, reply),
-            _ => {
-                let outcome = self.carry_out(memory, call);
-                tell(outcome, reply);
-            }
-        }
-    }
-
-    /// Carries such a call out that is no peek, and tells how. Its arms share one place for their outcomes, which a function
-    /// clears as it is entered.
-    fn carry_out(&mut self, memory: &mut Memory, call: Call<'_>) -> Result<Answer, Refusal>
-        requires can { CanDo call memory.old self.old }
-        requires no_peek { (address count : ℕ) → call ≢ Peek address count }
-        ensures { Does (model_call call.entry) (reply_of result)
-            memory.old self.old memory.new self.new }
-    {
-        match call {
+        let outcome = match call {
             Call::Alloc(bytes) => self.alloc(memory, bytes),
             Call::Free(selector) => self.free(memory, selector),
             Call::Attach(selector) => self.attach(memory, selector),
             Call::AttachAt { selector, address } => self.attach_at(memory, selector, address),
             Call::Detach(address) => self.detach(memory, address),
+            Call::Peek { address, count } => return self.peek(memory, address, count, reply),
             Call::Poke { address, hex } => self.poke(memory, address, hex),
             Call::Capalloc => self.capalloc(memory),
             Call::Capfree(selector) => self.capfree(memory, selector),
@@ -78,13 +62,13 @@ impl Script {
             Call::Snew(bytes) => self.snew(memory, bytes),
             Call::Sdel(address) => self.sdel(memory, address),
             Call::Quota => Ok(Answer::Quotas(self.quota(memory))),
-            Call::Peek { .. }
-            | Call::Open { .. }
+            Call::Open { .. }
             | Call::Upgrade { .. }
             | Call::CallSession { .. }
             | Call::Close(_)
             | Call::Exit => { unreachable!() }
-        }
+        };
+        tell(outcome, reply);
     }
 
     /// A dataspace under a new selector, or why not: `InvalidSize`, then `OutOfRam`, then `OutOfCaps`.

@@ -8,3 +8,4 @@ pub mod FrameLaws
 pub mod PlaceLaws
 pub mod RowLaws
 pub mod LentLaws
+mod DigitLemmas

@@ -2,7 +2,7 @@
 ghost use Rattle.std.specs.Prelude.{◌≡◌, ◌+◌, ◌*◌, ◌≤◌, [], ◌++◌, length, map, decimal, IfOk};
 ghost use Rattle.own_model.specs.Reply.{hex_text, printed};
 
-use itoa::write_digits;
+use crate::digits::write_number;
 use std::alloc::Global;
 use std::boxed::BoxedSlice;
 use std::marker::Model;
@@ -74,15 +74,15 @@ impl BoundedBytes {
         self.len = end;
     }
 
-    /// Appends a number in decimal digits.
+    /// Appends a number in decimal digits, which are written where they stand.
+    #[inline]
     pub(crate) fn add_number(&mut self, number: u64)
         requires { length self.old.text + LONGEST_NUMBER ≤ self.old.size }
         ensures added { self.new ≡ record self.old { text = self.old.text ++ decimal number } }
         ensures len { length self.new.text ≤ length self.old.text + LONGEST_NUMBER }
     {
-        let mut digits = [0; LONGEST_NUMBER];
-        let start = write_digits(number, &mut digits, LONGEST_NUMBER);
-        self.add(&digits[start..]);
+        let end = write_number(number, &mut self.bytes, self.len);
+        self.len = end;
     }
 
     /// Appends bytes in hexadecimal digits.

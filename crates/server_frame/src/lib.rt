@@ -2,6 +2,7 @@
 #![tactic(auto)]
 
 mod bounded_bytes;
+mod digits;
 mod effect;
 mod furniture;
 mod laws;
