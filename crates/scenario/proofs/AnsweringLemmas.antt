@@ -1,94 +1,116 @@
 -- What is told of a line, by what it says and whose lines are answered.
-use Rattle.std.proofs.Common.{◌≡◌, ◌≢◌, ℕ, ◌+◌, ◌≤◌, ◌<◌, ◌&&◌, Bool, true, false, true≢false, cond, List, [], ◌∷◌, ◌++◌, length, take, drop, get_or, nat_le, Option, Some, None, refl, sym, ap, ◌∙◌, arith, append-nil, length-append}
+use Rattle.std.proofs.Common.{◌≡◌, ◌≢◌, ℕ, ◌+◌, ◌≤◌, ◌&&◌, Bool, true, false, true≢false, cond, List, [], ◌∷◌, ◌++◌, length, get_or, nat_le, codes, Option, Some, None, inl, inr, refl, subst, sym, ap, ◌∙◌, arith, append-nil, length-append}
 use Rattle.std.specs.Prelude.{nat_eq}
 use Rattle.std.proofs.lemmas.Bool.Decides.{nat_tests, Decides-eqb}
 use Rattle.std.proofs.lemmas.List.{get_or-append-add}
-use Rattle.std.proofs.lemmas.Option.{none-some, same_Some}
+use Rattle.std.proofs.lemmas.Option.{none-some}
 use Rattle.std.proofs.lemmas.Slice.Eq.{bytes_eq-Decides, starts_is}
 use Rattle.std.specs.List.{position, flat_map, starts_with}
 use Rattle.std.specs.Option.{option_and_then, option_map}
 use Rattle.std.specs.Str.{bytes_eq}
 use Rattle.own_model.specs.Call.{Call, Spoken, form_of, spoken}
 use Rattle.own_model.specs.Text.{FirstWord, first_word, is_name}
-use Rattle.trade_base.specs.declared.refusal.Refusal.TheVariants.{UnknownComponent}
+use Rattle.trade_base.specs.declared.refusal.Refusal.TheVariants.{BadLine, UnknownComponent}
 use Rattle.own_model.specs.Reply.{reply_text, log_text}
-use Rattle.own_model.specs.Reply.Reply.{Refused}
 use Rattle.own_model.specs.SaidBy.{component_of, is_said_by, is_under, said_by}
 use Rattle.own_model.specs.StartList.{Entry}
-use Rattle.own_model.specs.Transcript.{Heard, heard, heard_spoken, heard_call, longest_line, entry_at, reply_line}
-use Rattle.own_model.specs.Transcript.Heard.{NoCall}
+use Rattle.own_model.specs.Transcript.{Heard, heard, heard_spoken, heard_call, longest_line, entry_at}
+use Rattle.own_model.specs.Transcript.Heard.{NoCall, Stranger, Caller}
 use Rattle.own_model.specs.World.{World, outcome_at, with_state, world_after_heard, world_running}
-use Rattle.scenario.specs.Answered.{IsUnsaid, after_all, hears, is_meant, told_of_all, told_of_none}
-use Rattle.scenario.specs.Gathered.{line_with}
+use Rattle.scenario.specs.Answer.{AnswersLine, IsAnswer, IsNoCall, IsRefusal, answer_text}
+use Rattle.scenario.specs.Answered.{IsUnsaid, after_all, hears, is_meant, told_of_all}
+use Rattle.scenario.specs.declared.answering.Answer.{Answer}
 use Rattle.own_model.specs.Running.{told_now}
-
--- a line is told as this, and leaves that world
-pub record IsTold (only : Option (List ℕ)) (world : World) (line text : List ℕ) (left : World) : Type 0 where
-  pub tells : told_of_all only world (line ∷ []) ≡ text
-  pub leaves : after_all only world (line ∷ []) ≡ left
 
 -- a line that isn't too long is heard as what it says
 heard_short : (entries : List Entry) (line : List ℕ) → length line ≤ longest_line → heard entries line ≡ heard_spoken entries (spoken line)
 heard_short entries line short = grind (arith, nat_tests)
 
--- one line of all is told as it is heard
-told_any : (world : World) (line : List ℕ) (what : Heard) → heard world.entries line ≡ what →
-    IsTold None world line (told_now world.entries world.states what) (world_after_heard world what)
-told_any world line what is = record {
-  tells = append-nil (told_now world.entries world.states (heard world.entries line)) ∙ ap (told_now world.entries world.states) is;
-  leaves = ap (world_after_heard world) is;
-}
+-- a line is heard so, and is answered
+pub record IsHeard (only : Option (List ℕ)) (world : World) (line : List ℕ) (what : Heard) : Type 0 where
+  pub said : said_by only (line ∷ []) ≡ line ∷ []
+  pub is : heard world.entries line ≡ what
+
+module _ {only : Option (List ℕ)} {world : World} {line : List ℕ} {what : Heard} (hears : IsHeard only world line what) where
+  -- which world it leaves
+  pub left_heard : world_after_heard world what ≡ after_all only world (line ∷ [])
+  left_heard = ap (world_after_heard world) (sym hears.is) ∙ ap (world_running world) (sym hears.said)
+
+  -- and which answer is one to it
+  pub answered_heard : {answer : Answer} → IsAnswer world what answer → AnswersLine only world line (Some answer)
+  answered_heard {answer = answer} is = (hears.said, subst (λ w. IsAnswer world w answer) (sym hears.is) is)
+
+-- a line that is skipped leaves the world
+pub left_skipped : (only : Option (List ℕ)) (world : World) (line : List ℕ) → said_by only (line ∷ []) ≡ [] → world ≡ after_all only world (line ∷ [])
+left_skipped only world line skipped = ap (world_running world) (sym skipped)
+
+-- an answer to what was heard is told of it
+told_heard : (world : World) (what : Heard) (answer : Answer) → IsAnswer world what answer → answer_text (Some answer) ≡ told_now world.entries world.states what
+told_heard world NoCall answer is = rw (is.lines, is.name, is.reply) refl
+told_heard world (Stranger name) answer is = rw (is.lines, is.name, is.reply) refl
+told_heard world (Caller made) answer is = rw (is.lines, is.name, is.reply) refl
+
+-- so what is told of a line is its answer
+pub told_answer : (only : Option (List ℕ)) (world : World) (line : List ℕ) (answer : Option Answer) → AnswersLine only world line answer → answer_text answer ≡ told_of_all only world (line ∷ [])
+told_answer only world line None skipped = ap (told_of_all None world) (sym skipped)
+told_answer only world line (Some answer) answers =
+    told_heard world (heard world.entries line) answer answers.1
+    ∙ sym (append-nil (told_now world.entries world.states (heard world.entries line)))
+    ∙ ap (told_of_all None world) (sym answers.0)
 
 -- of one line, a name's are it or none
 said_one : (name line : List ℕ) (b : Bool) → is_said_by name line ≡ b → said_by (Some name) (line ∷ []) ≡ cond b (line ∷ []) []
 said_one name line b is = ap (λ t. cond t (line ∷ []) []) is
 
--- a line of a name too, and another isn't told
-told_own : (name : List ℕ) (world : World) (line : List ℕ) (what : Heard) → is_said_by name line ≡ true → heard world.entries line ≡ what →
-    IsTold (Some name) world line (told_now world.entries world.states what) (world_after_heard world what)
-told_own name world line what own is = record {
-  tells = ap (told_of_all None world) (said_one name line true own) ∙ (told_any world line what is).tells;
-  leaves = ap (world_running world) (said_one name line true own) ∙ (told_any world line what is).leaves;
-}
-
-told_other : (name : List ℕ) (world : World) (line : List ℕ) → is_said_by name line ≡ false → IsTold (Some name) world line [] world
-told_other name world line other = record {
-  tells = ap (told_of_all None world) (said_one name line false other);
-  leaves = ap (world_running world) (said_one name line false other);
-}
-
 -- whose a line is that isn't too long
 said_short : (name line : List ℕ) (b : Bool) → length line ≤ longest_line → is_under name (spoken line) ≡ b → is_said_by name line ≡ b
 said_short name line b short is = grind (arith, nat_tests)
 
--- so a call that is meant is told as it is heard
-pub told_meant : (only : Option (List ℕ)) (world : World) (line : List ℕ) (says : Spoken) → length line ≤ longest_line → spoken line ≡ Some says → is_meant only says.name ≡ true →
-    IsTold only world line (told_now world.entries world.states (hears world says)) (world_after_heard world (hears world says))
-told_meant None world line says short is meant = told_any world line (hears world says) (heard_short world.entries line short ∙ ap (heard_spoken world.entries) is)
-told_meant (Some name) world line says short is meant =
-    told_own name world line (hears world says) (said_short name line true short (ap (is_under name) is ∙ meant))
-    (heard_short world.entries line short ∙ ap (heard_spoken world.entries) is)
+-- a call that is meant is heard
+pub heard_meant : (only : Option (List ℕ)) (world : World) (line : List ℕ) (says : Spoken) → length line ≤ longest_line → spoken line ≡ Some says → is_meant only says.name ≡ true →
+    IsHeard only world line (hears world says)
+heard_meant None world line says short is meant = record { said = refl; is = heard_short world.entries line short ∙ ap (heard_spoken world.entries) is }
+heard_meant (Some name) world line says short is meant = record {
+  said = said_one name line true (said_short name line true short (ap (is_under name) is ∙ meant));
+  is = heard_short world.entries line short ∙ ap (heard_spoken world.entries) is;
+}
 
 -- and one that isn't is skipped
-pub told_unmeant : (only : Option (List ℕ)) (world : World) (line : List ℕ) (says : Spoken) → length line ≤ longest_line → spoken line ≡ Some says → is_meant only says.name ≡ false →
-    IsTold only world line [] world
-told_unmeant None world line says short is meant = absurd (true≢false meant)
-told_unmeant (Some name) world line says short is meant = told_other name world line (said_short name line false short (ap (is_under name) is ∙ meant))
+pub skipped_unmeant : (only : Option (List ℕ)) (line : List ℕ) (says : Spoken) → length line ≤ longest_line → spoken line ≡ Some says → is_meant only says.name ≡ false →
+    said_by only (line ∷ []) ≡ []
+skipped_unmeant None line says short is meant = absurd (true≢false meant)
+skipped_unmeant (Some name) line says short is meant = said_one name line false (said_short name line false short (ap (is_under name) is ∙ meant))
 
 -- as is a line that has another front
-pub told_unsaid : (only : Option (List ℕ)) (world : World) (line : List ℕ) → length line ≤ longest_line → IsUnsaid only line → IsTold only world line [] world
-told_unsaid None world line short unsaid = absurd unsaid
-told_unsaid (Some name) world line short unsaid = told_other name world line (said_short name line false short unsaid)
+pub skipped_unsaid : (only : Option (List ℕ)) (line : List ℕ) → length line ≤ longest_line → IsUnsaid only line → said_by only (line ∷ []) ≡ []
+skipped_unsaid None line short unsaid = absurd unsaid
+skipped_unsaid (Some name) line short unsaid = said_one name line false (said_short name line false short unsaid)
 
--- what is no call is told so, but to a name
-pub told_no_call : (only : Option (List ℕ)) (world : World) (line : List ℕ) → length line ≤ longest_line → spoken line ≡ None → IsTold only world line (told_of_none only) world
-told_no_call None world line short is = told_any world line NoCall (heard_short world.entries line short ∙ ap (heard_spoken world.entries) is)
-told_no_call (Some name) world line short is = told_other name world line (said_short name line false short (ap (is_under name) is))
+-- what is no call is heard as none
+heard_no_call : (entries : List Entry) (line : List ℕ) → IsNoCall line → heard entries line ≡ NoCall
+heard_no_call entries line (inl long) = grind (arith, nat_tests)
+heard_no_call entries line (inr none) =
+    rw none (elim (nat_le (length line) longest_line) as (λ b. cond b NoCall NoCall ≡ NoCall) [ true ↦ refl | false ↦ refl ])
 
--- and so is a line that is too long
-pub told_long : (only : Option (List ℕ)) (world : World) (line : List ℕ) → longest_line < length line → IsTold only world line (told_of_none only) world
-told_long None world line long = told_any world line NoCall (grind (arith, nat_tests))
-told_long (Some name) world line long = told_other name world line (grind (arith, nat_tests))
+-- and is no name's
+said_no_call : (name line : List ℕ) → IsNoCall line → is_said_by name line ≡ false
+said_no_call name line (inl long) = grind (arith, nat_tests)
+said_no_call name line (inr none) =
+    rw none (elim (nat_le (length line) longest_line) as (λ b. (b && false) ≡ false) [ true ↦ refl | false ↦ refl ])
+
+-- so it changes nothing
+pub left_no_call : (only : Option (List ℕ)) (world : World) (line : List ℕ) → IsNoCall line → world ≡ after_all only world (line ∷ [])
+left_no_call None world line none = ap (world_after_heard world) (sym (heard_no_call world.entries line none))
+left_no_call (Some name) world line none = left_skipped (Some name) world line (said_one name line false (said_no_call name line none))
+
+-- it is answered as bad, where all lines are answered
+pub answered_no_call : (world : World) (line : List ℕ) (answer : Answer) → IsNoCall line → IsRefusal (codes "?") BadLine answer → AnswersLine None world line (Some answer)
+answered_no_call world line answer none is =
+    (refl, subst (λ w. IsAnswer world w answer) (sym (heard_no_call world.entries line none)) (record { name = is.named; reply = is.reply; lines = is.lines }))
+
+-- and skipped, where a name's alone are
+pub skipped_no_call : (name line : List ℕ) → IsNoCall line → said_by (Some name) (line ∷ []) ≡ []
+skipped_no_call name line none = said_one name line false (said_no_call name line none)
 
 -- ---- the front of a line
 
@@ -144,7 +166,7 @@ module _ (name : List ℕ) where
   pub other_front : (line : List ℕ) → starts_with nat_eq line name ≡ false → is_under name (spoken line) ≡ false
   other_front line none = not_under line (λ after is. true≢false (sym ((starts_is Decides-eqb line name _ refl).1 (32 ∷ after) is) ∙ none))
 
--- ---- what a call is told
+-- ---- what a call is answered
 
 module _ (world : World) (name : List ℕ) (call : Call) (entries : List Entry) (same : world.entries ≡ entries) where
   -- by whom it is heard
@@ -154,31 +176,28 @@ module _ (world : World) (name : List ℕ) (call : Call) (entries : List Entry) 
 
   module _ (none : position (λ entry. bytes_eq entry.name name) entries ≡ None) where
     -- of a name that the entries don't have it is refused
-    pub told_stranger : reply_line name (Refused UnknownComponent) ≡ told_now world.entries world.states (hears world (record { name = name; call = call }))
-    told_stranger = ap (told_now world.entries world.states) (sym (hears_by None none))
+    pub answered_stranger : (answer : Answer) → IsRefusal name UnknownComponent answer → IsAnswer world (hears world (record { name = name; call = call })) answer
+    answered_stranger answer is =
+        subst (λ w. IsAnswer world w answer) (sym (hears_by None none)) (record { name = is.named; reply = is.reply; lines = is.lines })
 
     -- and changes nothing
     pub left_by_stranger : world ≡ world_after_heard world (hears world (record { name = name; call = call }))
     left_by_stranger = ap (world_after_heard world) (sym (hears_by None none))
 
-  -- a call changes the state of the component of its name
-  pub left_by_call : (component : ℕ) → position (λ entry. bytes_eq entry.name name) entries ≡ Some component
-      → with_state world component (outcome_at world component call).next ≡ world_after_heard world (hears world (record { name = name; call = call }))
-  left_by_call component found = ap (world_after_heard world) (sym (hears_by (Some component) found))
+  module _ (component : ℕ) (found : position (λ entry. bytes_eq entry.name name) entries ≡ Some component) where
+    -- a call changes the state of the component of its name
+    pub left_by_call : with_state world component (outcome_at world component call).next ≡ world_after_heard world (hears world (record { name = name; call = call }))
+    left_by_call = ap (world_after_heard world) (sym (hears_by (Some component) found))
 
-  -- and is told with the lines that it finishes, and its reply
-  pub told_call : (component : ℕ) (listed text lines : List ℕ)
-      → position (λ entry. bytes_eq entry.name name) entries ≡ Some component
-      → listed ≡ (entry_at entries component).name
-      → text ≡ reply_text (outcome_at world component call).reply
-      → lines ≡ flat_map log_text (outcome_at world component call).lines
-      → lines ++ line_with listed text ≡ told_now world.entries world.states (hears world (record { name = name; call = call }))
-  told_call component listed text lines found names tells finishes =
-      let e : entry_at entries component ≡ entry_at world.entries component = ap (λ es. entry_at es component) (sym same) in
-      ap (λ n. lines ++ line_with n text) (names ∙ ap (λ entry. entry.name) e)
-      ∙ ap (λ t. lines ++ line_with (entry_at world.entries component).name t) tells
-      ∙ ap (λ l. l ++ line_with (entry_at world.entries component).name (reply_text (outcome_at world component call).reply)) finishes
-      ∙ ap (told_now world.entries world.states) (sym (hears_by (Some component) found))
+    -- and is answered with its reply, and the lines that it finishes
+    pub answered_call : (answer : Answer) → answer.name.now ≡ (entry_at entries component).name
+        → answer.reply.now ≡ reply_text (outcome_at world component call).reply
+        → answer.lines.now ≡ flat_map log_text (outcome_at world component call).lines
+        → IsAnswer world (hears world (record { name = name; call = call })) answer
+    answered_call answer names replies finishes =
+        let e : entry_at entries component ≡ entry_at world.entries component = ap (λ es. entry_at es component) (sym same) in
+        subst (λ w. IsAnswer world w answer) (sym (hears_by (Some component) found))
+        (record { name = names ∙ ap (λ entry. entry.name) e; reply = replies; lines = finishes })
 
 -- what keeps a line from being said under a name
 pub ruleset fronts = (short_front, other_byte, other_front)

@@ -1,5 +1,5 @@
 -- What a run that has ended promises, whether at the end of its input or at a fault.
-use Rattle.std.proofs.Common.{◌≡◌, ℕ, ◌+◌, ◌<◌, ◌≤◌, Bool, true, false, List, [], ◌∷◌, ◌++◌, length, get_or, Option, Some, None, IfSome, Result, Ok, Err, inl, ⊎_elim, arith, refl, sym, ◌∙◌, ap, subst, append-nil, length-append}
+use Rattle.std.proofs.Common.{◌≡◌, ℕ, ◌+◌, ◌<◌, ◌≤◌, Bool, true, false, List, [], ◌∷◌, ◌++◌, length, get_or, Option, Some, None, IfSome, Ok, Err, inl, ⊎_elim, arith, refl, sym, ◌∙◌, ap, subst, append-nil, length-append}
 use Rattle.std.proofs.lemmas.List.{get_or-append-add}
 use Rattle.std.specs.Io.KnownBytes.{Appends}
 use Rattle.own_model.specs.SaidBy.{said_by}
@@ -138,6 +138,15 @@ no_cause ReadFault answered left max_lines text rest failed write_failed parts c
 no_cause WriteFault answered left max_lines text rest failed write_failed parts cause fails reads writes short few = let e : write_failed ≡ true = fails in cc
 no_cause TooManyLines answered left max_lines text rest failed write_failed parts cause fails reads writes short few =
     omega (arith, cause.0, cause.1, ap length parts, length-append answered left)
+
+-- a device that had failed before is a cause
+pub cause_unwritten : (input : Option (List ℕ)) (max_lines : ℕ) (failed write_failed : Bool) → write_failed ≡ true → IfSome input (λ text. HasCause text max_lines failed write_failed)
+cause_unwritten None max_lines failed write_failed fails = tt
+cause_unwritten (Some text) max_lines failed write_failed fails = λ reads writes short few. cc
+
+pub cause_unread : (input : Option (List ℕ)) (max_lines : ℕ) (failed write_failed : Bool) → failed ≡ true → IfSome input (λ text. HasCause text max_lines failed write_failed)
+cause_unread None max_lines failed write_failed fails = tt
+cause_unread (Some text) max_lines failed write_failed fails = λ reads writes short few. cc
 
 -- so it answers Ok
 pub not_stopped : {only : Option (List ℕ)} {fault : RunFault} {max_lines : ℕ} {old new : World} {input rest : Option (List ℕ)} {failed : Bool} {written now_written : Option (List ℕ)} (write_failed : Bool) →

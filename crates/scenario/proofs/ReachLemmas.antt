@@ -3,7 +3,7 @@ use Rattle.std.proofs.Common.{◌≡◌, ℕ, ◌+◌, ◌<◌, ◌≤◌, List,
 use Rattle.std.proofs.lemmas.List.{length-take, take-append-drop}
 use Rattle.std.specs.Io.KnownBytes.{Appends, Keeps}
 use Rattle.scenario.specs.Gathered.{Tells, TellsUnless}
-use Rattle.scenario.specs.Lines.{PassesLines, PassesSome, line_length, to_come}
+use Rattle.scenario.specs.Lines.{PassesLines, line_length, to_come}
 use Rattle.scenario.specs.Next.{TellsAt, TellsOrStops}
 use Rattle.scenario.specs.Reach.{IsFlushed, IsReadUpTo, KeepsUp, ReadsBehind, longest_ahead, reach}
 use Rattle.scenario.specs.declared.lines.LineFault.{LineFault}

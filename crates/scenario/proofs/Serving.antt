@@ -5,10 +5,10 @@ use Rattle.std.specs.Io.KnownBytes.{Appends}
 use Rattle.own_model.specs.Text.{lines_of}
 use Rattle.own_model.specs.Transcript.{heard}
 use Rattle.own_model.specs.World.{World, world_after_heard, world_running}
-use Rattle.scenario.specs.Answered.{Point, Answers, Ended, Halts, HaltsFor, AnswersNext, ReadsOn, told_of_all, told_of_none, after_all, more_unless_failed}
+use Rattle.scenario.specs.Answered.{Point, Answers, Ended, Halts, HaltsFor, AnswersNext, ReadsOn, told_of_all, after_all, more_unless_failed}
 use Rattle.own_model.specs.Running.{told_now}
 use Rattle.own_model.specs.SaidBy.{is_said_by, said_by}
-use Rattle.scenario.proofs.AnsweringLemmas.{IsTold, told_long, told_no_call}
+use Rattle.scenario.specs.Answer.{IsNoCall}
 use Rattle.scenario.specs.Gathered.{Tells, TellsUnless}
 use Rattle.scenario.specs.Lines.{line_of, longest_read, to_come, AreReadable, HasRead, PassesLines}
 use Rattle.scenario.specs.Next.{BeginsWithLine, PassesLongLine, StopsBefore, TellsAt, is_read_fault}
@@ -131,13 +131,13 @@ pub passes_ahead : (old rest : Option (List ℕ)) (ahead left : List ℕ) (n : �
 passes_ahead None rest ahead left n begins is = tt
 passes_ahead (Some text) rest ahead left n begins is = grind (arith, nat_tests, passes_line)
 
--- a line that was too long, and is passed
-pub passes_long : (only : Option (List ℕ)) (world : World) (old come : Option (List ℕ)) → IfSome old (λ before. PassesLongLine before come) →
-    (line : List ℕ) × IsTold only world line (told_of_none only) world × IfSome old (λ text. PassesLines text come (line ∷ [])) × (length line ≤ longest_read)
-passes_long only world None come long = ([], told_no_call only world [] (omega arith) refl, tt, omega arith)
-passes_long only world (Some text) come long = (
+-- a line that was too long is no call, and is passed
+pub passes_long : (old come : Option (List ℕ)) → IfSome old (λ before. PassesLongLine before come) →
+    (line : List ℕ) × IsNoCall line × IfSome old (λ text. PassesLines text come (line ∷ [])) × (length line ≤ longest_read)
+passes_long None come long = ([], inr refl, tt, omega arith)
+passes_long (Some text) come long = (
   line_of text,
-  told_long only world (line_of text) (omega (arith, long.long, length-line_of text)),
+  inl (omega (arith, long.long, length-line_of text)),
   passes_line text come (omega (arith, long.long, line_length-le text)) long.after,
   omega (arith, long.ends, length-line_of text),
 )

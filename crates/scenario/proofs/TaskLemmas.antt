@@ -1,10 +1,9 @@
 -- What a task on a machine promises.
-use Rattle.std.proofs.Common.{Bor, ◌≡◌, ◌≢◌, ℕ, ◌≤◌, Bool, true, false, inl, inr, arith, append-nil, ◌++◌, List, [], length, take, drop, Option, Some, None, IfSome, Result, Ok, Err, refl, sym, ap, ◌∙◌, subst}
+use Rattle.std.proofs.Common.{Bor, ◌≡◌, ◌≢◌, ℕ, ◌≤◌, Bool, true, false, inl, inr, arith, append-nil, ◌++◌, List, [], length, take, drop, Option, Some, None, IfSome, Ok, Err, refl, sym, ap, ◌∙◌, subst}
 use Rattle.std.proofs.lemmas.List.{take-append-drop}
 use Rattle.std.specs.Io.KnownBytes.{Appends}
 use Rattle.own_model.specs.Listed.{Listed, start_list_of}
 use Rattle.own_model.specs.StartList.{StartList, Boots, entries_of}
-use Rattle.own_model.specs.Text.{lines_of}
 use Rattle.own_model.specs.Transcript.{told_after}
 use Rattle.own_model.specs.AccountList.{account_list_text}
 use Rattle.own_model.specs.World.{World, start_world, world_running}
@@ -15,7 +14,7 @@ use Rattle.init_core.specs.StartText.{list_in}
 use Rattle.init_core.specs.declared.fault.BootFault.{BootFault}
 use Rattle.init_core.specs.declared.fault.BootFault.TheVariants.{NoMemory}
 use Rattle.std.proofs.lemmas.List.Elements.{All-nil}
-use Rattle.scenario.specs.Lines.{AreReadable, longest_read}
+use Rattle.scenario.specs.Lines.{longest_read}
 use Rattle.scenario.specs.Program.{IsAnswered, IsBoundedFor, IsMachine, IsDone, FailsFor, StopsScenario, TotalsAre, boot_fault, lines_run, ok_line, scenario_text}
 use Rattle.scenario.specs.Runs.{Completes}
 use Rattle.std.specs.Option.{option_copied}

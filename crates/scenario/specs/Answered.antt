@@ -1,13 +1,11 @@
 -- What a world tells of lines, the world that they leave, and how far a run has come.
-use Rattle.std.specs.Prelude.{◌≡◌, ℕ, ◌<◌, ◌≤◌, Bool, true, false, List, [], ◌∷◌, ◌++◌, Option, Some, None, IfSome, Result, Ok, Err, codes, length}
-use Rattle.trade_base.specs.declared.refusal.Refusal.TheVariants.{BadLine}
+use Rattle.std.specs.Prelude.{◌≡◌, ℕ, ◌<◌, ◌≤◌, Bool, true, false, List, [], ◌∷◌, ◌++◌, Option, Some, None, IfSome, Result, Ok, Err, length}
 use Rattle.std.specs.Str.{bytes_eq}
 use Rattle.own_model.specs.Call.{Spoken, spoken}
 use Rattle.own_model.specs.Running.{told_running}
 use Rattle.own_model.specs.SaidBy.{component_of, is_under, said_by}
-use Rattle.own_model.specs.Reply.Reply.{Refused}
 use Rattle.own_model.specs.Text.{lines_of}
-use Rattle.own_model.specs.Transcript.{Heard, heard_call, reply_line}
+use Rattle.own_model.specs.Transcript.{Heard, heard_call}
 use Rattle.own_model.specs.World.{World, world_running}
 use Rattle.scenario.specs.Gathered.{Tells}
 use Rattle.scenario.specs.Lines.{line_length, longest_read, to_come, AreReadable, HasRead, PassesSome, PassesLines}
@@ -17,10 +15,6 @@ use Rattle.scenario.specs.declared.lines.Buffers.{Buffers}
 use Rattle.scenario.specs.declared.lines.LineFault.{LineFault}
 use Rattle.scenario.specs.declared.lines.LineFault.TheVariants.{Read, Write, Endless}
 
--- what is told of a line that is no call
-abbrev pub bad_line : List ℕ
-bad_line = reply_line (codes "?") (Refused BadLine)
-
 -- what is told of each line in turn, or of each of a name's lines alone
 abbrev pub told_of_all : Option (List ℕ) → World → List (List ℕ) → List ℕ
 told_of_all only world lines = told_running world.entries world.states (said_by only lines)
@@ -28,11 +22,6 @@ told_of_all only world lines = told_running world.entries world.states (said_by 
 -- the world after these lines, or after a name's alone
 abbrev pub after_all : Option (List ℕ) → World → List (List ℕ) → World
 after_all only world lines = world_running world (said_by only lines)
-
--- what is told of a line that is no call: nothing, where a name's lines alone are answered
-abbrev pub told_of_none : Option (List ℕ) → List ℕ
-told_of_none None = bad_line
-told_of_none (Some name) = []
 
 -- a call under this name is answered
 abbrev pub is_meant : Option (List ℕ) → List ℕ → Bool

@@ -7,6 +7,7 @@ pub mod Reach
 pub mod Next
 pub mod Stops
 pub mod Answered
+pub mod Answer
 pub mod Serves
 pub mod Runs
 pub mod Program

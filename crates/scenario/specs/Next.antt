@@ -1,12 +1,14 @@
 -- What comes next from a source, and why nothing does.
-use Rattle.std.specs.Prelude.{◌≡◌, ℕ, ◌+◌, ◌<◌, ◌≤◌, Bool, true, false, List, [], Option, Result, Some, Ok, Err, IfSome, drop, take, length, nat_lt, ⊤}
+use Rattle.std.specs.Prelude.{◌≡◌, ℕ, ◌+◌, ◌<◌, ◌≤◌, Bool, true, false, List, [], Option, Result, Some, Ok, Err, IfSome, IfOk, drop, take, length, nat_lt, ⊤}
 use Rattle.std.specs.Io.KnownBytes.{Keeps}
 use Rattle.own_model.specs.Transcript.{longest_line}
+use Rattle.scenario.specs.declared.lines.Buffers.{Buffers}
 use Rattle.scenario.specs.declared.lines.Next.{Next}
 use Rattle.scenario.specs.declared.lines.Next.TheVariants.{Line, TooLong, End}
 use Rattle.scenario.specs.declared.lines.LineFault.{LineFault}
 use Rattle.scenario.specs.declared.lines.LineFault.TheVariants.{Read, Write, Endless}
 use Rattle.scenario.specs.Gathered.{Tells, TellsPart}
+use Rattle.scenario.specs.Reach.{ReadsBehind, reach}
 use Rattle.scenario.specs.Lines.{line_length, line_of, after_line, longest_read, to_come, Grows, HasRead, PassesSome}
 
 -- the bytes ahead begin with the next line, of n bytes, and what comes after it is left
@@ -93,3 +95,21 @@ TellsOrStops (Ok x) written gathered now_written now_gathered bytes =
     Tells written gathered now_written now_gathered bytes
 TellsOrStops (Err fault) written gathered now_written now_gathered bytes =
     TellsAt fault written gathered now_written bytes
+
+-- neither device has failed
+pub record BothWork (read_failed write_failed : Bool) : Type 0 where
+  pub reads : read_failed ≡ false
+  pub writes : write_failed ≡ false
+
+-- a device has failed where the fault says so, and else none has
+pub record FailsAs {T : Type 0} (result : Result T LineFault) (read_failed write_failed : Bool) : Type 0 where
+  pub reading : read_failed ≡ is_read_fault result
+  pub writing : write_failed ≡ is_write_fault result
+
+-- the next line is found or no line comes; what was gathered is written before each read
+pub record FindsLine (result : Result Next LineFault) (old : Buffers) (rest written : Option (List ℕ))
+    (new : Buffers) (now_rest now_written : Option (List ℕ)) : Type 0 where
+  pub next : FindsNextIn result old.ahead rest new.ahead now_rest
+  pub ready : IfOk result (λ next. IsReady next new.ahead new.gathered)
+  pub behind : ReadsBehind reach (to_come old.ahead rest) old.gathered written rest now_written now_rest
+  pub told : TellsOrStops result written old.gathered now_written new.gathered []

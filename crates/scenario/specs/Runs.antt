@@ -1,5 +1,5 @@
 -- What a run promises, of all lines or of a name's alone.
-use Rattle.std.specs.Prelude.{◌≡◌, ℕ, ◌≤◌, Bool, false, List, [], length, if◌then◌else◌, Option, IfSome, Result, Err}
+use Rattle.std.specs.Prelude.{◌≡◌, ℕ, ◌≤◌, Bool, false, List, [], length, if◌then◌else◌, Option, IfSome, IfOk, IfErr, OnOk, Result, Err}
 use Rattle.std.specs.Io.KnownBytes.{Appends}
 use Rattle.own_model.specs.SaidBy.{said_by}
 use Rattle.own_model.specs.StartList.{StartList}
@@ -7,6 +7,7 @@ use Rattle.own_model.specs.Text.{lines_of}
 use Rattle.own_model.specs.Transcript.{told_after, calls_of, state_at, state_after}
 use Rattle.own_model.specs.World.{World, IsBalanced, IsBalancedFor, world_running}
 use Rattle.scenario.specs.Lines.{AreReadable}
+use Rattle.scenario.specs.Stops.{Stops, is_write_fault}
 use Rattle.scenario.specs.declared.running.RunFault.{RunFault}
 use Rattle.scenario.specs.declared.running.RunFault.TheVariants.{ReadFault, WriteFault}
 use Rattle.scenario.specs.declared.running.Summary.{Summary}
@@ -44,3 +45,16 @@ HasCause input max_lines read_failed write_failed =
 abbrev pub FaultBefore : Result Summary RunFault → Bool → Bool → Type 0
 FaultBefore result read_failed write_failed =
     result ≡ Err (if write_failed then WriteFault else ReadFault)
+
+-- all lines of an input, or a name's alone, are run to its end or to a fault
+pub record Runs (only : Option (List ℕ)) (result : Result Summary RunFault) (max_lines : ℕ) (old new : World)
+    (input rest : Option (List ℕ)) (read_failed write_failed : Bool) (written now_written : Option (List ℕ)) : Type 0 where
+  pub few : IfOk result (λ summary. summary.lines ≤ max_lines)
+  pub done : IfOk result (λ summary. IfSome input (λ text.
+      Completes only summary.lines old new text written now_written))
+  pub keeps : KeepsWorld old new
+  pub writing : write_failed ≡ is_write_fault result
+  pub reading : OnOk result (read_failed ≡ false)
+  pub stops : IfErr result (λ fault. IfSome input (λ text.
+      Stops only fault max_lines old new text rest read_failed written now_written))
+  pub ok : IfErr result (λ fault. IfSome input (λ text. HasCause text max_lines read_failed write_failed))

@@ -1,21 +1,16 @@
 //! The answer to a line.
-ghost use Rattle.std.specs.Prelude.{◌≡◌, ◌≤◌, ◌∷◌, [], false, length, is_err};
+ghost use Rattle.std.specs.Prelude.{◌≡◌, ◌≤◌, ◌∷◌, ℕ, List, [], false, length};
 ghost use Rattle.std.specs.Option.{option_copied};
 ghost use Rattle.own_model.specs.Call.{spoken};
-ghost use Rattle.own_model.specs.Reply.Reply.{Refused};
 ghost use Rattle.own_model.specs.Listed.{start_list_of};
-ghost use Rattle.own_model.specs.Running.{told_now};
 ghost use Rattle.own_model.specs.SaidBy.{is_under};
 ghost use Rattle.own_model.specs.StartList.{entries_of};
-ghost use Rattle.own_model.specs.Transcript.{reply_line};
-ghost use Rattle.own_model.specs.World.{world_after_heard};
+ghost use Rattle.own_model.specs.World.{World, world_after_heard};
 ghost use Rattle.pd_core.specs.Call.{model_call, IsWellFormed};
-ghost use Rattle.scenario.specs.Answered.{IsUnsaid, after_all, hears, is_meant, told_of_all, told_of_none};
-ghost use Rattle.scenario.specs.Gathered.{TellsUnless};
+ghost use Rattle.scenario.specs.Answer.{AnswersLine, IsAnswer, IsNoCall, IsRefusal};
+ghost use Rattle.scenario.specs.Answered.{IsUnsaid, after_all, hears, is_meant};
 
 use crate::block::LONGEST_LINE;
-use crate::device::{DeviceFault, Sink};
-use crate::gather::Gather;
 use crate::line::read_line;
 use init_core::StartList;
 use pd_core::{Call, Core, Reply, Router};
@@ -24,87 +19,131 @@ use trade_base::Refusal;
 /// The name before the reply to what is no call.
 const NOBODY: &[u8] = b"?";
 
-/// Answers a line of at most `LONGEST_LINE` bytes: its call is carried out, and what it is answered is gathered: the log
-/// lines that it finished, and then the reply with the caller's name. A fault leaves it answered, and told in part.
-/// Where a name is given, a line that isn't a call under it is skipped: nothing is told of it, and it is read no further
-/// than the name goes.
-pub fn answer_line<R: Router + Drop, K: Sink>(
-    core: &mut Core<R>,
-    list: &StartList,
-    only: Option<&[u8]>,
-    line: &[u8],
-    reply: &mut Reply,
-    gathered: &mut Gather,
-    sink: &mut K,
-) -> Result<(), DeviceFault>
-    requires short { length line.now ≤ LONGEST_LINE }
-    requires writes { K.has_failed sink.old ≡ false }
-    requires listed { core.old.entries ≡ entries_of (start_list_of list.now) }
-    ensures world { core.new ≡ after_all (option_copied only.entry) core.old (line.now ∷ []) }
-    ensures told { TellsUnless result
-        (K.contents sink.old) gathered.old (K.contents sink.new) gathered.new
-        (told_of_all (option_copied only.entry) core.old (line.now ∷ [])) }
-    ensures failing { K.has_failed sink.new ≡ is_err result }
-{
-    if !may_mean(only, line) {
-        return Ok(());
-    }
-    match read_line(line) {
-        Ok((name, call)) => {
-            if means(only, name) {
-                answer_call(core, list, name, call, reply, gathered, sink)
-            } else {
-                Ok(())
-            }
+/// What a line is answered.
+#[derive(Clone, Copy, Debug, PartialEq, Eq)]
+pub struct Answer<'a> {
+    /// The log lines that its call finished, each as it is printed, with its newline.
+    pub lines: &'a [u8],
+    /// The caller's name, or `?` where the line is no call.
+    pub name: &'a [u8],
+    /// The text of the reply.
+    pub reply: &'a [u8],
+}
+
+/// A run from one line to the next: who is called by which name, and whose lines are answered.
+#[derive(Clone, Copy, Debug)]
+pub struct Run<'a> {
+    /// The components by their names.
+    pub list: &'a StartList,
+    /// The name whose lines alone are answered, or none where all are.
+    pub only: Option<&'a [u8]>,
+}
+
+impl<'a> Run<'a> {
+    /// Answers a line: its call is carried out, and `reply` keeps what it is answered until the next. A line of more than
+    /// `LONGEST_LINE` bytes is no call. Where a name is given, a line that isn't a call under it is skipped: it isn't
+    /// answered, and it is read no further than the name goes.
+    #[inline]
+    pub fn answer<'b, R: Router + Drop>(
+        &self,
+        core: &mut Core<R>,
+        line: &'b [u8],
+        reply: &'b mut Reply,
+    ) -> Option<Answer<'b>>
+    where
+        'a: 'b,
+        requires listed { core.old.entries ≡ entries_of (start_list_of self.now.list.now) }
+        ensures world { core.new ≡ after_all (option_copied self.now.only) core.old (line.now ∷ []) }
+        ensures answered { AnswersLine (option_copied self.now.only) core.old line.now result }
+    {
+        if line.len() > LONGEST_LINE {
+            return self.answer_no_call();
         }
-        Err(_) => answer_no_call(only, gathered, sink),
+        self.answer_short(core, line, reply)
+    }
+
+    // Answers a line that isn't too long to be a call.
+    #[inline(always)]
+    pub(crate) fn answer_short<'b, R: Router + Drop>(
+        &self,
+        core: &mut Core<R>,
+        line: &'b [u8],
+        reply: &'b mut Reply,
+    ) -> Option<Answer<'b>>
+    where
+        'a: 'b,
+        requires short { length line.now ≤ LONGEST_LINE }
+        requires listed { core.old.entries ≡ entries_of (start_list_of self.now.list.now) }
+        ensures world { core.new ≡ after_all (option_copied self.now.only) core.old (line.now ∷ []) }
+        ensures answered { AnswersLine (option_copied self.now.only) core.old line.now result }
+    {
+        if !may_mean(self.only, line) {
+            return None;
+        }
+        match read_line(line) {
+            Ok((name, call)) => {
+                if means(self.only, name) {
+                    Some(self.answer_call(core, name, call, reply))
+                } else {
+                    None
+                }
+            }
+            Err(_) => self.answer_no_call(),
+        }
+    }
+
+    // Answers a line that is no call, whatever it is.
+    #[inline(always)]
+    pub(crate) fn answer_no_call<'b>(&self) -> Option<Answer<'b>>
+        ensures { (world : World) (line : List ℕ) → IsNoCall line →
+            AnswersLine (option_copied self.now.only) world line result }
+    {
+        match self.only {
+            None => Some(refused(NOBODY, Refusal::BadLine)),
+            Some(_) => None,
+        }
+    }
+
+    // Carries out a call under a name.
+    #[inline(always)]
+    fn answer_call<'b, R: Router + Drop>(
+        &self,
+        core: &mut Core<R>,
+        name: &'b [u8],
+        call: Call<'_>,
+        reply: &'b mut Reply,
+    ) -> Answer<'b>
+    where
+        'a: 'b,
+        requires formed { IsWellFormed call }
+        requires listed { core.old.entries ≡ entries_of (start_list_of self.now.list.now) }
+        ensures world { core.new ≡ world_after_heard core.old
+            (hears core.old (record { name = name.now; call = model_call call.entry })) }
+        ensures answered { IsAnswer core.old
+            (hears core.old (record { name = name.now; call = model_call call.entry })) result }
+    {
+        let Some(component) = self.list.find(name) else {
+            return refused(name, Refusal::UnknownComponent);
+        };
+        core.step(component, call, reply);
+        Answer {
+            lines: reply.lines(),
+            name: self.list.name(component),
+            reply: reply.text(),
+        }
     }
 }
 
-/// Answers a line that is no call, unless a name is given. Of a longer line than `LONGEST_LINE` no byte was kept.
-pub fn answer_no_call<K: Sink>(
-    only: Option<&[u8]>,
-    gathered: &mut Gather,
-    sink: &mut K,
-) -> Result<(), DeviceFault>
-    requires { K.has_failed sink.old ≡ false }
-    ensures told { TellsUnless result
-        (K.contents sink.old) gathered.old (K.contents sink.new) gathered.new
-        (told_of_none (option_copied only.entry)) }
-    ensures failing { K.has_failed sink.new ≡ is_err result }
+// A refusal under a name.
+#[inline]
+fn refused(name: &[u8], refusal: Refusal) -> Answer<'_>
+    ensures { IsRefusal name.now refusal result }
 {
-    match only {
-        None => tell_refusal(NOBODY, Refusal::BadLine, gathered, sink),
-        Some(_) => Ok(()),
+    Answer {
+        lines: b"",
+        name,
+        reply: refusal.name().as_bytes(),
     }
-}
-
-// Carries out a call under a name, and gathers what it is answered.
-fn answer_call<R: Router + Drop, K: Sink>(
-    core: &mut Core<R>,
-    list: &StartList,
-    name: &[u8],
-    call: Call<'_>,
-    reply: &mut Reply,
-    gathered: &mut Gather,
-    sink: &mut K,
-) -> Result<(), DeviceFault>
-    requires formed { IsWellFormed call }
-    requires writes { K.has_failed sink.old ≡ false }
-    requires listed { core.old.entries ≡ entries_of (start_list_of list.now) }
-    ensures world { core.new ≡ world_after_heard core.old
-        (hears core.old (record { name = name.now; call = model_call call.entry })) }
-    ensures told { TellsUnless result
-        (K.contents sink.old) gathered.old (K.contents sink.new) gathered.new
-        (told_now core.old.entries core.old.states
-        (hears core.old (record { name = name.now; call = model_call call.entry }))) }
-    ensures failing { K.has_failed sink.new ≡ is_err result }
-{
-    let Some(component) = list.find(name) else {
-        return tell_refusal(name, Refusal::UnknownComponent, gathered, sink);
-    };
-    core.step(component, call, reply);
-    gathered.put_answer(sink, reply.lines(), list.name(component), reply.text())
 }
 
 // Whether a call under a name is to be answered.
@@ -140,20 +179,4 @@ fn stands_before(name: &[u8], line: &[u8]) -> bool
         return false;
     }
     line.starts_with(name)
-}
-
-// Gathers a refusal under a name.
-fn tell_refusal<K: Sink>(
-    name: &[u8],
-    refusal: Refusal,
-    gathered: &mut Gather,
-    sink: &mut K,
-) -> Result<(), DeviceFault>
-    requires { K.has_failed sink.old ≡ false }
-    ensures told { TellsUnless result
-        (K.contents sink.old) gathered.old (K.contents sink.new) gathered.new
-        (reply_line name.now (Refused refusal)) }
-    ensures failing { K.has_failed sink.new ≡ is_err result }
-{
-    gathered.put_reply(sink, name, refusal.name().as_bytes())
 }

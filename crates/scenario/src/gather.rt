@@ -102,6 +102,7 @@ impl Gather {
     }
 
     /// Gathers finished log lines as they stand, and then a name and its reply. A write fails as in `put`.
+    #[inline(always)]
     pub fn put_answer<K: Sink>(
         &mut self,
         sink: &mut K,

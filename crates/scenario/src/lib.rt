@@ -4,6 +4,7 @@
 mod account_list;
 mod account_sums;
 mod account_text;
+mod alone;
 mod answering;
 mod block;
 mod bytes;
@@ -21,6 +22,9 @@ mod running;
 mod tests;
 
 pub use account_list::write_accounts;
+pub use alone::run_only;
+pub use answering::{Answer, Run};
+pub use block::LONGEST_LINE;
 pub use config::{ConfigFault, LONGEST_CONFIG_READ, read_config, read_config_at};
 pub use device::{DeviceFault, Sink, Source};
 pub use host::run_program;
@@ -30,4 +34,4 @@ pub use output::Output;
 pub use program::{
     Failure, MAX_LINES, Stopped, Task, boot_and_run, exit_status, run_bytes, task_of,
 };
-pub use running::{RunFault, Summary, run, run_only};
+pub use running::{RunFault, Summary, run};

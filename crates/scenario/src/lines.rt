@@ -1,7 +1,7 @@
 //! The lines of a source, one after another.
-ghost use Rattle.std.specs.Prelude.{◌≡◌, ◌<◌, ◌≤◌, false, [], length, IfOk, OnOk};
+ghost use Rattle.std.specs.Prelude.{◌≡◌, ◌<◌, ◌≤◌, [], length, OnOk};
 ghost use Rattle.scenario.specs.Lines.{line_length, to_come};
-ghost use Rattle.scenario.specs.Next.{FindsNextIn, BeginsIn, GrowsOrStops, TellsOrStops, IsReady, is_read_fault, is_write_fault};
+ghost use Rattle.scenario.specs.Next.{BeginsIn, BothWork, FailsAs, FindsLine, GrowsOrStops, TellsOrStops};
 ghost use Rattle.scenario.specs.Reach.{ReadsBehind, longest_ahead, reach};
 
 use crate::block::{Block, LONGEST_LINE};
@@ -59,8 +59,7 @@ impl Buffers {
         sink: &mut K,
     ) -> Result<usize, LineFault>
         requires room { length self.old.ahead ≤ LONGEST_LINE }
-        requires reads { S.has_failed source.old ≡ false }
-        requires writes { K.has_failed sink.old ≡ false }
+        requires works { BothWork (S.has_failed source.old) (K.has_failed sink.old) }
         ensures grows { GrowsOrStops result
             self.old.ahead (S.remaining source.old) self.new.ahead (S.remaining source.new) }
         ensures told { TellsOrStops result
@@ -70,8 +69,7 @@ impl Buffers {
             (to_come self.old.ahead (S.remaining source.old)) self.old.gathered
             (K.contents sink.old) (S.remaining source.old)
             (K.contents sink.new) (S.remaining source.new) }
-        ensures reading { S.has_failed source.new ≡ is_read_fault result }
-        ensures writing { K.has_failed sink.new ≡ is_write_fault result }
+        ensures failing { FailsAs result (S.has_failed source.new) (K.has_failed sink.new) }
     {
         match self.gathered.flush(sink) {
             Ok(()) => match self.ahead.fill(source, &self.gathered) {
@@ -88,18 +86,11 @@ impl Buffers {
         source: &mut S,
         sink: &mut K,
     ) -> Result<Next, LineFault>
-        requires reads { S.has_failed source.old ≡ false }
-        requires writes { K.has_failed sink.old ≡ false }
-        ensures next { FindsNextIn result
-            self.old.ahead (S.remaining source.old) self.new.ahead (S.remaining source.new) }
-        ensures ready { IfOk result (λ next. IsReady next self.new.ahead self.new.gathered) }
-        ensures behind { ReadsBehind reach (to_come self.old.ahead (S.remaining source.old))
-            self.old.gathered (K.contents sink.old) (S.remaining source.old)
-            (K.contents sink.new) (S.remaining source.new) }
-        ensures told { TellsOrStops result
-            (K.contents sink.old) self.old.gathered (K.contents sink.new) self.new.gathered [] }
-        ensures reading { S.has_failed source.new ≡ is_read_fault result }
-        ensures writing { K.has_failed sink.new ≡ is_write_fault result }
+        requires works { BothWork (S.has_failed source.old) (K.has_failed sink.old) }
+        ensures finds { FindsLine result
+            self.old (S.remaining source.old) (K.contents sink.old)
+            self.new (S.remaining source.new) (K.contents sink.new) }
+        ensures failing { FailsAs result (S.has_failed source.new) (K.has_failed sink.new) }
     {
         let mut seen = 0;
         loop {
@@ -126,8 +117,7 @@ impl Buffers {
         source: &mut S,
         sink: &mut K,
     ) -> Result<bool, LineFault>
-        requires reads { S.has_failed source.old ≡ false }
-        requires writes { K.has_failed sink.old ≡ false }
+        requires works { BothWork (S.has_failed source.old) (K.has_failed sink.old) }
         ensures begins { BeginsIn result
             self.old.ahead (S.remaining source.old) (S.remaining source.new) }
         ensures behind { ReadsBehind reach (to_come self.old.ahead (S.remaining source.old))
@@ -135,8 +125,7 @@ impl Buffers {
             (K.contents sink.new) (S.remaining source.new) }
         ensures told { TellsOrStops result
             (K.contents sink.old) self.old.gathered (K.contents sink.new) [] [] }
-        ensures reading { S.has_failed source.new ≡ is_read_fault result }
-        ensures writing { K.has_failed sink.new ≡ is_write_fault result }
+        ensures failing { FailsAs result (S.has_failed source.new) (K.has_failed sink.new) }
     {
         if self.ahead.len() > 0 {
             return match self.gathered.flush(sink) {
@@ -154,18 +143,11 @@ impl Buffers {
         sink: &mut K,
     ) -> Result<Next, LineFault>
         requires long { LONGEST_LINE < line_length self.old.ahead }
-        requires reads { S.has_failed source.old ≡ false }
-        requires writes { K.has_failed sink.old ≡ false }
-        ensures next { FindsNextIn result
-            self.old.ahead (S.remaining source.old) self.new.ahead (S.remaining source.new) }
-        ensures ready { IfOk result (λ next. IsReady next self.new.ahead self.new.gathered) }
-        ensures behind { ReadsBehind reach (to_come self.old.ahead (S.remaining source.old))
-            self.old.gathered (K.contents sink.old) (S.remaining source.old)
-            (K.contents sink.new) (S.remaining source.new) }
-        ensures told { TellsOrStops result
-            (K.contents sink.old) self.old.gathered (K.contents sink.new) self.new.gathered [] }
-        ensures reading { S.has_failed source.new ≡ is_read_fault result }
-        ensures writing { K.has_failed sink.new ≡ is_write_fault result }
+        requires works { BothWork (S.has_failed source.old) (K.has_failed sink.old) }
+        ensures finds { FindsLine result
+            self.old (S.remaining source.old) (K.contents sink.old)
+            self.new (S.remaining source.new) (K.contents sink.new) }
+        ensures failing { FailsAs result (S.has_failed source.new) (K.has_failed sink.new) }
     {
         let mut passed = 0;
         loop {

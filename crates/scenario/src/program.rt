@@ -14,6 +14,7 @@ ghost use Rattle.scenario.specs.declared.program.Task.TheVariants.{Check as Chec
 ghost use Rattle.scenario.specs.declared.running.RunFault.TheVariants.{WriteFault as Unwritten};
 
 use crate::account_list::write_accounts;
+use crate::answering::Run;
 use crate::device::{Sink, Source};
 use crate::gather::write_out;
 use crate::output::Output;
@@ -152,7 +153,7 @@ fn answer_scenario<R: Router + Drop, S: Source, K: Sink>(
         (K.contents writer.old) (K.contents writer.new))) }
     ensures writing { K.has_failed writer.new ≡ is_write_fault result }
 {
-    match run_said_by(core, list, reply, only, reader, writer, MAX_LINES) {
+    match run_said_by(&Run { list, only }, core, reply, reader, writer, MAX_LINES) {
         Ok(summary) => if accounts {
             match write_accounts(core, list, writer) {
                 Ok(()) => Ok(summary),

@@ -1,18 +1,20 @@
 //! The run: lines are read, answered and written.
-ghost use Rattle.std.specs.Prelude.{◌≡◌, ℕ, ◌+◌, ◌≤◌, ◌∷◌, [], ◌||◌, true, false, length, take, drop, is_err, IfSome, IfOk, IfErr, OnOk, Some, None};
+ghost use Rattle.std.specs.Prelude.{◌≡◌, ◌+◌, ◌≤◌, ◌∷◌, [], ◌||◌, true, false, length, take, drop, is_err, IfSome, IfOk, IfErr, OnOk, None};
 ghost use Rattle.std.specs.Option.{option_copied};
 ghost use Rattle.own_model.specs.Listed.{start_list_of};
 ghost use Rattle.own_model.specs.StartList.{entries_of};
+ghost use Rattle.scenario.specs.Answer.{answer_text};
 ghost use Rattle.scenario.specs.Answered.{AnswersNext, ReadsOn, after_all, point, told_of_all, more_unless_failed};
 ghost use Rattle.scenario.specs.Gathered.{TellsUnless};
-ghost use Rattle.scenario.specs.Next.{is_read_fault, is_write_fault as is_line_write_fault};
-ghost use Rattle.scenario.specs.Runs.{Completes, FaultBefore, HasCause, KeepsWorld};
+ghost use Rattle.scenario.specs.Next.{BothWork, FailsAs};
+ghost use Rattle.scenario.specs.Runs.{Completes, FaultBefore, HasCause, KeepsWorld, Runs};
 ghost use Rattle.scenario.specs.Serves.{Serves, run_fault};
 ghost use Rattle.scenario.specs.Stops.{Stops, is_write_fault};
 
-use crate::answering::{answer_line, answer_no_call};
+use crate::answering::{Answer, Run};
 use crate::block::LONGEST_LINE;
 use crate::device::{DeviceFault, Sink, Source};
+use crate::gather::Gather;
 use crate::lines::{Buffers, LineFault, Next};
 use init_core::StartList;
 use pd_core::{Core, Reply, Router};
@@ -83,68 +85,30 @@ pub fn run<R: Router + Drop, S: Source, K: Sink>(
         FaultBefore result (S.has_failed reader.old) (K.has_failed writer.old)
         × (core.new ≡ core.old) × (reader.new ≡ reader.old) × (writer.new ≡ writer.old) }
 {
-    run_said_by(core, list, reply, None, reader, writer, max_lines)
+    run_said_by(
+        &Run { list, only: None },
+        core,
+        reply,
+        reader,
+        writer,
+        max_lines,
+    )
 }
 
-/// Answers the lines of one name alone: those of at most `LONGEST_LINE` bytes that `read_line` reads as calls under it.
-/// Every other line is counted, and skipped: nothing is told of it, and it is read no further than the name goes. All
-/// else is as in `run`, also where a line is skipped. What is written is the transcript of the name's lines alone, which
-/// is what a run of all lines tells of them (`own_model`'s `lines_stand_alone`).
-pub fn run_only<R: Router + Drop, S: Source, K: Sink>(
-    core: &mut Core<R>,
-    list: &StartList,
-    reply: &mut Reply,
-    only: &[u8],
-    reader: &mut S,
-    writer: &mut K,
-    max_lines: u64,
-) -> Result<Summary, RunFault>
-    requires listed { core.old.entries ≡ entries_of (start_list_of list.now) }
-    ensures few { IfOk result (λ summary. summary.lines ≤ max_lines) }
-    ensures done { IfOk result (λ summary. IfSome (S.remaining reader.old) (λ input.
-        Completes (Some only.now) summary.lines core.old core.new input
-        (K.contents writer.old) (K.contents writer.new))) }
-    ensures keeps { KeepsWorld core.old core.new }
-    ensures writing { K.has_failed writer.new ≡ is_write_fault result }
-    ensures reading { OnOk result (S.has_failed reader.new ≡ false) }
-    ensures stops { IfErr result (λ fault. IfSome (S.remaining reader.old) (λ input.
-        Stops (Some only.now) fault max_lines core.old core.new input
-        (S.remaining reader.new) (S.has_failed reader.new)
-        (K.contents writer.old) (K.contents writer.new))) }
-    ensures ok { IfErr result (λ fault. IfSome (S.remaining reader.old) (λ input.
-        HasCause input max_lines (S.has_failed reader.new) (K.has_failed writer.new))) }
-    ensures before { (K.has_failed writer.old || S.has_failed reader.old) ≡ true →
-        FaultBefore result (S.has_failed reader.old) (K.has_failed writer.old)
-        × (core.new ≡ core.old) × (reader.new ≡ reader.old) × (writer.new ≡ writer.old) }
-{
-    run_said_by(core, list, reply, Some(only), reader, writer, max_lines)
-}
-
-/// Answers all lines, or those of one name alone.
-#[tactic(auto, using(crate::proofs::Ending::endings))]
+/// A run of all lines, or of those of one name alone.
 pub(crate) fn run_said_by<R: Router + Drop, S: Source, K: Sink>(
+    run: &Run<'_>,
     core: &mut Core<R>,
-    list: &StartList,
     reply: &mut Reply,
-    only: Option<&[u8]>,
     reader: &mut S,
     writer: &mut K,
     max_lines: u64,
 ) -> Result<Summary, RunFault>
-    requires listed { core.old.entries ≡ entries_of (start_list_of list.now) }
-    ensures few { IfOk result (λ summary. summary.lines ≤ max_lines) }
-    ensures done { IfOk result (λ summary. IfSome (S.remaining reader.old) (λ input.
-        Completes (option_copied only.entry) summary.lines core.old core.new input
-        (K.contents writer.old) (K.contents writer.new))) }
-    ensures keeps { KeepsWorld core.old core.new }
-    ensures writing { K.has_failed writer.new ≡ is_write_fault result }
-    ensures reading { OnOk result (S.has_failed reader.new ≡ false) }
-    ensures stops { IfErr result (λ fault. IfSome (S.remaining reader.old) (λ input.
-        Stops (option_copied only.entry) fault max_lines core.old core.new input
-        (S.remaining reader.new) (S.has_failed reader.new)
-        (K.contents writer.old) (K.contents writer.new))) }
-    ensures ok { IfErr result (λ fault. IfSome (S.remaining reader.old) (λ input.
-        HasCause input max_lines (S.has_failed reader.new) (K.has_failed writer.new))) }
+    requires listed { core.old.entries ≡ entries_of (start_list_of run.now.list.now) }
+    ensures runs { Runs (option_copied run.now.only) result max_lines core.old core.new
+        (S.remaining reader.old) (S.remaining reader.new)
+        (S.has_failed reader.new) (K.has_failed writer.new)
+        (K.contents writer.old) (K.contents writer.new) }
     ensures before { (K.has_failed writer.old || S.has_failed reader.old) ≡ true →
         FaultBefore result (S.has_failed reader.old) (K.has_failed writer.old)
         × (core.new ≡ core.old) × (reader.new ≡ reader.old) × (writer.new ≡ writer.old) }
@@ -155,7 +119,7 @@ pub(crate) fn run_said_by<R: Router + Drop, S: Source, K: Sink>(
     if reader.failed() {
         return Err(RunFault::ReadFault);
     }
-    match answer_all(core, list, reply, only, reader, writer, max_lines) {
+    match answer_all(run, core, reply, reader, writer, max_lines) {
         Ok(lines) => Ok(Summary { lines }),
         Err(fault) => Err(fault),
     }
@@ -163,18 +127,16 @@ pub(crate) fn run_said_by<R: Router + Drop, S: Source, K: Sink>(
 
 // Answers line after line, and tells how many there were, also of those that were skipped.
 fn answer_all<R: Router + Drop, S: Source, K: Sink>(
+    run: &Run<'_>,
     core: &mut Core<R>,
-    list: &StartList,
     reply: &mut Reply,
-    only: Option<&[u8]>,
     reader: &mut S,
     writer: &mut K,
     max_lines: u64,
 ) -> Result<u64, RunFault>
-    requires listed { core.old.entries ≡ entries_of (start_list_of list.now) }
-    requires reads { S.has_failed reader.old ≡ false }
-    requires writes { K.has_failed writer.old ≡ false }
-    ensures serves { Serves (option_copied only.entry) result max_lines core.old core.new
+    requires listed { core.old.entries ≡ entries_of (start_list_of run.now.list.now) }
+    requires works { BothWork (S.has_failed reader.old) (K.has_failed writer.old) }
+    ensures serves { Serves (option_copied run.now.only) result max_lines core.old core.new
         (S.remaining reader.old) (S.remaining reader.new) (S.has_failed reader.new)
         (K.contents writer.old) (K.contents writer.new) }
     ensures reading { OnOk result (S.has_failed reader.new ≡ false) }
@@ -182,7 +144,7 @@ fn answer_all<R: Router + Drop, S: Source, K: Sink>(
 {
     let mut buffers = Buffers::new();
     for count in 0..max_lines {
-        if !answer_next(core, list, reply, only, &mut buffers, reader, writer)? {
+        if !answer_next(run, core, reply, &mut buffers, reader, writer)? {
             return Ok(count);
         }
     }
@@ -194,61 +156,78 @@ fn answer_all<R: Router + Drop, S: Source, K: Sink>(
 
 // Answers the next line, or tells that there is none.
 fn answer_next<R: Router + Drop, S: Source, K: Sink>(
+    run: &Run<'_>,
     core: &mut Core<R>,
-    list: &StartList,
     reply: &mut Reply,
-    only: Option<&[u8]>,
     buffers: &mut Buffers,
     reader: &mut S,
     writer: &mut K,
 ) -> Result<bool, LineFault>
-    requires listed { core.old.entries ≡ entries_of (start_list_of list.now) }
-    requires reads { S.has_failed reader.old ≡ false }
-    requires writes { K.has_failed writer.old ≡ false }
-    ensures next { AnswersNext (option_copied only.entry) result
+    requires listed { core.old.entries ≡ entries_of (start_list_of run.now.list.now) }
+    requires works { BothWork (S.has_failed reader.old) (K.has_failed writer.old) }
+    ensures next { AnswersNext (option_copied run.now.only) result
         (point core.old buffers.old (S.remaining reader.old) (K.contents writer.old))
         (point core.new buffers.new (S.remaining reader.new) (K.contents writer.new)) }
     ensures behind { ReadsOn
         (point core.old buffers.old (S.remaining reader.old) (K.contents writer.old))
         (point core.new buffers.new (S.remaining reader.new) (K.contents writer.new)) }
-    ensures reading { S.has_failed reader.new ≡ is_read_fault result }
-    ensures writing { K.has_failed writer.new ≡ is_line_write_fault result }
+    ensures failing { FailsAs result (S.has_failed reader.new) (K.has_failed writer.new) }
 {
     match buffers.next_line(reader, writer)? {
         Next::Line(count) => {
-            more_unless_failed(answer_ahead(core, list, reply, only, buffers, count, writer))
+            more_unless_failed(answer_ahead(run, core, reply, buffers, count, writer))
         }
-        Next::TooLong => { more_unless_failed(answer_no_call(only, &mut buffers.gathered, writer)) }
+        Next::TooLong => {
+            more_unless_failed(tell(run.answer_no_call(), &mut buffers.gathered, writer))
+        }
         Next::End => Ok(false),
     }
 }
 
 // Answers the line of so many bytes with which the bytes ahead begin, and passes it with its newline.
 fn answer_ahead<R: Router + Drop, K: Sink>(
+    run: &Run<'_>,
     core: &mut Core<R>,
-    list: &StartList,
     reply: &mut Reply,
-    only: Option<&[u8]>,
     buffers: &mut Buffers,
     count: usize,
     writer: &mut K,
 ) -> Result<(), DeviceFault>
     requires inside { count ≤ length buffers.old.ahead }
     requires short { count ≤ LONGEST_LINE }
-    requires listed { core.old.entries ≡ entries_of (start_list_of list.now) }
+    requires listed { core.old.entries ≡ entries_of (start_list_of run.now.list.now) }
     requires writes { K.has_failed writer.old ≡ false }
-    ensures world { core.new ≡ after_all (option_copied only.entry) core.old
+    ensures world { core.new ≡ after_all (option_copied run.now.only) core.old
         (take count buffers.old.ahead ∷ []) }
     ensures passed { buffers.new.ahead ≡ drop (count + 1) buffers.old.ahead }
     ensures told { TellsUnless result (K.contents writer.old) buffers.old.gathered
         (K.contents writer.new) buffers.new.gathered
-        (told_of_all (option_copied only.entry) core.old (take count buffers.old.ahead ∷ [])) }
+        (told_of_all (option_copied run.now.only) core.old (take count buffers.old.ahead ∷ [])) }
     ensures failing { K.has_failed writer.new ≡ is_err result }
 {
     let line = &buffers.ahead.ahead()[..count];
-    let answered = answer_line(core, list, only, line, reply, &mut buffers.gathered, writer);
+    let answer = run.answer_short(core, line, reply);
+    let told = tell(answer, &mut buffers.gathered, writer);
     buffers.ahead.pass(count + 1);
-    answered
+    told
+}
+
+// Gathers an answer: its log lines, and then the reply with the name. Of a line that was skipped nothing is told.
+#[inline(always)]
+fn tell<K: Sink>(
+    answer: Option<Answer<'_>>,
+    gathered: &mut Gather,
+    writer: &mut K,
+) -> Result<(), DeviceFault>
+    requires { K.has_failed writer.old ≡ false }
+    ensures told { TellsUnless result (K.contents writer.old) gathered.old
+        (K.contents writer.new) gathered.new (answer_text answer.entry) }
+    ensures failing { K.has_failed writer.new ≡ is_err result }
+{
+    match answer {
+        Some(answer) => gathered.put_answer(writer, answer.lines, answer.name, answer.reply),
+        None => Ok(()),
+    }
 }
 
 // There may be more lines, unless a write failed.

@@ -1,5 +1,5 @@
 -- One selector more is told, or a write fails in its line.
-use Rattle.std.proofs.Common.{◌+◌, arith, subst}
+use Rattle.std.proofs.Common.{◌+◌, arith}
 use Rattle.std.specs.FinMap.{get}
 use Rattle.own_model.specs.AccountList.{object_line}
 use Rattle.own_model.specs.Transcript.{entry_at, state_at}

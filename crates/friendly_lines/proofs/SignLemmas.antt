@@ -1,0 +1,127 @@
+-- The signs of a text, one after another.
+use Rattle.std.proofs.Common.{◌≡◌, ℕ, ◌+◌, ◌-◌, ◌<◌, ◌≤◌, Bool, true, false, cond, is_none, zero, suc, List, [], ◌∷◌, ◌++◌, length, drop, Option, Some, None, refl, sym, ap, ◌∙◌, subst, arith}
+use Rattle.std.specs.Option.{option_map, unwrap_or}
+use Rattle.std.proofs.lemmas.Bool.Decides.{nat_tests}
+use Rattle.std.proofs.lemmas.List.{drop-drop, drop_all, length-drop}
+use Rattle.own_model.specs.Reply.{hex_text}
+use Rattle.friendly_lines.specs.Signs.{bytes_from, bytes_of, fault_from, fault_of, sign_at, sign_of}
+use Rattle.friendly_lines.specs.Words.{spaced}
+use Rattle.friendly_lines.specs.Written.{added}
+use Rattle.friendly_lines.specs.declared.signs.Sign.{Sign}
+use Rattle.friendly_lines.proofs.QuoteLemmas.{no_further}
+use Rattle.friendly_lines.proofs.WrittenLemmas.{added_both, added_none}
+
+-- bytes of a sign before are passed
+bytes_skip : (skip : ℕ) (text : List ℕ) → bytes_from skip text ≡ bytes_from 0 (drop skip text)
+bytes_skip zero text = refl
+bytes_skip (suc skip) [] = refl
+bytes_skip (suc skip) (b ∷ bs) = bytes_skip skip bs
+
+both_further : (i j : ℕ) (found : Option ℕ) → option_map (λ n. i + n) (option_map (λ n. j + n) found) ≡ option_map (λ n. (i + j) + n) found
+both_further i j None = refl
+both_further i j (Some n) = let e : i + (j + n) ≡ (i + j) + n = omega arith in ap Some e
+
+fault_skip : (skip : ℕ) (text : List ℕ) → fault_from skip text ≡ option_map (λ n. skip + n) (fault_from 0 (drop skip text))
+fault_skip zero text = no_further (fault_from 0 text)
+fault_skip (suc skip) [] = refl
+fault_skip (suc skip) (b ∷ bs) =
+    let one : 1 + skip ≡ suc skip = omega arith in
+    ap (option_map (λ n. 1 + n)) (fault_skip skip bs) ∙ both_further 1 skip (fault_from 0 (drop skip bs))
+    ∙ ap (λ k. option_map (λ n. k + n) (fault_from 0 (drop skip bs))) one
+
+-- what is behind a sign
+drop_sign : (size b : ℕ) (bs : List ℕ) → 1 ≤ size → drop (size - 1) bs ≡ drop size (b ∷ bs)
+drop_sign zero b bs some = absurd (omega (arith, some))
+drop_sign (suc n) b bs some = let e : suc n - 1 ≡ n = omega arith in ap (λ k. drop k bs) e
+
+-- the first sign, and those behind it
+bytes_front : (text : List ℕ) → 0 < length text → 1 ≤ (sign_at text).size → bytes_from 0 text ≡ (sign_at text).byte ∷ bytes_from 0 (drop (sign_at text).size text)
+bytes_front [] here some = absurd (omega (arith, here))
+bytes_front (b ∷ bs) here some =
+    ap (λ l. (sign_at (b ∷ bs)).byte ∷ l) (bytes_skip ((sign_at (b ∷ bs)).size - 1) bs ∙ ap (bytes_from 0) (drop_sign (sign_at (b ∷ bs)).size b bs some))
+
+pub bytes_step : (text : List ℕ) (i : ℕ) → i < length text → 1 ≤ (sign_at (drop i text)).size →
+    bytes_from 0 (drop i text) ≡ (sign_at (drop i text)).byte ∷ bytes_from 0 (drop (i + (sign_at (drop i text)).size) text)
+bytes_step text i within some =
+    bytes_front (drop i text) (omega (arith, within, length-drop {A = ℕ})) some
+    ∙ ap (λ l. (sign_at (drop i text)).byte ∷ bytes_from 0 l) (drop-drop (sign_at (drop i text)).size i text)
+
+-- digits of a byte, and of those behind it
+hex_cons : (b : ℕ) (bs : List ℕ) → hex_text (b ∷ bs) ≡ hex_text (b ∷ []) ++ hex_text bs
+unfolding hex_text
+hex_cons b bs = refl
+
+-- a sign is put, and then those behind it
+pub put_step : (line : Option (List ℕ)) (text : List ℕ) (i : ℕ) (sign : Sign) → i < length text → sign ≡ sign_at (drop i text) → 1 ≤ sign.size →
+    added line (hex_text (bytes_from 0 (drop i text))) ≡ added (added line (hex_text (sign.byte ∷ []))) (hex_text (bytes_from 0 (drop (i + sign.size) text)))
+put_step line text i sign within is some =
+    let size : 1 ≤ (sign_at (drop i text)).size = subst (λ (s : Sign). 1 ≤ s.size) is some in
+    ap (λ l. added line (hex_text l)) (bytes_step text i within size)
+    ∙ ap (added line) (hex_cons (sign_at (drop i text)).byte (bytes_from 0 (drop (i + (sign_at (drop i text)).size) text)))
+    ∙ ap (λ (s : Sign). added line (hex_text (s.byte ∷ []) ++ hex_text (bytes_from 0 (drop (i + s.size) text)))) (sym is)
+    ∙ sym (added_both line (hex_text (sign.byte ∷ [])) (hex_text (bytes_from 0 (drop (i + sign.size) text))))
+
+-- nothing is behind the last
+pub put_end : (line : Option (List ℕ)) (text : List ℕ) (i : ℕ) → length text ≤ i → added line (hex_text (bytes_from 0 (drop i text))) ≡ line
+unfolding hex_text
+put_end line text i past = rw (drop_all i text past) (sym (added_none line))
+
+pub ruleset put_signs = (put_step, put_end)
+
+-- digits of one sign or more begin with one, so a space stands before them
+hex_spaced : (b : ℕ) (bs : List ℕ) → spaced (hex_text (b ∷ bs)) ≡ 32 ∷ hex_text (b ∷ bs)
+unfolding hex_text
+hex_spaced b bs = refl
+
+pub put_behind_space : (line : Option (List ℕ)) (text : List ℕ) → 0 < length text →
+    added (added line (32 ∷ [])) (hex_text (bytes_of text)) ≡ added line (spaced (hex_text (bytes_of text)))
+put_behind_space line [] some = absurd (omega (arith, some))
+put_behind_space line (b ∷ bs) some =
+    added_both line (32 ∷ []) (hex_text (bytes_of (b ∷ bs)))
+    ∙ ap (added line) (sym (hex_spaced (sign_at (b ∷ bs)).byte (bytes_from ((sign_at (b ∷ bs)).size - 1) bs)))
+
+pub put_nothing : (line : Option (List ℕ)) (text : List ℕ) → length text ≡ 0 → line ≡ added line (spaced (hex_text (bytes_of text)))
+unfolding hex_text
+put_nothing line [] none = added_none line
+put_nothing line (b ∷ bs) none = absurd (omega (arith, none))
+
+pub ruleset quoted = (put_behind_space, put_nothing)
+
+-- ---- faults
+
+fault_front : (text : List ℕ) (sign : Sign) → 0 < length text → sign_of text ≡ Some sign → 1 ≤ sign.size →
+    fault_from 0 text ≡ option_map (λ n. sign.size + n) (fault_from 0 (drop sign.size text))
+fault_front [] sign here is some = absurd (omega (arith, here))
+fault_front (b ∷ bs) sign here is some =
+    let at : ℕ = sign.size - 1 in
+    let one : 1 + (sign.size - 1) ≡ sign.size = omega (arith, some) in
+    ap (λ (s : Option Sign). cond (is_none s) (Some 0) (option_map (λ n. 1 + n) (fault_from ((unwrap_or s (record { byte = 0; size = 1 })).size - 1) bs))) is
+    ∙ ap (option_map (λ n. 1 + n)) (fault_skip (sign.size - 1) bs)
+    ∙ both_further 1 (sign.size - 1) (fault_from 0 (drop (sign.size - 1) bs))
+    ∙ ap (λ k. option_map (λ n. k + n) (fault_from 0 (drop (sign.size - 1) bs))) one
+    ∙ ap (λ l. option_map (λ n. sign.size + n) (fault_from 0 l)) (drop_sign sign.size b bs some)
+
+pub fault_step : (text : List ℕ) (i : ℕ) (sign : Sign) → i < length text → sign_of (drop i text) ≡ Some sign → 1 ≤ sign.size →
+    option_map (λ n. i + n) (fault_from 0 (drop i text)) ≡ option_map (λ n. (i + sign.size) + n) (fault_from 0 (drop (i + sign.size) text))
+fault_step text i sign within is some =
+    ap (option_map (λ n. i + n)) (fault_front (drop i text) sign (omega (arith, within, length-drop {A = ℕ})) is some)
+    ∙ both_further i sign.size (fault_from 0 (drop sign.size (drop i text)))
+    ∙ ap (λ l. option_map (λ n. (i + sign.size) + n) (fault_from 0 l)) (drop-drop sign.size i text)
+
+fault_here : (text : List ℕ) → 0 < length text → sign_of text ≡ None → fault_from 0 text ≡ Some 0
+fault_here [] here none = absurd (omega (arith, here))
+fault_here (b ∷ bs) here none =
+    ap (λ (s : Option Sign). cond (is_none s) (Some 0) (option_map (λ n. 1 + n) (fault_from ((unwrap_or s (record { byte = 0; size = 1 })).size - 1) bs))) none
+
+pub fault_found : (text : List ℕ) (i : ℕ) → i < length text → sign_of (drop i text) ≡ None → option_map (λ n. i + n) (fault_from 0 (drop i text)) ≡ Some i
+fault_found text i within none =
+    let e : i + 0 ≡ i = omega arith in
+    ap (option_map (λ n. i + n)) (fault_here (drop i text) (omega (arith, within, length-drop {A = ℕ})) none) ∙ ap Some e
+
+pub fault_start : (text : List ℕ) → fault_from 0 text ≡ option_map (λ n. 0 + n) (fault_from 0 text)
+fault_start text = no_further (fault_from 0 text)
+
+pub fault_end : (text : List ℕ) (i : ℕ) → length text ≤ i → option_map (λ n. i + n) (fault_from 0 (drop i text)) ≡ None
+fault_end text i past = rw (drop_all i text past) refl
+
+pub ruleset fault_signs = (fault_step, fault_found, fault_start, fault_end)

@@ -1,0 +1,9 @@
+pub mod Words
+pub mod Quotes
+pub mod Signs
+pub mod Written
+pub mod Parts
+pub mod Views
+pub mod Friendly
+pub mod Says
+pub mod Laws

@@ -1,0 +1,101 @@
+-- The parts of a call in the friendly form, and the engine's line that they spell.
+use Rattle.std.specs.Prelude.{ℕ, ◌+◌, ◌-◌, ◌&&◌, ◌||◌, Bool, false, List, [], ◌∷◌, ◌++◌, length, take, drop, codes, decimal, nat_lt, is_some, if◌then◌else◌, Option, Some, None}
+use Rattle.std.specs.Char.{is_ascii_digit}
+use Rattle.std.specs.List.{list_all}
+use Rattle.std.specs.Option.{option_and_then, option_map_or}
+use Rattle.std.specs.Str.{bytes_eq}
+use Rattle.trade_base.specs.Amount.{amount_of, number_of}
+use Rattle.own_model.specs.Reply.{hex_text}
+use Rattle.own_model.specs.Text.{first_word}
+use Rattle.friendly_lines.specs.Quotes.{inside_quotes, is_quote}
+use Rattle.friendly_lines.specs.Signs.{bytes_of}
+use Rattle.friendly_lines.specs.Words.{next_word, skip_blanks, spaced, words_spaced}
+
+-- what follows the first words of a call: more words; what is kept as it stands, behind one blank; or a text in quotes, with
+-- what is kept before it, and how many bytes the call has from the text's first sign on
+pub data Tail : Type 0 where
+  Words : List ℕ → Tail
+  Kept : List ℕ → Tail
+  Quoted : List ℕ → List ℕ → ℕ → Tail
+
+-- a call by its first words
+pub record Parts : Type 0 where
+  pub name : List ℕ
+  pub form : List ℕ
+  pub word : List ℕ
+  pub tail : Tail
+
+-- where the text of a request begins that writes one, and what is before it is `WRITE`, or `WRITE`, a file's word and an
+-- offset, each with one space behind it
+abbrev pub text_behind : Option (List ℕ) → Option (List ℕ)
+text_behind None = None
+text_behind (Some text) = if is_quote text then Some text else None
+
+abbrev pub text_behind_place : List ℕ → Option (List ℕ)
+text_behind_place text =
+    if nat_lt 0 (length (first_word text).word) && list_all is_ascii_digit (first_word text).word
+    then text_behind (first_word text).rest else None
+
+abbrev pub text_behind_file : List ℕ → Option (List ℕ)
+text_behind_file text =
+    if is_quote text then Some text
+    else (if nat_lt 0 (length (first_word text).word) then option_and_then text_behind_place (first_word text).rest else None)
+
+abbrev pub text_written : List ℕ → Option (List ℕ)
+text_written request =
+    if bytes_eq (first_word request).word (codes "WRITE") then option_and_then text_behind_file (first_word request).rest
+    else None
+
+-- a text in quotes behind words, or something else where it isn't that
+abbrev pub quoted_or : Tail → List ℕ → List ℕ → Tail
+quoted_or other front text = option_map_or (λ inside. Quoted front inside (length text - 1)) (inside_quotes text) other
+
+-- what follows `call S`: a request that writes text, or what is kept
+abbrev pub request_tail : List ℕ → Tail
+request_tail rest =
+    option_map_or (λ text. quoted_or (Kept rest) (take (length (drop 1 rest) - (length text + 1)) (drop 1 rest)) text)
+    (text_written (drop 1 rest)) (Kept rest)
+
+-- what follows the first words, by the form
+abbrev pub tail_of : List ℕ → List ℕ → Tail
+tail_of form rest =
+    if bytes_eq form (codes "open") || bytes_eq form (codes "upgrade") then Kept rest
+    else (if bytes_eq form (codes "call") then request_tail rest
+    else (if bytes_eq form (codes "poke") then quoted_or (Words rest) [] (skip_blanks rest)
+    else Words rest))
+
+-- the parts of a call
+abbrev pub parts_of : List ℕ → Parts
+parts_of call = record {
+  name = (next_word call).word;
+  form = (next_word (next_word call).rest).word;
+  word = (next_word (next_word (next_word call).rest).rest).word;
+  tail = tail_of (next_word (next_word call).rest).word (next_word (next_word (next_word call).rest).rest).rest;
+}
+
+-- ---- the engine's line
+
+-- what is kept, with a space for the blank before it
+abbrev pub kept_text : List ℕ → List ℕ
+kept_text [] = []
+kept_text (blank ∷ rest) = 32 ∷ rest
+
+-- a size as a number, where it is an amount
+abbrev pub size_text : List ℕ → List ℕ
+size_text word = if is_some (number_of word) then word else option_map_or decimal (amount_of word) word
+
+-- a form whose word is a size
+abbrev pub is_sized : List ℕ → Bool
+is_sized form = bytes_eq form (codes "alloc") || (bytes_eq form (codes "new") || bytes_eq form (codes "snew"))
+
+abbrev pub word_text : List ℕ → List ℕ → List ℕ
+word_text form word = if is_sized form then size_text word else word
+
+abbrev pub tail_text : Tail → List ℕ
+tail_text (Words rest) = words_spaced false rest
+tail_text (Kept rest) = kept_text rest
+tail_text (Quoted front inside left) = spaced front ++ spaced (hex_text (bytes_of inside))
+
+-- the line that parts spell
+abbrev pub spelled : Parts → List ℕ
+spelled parts = parts.name ++ (spaced parts.form ++ (spaced (word_text parts.form parts.word) ++ tail_text parts.tail))

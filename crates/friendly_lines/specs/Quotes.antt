@@ -1,0 +1,54 @@
+-- What stands within quotes: a backslash there takes the next sign with it.
+use Rattle.std.specs.Prelude.{ℕ, ◌+◌, ◌==◌, ◌&&◌, not, Bool, true, false, List, [], ◌∷◌, take, drop, slice_index, codes, nat_eq, if◌then◌else◌, Option, Some, None}
+use Rattle.std.specs.List.{list_all, starts_with}
+use Rattle.std.specs.Option.{option_and_then, option_map, option_or}
+use Rattle.friendly_lines.specs.Words.{is_blank}
+use Rattle.friendly_lines.specs.declared.quotes.Quoting.{Quoting}
+use Rattle.friendly_lines.specs.declared.quotes.Quoting.TheVariants.{Outside, Within, Escaped}
+
+-- how the byte after one stands
+abbrev pub after_byte : Quoting → ℕ → Quoting
+after_byte Outside b = if b == 34 then Within else Outside
+after_byte Within b = if b == 34 then Outside else (if b == 92 then Escaped else Within)
+after_byte Escaped b = Within
+
+-- and what follows a text
+abbrev pub after_text : Quoting → List ℕ → Quoting
+after_text at [] = at
+after_text at (b ∷ bs) = after_text (after_byte at b) bs
+
+-- outside of quotes
+abbrev pub is_outside : Quoting → Bool
+is_outside Outside = true
+is_outside Within = false
+is_outside Escaped = false
+
+-- the last place outside of quotes where a text goes on so
+abbrev pub last_outside : (List ℕ → Bool) → Quoting → List ℕ → Option ℕ
+last_outside test at [] = None
+last_outside test at (b ∷ bs) =
+    option_or (option_map (λ n. 1 + n) (last_outside test (after_byte at b) bs))
+    (if is_outside at && test (b ∷ bs) then Some 0 else None)
+
+-- what parts a call from the reply that is expected
+abbrev pub is_arrow : List ℕ → Bool
+is_arrow text = starts_with nat_eq text (codes " => ")
+
+-- a quote
+abbrev pub is_quote : List ℕ → Bool
+is_quote text = slice_index text 0 == 34
+
+-- where what follows an opening quote has the closing one
+abbrev pub closing : Bool → List ℕ → Option ℕ
+closing escaped [] = None
+closing escaped (b ∷ bs) =
+    if not escaped && b == 34 then Some 0 else option_map (λ n. 1 + n) (closing (not escaped && b == 92) bs)
+
+-- what stands between quotes that nothing but blanks follows
+abbrev pub closed_inside : List ℕ → Option (List ℕ)
+closed_inside text =
+    option_and_then (λ n. if list_all is_blank (drop (n + 1) text) then Some (take n text) else None) (closing false text)
+
+-- what a text in quotes is, where a text is nothing else
+abbrev pub inside_quotes : List ℕ → Option (List ℕ)
+inside_quotes text = if is_quote text then closed_inside (drop 1 text) else None

@@ -1,0 +1,18 @@
+//! The friendly form of a scenario's lines: comments, blanks, text in quotes, sizes, and the replies that are expected.
+#![tactic(auto)]
+
+mod fault;
+mod laws;
+mod line;
+mod parts;
+mod quotes;
+mod reading;
+mod signs;
+#[cfg(test)]
+mod tests;
+mod words;
+
+pub use fault::{Fault, Reason};
+pub use laws::calls_are_calls;
+pub use line::Line;
+pub use reading::{Said, read_line};

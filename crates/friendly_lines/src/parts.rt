@@ -1,0 +1,262 @@
+//! The parts of a call, and the engine's line that they spell.
+ghost use Rattle.std.specs.Prelude.{◌≡◌, ◌+◌, ◌≤◌, ◌<◌, ◌&&◌, length, nat_lt, IfSome};
+ghost use Rattle.std.specs.Option.{option_copied};
+ghost use Rattle.std.specs.List.{list_all};
+ghost use Rattle.std.specs.Char.{is_ascii_digit};
+ghost use Rattle.own_model.specs.Reply.{hex_text};
+ghost use Rattle.friendly_lines.specs.Friendly.{fault_in};
+ghost use Rattle.friendly_lines.specs.Parts.{is_sized, kept_text, parts_of, quoted_or, request_tail, size_text, spelled, tail_of, tail_text, text_behind, text_behind_file, text_behind_place, text_written, word_text};
+ghost use Rattle.friendly_lines.specs.Signs.{bytes_of};
+ghost use Rattle.friendly_lines.specs.Views.{LiesIn, parts_in, tail_in};
+ghost use Rattle.friendly_lines.specs.Words.{spaced};
+ghost use Rattle.friendly_lines.specs.Written.{added};
+
+use crate::line::Line;
+use crate::quotes::{inside_quotes, is_quote};
+use crate::signs::{fault_of, put_text};
+use crate::words::{behind, next_word, skip_blanks};
+use itoa::Buffer;
+use text_read::split_first_word;
+use trade_base::{read_amount, read_number};
+
+/// What follows the first words of a call.
+#[derive(Clone, Copy, Debug)]
+pub(crate) enum Tail<'a> {
+    /// More words.
+    Words(&'a [u8]),
+    /// What is kept as it stands, behind one blank.
+    Kept(&'a [u8]),
+    /// A text in quotes, with what is kept before it, and how many bytes the call has from the text's first sign on.
+    Quoted {
+        front: &'a [u8],
+        inside: &'a [u8],
+        left: usize,
+    },
+}
+
+/// A call by its first words.
+#[derive(Clone, Copy, Debug)]
+pub(crate) struct Parts<'a> {
+    pub name: &'a [u8],
+    pub form: &'a [u8],
+    pub word: &'a [u8],
+    pub tail: Tail<'a>,
+}
+
+impl<'a> Parts<'a> {
+    /// The parts of a call.
+    #[tactic(auto, using(crate::proofs::TailLemmas::lies))]
+    pub(crate) fn of(call: &'a [u8]) -> Parts<'a>
+        ensures value { parts_in result ≡ parts_of call.now }
+        ensures lies { LiesIn (length call.now) (tail_in result.tail) }
+    {
+        let (name, rest) = next_word(call);
+        let (form, rest) = next_word(rest);
+        let (word, rest) = next_word(rest);
+        Parts {
+            name,
+            form,
+            word,
+            tail: tail_of(form, rest),
+        }
+    }
+
+    /// Puts the line that the parts spell at the end.
+    #[tactic(auto, using(crate::proofs::WrittenLemmas::added_both))]
+    pub(crate) fn put(self, line: &mut Line)
+        ensures { line.new ≡ added line.old (spelled (parts_in self.entry)) }
+    {
+        line.put(self.name);
+        line.put_spaced(self.form);
+        put_word(line, self.form, self.word);
+        put_tail(line, self.tail);
+    }
+}
+
+// What follows the first words of a call, by its form.
+#[tactic(auto, using(crate::proofs::TailLemmas::lies))]
+fn tail_of<'a>(form: &[u8], rest: &'a [u8]) -> Tail<'a>
+    ensures value { tail_in result ≡ tail_of form.now rest.now }
+    ensures lies { LiesIn (length rest.now) (tail_in result) }
+{
+    if form == b"open".as_slice() || form == b"upgrade".as_slice() {
+        return Tail::Kept(rest);
+    }
+    if form == b"call".as_slice() {
+        return request_tail(rest);
+    }
+    if form == b"poke".as_slice() {
+        return quoted_or(Tail::Words(rest), b"", skip_blanks(rest));
+    }
+    Tail::Words(rest)
+}
+
+// What follows `call S`: a request that writes text, or what is kept.
+#[tactic(auto, using(crate::proofs::TailLemmas::lies))]
+fn request_tail(rest: &[u8]) -> Tail<'_>
+    ensures value { tail_in result ≡ request_tail rest.now }
+    ensures lies { LiesIn (length rest.now) (tail_in result) }
+{
+    let request = behind(rest, rest.len().min(1));
+    match text_written(request) {
+        Some(text) => quoted_or(
+            Tail::Kept(rest),
+            &request[..request.len() - (text.len() + 1)],
+            text,
+        ),
+        None => Tail::Kept(rest),
+    }
+}
+
+// A text in quotes, with what is kept before it, or something else where it isn't that.
+fn quoted_or<'a>(other: Tail<'a>, front: &'a [u8], text: &'a [u8]) -> Tail<'a>
+    requires { LiesIn (length text.now) (tail_in other) }
+    ensures value { tail_in result ≡ quoted_or (tail_in other.entry) front.now text.now }
+    ensures lies { LiesIn (length text.now) (tail_in result) }
+{
+    match inside_quotes(text) {
+        Some(inside) => Tail::Quoted {
+            front,
+            inside,
+            left: text.len() - 1,
+        },
+        None => other,
+    }
+}
+
+// The text that a request writes, from its quote on.
+#[tactic(auto, using(own_model::proofs::LogLemmas::rest_shorter))]
+fn text_written(request: &[u8]) -> Option<&[u8]>
+    ensures value { option_copied result ≡ text_written request.now }
+    ensures within { IfSome result (λ text. length text.now + 1 ≤ length request.now) }
+{
+    let (word, rest) = split_first_word(request);
+    if word != b"WRITE".as_slice() {
+        return None;
+    }
+    text_behind_file(rest?)
+}
+
+// The text behind nothing, or behind a file's word and an offset.
+#[tactic(auto, using(own_model::proofs::LogLemmas::rest_shorter))]
+fn text_behind_file(text: &[u8]) -> Option<&[u8]>
+    ensures value { option_copied result ≡ text_behind_file text.now }
+    ensures within { IfSome result (λ found. length found.now ≤ length text.now) }
+{
+    if is_quote(text) {
+        return Some(text);
+    }
+    let (file, rest) = split_first_word(text);
+    if file.is_empty() {
+        return None;
+    }
+    text_behind_place(rest?)
+}
+
+// The text behind an offset.
+#[tactic(auto, using(own_model::proofs::LogLemmas::rest_shorter))]
+fn text_behind_place(text: &[u8]) -> Option<&[u8]>
+    ensures value { option_copied result ≡ text_behind_place text.now }
+    ensures within { IfSome result (λ found. length found.now ≤ length text.now) }
+{
+    let (place, rest) = split_first_word(text);
+    if !is_digits(place) {
+        return None;
+    }
+    let rest = rest?;
+    if is_quote(rest) { Some(rest) } else { None }
+}
+
+// Whether a word is decimal digits.
+fn is_digits(word: &[u8]) -> bool
+    ensures { result ≡ (nat_lt 0 (length word.now) && list_all is_ascii_digit word.now) }
+{
+    !word.is_empty() && are_digits(word)
+}
+
+// Whether each byte is a decimal digit.
+fn are_digits(text: &[u8]) -> bool
+    ensures { result ≡ list_all is_ascii_digit text.now }
+{
+    text.iter().all(|byte| byte.is_ascii_digit())
+}
+
+/// Where a call of so many bytes has an escape that is none.
+pub(crate) fn fault_in(count: usize, tail: Tail<'_>) -> Option<usize>
+    requires { LiesIn count (tail_in tail) }
+    ensures place { result ≡ fault_in count (tail_in tail.entry) }
+    ensures inside { IfSome result (λ place. place < count) }
+{
+    match tail {
+        Tail::Quoted { inside, left, .. } => Some(count - left + fault_of(inside)?),
+        Tail::Words(_) | Tail::Kept(_) => None,
+    }
+}
+
+// Puts the word behind the form: a size as a number.
+fn put_word(line: &mut Line, form: &[u8], word: &[u8])
+    ensures { line.new ≡ added line.old (spaced (word_text form.now word.now)) }
+{
+    if is_sized(form) {
+        put_size(line, word);
+    } else {
+        line.put_spaced(word);
+    }
+}
+
+// Whether the word behind a form is a size.
+fn is_sized(form: &[u8]) -> bool
+    ensures { result ≡ is_sized form.now }
+{
+    form == b"alloc".as_slice() || form == b"new".as_slice() || form == b"snew".as_slice()
+}
+
+// Puts a size as a number, or the word as it is where it is a number already or is no amount.
+fn put_size(line: &mut Line, word: &[u8])
+    ensures { line.new ≡ added line.old (spaced (size_text word.now)) }
+{
+    if read_number(word).is_some() {
+        return line.put_spaced(word);
+    }
+    match read_amount(word) {
+        Some(size) => line.put_spaced(Buffer::new().format(size).as_bytes()),
+        None => line.put_spaced(word),
+    }
+}
+
+// Puts what follows the first words.
+#[tactic(auto, using(crate::proofs::WrittenLemmas::added_both))]
+fn put_tail(line: &mut Line, tail: Tail<'_>)
+    ensures { line.new ≡ added line.old (tail_text (tail_in tail.entry)) }
+{
+    match tail {
+        Tail::Words(rest) => line.put_words(rest),
+        Tail::Kept(rest) => put_kept(line, rest),
+        Tail::Quoted { front, inside, .. } => {
+            line.put_spaced(front);
+            put_quoted(line, inside);
+        }
+    }
+}
+
+// Puts what a text in quotes stands for, in hexadecimal digits with a space before them.
+#[tactic(auto, using(crate::proofs::SignLemmas::quoted))]
+fn put_quoted(line: &mut Line, inside: &[u8])
+    ensures { line.new ≡ added line.old (spaced (hex_text (bytes_of inside.now))) }
+{
+    if !inside.is_empty() {
+        line.put(b" ");
+        put_text(line, inside);
+    }
+}
+
+// Puts what is kept, with a space for the blank before it.
+#[tactic(auto, using(crate::proofs::WrittenLemmas::puts))]
+fn put_kept(line: &mut Line, rest: &[u8])
+    ensures { line.new ≡ added line.old (kept_text rest.now) }
+{
+    if !rest.is_empty() {
+        line.put(b" ");
+        line.put(behind(rest, 1));
+    }
+}

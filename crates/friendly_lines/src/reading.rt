@@ -1,0 +1,177 @@
+//! What a line says.
+ghost use Rattle.std.specs.Prelude.{◌≡◌, ◌+◌, ◌<◌, ◌≤◌, ◌^◌, ◌==◌, length, is_some, slice_index, true};
+ghost use Rattle.std.specs.Option.{option_copied};
+ghost use Rattle.own_model.specs.Call.{spoken};
+ghost use Rattle.friendly_lines.specs.Friendly.{expects_bad_line, said_of, said_of_both, said_of_call, said_of_line, said_of_signs, said_of_text, without_return};
+ghost use Rattle.friendly_lines.specs.declared.fault.Reason.TheVariants.{NoCall};
+ghost use Rattle.friendly_lines.specs.Says.{says};
+
+use crate::fault::{Fault, Reason};
+use crate::line::Line;
+use crate::parts::{Parts, fault_in};
+use crate::quotes::{Quoting, marks_of};
+use crate::words::{behind, skip_blanks};
+use scenario::read_line as read_call;
+
+/// What a line of a scenario in the friendly form says.
+#[derive(Clone, Copy, Debug, PartialEq, Eq)]
+pub enum Said<'a> {
+    /// Nothing: it is blank, or a comment.
+    Nothing,
+    /// A log line that the next call finishes.
+    Log(&'a [u8]),
+    /// A call as the engine reads it, and the reply that is expected.
+    Call {
+        line: &'a [u8],
+        reply: Option<&'a [u8]>,
+    },
+}
+
+/// What a line says, which is without its newline. The engine's line is put together in `room`, where it isn't a piece of the
+/// line itself. A call that isn't one in the engine's grammar is a fault, unless `Bad_line` is expected.
+pub fn read_line<'a>(line: &'a [u8], room: &'a mut Line) -> Result<Said<'a>, Fault>
+    ensures { says result ≡ said_of line.now }
+{
+    let signs = skip_blanks(line);
+    said_of_signs(line.len() - signs.len() + 1, signs, room)
+}
+
+// What a line says from its first sign on.
+fn said_of_signs<'a>(column: usize, signs: &'a [u8], room: &'a mut Line) -> Result<Said<'a>, Fault>
+    requires { column + length signs.now < 2 ^ 64 }
+    ensures { says result ≡ said_of_signs column signs.now }
+{
+    if begins_with(signs, b'!') {
+        return Ok(Said::Call {
+            line: behind(signs, 1),
+            reply: None,
+        });
+    }
+    said_of_text(column, without_return(signs), room)
+}
+
+// Whether a text begins with a byte.
+#[tactic(auto, using(crate::proofs::ReadingLemmas::first_of_none))]
+fn begins_with(text: &[u8], byte: u8) -> bool
+    requires { 0 < byte }
+    ensures value { result ≡ (slice_index text.now 0 == byte) }
+    ensures some { result ≡ true → 0 < length text.now }
+{
+    !text.is_empty() && text[0] == byte
+}
+
+// A text without a carriage return at its end.
+#[tactic(auto, using(crate::proofs::ReadingLemmas::last_of_none))]
+fn without_return(text: &[u8]) -> &[u8]
+    ensures value { result.now ≡ without_return text.now }
+    ensures within { length result.now ≤ length text.now }
+{
+    if text.is_empty() {
+        return text;
+    }
+    let last = text.len() - 1;
+    if text[last] == b'\r' {
+        &text[..last]
+    } else {
+        text
+    }
+}
+
+// What a text says that has no blanks before it: nothing, or a comment; a log line; or a call.
+fn said_of_text<'a>(column: usize, text: &'a [u8], room: &'a mut Line) -> Result<Said<'a>, Fault>
+    requires { column + length text.now < 2 ^ 64 }
+    ensures { says result ≡ said_of_text column text.now }
+{
+    if text.is_empty() || begins_with(text, b'#') {
+        return Ok(Said::Nothing);
+    }
+    if text.starts_with(b"=> ") {
+        return Ok(Said::Log(behind(text, 3)));
+    }
+    said_of_both(column, text, room)
+}
+
+// A call, and the reply that is expected, where each quote is closed.
+fn said_of_both<'a>(column: usize, text: &'a [u8], room: &'a mut Line) -> Result<Said<'a>, Fault>
+    requires { column + length text.now < 2 ^ 64 }
+    ensures { says result ≡ said_of_both column text.now }
+{
+    let marks = marks_of(text);
+    if marks.end != Quoting::Outside {
+        return Err(Fault {
+            reason: Reason::OpenQuote,
+            column: column + marks.quote.unwrap_or(0),
+        });
+    }
+    match marks.arrow {
+        Some(place) => said_of_call(column, &text[..place], Some(behind(text, place + 4)), room),
+        None => said_of_call(column, text, None, room),
+    }
+}
+
+// A call whose escapes are all ones.
+fn said_of_call<'a>(
+    column: usize,
+    call: &'a [u8],
+    reply: Option<&'a [u8]>,
+    room: &'a mut Line,
+) -> Result<Said<'a>, Fault>
+    requires { column + length call.now < 2 ^ 64 }
+    ensures { says result ≡ said_of_call column call.now (option_copied reply.entry) }
+{
+    let parts = Parts::of(call);
+    if let Some(place) = fault_in(call.len(), parts.tail) {
+        return Err(Fault {
+            reason: Reason::BadEscape,
+            column: column + place,
+        });
+    }
+    room.clear();
+    parts.put(room);
+    said_of_line(column, room.text(), reply)
+}
+
+// A line that isn't too long is a call, unless it is expected to be none.
+fn said_of_line<'a>(
+    column: usize,
+    line: Option<&'a [u8]>,
+    reply: Option<&'a [u8]>,
+) -> Result<Said<'a>, Fault>
+    ensures { says result ≡ said_of_line column (option_copied line.entry) (option_copied reply.entry) }
+{
+    match line {
+        Some(line) => if is_call(line) || expects_bad_line(reply) {
+            Ok(Said::Call { line, reply })
+        } else {
+            Err(no_call(column))
+        },
+        None => Err(no_call(column)),
+    }
+}
+
+// What is no call.
+fn no_call(column: usize) -> Fault
+    ensures { result ≡ record { reason = NoCall; column = column } }
+{
+    Fault {
+        reason: Reason::NoCall,
+        column,
+    }
+}
+
+// Whether a line is a call.
+fn is_call(line: &[u8]) -> bool
+    ensures { result ≡ is_some (spoken line.now) }
+{
+    read_call(line).is_ok()
+}
+
+// Whether the reply is expected that a line has which is no call.
+fn expects_bad_line(reply: Option<&[u8]>) -> bool
+    ensures { result ≡ expects_bad_line (option_copied reply.entry) }
+{
+    match reply {
+        Some(text) => text == b"Bad_line".as_slice(),
+        None => false,
+    }
+}

@@ -1,0 +1,124 @@
+//! The signs of a text in quotes.
+ghost use Rattle.std.specs.Prelude.{◌≡◌, ◌+◌, ◌≤◌, ◌<◌, IfSome, length};
+ghost use Rattle.own_model.specs.Reply.{hex_text};
+ghost use Rattle.own_model.specs.Text.{byte_of_hex, hex_digit_of};
+ghost use Rattle.friendly_lines.specs.Signs.{bytes_of, escape_of, fault_of, sign_at, sign_of};
+ghost use Rattle.friendly_lines.specs.Written.{added};
+
+use crate::line::Line;
+use crate::words::behind;
+
+/// A sign: the byte that it stands for, and how many bytes it has.
+#[derive(Clone, Copy, Debug, PartialEq, Eq)]
+pub(crate) struct Sign {
+    pub byte: u8,
+    pub size: usize,
+}
+
+/// Writes what a text stands for, in hexadecimal digits.
+#[tactic(auto, using(crate::proofs::SignLemmas::put_signs))]
+pub(crate) fn put_text(line: &mut Line, text: &[u8])
+    ensures { line.new ≡ added line.old (hex_text (bytes_of text.now)) }
+{
+    let mut at = 0;
+    while at < text.len() {
+        let sign = sign_at(behind(text, at));
+        line.put_hex(sign.byte);
+        at += sign.size;
+    }
+}
+
+/// Where a text has its first escape that is none.
+#[tactic(auto, using(crate::proofs::SignLemmas::fault_signs))]
+pub(crate) fn fault_of(text: &[u8]) -> Option<usize>
+    ensures place { result ≡ fault_of text.now }
+    ensures inside { IfSome result (λ place. place < length text.now) }
+{
+    let mut at = 0;
+    while at < text.len() {
+        match sign_of(behind(text, at)) {
+            Some(sign) => at += sign.size,
+            None => return Some(at),
+        }
+    }
+    None
+}
+
+// The sign with which a text begins, or a byte that counts for nothing where that is an escape that is none.
+fn sign_at(text: &[u8]) -> Sign
+    requires { 0 < length text.now }
+    ensures value { result ≡ sign_at text.now }
+    ensures some { 1 ≤ result.size }
+    ensures fits { result.size ≤ length text.now }
+{
+    match sign_of(text) {
+        Some(sign) => sign,
+        None => Sign { byte: 0, size: 1 },
+    }
+}
+
+// The sign with which a text begins, or nothing where that is an escape that is none.
+fn sign_of(text: &[u8]) -> Option<Sign>
+    requires { 0 < length text.now }
+    ensures value { result ≡ sign_of text.now }
+    ensures some { IfSome result (λ sign. 1 ≤ sign.size) }
+    ensures fits { IfSome result (λ sign. sign.size ≤ length text.now) }
+{
+    if text[0] != b'\\' {
+        return Some(Sign {
+            byte: text[0],
+            size: 1,
+        });
+    }
+    escape_of(*text.get(1)?, text)
+}
+
+// The escape with which a text begins, by the byte behind the backslash.
+fn escape_of(escape: u8, text: &[u8]) -> Option<Sign>
+    requires { 2 ≤ length text.now }
+    ensures value { result ≡ escape_of escape text.now }
+    ensures some { IfSome result (λ sign. 1 ≤ sign.size) }
+    ensures fits { IfSome result (λ sign. sign.size ≤ length text.now) }
+{
+    match escape {
+        b'n' => Some(Sign {
+            byte: b'\n',
+            size: 2,
+        }),
+        b't' => Some(Sign {
+            byte: b'\t',
+            size: 2,
+        }),
+        b'"' | b'\\' => Some(Sign {
+            byte: escape,
+            size: 2,
+        }),
+        b'x' => Some(Sign {
+            byte: byte_of_pair(*text.get(2)?, *text.get(3)?)?,
+            size: 4,
+        }),
+        _ => None,
+    }
+}
+
+// The byte of two hexadecimal digits.
+fn byte_of_pair(high: u8, low: u8) -> Option<u8>
+    ensures { result ≡ byte_of_hex high low }
+{
+    let high = digit_of(high)?;
+    let low = digit_of(low)?;
+    Some(high * 16 + low)
+}
+
+// The value of a hexadecimal digit of either case.
+fn digit_of(digit: u8) -> Option<u8>
+    ensures value { result ≡ hex_digit_of digit }
+    ensures small { IfSome result (λ value. value < 16) }
+{
+    match digit {
+        b'A'..=b'F' => Some(digit - 55),
+        b'a'..=b'f' => Some(digit - 87),
+        b'0'..=b'9' => Some(digit - 48),
+        _ => None,
+    }
+}

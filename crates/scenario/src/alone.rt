@@ -1,0 +1,50 @@
+//! The run of one name's lines alone.
+ghost use Rattle.std.specs.Prelude.{◌≡◌, ◌≤◌, ◌||◌, true, false, IfSome, IfOk, IfErr, OnOk, Some};
+ghost use Rattle.own_model.specs.Listed.{start_list_of};
+ghost use Rattle.own_model.specs.StartList.{entries_of};
+ghost use Rattle.scenario.specs.Runs.{Completes, FaultBefore, HasCause, KeepsWorld};
+ghost use Rattle.scenario.specs.Stops.{Stops, is_write_fault};
+
+use crate::answering::Run;
+use crate::device::{Sink, Source};
+use crate::running::{RunFault, Summary, run_said_by};
+use init_core::StartList;
+use pd_core::{Core, Reply, Router};
+
+/// Answers the lines of one name alone: those of at most `LONGEST_LINE` bytes that `read_line` reads as calls under it.
+/// Every other line is counted, and skipped: nothing is told of it, and it is read no further than the name goes. All
+/// else is as in `run`, also where a line is skipped. What is written is the transcript of the name's lines alone, which
+/// is what a run of all lines tells of them (`own_model`'s `lines_stand_alone`).
+pub fn run_only<R: Router + Drop, S: Source, K: Sink>(
+    core: &mut Core<R>,
+    list: &StartList,
+    reply: &mut Reply,
+    only: &[u8],
+    reader: &mut S,
+    writer: &mut K,
+    max_lines: u64,
+) -> Result<Summary, RunFault>
+    requires listed { core.old.entries ≡ entries_of (start_list_of list.now) }
+    ensures few { IfOk result (λ summary. summary.lines ≤ max_lines) }
+    ensures done { IfOk result (λ summary. IfSome (S.remaining reader.old) (λ input.
+        Completes (Some only.now) summary.lines core.old core.new input
+        (K.contents writer.old) (K.contents writer.new))) }
+    ensures keeps { KeepsWorld core.old core.new }
+    ensures writing { K.has_failed writer.new ≡ is_write_fault result }
+    ensures reading { OnOk result (S.has_failed reader.new ≡ false) }
+    ensures stops { IfErr result (λ fault. IfSome (S.remaining reader.old) (λ input.
+        Stops (Some only.now) fault max_lines core.old core.new input
+        (S.remaining reader.new) (S.has_failed reader.new)
+        (K.contents writer.old) (K.contents writer.new))) }
+    ensures ok { IfErr result (λ fault. IfSome (S.remaining reader.old) (λ input.
+        HasCause input max_lines (S.has_failed reader.new) (K.has_failed writer.new))) }
+    ensures before { (K.has_failed writer.old || S.has_failed reader.old) ≡ true →
+        FaultBefore result (S.has_failed reader.old) (K.has_failed writer.old)
+        × (core.new ≡ core.old) × (reader.new ≡ reader.old) × (writer.new ≡ writer.old) }
+{
+    let run = Run {
+        list,
+        only: Some(only),
+    };
+    run_said_by(&run, core, reply, reader, writer, max_lines)
+}
