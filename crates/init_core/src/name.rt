@@ -6,10 +6,7 @@ ghost use Rattle.init_core.specs.Mark.{mark_of};
 use arrayvec::ArrayString;
 use std::fmt;
 use std::marker::Model;
-use text_read::is_name;
-
-/// The most bytes of a name.
-const LONGEST_NAME: usize = 32;
+use text_read::{LONGEST_NAME, is_name};
 
 /// What is compared before the bytes of names are: equal names have equal marks, and few others have.
 #[derive(Clone, Copy, Debug, PartialEq, Eq)]
