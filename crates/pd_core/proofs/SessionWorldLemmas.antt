@@ -176,10 +176,10 @@ module _ {store : Store} (components : List Component) {i s : ℕ} {script : Scr
 
     still_unlent : {rows rows' : NatMap (Row Labelled)} (serves : ServesSession row session.0 effect (service_step request row.account None row.value) store store' rows rows') → serves.lent ≡ None
     still_unlent serves = no_bytes serves.lent (serves.bytes ∙ none_lent (row_session row) request)
-        where
-          no_bytes : (lent : Option ℕ) → bytes_lent store' lent ≡ None → lent ≡ None
-          no_bytes None none = refl
-          no_bytes (Some key) none = absurd (none-some _ (sym none))
+      where
+        no_bytes : (lent : Option ℕ) → bytes_lent store' lent ≡ None → lent ≡ None
+        no_bytes None none = refl
+        no_bytes (Some key) none = absurd (none-some _ (sym none))
 
     -- so none is made
     pub none_made : (space : DsId) → effect ≡ MakesBuffer space → ⊥
