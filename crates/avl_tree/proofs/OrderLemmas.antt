@@ -265,3 +265,23 @@ found-there k low (Node l b s h r) up a some o there =
   where
     or_else-some : (x b a : ℕ) → x ≡ a → 0 < a → or_else x b ≡ a
     or_else-some x b a is some = grind (arith, nat_tests)
+
+-- what is found is a node of the tree
+pub found-in : (k : ℕ) (t : Tree) → 0 < found k t → 1 ≤ tally (is_at (found k t)) t
+unfolding found
+found-in k Leaf some = absurd (omega (arith, some))
+found-in k (Node l b s h r) some =
+    elim (nat_lt k s) as (λ v. 0 < (if v then or_else (found k l) b else (if nat_lt s k then found k r else b)) →
+    1 ≤ tally (is_at (if v then or_else (found k l) b else (if nat_lt s k then found k r else b))) (Node l b s h r)) [
+      | true ↦ λ there. before (found k l) (found-in k l) there
+      | false ↦ elim (nat_lt s k) as (λ v. 0 < (if v then found k r else b) → 1 ≤ tally (is_at (if v then found k r else b)) (Node l b s h r)) [
+        | true ↦ λ there. omega (arith, found-in k r there)
+        | false ↦ λ there. let one : is_at b b s ≡ 1 = grind (arith, nat_tests) in omega (arith, one)
+      ]
+    ] some
+  where
+    before : (x : ℕ) → (0 < x → 1 ≤ tally (is_at x) l) → 0 < or_else x b → 1 ≤ tally (is_at (or_else x b)) (Node l b s h r)
+    before x in_l there = elim (x == 0) as (λ v. (x == 0) ≡ v → 1 ≤ tally (is_at (if v then b else x)) (Node l b s h r)) [
+      | true ↦ λ none. let one : is_at b b s ≡ 1 = grind (arith, nat_tests) in omega (arith, one)
+      | false ↦ λ other. let some : 0 < x = grind (arith, nat_tests) in omega (arith, in_l some)
+    ] refl

@@ -4,4 +4,6 @@ pub mod Node
 pub mod Calls
 pub mod Found
 pub mod Files
+pub mod Index
+pub mod NameLaws
 pub mod Session

@@ -6,6 +6,7 @@ mod contents;
 mod find;
 mod furnished;
 mod look;
+mod names;
 mod node;
 mod nodes;
 mod service;

@@ -13,8 +13,10 @@ use Rattle.own_model.specs.Sliced.{sliced_size}
 use Rattle.session_proto.specs.FileReply.{model_error}
 use Rattle.session_proto.specs.declared.file_reply.FileError.TheVariants.{OutOfRam}
 use Rattle.file_service.specs.Calls.{content_taken}
+use Rattle.file_service.specs.Index.{IsIndexed, previous_at}
 use Rattle.file_service.specs.Furnished.{Stock, stock}
-use Rattle.file_service.specs.Session.{files_in, served_in, counted_reply}
+use Rattle.file_service.specs.Node.{value_of}
+use Rattle.file_service.specs.Session.{IsFound, files_in, served_in, counted_reply}
 use Rattle.file_service.proofs.LengthenLemmas.{TakesLonger, sum_is, no_sum, not_new, source, target, room, made_has, made_own, made_found, made_served}
 use Rattle.file_service.proofs.ResultLemmas.{err_case, err_and}
 use Rattle.file_service.proofs.ServeLemmas.{serves_told, serves_refused, was_ok}
@@ -56,7 +58,11 @@ write_content-requires-clause-there c =
 
 pub replace-requires-clause-found : goal.replace-requires-clause-found
 replace-requires-clause-found c =
-    made_found c.args.self.now _ _ _ _ _ _ c.requires.found _ _ _ _ c.requires.low (takes (goal.at.replace-requires-clause-found c).In_ok-content) _ c.copy_front.ensures.copied _ c.write_content.ensures.written
+    let t = takes (goal.at.replace-requires-clause-found c).In_ok-content in
+    let nodes = ap (λ (s : Stock). s.nodes) c.write_content.ensures.written ∙ ap (λ (s : Stock). s.nodes) c.copy_front.ensures.copied ∙ ap (λ (s : Stock). s.nodes) t.is in
+    let made : Stock = stock c.args.self.now.heap c.take_content.new.sliced c.write_content.new.memory c.take_content.new.map in
+    subst (λ n. IsFound c.args.self.now.first c.args.self.now.last made.nodes made.contents c.args.found.node.name.items (previous_at n c.args.found.address) c.args.found.address (value_of c.args.found.node)) (sym nodes)
+    (made_found c.args.self.now _ _ _ _ _ _ c.requires.found _ _ _ _ c.requires.low (takes (goal.at.replace-requires-clause-found c).In_ok-content) _ c.copy_front.ensures.copied _ c.write_content.ensures.written)
 
 pub replace-requires-clause-content : goal.replace-requires-clause-content
 replace-requires-clause-content c =
@@ -65,6 +71,12 @@ replace-requires-clause-content c =
 pub replace-requires-clause-own : goal.replace-requires-clause-own
 replace-requires-clause-own c =
     λ _. made_own c.args.self.now _ _ _ _ _ _ c.requires.found _ _ _ _ c.requires.low (takes (goal.at.replace-requires-clause-own c).In_ok-content) _ c.copy_front.ensures.copied _ c.write_content.ensures.written
+
+pub replace-requires-clause-indexed : goal.replace-requires-clause-indexed
+replace-requires-clause-indexed c =
+    let t = takes (goal.at.replace-requires-clause-indexed c).In_ok-content in
+    let nodes = ap (λ (s : Stock). s.nodes) c.write_content.ensures.written ∙ ap (λ (s : Stock). s.nodes) c.copy_front.ensures.copied ∙ ap (λ (s : Stock). s.nodes) t.is in
+    subst (IsIndexed c.args.self.now.first c.args.self.now.root) (sym nodes) c.requires.files.indexed
 
 pub returns-clause-serves : goal.returns-clause-serves
 returns-clause-serves c =

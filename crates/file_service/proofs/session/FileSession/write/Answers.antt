@@ -7,6 +7,7 @@ use Rattle.own_model.specs.FileText.FileReply.{Refused}
 use Rattle.own_model.specs.FileText.FileRequest.{Write}
 use Rattle.file_service.specs.Calls.{content_written, HasBytes}
 use Rattle.file_service.specs.Files.{file_at}
+use Rattle.file_service.specs.Index.{previous_at}
 use Rattle.file_service.specs.Furnished.{Stock, stock}
 use Rattle.file_service.specs.Node.{value_of}
 use Rattle.file_service.specs.Session.{served_in, Finds}
@@ -26,7 +27,7 @@ pub returns-then-offset-size-clause-serves : goal.returns-then-offset-size-claus
 returns-then-offset-size-clause-serves c =
     let was : Stock = stock c.args.self.now.heap c.args.sliced.now c.args.memory.now c.args.map.now in
     let found = finds (goal.at.returns-then-offset-size-clause-serves c).In_ok-found in
-    let previous = c.in_ok-found.found.previous in
+    let previous = (previous_at was.nodes c.in_ok-found.found.address) in
     let address = c.in_ok-found.found.address in
     let node = value_of c.in_ok-found.found.node in
     let long = found_long c.args.self.now.first c.args.self.now.last was.nodes was.contents c.args.name.now previous address node found in
@@ -41,7 +42,7 @@ write_content-requires-clause-there c =
     let found = finds (goal.at.write_content-requires-clause-there c).In_ok-found in
     let node = value_of c.in_ok-found.found.node in
     subst (λ m. HasBytes (stock c.args.self.now.heap c.args.sliced.now m c.args.map.now).contents node.content c.args.offset (length c.args.bytes.now)) (sym c.find.ensures.memory)
-    (found_has c.args.self.now.first c.args.self.now.last was.nodes was.contents c.args.name.now c.in_ok-found.found.previous c.in_ok-found.found.address node found
+    (found_has c.args.self.now.first c.args.self.now.last was.nodes was.contents c.args.name.now (previous_at was.nodes c.in_ok-found.found.address) c.in_ok-found.found.address node found
     c.args.offset (length c.args.bytes.now) (omega arith) (omega arith))
 
 pub returns-then-count-gt0-clause-serves : goal.returns-then-count-gt0-clause-serves
@@ -50,7 +51,7 @@ returns-then-count-gt0-clause-serves c =
     let now : Stock = stock c.args.self.now.heap c.args.sliced.now c.write_content.new.memory c.args.map.now in
     let found = finds (goal.at.returns-then-count-gt0-clause-serves c).In_ok-found in
     let node = value_of c.in_ok-found.found.node in
-    over_served c.args.self.now was _ _ _ node found c.args.offset c.args.bytes.now (omega arith) (omega arith) now
+    over_served c.args.self.now was _ _ _ node found c.args.offset c.args.bytes.now (omega arith) (omega arith) c.requires.files.indexed now
     (c.write_content.ensures.written ∙ ap (λ m. content_written node.content c.args.offset c.args.bytes.now (stock c.args.self.now.heap c.args.sliced.now m c.args.map.now)) c.find.ensures.memory)
 
 pub returns-else-count-gt0-clause-serves : goal.returns-else-count-gt0-clause-serves
