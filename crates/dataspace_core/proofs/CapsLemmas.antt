@@ -1,5 +1,5 @@
 -- An account's use of capabilities may change while it covers the account's dataspaces.
-use Rattle.std.proofs.Common.{◌≡◌, ℕ, ◌<◌, ◌≤◌, List, length, Some, Ok, Err, unwrap_or, refl, sym, subst, ◌∙◌, arith, Bool, cond, eqb, true, false}
+use Rattle.std.proofs.Common.{◌≡◌, ℕ, ◌<◌, ◌≤◌, List, length, Some, Ok, Err, unwrap_or, refl, sym, subst, arith, Bool, cond, true, false, rules}
 use Rattle.std.specs.Prelude.{⊤, Option, None, Result, IfErr, OnOk, OnErr}
 use Rattle.std.specs.Option.{option_map}
 use Rattle.std.specs.Result.{result_err}
@@ -15,7 +15,7 @@ use Rattle.own_model.proofs.Totals.{len-total, total_same, total-picked, owed-to
 use Rattle.own_model.proofs.StepLemmas.{covers, short_of_caps}
 use Rattle.quota_core.specs.Books.{Books, IsOpen, account_at, with_account}
 use Rattle.quota_core.proofs.BooksLaws.{account_there}
-use Rattle.dataspace_core.specs.Store.{Store, part, bytes_paid_by, PartBecomes, charged_part}
+use Rattle.dataspace_core.specs.Store.{Store, part, PartBecomes, charged_part}
 use Rattle.dataspace_core.specs.Layout.{store_of}
 use Rattle.dataspace_core.specs.Paid.{IsPaid, IsSound, payer_of}
 use Rattle.dataspace_core.specs.declared.dataspace.Dataspace.{Dataspace}
@@ -31,11 +31,7 @@ counts false bytes = refl
 -- an account owes a capability for each dataspace of its part
 pub caps_owed-len : (store : Store) (account : ℕ) → len (part account store).spaces ≡ owed (λ _. 1) payer_of store.spaces account
 unfolding part
-caps_owed-len store account =
-    len-total (part account store).spaces
-    ∙ total-picked (λ _. 1) (bytes_paid_by account) store.spaces
-    ∙ total_same _ _ store.spaces (λ ds space there. counts (eqb space.payer account) space.bytes)
-    ∙ sym (owed-total (λ _. 1) payer_of store.spaces account)
+caps_owed-len store account = search (rules, len-total, total-picked, total_same, counts, owed-total)
 
 module _ {books : Books} {pool : List (Option (List ℕ))} {table : List PageNo} {room : ℕ} {spaces : Slab Dataspace} (sound : IsSound books pool table room spaces) where
   -- what contracts see
@@ -80,10 +76,7 @@ module _ {books : Books} {pool : List (Option (List ℕ))} {table : List PageNo}
 
       -- a credit of one that pays for no dataspace
       pub IsSound-credit_cap : len (part account store).spaces < (account_at books account).caps_used → new_books ≡ with_account books account (credited (account_at books account) 0 1) → IsSound new_books pool table room spaces
-      IsSound-credit_cap spare is =
-          let within = (sound.paid.paying account (account_at books account) (account_there books account opens)).within in
-          IsSound-capped (credited (account_at books account) 0 1) is (omega arith) refl refl
-          (omega (arith, caps_owed-len store account, spare)) (omega (arith, within.caps))
+      IsSound-credit_cap spare is = search (rules, account_there, IsSound-capped, caps_owed-len)
 
       -- its part is charged
       pub becomes-charge_cap : (r : Result ⊤ Refusal) → OnOk r (new_books ≡ with_account books account (charged (account_at books account) 0 1)) → OnOk r (PartBecomes account (charged_part (part account store) 1) store (store_of new_books pool table spaces))

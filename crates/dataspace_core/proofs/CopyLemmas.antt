@@ -1,22 +1,18 @@
 -- Bytes of a dataspace put over a part of another, one piece after another.
-use Rattle.std.proofs.Common.{◌≡◌, ◌≢◌, ℕ, ◌+◌, ◌-◌, ◌%◌, ◌<◌, ◌≤◌, min, ◌++◌, List, [], length, take, drop, refl, sym, ap, subst, ◌∙◌, unwrap_or, Some, is_some, arith, take-add, drop-drop}
+use Rattle.std.proofs.Common.{◌≡◌, ◌≢◌, ℕ, ◌+◌, ◌-◌, ◌%◌, ◌<◌, ◌≤◌, min, ◌++◌, List, [], length, take, drop, sym, ap, ◌∙◌, unwrap_or, is_some, arith, take-add, drop-drop, rules}
 use Rattle.std.proofs.lemmas.List.{length-take-le}
-use Rattle.std.specs.FinMap.{get, insert}
+use Rattle.std.specs.FinMap.{get}
 use Rattle.std.specs.Prelude.{Option, slice_range}
-use Rattle.trade_base.specs.Bytes.{with_bytes}
-use Rattle.trade_base.proofs.BytesLemmas.{length-slice_range, length-with_bytes, with_bytes-more, with_bytes-nothing}
-use Rattle.own_model.specs.NatMap.{NatMap}
-use Rattle.own_model.proofs.NatMapLemmas.{natmaps, same, value_at, insert_back, get-insert_same, get-insert_other, IsSome-insert_same}
+use Rattle.trade_base.proofs.BytesLemmas.{length-slice_range}
+use Rattle.own_model.proofs.NatMapLemmas.{value_at, get-insert_other}
 use Rattle.dataspace_core.specs.Store.{Store, Space, Exists, PartBecomes, part, part_with_bytes, space_at, with_bytes_at}
 use Rattle.dataspace_core.proofs.PartLemmas.{becomes-with_bytes_at}
+use Rattle.dataspace_core.proofs.PutLemmas.{put_nothing, put_there, put_long, put_more}
 
 -- a piece is no more than is left, and as long as the part of the array that holds it
 pub piece_taken : (count done size at : ℕ) (buffer : List ℕ) → done < count → length buffer ≡ 4096 → size ≡ min (4096 - at % 4096) (count - done) →
     (done + size ≤ count) × (length (take size buffer) ≡ size)
-piece_taken count done size at buffer more long is =
-    let left : size ≤ count - done = omega (arith, is) in
-    let most : size ≤ 4096 = omega (arith, is) in
-    (omega (arith, left, more), length-take-le size buffer (omega (arith, most, long)))
+piece_taken count done size at buffer more long is = search (rules, length-take-le)
 
 -- where no less is done than is asked, all is
 pub done_all : (done count : ℕ) → count ≤ done → done ≤ count → done ≡ count
@@ -38,10 +34,6 @@ range_more bytes from done size =
     ∙ sym (take-add done size (drop from bytes))
     ∙ ap (λ n. take n (drop from bytes)) (sym c)
 
--- what is put in place of what was put before
-put_again : {X : Type 0} (m : NatMap X) (k : ℕ) (v w : X) → insert (insert m k v) k w ≡ insert m k w
-put_again m k v w = same _ _ (λ q. grind (arith, natmaps))
-
 module _ (store : Store) (from to : ℕ) (apart : from ≢ to) (source : Exists store from) (target : Exists store to) (a b count : ℕ)
     (there : a + count ≤ length (space_at store from).bytes) (room : b + count ≤ length (space_at store to).bytes) where
   abbrev bytes : List ℕ
@@ -53,12 +45,7 @@ module _ (store : Store) (from to : ℕ) (apart : from ≢ to) (source : Exists 
 
   -- at first none are
   pub copied_none : store ≡ copied 0
-  copied_none =
-      let was = value_at store.spaces to target in
-      let here : space_at store to ≡ was.0 = ap (λ (o : Option Space). unwrap_or o (record { payer = 0; bytes = [] })) was.1 in
-      sym (ap (with_bytes_at store to b) (no_range bytes a)
-      ∙ ap (λ (bs : List ℕ). record store { spaces = insert store.spaces to (record { payer = (space_at store to).payer; bytes = bs }) }) (with_bytes-nothing (space_at store to).bytes b)
-      ∙ ap (λ (m : NatMap Space). record store { spaces = m }) (insert_back store.spaces to (space_at store to) (was.1 ∙ ap Some (sym here))))
+  copied_none = sym (ap (with_bytes_at store to b) (no_range bytes a) ∙ put_nothing store to target b)
 
   -- its payer's part has them then
   pub copied_part : (n : ℕ) → PartBecomes (space_at store to).payer (part_with_bytes (part (space_at store to).payer store) to b (slice_range bytes a (a + n))) store (copied n)
@@ -75,20 +62,18 @@ module _ (store : Store) (from to : ℕ) (apart : from ≢ to) (source : Exists 
     pub same_source : (space_at now from).bytes ≡ bytes
     same_source = ap (λ (o : Option Space). (unwrap_or o (record { payer = 0; bytes = [] })).bytes) source_is
 
-    -- and the target is there, as long as it was
-    pub target_there : Exists now to
-    target_there = subst (λ (s : Store). Exists s to) (sym is) (IsSome-insert_same _ _ _ _ refl)
-
     long : length (slice_range bytes a (a + done)) ≡ done
     long = length-slice_range bytes a done (omega (arith, more, there))
 
-    target_space : space_at (copied done) to ≡ record { payer = (space_at store to).payer; bytes = with_bytes (space_at store to).bytes b (slice_range bytes a (a + done)) }
-    target_space = ap (λ (o : Option Space). unwrap_or o (record { payer = 0; bytes = [] })) (get-insert_same store.spaces to _ to refl)
+    fits : b + length (slice_range bytes a (a + done)) ≤ length (space_at store to).bytes
+    fits = omega (arith, long, more, room)
+
+    -- and the target is there, as long as it was
+    pub target_there : Exists now to
+    target_there = put_there store to target now b _ is fits
 
     pub target_long : length (space_at now to).bytes ≡ length (space_at store to).bytes
-    target_long =
-        ap (λ (s : Store). length (space_at s to).bytes) is ∙ ap (λ (s : Space). length s.bytes) target_space
-        ∙ length-with_bytes (space_at store to).bytes b (slice_range bytes a (a + done)) (omega (arith, long, more, room))
+    target_long = put_long store to target now b _ is fits
 
     -- a piece that is read there
     abbrev piece : List ℕ
@@ -103,10 +88,6 @@ module _ (store : Store) (from to : ℕ) (apart : from ≢ to) (source : Exists 
         let first = slice_range bytes a (a + done) in
         let next = slice_range bytes (a + done) (a + done + size) in
         ap (λ l. with_bytes_at now to (b + done) (slice_range l (a + done) (a + done + size))) same_source
-        ∙ ap (λ (s : Store). with_bytes_at s to (b + done) next) is
-        ∙ ap (λ n. with_bytes_at (copied done) to (b + n) next) (sym long)
-        ∙ ap (λ (s : Space). record store { spaces = insert (copied done).spaces to (record { payer = s.payer; bytes = with_bytes s.bytes (b + length first) next }) }) target_space
-        ∙ ap (λ (m : NatMap Space). record store { spaces = m }) (put_again store.spaces to _ _)
-        ∙ ap (λ (bs : List ℕ). record store { spaces = insert store.spaces to (record { payer = (space_at store to).payer; bytes = bs }) })
-        (with_bytes-more (space_at store to).bytes b first next (omega (arith, long, more, room)))
+        ∙ ap (λ n. with_bytes_at now to (b + n) next) (sym long)
+        ∙ put_more store to target now b first is fits next
         ∙ ap (with_bytes_at store to b) (range_more bytes a done size)

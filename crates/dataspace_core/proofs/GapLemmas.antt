@@ -1,5 +1,5 @@
 -- Where a run starts once another went from the table: numbers alone.
-use Rattle.std.proofs.Common.{◌≡◌, ◌≢◌, ℕ, ◌+◌, ◌-◌, ◌<◌, ◌≤◌, cond, leb, inl, inr, arith}
+use Rattle.std.proofs.Common.{◌≡◌, ◌≢◌, ℕ, ◌+◌, ◌-◌, ◌<◌, ◌≤◌, cond, leb, inl, inr, arith, rules}
 use Rattle.std.proofs.lemmas.Bool.{cases_lt}
 use Rattle.std.proofs.lemmas.Bool.Decides.{nat_tests}
 use Rattle.dataspace_core.specs.Layout.{before_gap}
@@ -28,28 +28,8 @@ module _ (start m from n : ℕ) (apart : (i k : ℕ) → i < n → k < m → fro
 
   -- each entry of the run that moved is the entry that it was
   pub before_gap-moved : (i : ℕ) → i < n → before_gap start m (after + i) ≡ from + i
-  before_gap-moved i below =
-      elim (cases_lt start from) [
-        | inl behind ↦ let past = starts_behind behind (omega arith) in grind (arith, nat_tests)
-        | inr before ↦
-            elim (cases_lt 0 m) [
-              | inl some ↦ let ends = ends_before before some in grind (arith, nat_tests)
-              | inr none ↦ grind (arith, nat_tests)
-            ]
-      ]
+  before_gap-moved i below = search (rules, cases_lt, starts_behind, nat_tests, ends_before)
 
   -- the run that moved lies in the table
   pub moved_within : (old new : ℕ) → from + n ≤ old → start + m ≤ old → new + m ≡ old → after + n ≤ new
-  moved_within old new within gap shorter =
-      elim (cases_lt start from) [
-        | inl behind ↦
-            elim (cases_lt 0 n) [
-              | inl some ↦ let past = starts_behind behind some in grind (arith, nat_tests)
-              | inr none ↦ grind (arith, nat_tests)
-            ]
-        | inr before ↦
-            elim (cases_lt 0 m) [
-              | inl some ↦ let ends = ends_before before some in grind (arith, nat_tests)
-              | inr none ↦ grind (arith, nat_tests)
-            ]
-      ]
+  moved_within old new within gap shorter = search (rules, cases_lt, starts_behind, nat_tests, ends_before)

@@ -1,7 +1,6 @@
 -- Laws for callers: a dataspace of an account is detached, and goes: what is left of its account's share, and that all others stay.
-use Rattle.std.proofs.Common.{◌≡◌, ◌≢◌, ℕ, ◌+◌, ◌*◌, List, [], length, Some, is_some, refl, sym, ap, ◌∙◌, unwrap_or}
+use Rattle.std.proofs.Common.{◌≡◌, ◌≢◌, ℕ, ◌+◌, ◌*◌, List, length, Some, is_some, refl, sym, ap, ◌∙◌, rules}
 use Rattle.std.proofs.lemmas.Option.{none-some, same_Some}
-use Rattle.std.specs.Prelude.{Option}
 use Rattle.std.specs.Option.{option_map}
 use Rattle.std.specs.FinMap.{get, remove, len}
 use Rattle.own_model.specs.Account.{Account, credited}
@@ -11,7 +10,7 @@ use Rattle.own_model.specs.Region.{Region}
 use Rattle.own_model.proofs.ApartLemmas.{LieApart-fewer}
 use Rattle.own_model.proofs.NatMapLemmas.{before_remove, get-remove_same, get-remove_other, value_at}
 use Rattle.own_model.proofs.Totals.{len-remove_at}
-use Rattle.dataspace_core.specs.Store.{Store, Part, part, account_in, account_of, space_at, IsOpenIn, PartBecomes, part_without_space, ram_limits_in}
+use Rattle.dataspace_core.specs.Store.{Store, Part, part, account_in, space_at, IsOpenIn, PartBecomes, part_without_space, ram_limits_in}
 use Rattle.dataspace_core.specs.Share.{Share, share, share_in, IsWindowOf, KeepsShares}
 use Rattle.dataspace_core.proofs.PartLaws.{IsPaidBy, paid_in_part, becomes_paid, account_of-part}
 use Rattle.dataspace_core.proofs.ShareLaws.{share_detached, share_detached_other}
@@ -60,11 +59,7 @@ module _ (account start ds size : ℕ) (old new : Store) (pages most : ℕ) (hea
 
     -- it is credited
     pub gone_charge : (part account new).account ≡ Some (credited (account_in old account) (size * 4096) 1)
-    gone_charge =
-        ap (λ (p : Part). p.account) gone_becomes.own
-        ∙ ap (λ (o : Option (List ℕ)). Some (credited (account_of (part account old)) (length (unwrap_or o [])) 1)) whole.1
-        ∙ ap (λ n. Some (credited (account_of (part account old)) n 1)) whole.2
-        ∙ ap (λ (a : Account). Some (credited a (size * 4096) 1)) (account_of-part account old)
+    gone_charge = search (rules, gone_becomes, whole, account_of-part)
 
     -- the share is without the region
     pub gone_share : share account new (remove heap start) (remove tags start) ≡ record { part = part account new; heap = remove S.heap start; tags = remove S.tags start }

@@ -1,5 +1,6 @@
 -- Dataspaces stay laid out while one comes, goes or is written, and the others keep their bytes.
-use Rattle.std.proofs.Common.{◌≡◌, ◌≢◌, ℕ, ◌+◌, ◌-◌, ◌*◌, ◌<◌, ◌≤◌, cond, true, List, length, get_or, Option, Some, None, refl, sym, ap, subst, ◌∙◌, inl, inr, ◌⊎◌, arith, true≢false}
+use Rattle.std.proofs.lemmas.Bool.Decides.{nat_tests}
+use Rattle.std.proofs.Common.{◌≡◌, ◌≢◌, ℕ, ◌+◌, ◌-◌, ◌*◌, ◌<◌, ◌≤◌, cond, true, List, length, get_or, Option, Some, None, refl, sym, ap, subst, ◌∙◌, inl, inr, ◌⊎◌, arith, true≢false, rules}
 use Rattle.std.specs.Option.{option_map}
 use Rattle.std.specs.FinMap.{insert, remove}
 use Rattle.std.proofs.lemmas.Bool.{cases_eq, le-leb}
@@ -24,19 +25,11 @@ use Rattle.dataspace_core.proofs.GapLemmas.{starts_behind, before_gap-moved, mov
 
 -- what stands in a slab after an insertion is the new value, or stood there before
 after_insert : (old new : Slab Dataspace) (key : ℕ) (d : Dataspace) → Updates old new key (Some d) → (q : ℕ) (x : Dataspace) → slab.get new q ≡ Some x → ((q ≡ key) × (x ≡ d)) ⊎ ((q ≢ key) × (slab.get old q ≡ Some x))
-after_insert old new key d updates q x there =
-    elim (cases_eq q key) [
-      | inl here ↦ inl (here, same_Some x d (sym there ∙ ap (slab.get new) here ∙ updates.changed))
-      | inr apart ↦ inr (apart, sym (updates.others q apart) ∙ there)
-    ]
+after_insert old new key d updates q x there = search (rules, cases_eq, same_Some)
 
 -- what stands in a slab after a removal stood there before, elsewhere
 pub after_remove : (old new : Slab Dataspace) (key : ℕ) → Updates old new key None → (q : ℕ) (x : Dataspace) → slab.get new q ≡ Some x → (q ≢ key) × (slab.get old q ≡ Some x)
-after_remove old new key updates q x there =
-    elim (cases_eq q key) [
-      | inl here ↦ absurd (none-some x (sym updates.changed ∙ ap (slab.get new) (sym here) ∙ there))
-      | inr apart ↦ (apart, sym (updates.others q apart) ∙ there)
-    ]
+after_remove old new key updates q x there = search (rules, cases_eq, none-some)
 
 -- what every value was changed to comes from one
 after_map : (g : Dataspace → Dataspace) (o : Option Dataspace) (y : Dataspace) → option_map g o ≡ Some y → (x : Dataspace) × (o ≡ Some x) × (g x ≡ y)
@@ -48,11 +41,7 @@ after_map g (Some x) y there = (x, refl, same_Some (g x) y there)
 module _ (pages : List (Option (List ℕ))) (table : List PageNo) (spaces : Slab Dataspace) (laid_out : IsLaidOut pages table spaces) (ds : ℕ) (d : Dataspace) (there : slab.get spaces ds ≡ Some d) where
   -- its pages are a run
   pub IsRun-laid_out : IsRun pages table d.run.start d.run.count
-  IsRun-laid_out = record {
-    within = laid_out.within ds d there;
-    held = laid_out.held ds d there;
-    apart = λ i j p q e. (laid_out.apart ds ds d d there there i j p q e).1;
-  }
+  IsRun-laid_out = search (rules)
 
   -- its size
   pub length-space_of : length (space_of pages table d).bytes ≡ d.run.count * 4096
@@ -102,10 +91,7 @@ module _ (pages : List (Option (List ℕ))) (table : List PageNo) (new_pages : L
   -- so contracts see what they saw
   space_kept : space_of new_pages new_table y ≡ space_of pages table x
   unfolding space_of run_bytes
-  space_kept = λ i. record {
-    payer = (kept.payer i).0;
-    bytes = (joined_same _ _ y.run.count bytes_kept ∙ ap (λ n. run_bytes pages table x.run.start n) kept.count) i;
-  }
+  space_kept = grind (arith, nat_tests, joined_same, bytes_kept)
 
 -- ---- a dataspace comes
 
@@ -116,12 +102,7 @@ module _ (pages : List (Option (List ℕ))) (table : List PageNo) (spaces : Slab
 
   -- an old dataspace is kept
   old_kept : (a : ℕ) (x : Dataspace) → slab.get spaces a ≡ Some x → IsKept pages table new_pages new_table x x
-  old_kept a x there = record {
-    payer = refl;
-    count = refl;
-    page = λ i below. run.entries _ (omega (arith, laid_out.within a x there, below));
-    slot = λ i below. run.kept _ (taken a x there i below);
-  }
+  old_kept a x there = grind (arith, nat_tests, taken)
 
   -- the new dataspace is all zeros
   new_space : space_of new_pages new_table d ≡ record { payer = d.payer.0; bytes = zeros (d.run.count * 4096) }
@@ -166,11 +147,7 @@ module _ (pages : List (Option (List ℕ))) (table : List PageNo) (spaces : Slab
 
     -- the dataspaces with the new one are laid out
     pub IsLaidOut-insert : IsLaidOut new_pages new_table new_spaces
-    IsLaidOut-insert = record {
-      within = λ a x there. within_each a x (after_insert spaces new_spaces key d updates a x there);
-      held = λ a x there. held_each a x (after_insert spaces new_spaces key d updates a x there);
-      apart = λ a b x y p q. apart_each a b x y (after_insert spaces new_spaces key d updates a x p) (after_insert spaces new_spaces key d updates b y q);
-    }
+    IsLaidOut-insert = search (rules, within_each, after_insert, held_each, apart_each)
 
     -- an old slot is read as it was
     read_old : (q : ℕ) (o : Option Dataspace) → slab.get spaces q ≡ o → option_map (space_of new_pages new_table) o ≡ option_map (space_of pages table) o
@@ -179,16 +156,7 @@ module _ (pages : List (Option (List ℕ))) (table : List PageNo) (spaces : Slab
 
     -- they are the old ones and the new one, all zero
     pub map_of-insert_space : map_of (space_of new_pages new_table) new_spaces ≡ insert (map_of (space_of pages table) spaces) key (record { payer = d.payer.0; bytes = zeros (d.run.count * 4096) })
-    map_of-insert_space = same _ _ (λ q.
-        elim (cases_eq q key) [
-          | inl here ↦
-              get-map_of (space_of new_pages new_table) new_spaces q ∙ ap (option_map (space_of new_pages new_table)) (ap (slab.get new_spaces) here ∙ updates.changed)
-              ∙ ap Some new_space ∙ sym (get-insert_same (map_of (space_of pages table) spaces) key _ q here)
-          | inr apart ↦
-              get-map_of (space_of new_pages new_table) new_spaces q ∙ ap (option_map (space_of new_pages new_table)) (updates.others q apart)
-              ∙ read_old q (slab.get spaces q) refl ∙ sym (get-map_of (space_of pages table) spaces q)
-              ∙ sym (get-insert_other (map_of (space_of pages table) spaces) key _ q apart)
-        ])
+    map_of-insert_space = search (rules, same, cases_eq, get-map_of, new_space, get-insert_same, read_old, get-insert_other)
 
 -- ---- a dataspace goes
 
@@ -201,10 +169,7 @@ module _ (pages : List (Option (List ℕ))) (table : List PageNo) (spaces : Slab
     is : moved_down d.run old ≡ y
 
   was_there : (q : ℕ) (y : Dataspace) → slab.get new_spaces q ≡ Some y → WasThere q y
-  was_there q y found =
-      let origin = after_map (moved_down d.run) (slab.get left q) y (sym (moved.each q) ∙ found) in
-      let old = after_remove spaces left ds updates q origin.0 origin.1 in
-      record { old = origin.0; found = old.1; apart = old.0; is = origin.2 }
+  was_there q y found = grind (arith, nat_tests, after_map, after_remove)
 
   -- another dataspace is kept where it moves
   moved_kept : (q : ℕ) (x : Dataspace) → slab.get spaces q ≡ Some x → q ≢ ds → IsKept pages table new_pages new_table x (moved_down d.run x)
@@ -250,29 +215,14 @@ module _ (pages : List (Option (List ℕ))) (table : List PageNo) (spaces : Slab
 
   -- they are the old ones without this one
   pub map_of-remove_space : map_of (space_of new_pages new_table) new_spaces ≡ remove (map_of (space_of pages table) spaces) ds
-  map_of-remove_space = same _ _ (λ q.
-      get-map_of (space_of new_pages new_table) new_spaces q ∙ ap (option_map (space_of new_pages new_table)) (moved.each q)
-      ∙ elim (cases_eq q ds) [
-        | inl here ↦
-            ap (λ o. option_map (space_of new_pages new_table) (option_map (moved_down d.run) o)) (ap (slab.get left) here ∙ updates.changed)
-            ∙ sym (get-remove_same (map_of (space_of pages table) spaces) ds q here)
-        | inr apart ↦
-            ap (λ o. option_map (space_of new_pages new_table) (option_map (moved_down d.run) o)) (updates.others q apart)
-            ∙ read_left q apart (slab.get spaces q) refl ∙ sym (get-map_of (space_of pages table) spaces q)
-            ∙ sym (get-remove_other (map_of (space_of pages table) spaces) ds q apart)
-      ])
+  map_of-remove_space = grind (arith, nat_tests, same, get-map_of, cases_eq, get-remove_same, read_left, get-remove_other)
 
 -- ---- a dataspace is written
 
 module _ (pages : List (Option (List ℕ))) (table : List PageNo) (spaces : Slab Dataspace) (laid_out : IsLaidOut pages table spaces) (ds : ℕ) (d : Dataspace) (there : slab.get spaces ds ≡ Some d) (new_pages : List (Option (List ℕ))) (offset : ℕ) (bytes : List ℕ) (written : IsWritten pages new_pages table d.run.start d.run.count offset bytes) where
   -- another dataspace is kept
   other_kept : (a : ℕ) (x : Dataspace) → slab.get spaces a ≡ Some x → a ≢ ds → IsKept pages table new_pages table x x
-  other_kept a x found apart = record {
-    payer = refl;
-    count = refl;
-    page = λ i below. refl;
-    slot = λ i below. written.others _ (IsOutside-other pages table spaces laid_out ds d there a x found apart i below);
-  }
+  other_kept a x found apart = grind (arith, nat_tests, IsOutside-other)
 
   -- each page still has all its bytes
   still_held : (a : ℕ) (x : Dataspace) → slab.get spaces a ≡ Some x → (a ≡ ds) ⊎ (a ≢ ds) → (i : ℕ) → i < x.run.count → length (page_bytes new_pages (page_in table (x.run.start + i))) ≡ 4096
@@ -283,11 +233,7 @@ module _ (pages : List (Option (List ℕ))) (table : List PageNo) (spaces : Slab
 
   -- the dataspaces stay laid out
   pub IsLaidOut-written : IsLaidOut new_pages table spaces
-  IsLaidOut-written = record {
-    within = laid_out.within;
-    held = λ a x found. still_held a x found (cases_eq a ds);
-    apart = laid_out.apart;
-  }
+  IsLaidOut-written = grind (arith, nat_tests, still_held, cases_eq)
 
   -- the dataspace that is written has the part in its bytes
   space_written : space_of new_pages table d ≡ record { payer = (space_of pages table d).payer; bytes = with_bytes (space_of pages table d).bytes offset bytes }
@@ -301,12 +247,4 @@ module _ (pages : List (Option (List ℕ))) (table : List PageNo) (spaces : Slab
 
   -- and this one has the new bytes
   pub map_of-written : map_of (space_of new_pages table) spaces ≡ insert (map_of (space_of pages table) spaces) ds (record { payer = (space_of pages table d).payer; bytes = with_bytes (space_of pages table d).bytes offset bytes })
-  map_of-written = same _ _ (λ q.
-      elim (cases_eq q ds) [
-        | inl here ↦
-            get-map_of (space_of new_pages table) spaces q ∙ ap (option_map (space_of new_pages table)) (ap (slab.get spaces) here ∙ there)
-            ∙ ap Some space_written ∙ sym (get-insert_same (map_of (space_of pages table) spaces) ds _ q here)
-        | inr apart ↦
-            get-map_of (space_of new_pages table) spaces q ∙ read_written q (slab.get spaces q) refl apart
-            ∙ sym (get-map_of (space_of pages table) spaces q) ∙ sym (get-insert_other (map_of (space_of pages table) spaces) ds _ q apart)
-      ])
+  map_of-written = grind (arith, nat_tests, same, cases_eq, get-map_of, space_written, get-insert_same, read_written, get-insert_other)

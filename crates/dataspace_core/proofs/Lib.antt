@@ -9,6 +9,7 @@ pub mod TestLemmas
 pub mod GapLemmas
 pub mod LaidOutLemmas
 pub mod MemoryLemmas
+pub mod PutLemmas
 pub mod CopyLemmas
 pub mod CapsLemmas
 pub mod PartLaws

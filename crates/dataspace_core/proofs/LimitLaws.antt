@@ -1,5 +1,5 @@
 -- Laws for callers: the limits of a memory after a call for one account, and the pages that a heap window shows of it.
-use Rattle.std.proofs.Common.{◌≡◌, ◌≢◌, ◌≤◌, ◌+◌, ◌*◌, ℕ, Some, length, refl, sym, ap, ◌∙◌, ⊎_elim, arith, zero-add}
+use Rattle.std.proofs.Common.{◌≡◌, ◌≢◌, ◌≤◌, ◌+◌, ◌*◌, ℕ, Some, length, refl, sym, ap, ◌∙◌, arith, zero-add, rules}
 use Rattle.std.proofs.lemmas.Bool.{cases_eq}
 use Rattle.std.proofs.lemmas.Option.{none-some}
 use Rattle.std.specs.Prelude.{Option, None, unwrap_or}
@@ -21,12 +21,7 @@ fresh_limits root pages caps accounts places =
 -- the accounts after a call are those before, with the one that it is for as its part has it
 pub accounts_after : (account : ℕ) (after : Part) (old new : Store) (a : Account) → PartBecomes account after old new → after.account ≡ Some a → accounts_in new ≡ insert (accounts_in old) account a
 unfolding part
-accounts_after account after old new a becomes is = same _ _ (λ k. ⊎_elim
-    (λ (own : k ≡ account).
-    ap (get (accounts_in new)) own ∙ ap (λ (p : Part). p.account) becomes.own ∙ is ∙ sym (get-insert_same (accounts_in old) account a k own))
-    (λ (other : k ≢ account).
-    ap (λ (p : Part). p.account) (becomes.others k other) ∙ sym (get-insert_other (accounts_in old) account a k other))
-    (cases_eq k account))
+accounts_after account after old new a becomes is = search (rules, same, get-insert_same, get-insert_other, cases_eq)
 
 -- a call that leaves the limit of its account leaves the limits of all
 pub limits_after : (account : ℕ) (after : Part) (old new : Store) (a : Account) → PartBecomes account after old new → after.account ≡ Some a → IsOpenIn old account → a.ram_limit ≡ (account_in old account).ram_limit → ram_limits_in new ≡ ram_limits_in old

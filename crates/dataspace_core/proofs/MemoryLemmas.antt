@@ -1,4 +1,5 @@
 -- A memory stays sound over each call, and is what the call's contract says.
+use Rattle.std.proofs.lemmas.Bool.Decides.{nat_tests}
 use Rattle.std.proofs.Common.{[], get_or, ◌≡◌, ◌≢◌, ℕ, ◌+◌, ◌*◌, ◌/◌, ◌^◌, ◌<◌, ◌≤◌, min, List, length, Some, Ok, Err, refl, sym, ap, subst, ◌∙◌, arith, inl, inr}
 use Rattle.std.specs.Prelude.{⊤, Option, None, Result, IfOk, OnOk, OnErr}
 use Rattle.std.specs.Result.{result_err}
@@ -19,8 +20,7 @@ use Rattle.own_model.specs.Account.{Account, Fits, shortage, charged, credited}
 use Rattle.own_model.specs.OwnState.{zeros}
 use Rattle.own_model.proofs.StepLemmas.{covers}
 use Rattle.own_model.proofs.NatMapLemmas.{apart_from_free}
-use Rattle.quota_core.specs.Books.{Books, IsOpen, account_at, fresh_books, with_account, with_child, with_moved, without_account, parent_at, AreRelated, ram_limits, caps_limits}
-use Rattle.slab_map.specs.SlabMap.{map_of}
+use Rattle.quota_core.specs.Books.{Books, IsOpen, account_at, fresh_books, with_account, with_child, with_moved, without_account, parent_at, AreRelated, KeepsLimits, ram_limits, caps_limits}
 use Rattle.quota_core.proofs.BooksLaws.{account_there}
 use Rattle.slab_map.proofs.SlabMap.{map_of-empty, get-map_of_at, get-map_of_none, ContainsKey-map_of, len-map_of}
 use Rattle.dataspace_core.specs.Store.{Store, Space, fresh_store, room_in, Exists, space_at, with_space, without_space, with_bytes_at, OpensPart, RaisesPart, ClosesPart}
@@ -83,13 +83,7 @@ module _ {books : Books} {pool : List (Option (List ℕ))} {table : List PageNo}
     -- all of that at once
     pub is_found : {value : Store} → store ≡ value → IsFound pool table ds d value
     unfolding space_of
-    is_found view = subst (IsFound pool table ds d) view (record {
-      run = IsRun-laid_out pool table spaces sound.laid_out ds d there;
-      small = size_small;
-      size = sym (ap (λ (s : Space). length s.bytes) space_at-there ∙ size_there);
-      payer = ap (λ (s : Space). s.payer) (sym space_at-there);
-      bytes = ap (λ (s : Space). s.bytes) (sym space_at-there);
-    })
+    is_found view = grind (arith, nat_tests, IsRun-laid_out, size_small, space_at-there, size_there)
 
     -- its payer is whom the slab names
     payer_is : (space_of pool table d).payer ≡ d.payer.0
@@ -131,11 +125,7 @@ module _ {books : Books} {pool : List (Option (List ℕ))} {table : List PageNo}
 
       -- the memory has lost this dataspace, and its payer has the credit
       gone : store_of new_books new_pool new_table new_spaces ≡ record { books = with_account books (space_of pool table d).payer credited_payer; spaces = remove store.spaces ds; places = spaces.capacity }
-      gone =
-          same_store new_books _ new_pool new_table new_spaces
-          (credit ∙ ap (λ n. with_account books d.payer.0 (credited (account_at books d.payer.0) n 1)) (is ∙ sym size_there) ∙ ap (λ p. with_account books p credited_payer) (sym payer_is))
-          ∙ ap (λ m. record { books = with_account books (space_of pool table d).payer credited_payer; spaces = m; places = new_spaces.capacity }) (map_of-remove_space pool table spaces sound.laid_out ds d there new_pool new_table given closed left new_spaces updates moves)
-          ∙ ap (λ n. record { books = with_account books (space_of pool table d).payer credited_payer; spaces = remove store.spaces ds; places = n }) places
+      gone = grind (arith, nat_tests, same_store, size_there, payer_is, map_of-remove_space)
 
       -- the memory stays sound, and is what the contract of `free` says
       pub leaves-free : LeavesSound new_books new_pool new_table new_room new_spaces (without_space store ds)
@@ -237,13 +227,7 @@ module _ {books : Books} {pool : List (Option (List ℕ))} {table : List PageNo}
 
       -- the memory has a dataspace of zeros more, and its payer has the charge
       come : store_of new_books new_pool new_table new_spaces ≡ record { books = with_account books account (charged (account_at books account) size 1); spaces = insert store.spaces key (record { payer = account; bytes = zeros size }); places = spaces.capacity }
-      come =
-          same_store new_books _ new_pool new_table new_spaces charge
-          ∙ ap (λ n. record { books = with_account books account (charged (account_at books account) size 1); spaces = map_of (space_of new_pool new_table) new_spaces; places = n }) places
-          ∙ ap (λ m. record { books = with_account books account (charged (account_at books account) size 1); spaces = m; places = spaces.capacity })
-          (map_of-insert_space pool table spaces sound.laid_out new_pool new_table d new_run key new_spaces updates
-          ∙ ap (λ p. insert store.spaces key (record { payer = p; bytes = zeros (d.run.count * 4096) })) payer
-          ∙ ap (λ m. insert store.spaces key (record { payer = account; bytes = zeros m })) (ap (λ c. c * 4096) count ∙ whole))
+      come = grind (arith, nat_tests, same_store, map_of-insert_space, new_run, whole)
 
       -- the memory stays sound, and is what the contract of `alloc` says
       pub leaves-alloc : LeavesSound new_books new_pool new_table new_room new_spaces (with_space store key account n)
@@ -262,14 +246,14 @@ module _ {books : Books} {pool : List (Option (List ℕ))} {table : List PageNo}
 
   -- ---- an account is opened
 
-  module _ (parent ram caps : ℕ) (opens : IsOpen books parent) (new_books : Books) (ram_moved : ram_limits new_books ≡ ram_limits books) (caps_moved : caps_limits new_books ≡ caps_limits books) where
+  module _ (parent ram caps : ℕ) (opens : IsOpen books parent) (new_books : Books) (limits : KeepsLimits books new_books) where
     -- where it is granted the memory stays sound
     IsSound-with_child : (child : ℕ) → None ≡ shortage (account_at books parent) ram caps → new_books ≡ with_child books parent child ram caps → get books.accounts child ≡ None → IsSound new_books pool table room spaces
     IsSound-with_child child enough is new = record {
       laid_out = sound.laid_out;
       paid = moved _ (store_of new_books pool table spaces) _ _ _ (same_store new_books _ pool table spaces is) refl
           (IsPaid-opened store _ _ sound.paid parent child ram caps (account_at books parent) (account_there books parent opens) (covers (account_at books parent) ram caps (sym enough)) new
-          (sym (ap ram_limits is) ∙ ram_moved) (sym (ap caps_limits is) ∙ caps_moved));
+          (sym (ap ram_limits is) ∙ limits.ram) (sym (ap caps_limits is) ∙ limits.caps));
       counted = sound.counted;
       roomy = sound.roomy;
     }
@@ -279,36 +263,36 @@ module _ {books : Books} {pool : List (Option (List ℕ))} {table : List PageNo}
     IsSound-open (Ok child) refusal ok fresh err = IsSound-with_child child.0 refusal ok fresh
     IsSound-open (Err e) refusal ok fresh err = subst (λ b. IsSound b pool table room spaces) (sym err) sound
 
-  -- ---- an account is raised
+  -- ---- limits move from one account to another
 
-  module _ (parent child ram caps : ℕ) (related : AreRelated books child parent) (new_books : Books) (ram_moved : ram_limits new_books ≡ ram_limits books) (caps_moved : caps_limits new_books ≡ caps_limits books) where
-    -- where it is granted the memory stays sound, and so it does where it is refused
-    pub IsSound-raise : (r : Result ⊤ Refusal) → result_err r ≡ shortage (account_at books parent) ram caps → OnOk r (new_books ≡ with_moved books parent child ram caps) → OnErr r (new_books ≡ books) → IsSound new_books pool table room spaces
-    IsSound-raise (Ok done) refusal is err = record {
+  module _ (from to ram caps : ℕ) (apart : from ≢ to) (from_open : IsOpen books from) (to_open : IsOpen books to) (new_books : Books) (limits : KeepsLimits books new_books) where
+    -- where that is granted the memory stays sound, and so it does where it is refused
+    pub IsSound-move : (r : Result ⊤ Refusal) → result_err r ≡ shortage (account_at books from) ram caps → OnOk r (new_books ≡ with_moved books from to ram caps) → OnErr r (new_books ≡ books) → IsSound new_books pool table room spaces
+    IsSound-move (Ok done) refusal is err = record {
       laid_out = sound.laid_out;
       paid = moved _ (store_of new_books pool table spaces) _ _ _ (same_store new_books _ pool table spaces is) refl
-          (IsPaid-raised store _ _ sound.paid parent child ram caps (account_at books parent) (account_at books child) (account_there books parent related.parent_open) (account_there books child related.child_open) (covers (account_at books parent) ram caps (sym refusal))
-          (sym (ap ram_limits is) ∙ ram_moved) (sym (ap caps_limits is) ∙ caps_moved));
+          (IsPaid-raised store _ _ sound.paid from to ram caps (account_at books from) (account_at books to) (account_there books from from_open) (account_there books to to_open) (covers (account_at books from) ram caps (sym refusal))
+          (sym (ap ram_limits is) ∙ limits.ram) (sym (ap caps_limits is) ∙ limits.caps));
       counted = sound.counted;
       roomy = sound.roomy;
     }
-    IsSound-raise (Err e) refusal is err = subst (λ b. IsSound b pool table room spaces) (sym err) sound
+    IsSound-move (Err e) refusal is err = subst (λ b. IsSound b pool table room spaces) (sym err) sound
 
-    -- the child's part has more limits, and its parent's fewer
-    pub raises-part : (r : Result ⊤ Refusal) → OnOk r (new_books ≡ with_moved books parent child ram caps) → OnOk r (RaisesPart parent child ram caps store (store_of new_books pool table spaces))
-    raises-part (Ok done) is = rw is (raises-with_moved store parent child ram caps related.apart)
-    raises-part (Err e) is = tt
+    -- the one's part has fewer limits, and the other's more
+    pub moves-part : (r : Result ⊤ Refusal) → OnOk r (new_books ≡ with_moved books from to ram caps) → OnOk r (RaisesPart from to ram caps store (store_of new_books pool table spaces))
+    moves-part (Ok done) is = rw is (raises-with_moved store from to ram caps apart)
+    moves-part (Err e) is = tt
 
   -- ---- an account is closed
 
   module _ (account : ℕ) (related : AreRelated books account (parent_at books account)) (unused : (account_at books account).caps_used ≡ 0) (new_books : Books) (is : new_books ≡ without_account books account) where
     -- the memory stays sound
-    pub IsSound-close : ram_limits new_books ≡ ram_limits books → caps_limits new_books ≡ caps_limits books → IsSound new_books pool table room spaces
-    IsSound-close ram_moved caps_moved = record {
+    pub IsSound-close : KeepsLimits books new_books → IsSound new_books pool table room spaces
+    IsSound-close limits = record {
       laid_out = sound.laid_out;
       paid = moved _ (store_of new_books pool table spaces) _ _ _ (same_store new_books _ pool table spaces is) refl
           (IsPaid-closed store _ _ sound.paid account (account_at books account) (account_at books (parent_at books account)) (account_there books account related.child_open) unused (account_there books (parent_at books account) related.parent_open)
-          (sym (ap ram_limits is) ∙ ram_moved) (sym (ap caps_limits is) ∙ caps_moved));
+          (sym (ap ram_limits is) ∙ limits.ram) (sym (ap caps_limits is) ∙ limits.caps));
       counted = sound.counted;
       roomy = sound.roomy;
     }

@@ -1,10 +1,10 @@
 -- Dataspaces stay paid for, and what an account has left the machine has.
-use Rattle.std.proofs.Common.{◌≡◌, ◌≢◌, ℕ, ◌+◌, ◌*◌, ◌≤◌, min, Some, is_some, unwrap_or, refl, sym, ap, subst, ◌∙◌, inl, inr, arith}
+use Rattle.std.proofs.Common.{◌≡◌, ◌≢◌, ℕ, ◌+◌, ◌*◌, ◌≤◌, min, Some, is_some, unwrap_or, refl, sym, ap, subst, ◌∙◌, inl, inr, arith, rules}
 use Rattle.std.proofs.lemmas.Bool.Decides.{nat_tests}
 use Rattle.std.proofs.lemmas.Option.{none-some}
 use Rattle.std.specs.Prelude.{Option, None}
 use Rattle.std.specs.Ordering.{nat_cmp}
-use Rattle.std.specs.FinMap.{get, insert, remove, empty, len, len-empty}
+use Rattle.std.specs.FinMap.{get, insert, remove, len, len-empty}
 use Rattle.own_model.specs.NatMap.{NatMap, total, owed}
 use Rattle.own_model.specs.Account.{Account, Fits, charged, credited, opened, parted_with}
 use Rattle.own_model.specs.Donation.{raised}
@@ -59,10 +59,7 @@ module _ (store : Store) (free pages : ℕ) (paid : IsPaid store free pages) whe
 
   -- a payer's use covers its dataspace
   pub use_covers : (ds : ℕ) (space : Space) (a : Account) → get store.spaces ds ≡ Some space → get store.books.accounts space.payer ≡ Some a → (size_of space ≤ a.ram_used) × (1 ≤ a.caps_used)
-  use_covers ds space a there opens =
-      let ram = owed_at_le size_of payer_of store.spaces ds space space.payer there refl in
-      let caps = owed_at_le (λ (_ : Space). 1) payer_of store.spaces ds space space.payer there refl in
-      (omega (arith, ram, (paid.paying space.payer a opens).ram), omega (arith, caps, (paid.paying space.payer a opens).caps))
+  use_covers ds space a there opens = search (rules, owed_at_le)
 
   -- an account that is not open pays for nothing
   pub payer_apart : (child : ℕ) → get store.books.accounts child ≡ None → (ds : ℕ) (space : Space) → get store.spaces ds ≡ Some space → space.payer ≢ child
@@ -151,56 +148,22 @@ module _ (store : Store) (free pages : ℕ) (paid : IsPaid store free pages) whe
   module _ (ds : ℕ) (space other : Space) (there : get store.spaces ds ≡ Some space) (payer : other.payer ≡ space.payer) (size : size_of other ≡ size_of space) where
     -- all stays paid for where the payer and the size stay
     pub IsPaid-same : IsPaid (record store { spaces = insert store.spaces ds other }) free pages
-    IsPaid-same = record {
-      payers = λ q s found. elim (after_insert store.spaces ds other q s found) [
-        | inl new ↦ subst (IsOpenIn store) (sym (ap payer_of new.1 ∙ payer)) (paid.payers ds space there)
-        | inr old ↦ paid.payers q s old.1
-      ];
-      sized = λ q s found. elim (after_insert store.spaces ds other q s found) [
-        | inl new ↦ omega (arith, ap size_of new.1, size, paid.sized ds space there)
-        | inr old ↦ paid.sized q s old.1
-      ];
-      paying = λ k v found.
-          let was = paid.paying k v found in
-          record {
-            within = was.within;
-            ram = owed-insert_same size_of payer_of store.spaces ds other space k there payer size ∙ was.ram;
-            caps = omega (arith, owed-insert_same (λ (_ : Space). 1) payer_of store.spaces ds other space k there payer refl, was.caps);
-          };
-      ram_limits = paid.ram_limits;
-      covered = paid.covered;
-      backed = omega (arith, total-insert_same size_of store.spaces ds other space there size, paid.backed);
-      few = paid.few;
-    }
+    IsPaid-same = search (rules, after_insert, owed-insert_same, total-insert_same)
 
   -- ---- limits move
 
   -- an account pays for what it paid for once it has parted with limits that it covers
   parted_pays : (account ram caps : ℕ) (a : Account) → get store.books.accounts account ≡ Some a → Fits a ram caps → IsPaying store.spaces account (parted_with (account_in store account) ram caps)
-  parted_pays account ram caps a opens fits =
-      let was = paid.paying account a opens in
-      subst (λ (v : Account). IsPaying store.spaces account (parted_with v ram caps)) (sym (account_at-some store.books account a opens))
-      (record { within = record { ram = omega (arith, fits.ram_fits); caps = omega (arith, fits.caps_fit) }; ram = was.ram; caps = was.caps })
+  parted_pays account ram caps a opens fits = search (rules, account_at-some)
 
   -- and once it is given limits
   raised_pays : (account ram caps : ℕ) (a : Account) → get store.books.accounts account ≡ Some a → IsPaying store.spaces account (raised (account_in store account) ram caps)
-  raised_pays account ram caps a opens =
-      let was = paid.paying account a opens in
-      subst (λ (v : Account). IsPaying store.spaces account (raised v ram caps)) (sym (account_at-some store.books account a opens))
-      (record { within = record { ram = omega (arith, was.within.ram); caps = omega (arith, was.within.caps) }; ram = was.ram; caps = was.caps })
+  raised_pays account ram caps a opens = search (rules, account_at-some)
 
   -- all is paid for where each payer is open, each open account pays for what is its own, and all limits are what they were
   module _ (moved : Books) (ram_moved : ram_limits moved ≡ ram_limits_in store) (caps_moved : caps_limits moved ≡ caps_limits_in store) where
     IsPaid-moved : ((ds : ℕ) (space : Space) → get store.spaces ds ≡ Some space → IsOpen moved space.payer) → ((k : ℕ) (v : Account) → get moved.accounts k ≡ Some v → IsPaying store.spaces k v) → IsPaid (record store { books = moved }) free pages
-    IsPaid-moved payers paying = record {
-      payers = payers;
-      sized = paid.sized;
-      paying = paying;
-      ram_limits = ram_moved ∙ paid.ram_limits;
-      covered = omega (arith, caps_moved, paid.covered);
-      backed = paid.backed;
-      few = paid.few;
-    }
+    IsPaid-moved payers paying = search (rules)
 
   -- what holds of each account, of one that is written and of another, holds of each after both are written
   each_of_two : (P : ℕ → Account → Type 0) (accounts : NatMap Account) (j k : ℕ) (x y : Account) → ((q : ℕ) (w : Account) → get accounts q ≡ Some w → P q w) → P j x → P k y → (q : ℕ) (w : Account) → get (insert (insert accounts j x) k y) q ≡ Some w → P q w
@@ -269,19 +232,4 @@ module _ (store : Store) (free pages : ℕ) (paid : IsPaid store free pages) whe
 
 -- there is nothing to pay for
 pub IsPaid-fresh : (root pages caps accounts places : ℕ) → pages ≤ 4096 → min pages caps ≤ places → IsPaid (fresh_store root pages caps accounts places) pages pages
-IsPaid-fresh root pages caps accounts places few covered = record {
-  payers = λ q s there. absurd (none-some s (sym (get-empty q) ∙ there));
-  sized = λ q s there. absurd (none-some s (sym (get-empty q) ∙ there));
-  paying = λ k v there. elim (after_insert empty root (opened (pages * 4096) caps) k v there) [
-    | inl new ↦ subst (λ (w : Account). IsPaying empty k w) (sym new.1) (record {
-      within = record { ram = omega arith; caps = omega arith };
-      ram = owed-empty size_of payer_of k;
-      caps = omega (arith, owed-empty (λ (_ : Space). 1) payer_of k);
-    })
-    | inr old ↦ absurd (none-some v (sym (get-empty k) ∙ old.1))
-  ];
-  ram_limits = fresh_limits root pages caps accounts places;
-  covered = omega (arith, total-insert_new (λ (v : Account). v.caps_limit) empty root (opened (pages * 4096) caps) (get-empty root), total-empty (λ (v : Account). v.caps_limit), covered);
-  backed = omega (arith, total-empty size_of);
-  few = few;
-}
+IsPaid-fresh root pages caps accounts places few covered = search (rules, none-some, get-empty, after_insert, owed-empty, fresh_limits, total-insert_new, total-empty)

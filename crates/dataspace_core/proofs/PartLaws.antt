@@ -1,5 +1,5 @@
 -- Laws for callers: what the part of an account tells of the memory, and what calls for one account leave.
-use Rattle.std.proofs.Common.{◌≡◌, ◌≢◌, ℕ, Bool, true, false, cond, eqb, eqb-true, List, [], Some, IsSome, unwrap_or, refl, sym, ap, subst, ◌∙◌}
+use Rattle.std.proofs.Common.{◌≡◌, ◌≢◌, ℕ, Bool, true, false, cond, eqb, eqb-true, List, [], Some, IsSome, unwrap_or, refl, sym, ap, subst, ◌∙◌, rules}
 use Rattle.std.specs.Prelude.{Option, None}
 use Rattle.std.specs.Option.{option_and_then}
 use Rattle.std.specs.FinMap.{get}
@@ -16,13 +16,7 @@ becomes_same account store = record { own = refl; others = λ other apart. refl;
 
 -- a call after another: the part is what the last one left, and the others are still what they were
 pub becomes_then : {account : ℕ} {p q : Part} {s t u : Store} → PartBecomes account p s t → PartBecomes account q t u → PartBecomes account q s u
-becomes_then first next = record {
-  own = next.own;
-  others = λ other apart. next.others other apart ∙ first.others other apart;
-  root = next.root ∙ first.root;
-  parents = next.parents ∙ first.parents;
-  room = next.room ∙ first.room;
-}
+becomes_then first next = search (rules)
 
 -- ---- the account of a part
 

@@ -1,16 +1,13 @@
 -- What a change of the memory does to the part of each account.
-use Rattle.std.proofs.Common.{◌≡◌, ◌≢◌, ℕ, ◌<◌, List, [], length, Some, unwrap_or, refl, sym, ap, ◌∙◌, arith}
+use Rattle.std.proofs.Common.{◌≡◌, ◌≢◌, ℕ, ◌<◌, List, [], Some, unwrap_or, refl, sym, ap, ◌∙◌, arith, rules}
 use Rattle.std.proofs.lemmas.Bool.Decides.{nat_tests}
 use Rattle.std.specs.Prelude.{Option, None}
 use Rattle.std.specs.Option.{option_and_then}
-use Rattle.std.specs.FinMap.{get, insert}
-use Rattle.trade_base.specs.Bytes.{with_bytes}
-use Rattle.trade_base.specs.Page.{page_of}
+use Rattle.std.specs.FinMap.{get}
 use Rattle.own_model.specs.NatMap.{NatMap, picked}
-use Rattle.own_model.specs.Account.{Account, credited, opened}
-use Rattle.own_model.specs.OwnState.{zeros}
+use Rattle.own_model.specs.Account.{Account}
 use Rattle.own_model.proofs.NatMapLemmas.{same, get-empty, get-insert_same, get-insert_other, get-remove_same, get-remove_other, get-picked, get-picked_none, get-picked_at, picked-insert_some, picked-insert_hidden, picked-insert_alike, picked-remove, picked-remove_hidden}
-use Rattle.dataspace_core.specs.Store.{Store, Space, space_at, with_space, without_space, with_bytes_at, account_in, with_account_in, with_child_in, with_moved_in, without_account_in, parent_in, room_in}
+use Rattle.dataspace_core.specs.Store.{Store, Space, space_at, with_space, without_space, with_bytes_at, with_account_in, with_child_in, with_moved_in, without_account_in, parent_in, room_in}
 use Rattle.dataspace_core.specs.Store.{Part, part, bytes_paid_by, bytes_of, part_with_space, part_without_space, part_with_bytes, PartBecomes, OpensPart, RaisesPart, ClosesPart}
 
 -- its payer has the bytes of a dataspace in its part, and nobody else
@@ -40,17 +37,7 @@ module _ (store : Store) (ds payer n : ℕ) (free : get store.spaces ds ≡ None
   -- the payer is charged, and its part has a dataspace of zeros more
   pub becomes-with_space : PartBecomes payer (part_with_space (part payer store) ds n) store (with_space store ds payer n)
   unfolding part
-  becomes-with_space = record {
-    own = same_part _ _ _ _
-        (get-insert_same store.books.accounts payer _ payer refl)
-        (picked-insert_some (bytes_paid_by payer) store.spaces ds _ (zeros (page_of n)) (paid_by payer _ refl));
-    others = λ other apart. same_part _ _ _ _
-        (get-insert_other store.books.accounts payer _ other apart)
-        (picked-insert_hidden (bytes_paid_by other) store.spaces ds _ (paid_by_another other _ (λ e. apart (sym e))) (get-picked_none (bytes_paid_by other) store.spaces ds free));
-    root = refl;
-    parents = refl;
-    room = refl;
-  }
+  becomes-with_space = search (rules, same_part, get-insert_same, picked-insert_some, paid_by, get-insert_other, picked-insert_hidden, paid_by_another, get-picked_none)
 
 -- ---- a dataspace goes, or is written
 
@@ -62,10 +49,7 @@ module _ (store : Store) (ds : ℕ) (space : Space) (there : get store.spaces ds
   -- its payer's part has its bytes
   pub part-payer : get (part (space_at store ds).payer store).spaces ds ≡ Some (space_at store ds).bytes
   unfolding part
-  part-payer =
-      get-picked_at (bytes_paid_by (space_at store ds).payer) store.spaces ds space there
-      ∙ paid_by (space_at store ds).payer space (ap (λ (s : Space). s.payer) (sym at_key))
-      ∙ ap (λ (s : Space). Some s.bytes) (sym at_key)
+  part-payer = search (rules, get-picked_at, paid_by, at_key)
 
   -- so they are those that a contract reads there
   bytes_of-payer : bytes_of (part (space_at store ds).payer store) ds ≡ (space_at store ds).bytes
@@ -80,34 +64,12 @@ module _ (store : Store) (ds : ℕ) (space : Space) (there : get store.spaces ds
   -- the payer is credited, and its part has lost the dataspace
   pub becomes-without_space : PartBecomes (space_at store ds).payer (part_without_space (part (space_at store ds).payer store) ds) store (without_space store ds)
   unfolding part
-  becomes-without_space = record {
-    own = same_part _ _ _ _
-        (get-insert_same store.books.accounts (space_at store ds).payer _ (space_at store ds).payer refl
-        ∙ ap (λ l. Some (credited (account_in store (space_at store ds).payer) (length l) 1)) (sym bytes_of-payer))
-        (picked-remove (bytes_paid_by (space_at store ds).payer) store.spaces ds);
-    others = λ other apart. same_part _ _ _ _
-        (get-insert_other store.books.accounts (space_at store ds).payer _ other apart)
-        (picked-remove_hidden (bytes_paid_by other) store.spaces ds (hidden other apart));
-    root = refl;
-    parents = refl;
-    room = refl;
-  }
+  becomes-without_space = search (rules, same_part, get-insert_same, bytes_of-payer, picked-remove, get-insert_other, picked-remove_hidden, hidden)
 
   -- the payer's account stays, and its part has the dataspace with the new bytes
   pub becomes-with_bytes_at : (offset : ℕ) (bytes : List ℕ) → PartBecomes (space_at store ds).payer (part_with_bytes (part (space_at store ds).payer store) ds offset bytes) store (with_bytes_at store ds offset bytes)
   unfolding part
-  becomes-with_bytes_at offset bytes = record {
-    own = same_part _ _ _ _
-        refl
-        (picked-insert_some (bytes_paid_by (space_at store ds).payer) store.spaces ds _ (with_bytes (space_at store ds).bytes offset bytes) (paid_by (space_at store ds).payer _ refl)
-        ∙ ap (λ l. insert (part (space_at store ds).payer store).spaces ds (with_bytes l offset bytes)) (sym bytes_of-payer));
-    others = λ other apart. same_part _ _ _ _
-        refl
-        (picked-insert_alike (bytes_paid_by other) store.spaces ds _ (paid_by_another other _ (λ e. apart (sym e)) ∙ sym (hidden other apart)));
-    root = refl;
-    parents = refl;
-    room = refl;
-  }
+  becomes-with_bytes_at offset bytes = search (rules, same_part, picked-insert_some, paid_by, bytes_of-payer, picked-insert_alike, paid_by_another, hidden)
 
 -- ---- an account is opened
 
@@ -120,38 +82,14 @@ module _ (store : Store) (parent child ram caps : ℕ) where
   -- the new account pays for nothing, and its parent has parted with its limits
   pub opens-with_child : parent ≢ child → 0 < room_in store → ((ds : ℕ) (space : Space) → get store.spaces ds ≡ Some space → space.payer ≢ child) → OpensPart parent child ram caps store (with_child_in store parent child ram caps)
   unfolding part
-  opens-with_child apart place pays_for_none = record {
-    opened_one = same_part _ _ _ _
-        (get-insert_same _ child (opened ram caps) child refl)
-        (same _ _ (λ q. get-picked (bytes_paid_by child) store.spaces q ∙ nothing_picked child (get store.spaces q) (pays_for_none q) ∙ sym (get-empty q)));
-    parted_one = same_part _ _ _ _
-        (get-insert_other _ child (opened ram caps) parent apart ∙ get-insert_same store.books.accounts parent _ parent refl)
-        refl;
-    others = λ other apart_parent apart_child. same_part _ _ _ _
-        (get-insert_other _ child (opened ram caps) other apart_child ∙ get-insert_other store.books.accounts parent _ other apart_parent)
-        refl;
-    root = refl;
-    parents = refl;
-    room = omega (arith, place);
-  }
+  opens-with_child apart place pays_for_none = search (rules, same_part, get-insert_same, same, get-picked, nothing_picked, get-empty, get-insert_other)
 
 -- ---- an account is raised
 
 -- the child has the limits that its parent has parted with
 pub raises-with_moved : (store : Store) (parent child ram caps : ℕ) → parent ≢ child → RaisesPart parent child ram caps store (with_moved_in store parent child ram caps)
 unfolding part
-raises-with_moved store parent child ram caps apart = record {
-  raised_one = same_part _ _ _ _ (get-insert_same _ child _ child refl) refl;
-  parted_one = same_part _ _ _ _
-      (get-insert_other _ child _ parent apart ∙ get-insert_same store.books.accounts parent _ parent refl)
-      refl;
-  others = λ other apart_parent apart_child. same_part _ _ _ _
-      (get-insert_other _ child _ other apart_child ∙ get-insert_other store.books.accounts parent _ other apart_parent)
-      refl;
-  root = refl;
-  parents = refl;
-  room = refl;
-}
+raises-with_moved store parent child ram caps apart = search (rules, same_part, get-insert_same, get-insert_other)
 
 -- ---- an account goes
 
@@ -176,10 +114,4 @@ closes-without_account store account apart pays_for_none = record {
 -- the part of an account that is another has that one, and the same dataspaces
 pub becomes-with_account : (store : Store) (account : ℕ) (b : Account) → PartBecomes account (record (part account store) { account = Some b }) store (with_account_in store account b)
 unfolding part
-becomes-with_account store account b = record {
-  own = same_part _ _ _ _ (get-insert_same store.books.accounts account b account refl) refl;
-  others = λ other apart. same_part _ _ _ _ (get-insert_other store.books.accounts account b other apart) refl;
-  root = refl;
-  parents = refl;
-  room = refl;
-}
+becomes-with_account store account b = search (rules, same_part, get-insert_same, get-insert_other)

@@ -1,5 +1,5 @@
 -- What bytes put over those of a dataspace leave of a part.
-use Rattle.std.proofs.Common.{◌≡◌, ◌≢◌, ◌≤◌, ◌+◌, ℕ, List, [], length, refl, sym, ap, ◌∙◌, ⊎_elim, unwrap_or}
+use Rattle.std.proofs.Common.{◌≡◌, ◌≢◌, ◌≤◌, ◌+◌, ℕ, List, [], length, refl, ap, ◌∙◌, unwrap_or, rules}
 use Rattle.std.proofs.lemmas.Bool.{cases_eq}
 use Rattle.std.specs.Prelude.{Option, Some}
 use Rattle.std.specs.Option.{option_map}
@@ -23,10 +23,7 @@ module _ (p : Part) (ds offset : ℕ) (put bytes : List ℕ) (there : get p.spac
 
   -- what is told of the bytes alike, before and after, stays of each dataspace
   pub poked_alike : {X : Type 0} (f : List ℕ → X) → f (with_bytes bytes offset put) ≡ f bytes → (q : ℕ) → option_map f (get poked.spaces q) ≡ option_map f (get p.spaces q)
-  poked_alike f alike q = ⊎_elim
-      (λ (same : q ≡ ds). rw same (ap (option_map f) poked_there ∙ ap Some alike ∙ ap (option_map f) (sym there)))
-      (λ (other : q ≢ ds). ap (option_map f) (poked_other q other))
-      (cases_eq q ds)
+  poked_alike f alike q = search (rules, poked_there, poked_other, cases_eq)
 
   -- so the lengths stay
   pub poked_length : (q : ℕ) → option_map length (get poked.spaces q) ≡ option_map length (get p.spaces q)

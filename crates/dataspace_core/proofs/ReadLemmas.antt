@@ -1,5 +1,5 @@
 -- A buffer while it is filled with the bytes of a run, a page or a part of one at a time.
-use Rattle.std.proofs.Common.{◌≡◌, ℕ, ◌+◌, ◌-◌, ◌/◌, ◌%◌, ◌≤◌, List, ◌++◌, length, take, drop, refl, sym, ap, ◌∙◌, arith}
+use Rattle.std.proofs.Common.{◌≡◌, ℕ, ◌+◌, ◌-◌, ◌/◌, ◌%◌, ◌≤◌, List, ◌++◌, length, take, drop, sym, ap, ◌∙◌, arith, rules}
 use Rattle.std.specs.Prelude.{Option, slice_range}
 use Rattle.std.proofs.lemmas.List.{take_all}
 use Rattle.std.proofs.lemmas.Slice.{take-put_mid}
@@ -35,12 +35,7 @@ filled_more pages table start count offset done n buffer piece run here within f
 
 -- a word of a page is that word of the run
 pub run_word : (pages : List (Option (List ℕ))) (table : List PageNo) (start count offset : ℕ) → IsRun pages table start count → IsInPage count offset 8 → slice_range (page_bytes pages (page_in table (start + offset / 4096))) (offset % 4096) (offset % 4096 + 8) ≡ slice_range (run_bytes pages table start count) offset (offset + 8)
-run_word pages table start count offset run here =
-    let bytes = run_bytes pages table start count in
-    range_piece (page_bytes pages (page_in table (start + offset / 4096))) (offset % 4096) 8 8 refl
-    ∙ sym (run_piece pages table start count (offset / 4096) (offset % 4096) 8 run here.below here.fits)
-    ∙ ap (λ k. take 8 (drop k bytes)) (sym here.place)
-    ∙ sym (range_piece bytes offset 8 8 refl)
+run_word pages table start count offset run here = search (rules, range_piece, run_piece)
 
 -- a buffer that is filled to its end
 pub filled_all : (buffer bytes : List ℕ) (offset done len : ℕ) → length buffer ≡ len → done ≤ length buffer → length buffer ≤ done → take done buffer ≡ take done (drop offset bytes) → buffer ≡ slice_range bytes offset (offset + len)

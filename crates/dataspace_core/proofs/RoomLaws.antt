@@ -12,7 +12,7 @@ use Rattle.own_model.proofs.NatMapLemmas.{same, value_at, apart_from_free, befor
 use Rattle.own_model.proofs.Totals.{total-insert_new, total-insert_at, total-insert_same, total-remove, total-zero, total_same, total_parted}
 use Rattle.own_model.proofs.KeySums.{measured, measured_or, total-taken, total_keys_le}
 use Rattle.dataspace_core.specs.Store.{Store, Part, part, parted_part, raised_part, closed_part, accounts_in, parents_in, root_in, account_in, IsOpenIn, IsChildIn, caps_limits_in, ClosesPart}
-use Rattle.dataspace_core.specs.Room.{inner_weight, inner_accounts, IsOuter, HasRoom, RoomAtFirst, RoomForOneMore, RoomStays, RoomIsTaken, RoomIsRaised, RoomIsGivenBack}
+use Rattle.dataspace_core.specs.Room.{inner_weight, inner_accounts, IsOuter, HasRoom, RoomAtFirst, RoomForOneMore, RoomStays, RoomIsTaken, RoomIsRaised, RoomIsShifted, RoomIsGivenBack}
 use Rattle.dataspace_core.proofs.PartLaws.{account_of-part}
 use Rattle.dataspace_core.proofs.LimitLaws.{accounts_after}
 
@@ -104,28 +104,11 @@ inner_same old new root parents i = total (inner_weight (root i)) (parents i)
 
 -- without inner accounts
 pub room_at_first : RoomAtFirst
-room_at_first store outer there enough = record {
-  counted =
-      let none : inner_accounts store ≡ 0 = total_same (inner_weight (root_in store)) (λ _. 0) (parents_in store) (λ k p is. weighs_none (root_in store) p (outer k p is)) ∙ total-zero (parents_in store) in
-      omega (arith, none, enough);
-  there = there;
-  paid = λ k p is inner. absurd (inner (outer k p is));
-}
+room_at_first store outer there enough = grind (arith, nat_tests, total_same, weighs_none, total-zero)
 
 -- inner accounts and one that is none share what there is
 others_paid : (store : Store) (account : ℕ) → HasRoom store → IsOuter store account → inner_accounts store * 2 ≤ total (λ (a : Account). a.caps_limit) (remove (accounts_in store) account)
-others_paid store account room outer =
-    total_keys_le (inner_weight (root_in store)) (λ (a : Account). a.caps_limit) 2 (parents_in store) (remove (accounts_in store) account)
-    (λ k p is. elim (cases_eq p (root_in store)) [
-      | inl under_root ↦ let none = weighs_none (root_in store) p under_root in omega (arith, none)
-      | inr inner ↦
-          let apart : k ≢ account = λ e. inner (outer p (subst (λ q. IsChildIn store q p) e is)) in
-          let one = weighs_one (root_in store) p inner in
-          let paid = room.paid k p is inner in
-          let here : measured (λ (a : Account). a.caps_limit) (get (remove (accounts_in store) account) k) ≡ (account_in store k).caps_limit =
-          ap (measured (λ (a : Account). a.caps_limit)) (get-remove_other (accounts_in store) account k apart) ∙ measured_or (λ (a : Account). a.caps_limit) (get (accounts_in store) k) (opened 0 0) refl in
-          omega (arith, one, paid, here)
-    ])
+others_paid store account room outer = grind (arith, nat_tests, total_keys_le, cases_eq, weighs_none, weighs_one, measured, get-remove_other, measured_or)
 
 pub room_for_one_more : RoomForOneMore
 room_for_one_more store account ram caps room outer fits least =
@@ -209,34 +192,39 @@ room_is_taken parent child ram caps a old new opening opens outer not_root fits 
     }
 
 -- limits come to an account
-pub room_is_raised : RoomIsRaised
-room_is_raised parent child ram caps old new raises opens outer kin apart fits room =
-    let parted = account_parted parent ram caps old new raises.parted_one in
-    let more = account_raised child ram caps old new raises.raised_one in
-    let was : (k p : ℕ) → IsChildIn new k p → IsChildIn old k p = λ k p is. ap (λ (m : NatMap ℕ). get m k) (sym raises.parents) ∙ is in
+pub room_is_shifted : RoomIsShifted
+room_is_shifted from to ram caps old new moves opens to_opens outer apart fits room =
+    let parted = account_parted from ram caps old new moves.parted_one in
+    let more = account_raised to ram caps old new moves.raised_one in
+    let was : (k p : ℕ) → IsChildIn new k p → IsChildIn old k p = λ k p is. ap (λ (m : NatMap ℕ). get m k) (sym moves.parents) ∙ is in
     record {
       counted =
-          let inner = inner_same old new raises.root raises.parents in
-          let limits = limits_moved (λ x. x.caps_limit) parent child (parted_with (account_in old parent) ram caps) (raised (account_in old child) ram caps) old new parted more raises.others apart opens (room.there child parent kin)
+          let inner = inner_same old new moves.root moves.parents in
+          let limits = limits_moved (λ x. x.caps_limit) from to (parted_with (account_in old from) ram caps) (raised (account_in old to) ram caps) old new parted more moves.others apart opens to_opens
           (let fit = fits.caps_fit in omega arith) in
-          omega (arith, inner, limits, raises.room, room.counted);
-      there = λ k p is. elim (cases_eq k child) [
-        | inl own ↦ subst (IsOpenIn new) (sym own) (open_on new child _ more)
-        | inr other ↦ elim (cases_eq k parent) [
-          | inl its ↦ subst (IsOpenIn new) (sym its) (open_on new parent _ parted)
-          | inr both ↦ open_still old new k (raises.others k both other) (room.there k p (was k p is))
+          omega (arith, inner, limits, moves.room, room.counted);
+      there = λ k p is. elim (cases_eq k to) [
+        | inl own ↦ subst (IsOpenIn new) (sym own) (open_on new to _ more)
+        | inr other ↦ elim (cases_eq k from) [
+          | inl its ↦ subst (IsOpenIn new) (sym its) (open_on new from _ parted)
+          | inr both ↦ open_still old new k (moves.others k both other) (room.there k p (was k p is))
         ]
       ];
       paid = λ k p is inner.
-          let before = room.paid k p (was k p is) (λ e. inner (e ∙ sym raises.root)) in
-          elim (cases_eq k child) [
-            | inl own ↦ subst (λ q. 2 ≤ (account_in new q).caps_limit) (sym own) (paid_on old new child _ more (let at = subst (λ q. 2 ≤ (account_in old q).caps_limit) own before in omega arith))
-            | inr other ↦ elim (cases_eq k parent) [
-              | inl its ↦ absurd (inner (outer p (subst (λ q. IsChildIn old q p) its (was k p is)) ∙ sym raises.root))
-              | inr both ↦ paid_still old new k (raises.others k both other) before
+          let before = room.paid k p (was k p is) (λ e. inner (e ∙ sym moves.root)) in
+          elim (cases_eq k to) [
+            | inl own ↦ subst (λ q. 2 ≤ (account_in new q).caps_limit) (sym own) (paid_on old new to _ more (let at = subst (λ q. 2 ≤ (account_in old q).caps_limit) own before in omega arith))
+            | inr other ↦ elim (cases_eq k from) [
+              | inl its ↦ absurd (inner (outer p (subst (λ q. IsChildIn old q p) its (was k p is)) ∙ sym moves.root))
+              | inr both ↦ paid_still old new k (moves.others k both other) before
             ]
           ];
     }
+
+-- so do limits that come to a child
+pub room_is_raised : RoomIsRaised
+room_is_raised parent child ram caps old new raises opens outer kin apart fits room =
+    room_is_shifted parent child ram caps old new raises opens (room.there child parent kin) outer apart fits room
 
 -- who is a child once an account has gone was one before, and is another
 module _ {account parent : ℕ} {old new : Store} (closes : ClosesPart account parent old new) (k p : ℕ) (is : IsChildIn new k p) where

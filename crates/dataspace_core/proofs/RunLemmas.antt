@@ -1,5 +1,5 @@
 -- Runs of pages, while pages are taken and given back, and while the table closes a gap.
-use Rattle.std.proofs.Common.{◌≡◌, ◌≢◌, ◌⊎◌, inl, inr, ℕ, zero, suc, ◌+◌, ◌-◌, ◌*◌, ◌<◌, ◌≤◌, true, false, List, [], ◌∷◌, ◌++◌, length, get_or, set, Option, Some, None, is_some, unwrap_or, refl, sym, ap, ◌∙◌, arith, true≢false}
+use Rattle.std.proofs.Common.{◌≡◌, ◌≢◌, ◌⊎◌, ℕ, zero, suc, ◌+◌, ◌-◌, ◌*◌, ◌<◌, ◌≤◌, true, false, List, [], ◌∷◌, ◌++◌, length, get_or, set, Option, Some, None, is_some, unwrap_or, refl, sym, ap, ◌∙◌, arith, true≢false}
 use Rattle.std.specs.Prelude.{slice_get, replicate}
 use Rattle.std.proofs.Math.Seq.{get_or-append_seam}
 use Rattle.std.specs.List.{CopiedTo, SameBelow}
@@ -11,18 +11,14 @@ use Rattle.page_pool.specs.Pages.{free_count, is_taken, page_bytes, zero_page}
 use Rattle.page_pool.proofs.PageLaws.{is_taken-lt-length, is_taken-free_page, length-zero_page}
 use Rattle.own_model.specs.OwnState.{zeros}
 use Rattle.page_pool.specs.declared.pool.PageNo.{PageNo}
-use Rattle.dataspace_core.specs.Layout.{page_in, joined, run_bytes, IsOutside, IsRun, IsNewRun, IsGiven, IsClosed, before_gap}
+use Rattle.dataspace_core.specs.Layout.{page_in, joined, run_bytes, IsOutside, IsRun, IsNewRun, IsGiven, IsClosed}
 
 -- ---- a page
 
 -- a page that has all its bytes is taken
 pub is_taken-held : (pages : List (Option (List ℕ))) (page : ℕ) → length (page_bytes pages page) ≡ 4096 → is_taken pages page ≡ true
 unfolding is_taken page_bytes
-is_taken-held pages page held =
-    elim (get_or pages page None) as (λ o. length (unwrap_or o []) ≡ 4096 → is_some o ≡ true) [
-      | None ↦ λ h. absurd (omega (arith, h))
-      | Some bytes ↦ λ h. refl
-    ] held
+is_taken-held pages page held = grind (arith, nat_tests)
 
 -- it is there
 pub held-lt-length : (pages : List (Option (List ℕ))) (page : ℕ) → length (page_bytes pages page) ≡ 4096 → page < length pages
@@ -110,17 +106,7 @@ page_in_read table start count i page within below reads =
 
 -- before the first page is taken
 pub IsNewRun-none : (pages : List (Option (List ℕ))) (table : List PageNo) (start : ℕ) → start ≡ length table → IsNewRun pages table pages table start 0
-IsNewRun-none pages table start at_end = record {
-  at_end = at_end;
-  size = refl;
-  longer = omega arith;
-  taken = omega arith;
-  was_free = λ i below. absurd (omega (arith, below));
-  cleared = λ i below. absurd (omega (arith, below));
-  apart = λ i j below _. absurd (omega (arith, below));
-  kept = λ page taken. refl;
-  entries = λ index within. refl;
-}
+IsNewRun-none pages table start at_end = grind (arith, nat_tests)
 
 -- another free page comes to the end
 module _ (old_pages pages : List (Option (List ℕ))) (old_table table : List PageNo) (start count : ℕ) (page : PageNo) (so_far : IsNewRun old_pages old_table pages table start count) (free : slice_get pages page.0 ≡ Some None) where
@@ -134,11 +120,7 @@ module _ (old_pages pages : List (Option (List ℕ))) (old_table table : List Pa
 
   -- and was so before
   was_not_taken : is_taken old_pages page.0 ≡ false
-  was_not_taken =
-      elim (is_taken old_pages page.0) as (λ b. is_taken old_pages page.0 ≡ b → b ≡ false) [
-        | true ↦ λ taken. sym taken ∙ sym (is_taken_same old_pages pages page.0 (so_far.kept page.0 taken)) ∙ not_taken
-        | false ↦ λ _. refl
-      ] refl
+  was_not_taken = grind (arith, nat_tests, is_taken_same, not_taken)
 
   -- what was taken before is another page
   is_other : (q : ℕ) → is_taken old_pages q ≡ true → q ≢ page.0
@@ -150,12 +132,7 @@ module _ (old_pages pages : List (Option (List ℕ))) (old_table table : List Pa
 
   -- an entry of the run so far, or the new one
   entry_at : (i : ℕ) → i < count + 1 → ((i ≡ count) × (page_in longer (start + i) ≡ page.0)) ⊎ ((i < count) × (page_in longer (start + i) ≡ page_in table (start + i)))
-  entry_at i below = elim (cases_eq i count) [
-    | inl last ↦ inl (last, page_in-last table page (start + i) (omega (arith, so_far.longer, so_far.at_end, last)))
-    | inr apart ↦
-        let before : i < count = omega (arith, below, apart) in
-        inr (before, page_in-left table (page ∷ []) (start + i) (omega (arith, so_far.longer, so_far.at_end, before)))
-  ]
+  entry_at i below = grind (arith, nat_tests, cases_eq, page_in-last, page_in-left)
 
   -- none of the pages that were taken is it
   none_of_these : (k : ℕ) → k < count → page_in table (start + k) ≢ page.0
@@ -165,45 +142,13 @@ module _ (old_pages pages : List (Option (List ℕ))) (old_table table : List Pa
 
   -- the run with this page
   pub IsNewRun-more : free_count (set pages page.0 (Some zero_page)) + 1 ≡ free_count pages → IsNewRun old_pages old_table (set pages page.0 (Some zero_page)) longer start (count + 1)
-  IsNewRun-more one_less = record {
-    at_end = so_far.at_end;
-    size = length-set pages page.0 (Some zero_page) ∙ so_far.size;
-    longer = omega (arith, length-append table (page ∷ []), so_far.longer);
-    taken = omega (arith, so_far.taken);
-    was_free = λ i below. elim (entry_at i below) [
-      | inl last ↦ ap (is_taken old_pages) last.1 ∙ was_not_taken
-      | inr old ↦ ap (is_taken old_pages) old.1 ∙ so_far.was_free i old.0
-    ];
-    cleared = λ i below. elim (entry_at i below) [
-      | inl last ↦ ap (page_bytes _) last.1 ∙ page_bytes-set_here pages page.0 zero_page here
-      | inr old ↦
-          ap (page_bytes _) old.1
-          ∙ page_bytes-set_other pages page.0 (page_in table (start + i)) (Some zero_page) (none_of_these i old.0)
-          ∙ so_far.cleared i old.0
-    ];
-    apart = λ i j p q e. elim (entry_at i p) [
-      | inl first ↦ elim (entry_at j q) [
-        | inl second ↦ first.0 ∙ sym second.0
-        | inr second ↦ absurd (none_of_these j second.0 (sym second.1 ∙ sym e ∙ first.1))
-      ]
-      | inr first ↦ elim (entry_at j q) [
-        | inl second ↦ absurd (none_of_these i first.0 (sym first.1 ∙ e ∙ second.1))
-        | inr second ↦ so_far.apart i j first.0 second.0 (sym first.1 ∙ e ∙ second.1)
-      ]
-    ];
-    kept = λ q taken. get_or-set_other pages page.0 q (Some zero_page) None (is_other q taken) ∙ so_far.kept q taken;
-    entries = λ index within. page_in-left table (page ∷ []) index (omega (arith, so_far.longer, within)) ∙ so_far.entries index within;
-  }
+  IsNewRun-more one_less = grind (arith, nat_tests, length-set, length-append, entry_at, was_not_taken, page_bytes-set_here, here, page_bytes-set_other, none_of_these, get_or-set_other, is_other, page_in-left)
 
 -- ---- pages are given back
 
 -- before the first page is given back
 pub IsGiven-none : (pages : List (Option (List ℕ))) (table : List PageNo) (start : ℕ) → IsGiven pages pages table start 0
-IsGiven-none pages table start = record {
-  size = refl;
-  given = omega arith;
-  others = λ page outside. refl;
-}
+IsGiven-none pages table start = grind (arith, nat_tests)
 
 module _ (old_pages pages : List (Option (List ℕ))) (table : List PageNo) (start count i : ℕ) (run : IsRun old_pages table start count) (so_far : IsGiven old_pages pages table start i) (below : i < count) where
   -- the next page is still taken
@@ -214,29 +159,11 @@ module _ (old_pages pages : List (Option (List ℕ))) (table : List PageNo) (sta
 
   -- the page is given back too
   pub IsGiven-more : free_count (set pages (page_in table (start + i)) None) ≡ free_count pages + 1 → IsGiven old_pages (set pages (page_in table (start + i)) None) table start (i + 1)
-  IsGiven-more one_more = record {
-    size = length-set pages (page_in table (start + i)) None ∙ so_far.size;
-    given = omega (arith, so_far.given);
-    others = λ page outside.
-        get_or-set_other pages (page_in table (start + i)) page None None (outside i (omega arith))
-        ∙ so_far.others page (λ k before. outside k (omega arith));
-  }
+  IsGiven-more one_more = grind (arith, nat_tests, length-set, get_or-set_other)
 
 -- ---- the table closes a gap
 
 -- what lies behind a run was moved to its start, and the end was cut off
 pub IsClosed-cut : (table moved new : List PageNo) (start count : ℕ) → start + count ≤ length table → (rest : ℕ) → rest ≡ length table - (start + count) → CopiedTo table moved (start + count) start rest → SameBelow table moved start → (left : ℕ) → left ≡ length table - count → SameBelow moved new left → length new + count ≡ length table → IsClosed table new start count
 unfolding page_in
-IsClosed-cut table moved new start count within rest all copied below left is cut shorter =
-    let none : PageNo = record { 0 = 0 } in
-    record {
-      shorter = shorter;
-      entries = λ index inside. elim (cases_lt index start) [
-        | inl front ↦
-            let here : before_gap start count index ≡ index = grind (arith, nat_tests) in
-            ap (λ (p : PageNo). p.0) (cut index none (omega (arith, inside, shorter, is)) ∙ below index none front ∙ ap (λ k. get_or table k none) (sym here))
-        | inr behind ↦
-            let there : start + count + (index - start) ≡ before_gap start count index = grind (arith, nat_tests) in
-            ap (λ (p : PageNo). p.0) (cut index none (omega (arith, inside, shorter, is)) ∙ copied index none behind (omega (arith, inside, shorter, within, all)) ∙ ap (λ k. get_or table k none) there)
-      ];
-    }
+IsClosed-cut table moved new start count within rest all copied below left is cut shorter = grind (arith, nat_tests, cases_lt, here, nat_tests)

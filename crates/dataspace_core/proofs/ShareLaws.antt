@@ -1,5 +1,5 @@
 -- Laws for callers: the shares of a memory and a heap window when a region is attached, or goes.
-use Rattle.std.proofs.Common.{◌≡◌, ◌≢◌, ℕ, true, false, cond, eqb, ◌||◌, Bool, List, length, Some, IsSome, is_some, refl, sym, ap, subst, ◌∙◌, ⊎_elim, arith}
+use Rattle.std.proofs.Common.{◌≡◌, ◌≢◌, ℕ, true, false, cond, eqb, ◌||◌, Bool, List, length, Some, IsSome, is_some, refl, sym, ap, ◌∙◌, ⊎_elim, arith, rules}
 use Rattle.std.proofs.lemmas.Bool.{cases_eq}
 use Rattle.std.proofs.lemmas.Bool.Decides.{nat_tests}
 use Rattle.std.proofs.lemmas.Option.{none-some, same_Some}
@@ -55,10 +55,7 @@ under_test false o x h = absurd (none-some x h)
 -- a region that a part shows is one of the map, of a dataspace of the part
 pub in_share : (part : Part) (heap : NatMap Region) (tags : NatMap ℕ) (start : ℕ) (r : Region) → get (share_in part heap tags).heap start ≡ Some r → (get heap start ≡ Some r) × IsSome (get part.spaces r.of)
 unfolding share_in
-in_share part heap tags start r h =
-    let from = and_then_from (shown part.spaces) (get heap start) r (sym (get-picked (shown part.spaces) heap start) ∙ h) in
-    let seen = under_test (is_some (get part.spaces from.0.of)) (Some from.0) r from.2 in
-    (from.1 ∙ seen.1, subst (λ (x : Region). IsSome (get part.spaces x.of)) (same_Some from.0 r seen.1) seen.0)
+in_share part heap tags start r h = search (rules, and_then_from, get-picked, under_test, same_Some)
 
 -- the number that a share keeps with a region is the map's
 pub in_tags : (part : Part) (heap : NatMap Region) (tags : NatMap ℕ) (start k : ℕ) → get (share_in part heap tags).tags start ≡ Some k → get tags start ≡ Some k

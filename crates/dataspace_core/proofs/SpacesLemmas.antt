@@ -1,5 +1,5 @@
 -- Dataspaces and their starts, read as one slab.
-use Rattle.std.proofs.Common.{◌≡◌, ◌≢◌, ℕ, zero, suc, ◌+◌, ◌<◌, ◌≤◌, cond, max, List, [], ◌∷◌, drop, length, get_or, set, Some, is_some, count_by, true≢false, refl, sym, ap, subst, ◌∙◌, inl, inr, arith, length-set, get_or-set_same, get_or-set_other}
+use Rattle.std.proofs.Common.{◌≡◌, ◌≢◌, ℕ, zero, suc, ◌+◌, ◌<◌, ◌≤◌, cond, max, List, [], ◌∷◌, drop, length, get_or, set, Some, is_some, count_by, refl, sym, ap, subst, ◌∙◌, arith, get_or-set_other, rules}
 use Rattle.std.specs.Prelude.{Option, None}
 use Rattle.std.specs.Option.{option_map}
 use Rattle.std.proofs.lemmas.Bool.{cases_eq}
@@ -44,15 +44,7 @@ count-placed (slot ∷ slots) starts =
 module _ (from by key : ℕ) (old starts : List ℕ) (so_far : HaveMoved from by key old starts) (rest : (k : ℕ) → key ≤ k → get_or starts k 0 ≡ get_or old k 0) (within : key < length starts) (start : ℕ) (is : start ≡ start_after from by (get_or starts key 0)) where
   -- one more has moved
   pub HaveMoved-more : HaveMoved from by (key + 1) old (set starts key start)
-  HaveMoved-more = record {
-    size = length-set starts key start ∙ so_far.size;
-    each = λ k below. elim (cases_eq k key) as (λ _. get_or (set starts key start) k 0 ≡ start_after from by (get_or old k 0)) [
-      | inl here ↦
-          ap (λ n. get_or (set starts key start) n 0) here ∙ get_or-set_same starts key start 0 within ∙ is
-          ∙ ap (start_after from by) (rest key (omega arith) ∙ ap (λ n. get_or old n 0) (sym here))
-      | inr differs ↦ get_or-set_other starts key k start 0 differs ∙ so_far.each k (omega arith)
-    ];
-  }
+  HaveMoved-more = search (rules, cases_eq)
 
   -- and those behind it have not
   pub rest-more : (k : ℕ) → key + 1 ≤ k → get_or (set starts key start) k 0 ≡ get_or old k 0
@@ -79,54 +71,24 @@ module _ (kept : Slab Kept) (starts : List ℕ) where
 
   -- there is room for one more
   pub room_there : {value : Slab Dataspace} → placed kept starts ≡ value → HasRoomFor value 1 → HasRoomFor kept 1
-  room_there view room =
-      let is = subst (λ (s : Slab Dataspace). HasRoomFor s 1) (sym view) room in
-      let same = count-placed kept.slots starts in
-      omega arith
+  room_there view room = search (rules, count-placed)
 
   module _ (new : Slab Kept) (used : ℕ) (is : IsPlaced kept starts used) (same : new.capacity ≡ kept.capacity) where
     -- a dataspace comes
     pub placed-inserted : (key start : ℕ) (k : Kept) → Updates kept new key (Some k) → key < kept.capacity → Updates (placed kept starts) (placed new (set starts key start)) key (Some (placed_at start k))
-    placed-inserted key start k updates within = record {
-      changed =
-          get_or-placed new.slots (set starts key start) key
-          ∙ ap (option_map (placed_at (get_or (set starts key start) key 0))) updates.changed
-          ∙ ap (λ s. Some (placed_at s k)) (get_or-set_same starts key start 0 (omega (arith, is.roomy)));
-      others = λ other differs.
-          get_or-placed new.slots (set starts key start) other
-          ∙ ap (λ s. option_map (placed_at s) (slab.get new other)) (get_or-set_other starts key other start 0 differs)
-          ∙ ap (option_map (placed_at (get_or starts other 0))) (updates.others other differs)
-          ∙ sym (get-placed other);
-    }
+    placed-inserted key start k updates within = search (rules, get_or-placed, get-placed)
 
     -- its start is kept too
     pub IsPlaced-inserted : (key start : ℕ) (k : Kept) → Updates kept new key (Some k) → key < kept.capacity → (more : ℕ) → more ≡ max used (key + 1) → IsPlaced new (set starts key start) more
-    IsPlaced-inserted key start k updates within more most = record {
-      roomy = length-set starts key start ∙ is.roomy ∙ sym same;
-      within = omega (arith, length-set starts key start, is.roomy, is.within);
-      below = λ other there. elim (cases_eq other key) as (λ _. other < more) [
-        | inl here ↦ omega arith
-        | inr differs ↦ omega (arith, is.below other (sym (ap is_some (updates.others other differs)) ∙ there))
-      ];
-    }
+    IsPlaced-inserted key start k updates within more most = search (rules, cases_eq)
 
     -- a dataspace goes
     pub placed-removed : (key : ℕ) → Updates kept new key None → Updates (placed kept starts) (placed new starts) key None
-    placed-removed key updates = record {
-      changed = get_or-placed new.slots starts key ∙ ap (option_map (placed_at (get_or starts key 0))) updates.changed;
-      others = λ other differs. get_or-placed new.slots starts other ∙ ap (option_map (placed_at (get_or starts other 0))) (updates.others other differs) ∙ sym (get-placed other);
-    }
+    placed-removed key updates = search (rules, get_or-placed, get-placed)
 
     -- the others' starts stay
     pub IsPlaced-removed : (key : ℕ) → Updates kept new key None → IsPlaced new starts used
-    IsPlaced-removed key updates = record {
-      roomy = is.roomy ∙ sym same;
-      within = is.within;
-      below = λ other there. elim (cases_eq other key) as (λ _. other < used) [
-        | inl here ↦ absurd (true≢false (sym there ∙ ap is_some (ap (slab.get new) here ∙ updates.changed)))
-        | inr differs ↦ is.below other (sym (ap is_some (updates.others other differs)) ∙ there)
-      ];
-    }
+    IsPlaced-removed key updates = search (rules, cases_eq)
 
   -- the starts move
   module _ (used from by : ℕ) (is : IsPlaced kept starts used) (new_starts : List ℕ) (moved : HaveMoved from by used starts new_starts) where

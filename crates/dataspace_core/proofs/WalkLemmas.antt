@@ -1,4 +1,5 @@
 -- Where a position of a run lies, and how far a walk over the run goes in one step: to the end of the page, or of the walk.
+use Rattle.std.proofs.lemmas.Bool.Decides.{nat_tests}
 use Rattle.std.proofs.Common.{◌≡◌, ℕ, ◌+◌, ◌*◌, ◌-◌, ◌/◌, ◌%◌, ◌<◌, ◌≤◌, min, length, List, arith, ◌∙◌, take, drop, length-drop}
 use Rattle.std.proofs.lemmas.List.{length-take-le}
 
@@ -25,11 +26,7 @@ short_enough at left n is = omega arith
 
 -- a step of a walk is in one page
 pub step_in_page : (count offset len done n : ℕ) → offset + len ≤ count * 4096 → done < len → n ≡ min (4096 - (offset + done) % 4096) (len - done) → IsInPage count (offset + done) n
-step_in_page count offset len done n range more is = record {
-  below = page_below (offset + done) count (omega arith);
-  place = place_in (offset + done);
-  fits = short_enough (offset + done) (len - done) n is;
-}
+step_in_page count offset len done n range more is = grind (arith, nat_tests, page_below, place_in, short_enough)
 
 -- and within the walk
 pub step_within : (left done len n : ℕ) → done < len → n ≡ min left (len - done) → done + n ≤ len
@@ -41,11 +38,7 @@ word_fits offset aligned = omega arith
 
 -- so it is in one page
 pub word_in_page : (count offset : ℕ) → offset % 8 ≡ 0 → offset + 8 ≤ count * 4096 → IsInPage count offset 8
-word_in_page count offset aligned range = record {
-  below = page_below offset count (omega arith);
-  place = place_in offset;
-  fits = word_fits offset aligned;
-}
+word_in_page count offset aligned range = grind (arith, nat_tests, page_below, place_in, word_fits)
 
 -- the part that a step takes of what is walked over
 pub length-lent : (whole : List ℕ) (done n : ℕ) → done + n ≤ length whole → length (take (done + n - done) (drop done whole)) ≡ n

@@ -1,5 +1,5 @@
 -- Laws for callers: a heap window of the memory, and the shares in it, after calls for one account.
-use Rattle.std.proofs.Common.{◌≡◌, ◌≢◌, ◌≤◌, ◌<◌, ◌+◌, ◌*◌, ◌/◌, ◌||◌, ℕ, true, eqb, List, length, Some, is_some, refl, sym, ap, subst, ◌∙◌, ⊎_elim, unwrap_or, arith}
+use Rattle.std.proofs.Common.{◌≡◌, ◌≢◌, ◌≤◌, ◌<◌, ◌+◌, ◌*◌, ◌/◌, ◌||◌, ℕ, eqb, List, length, Some, is_some, refl, sym, ap, subst, ◌∙◌, ⊎_elim, unwrap_or, arith, rules}
 use Rattle.std.proofs.lemmas.Bool.{cases_eq}
 use Rattle.std.proofs.lemmas.Bool.Decides.{nat_tests}
 use Rattle.std.proofs.lemmas.Option.{none-some, same_Some}
@@ -30,25 +30,15 @@ length_some (Some bytes) n h = (bytes, refl, cc)
 
 -- what a part has is in the memory
 pub in_memory : (account ds : ℕ) (bytes : List ℕ) (store : Store) → get (part account store).spaces ds ≡ Some bytes → (space : Space) × (get store.spaces ds ≡ Some space) × (space.payer ≡ account) × (space.bytes ≡ bytes)
-in_memory account ds bytes store has =
-    let paid = paid_in_part account ds bytes store has in
-    let there = value_at store.spaces ds paid.exists in
-    let at = space_at-some store ds there.0 there.1 in
-    (there.0, there.1, ap (λ (s : Space). s.payer) (sym at) ∙ paid.payer, ap (λ (s : Space). s.bytes) (sym at) ∙ paid.bytes_are)
+in_memory account ds bytes store has = search (rules, paid_in_part, value_at, space_at-some)
 
 -- and what is in the memory is in its payer's part
 pub in_part : (store : Store) (ds : ℕ) (space : Space) → get store.spaces ds ≡ Some space → get (part space.payer store).spaces ds ≡ Some space.bytes
-in_part store ds space there =
-    let at = space_at-some store ds space there in
-    let has = part_of_payer store ds (ap is_some there) in
-    subst (λ (s : Space). get (part s.payer store).spaces ds ≡ Some s.bytes) at has
+in_part store ds space there = search (rules, space_at-some, part_of_payer)
 
 -- nobody else has it
 pub in_no_other : (account other ds : ℕ) (bytes : List ℕ) (store : Store) → get (part account store).spaces ds ≡ Some bytes → other ≢ account → get (part other store).spaces ds ≡ None
-in_no_other account other ds bytes store has apart = none_if _ (λ b there.
-    let mine = in_memory account ds bytes store has in
-    let its = in_memory other ds b store there in
-    apart (sym its.2 ∙ ap (λ (s : Space). s.payer) (same_Some its.0 mine.0 (sym its.1 ∙ mine.1)) ∙ mine.2))
+in_no_other account other ds bytes store has apart = search (rules, none_if, in_memory, same_Some)
 
 -- what isn't in the memory is in no part
 pub in_none : (account ds : ℕ) (store : Store) → get store.spaces ds ≡ None → get (part account store).spaces ds ≡ None
@@ -94,14 +84,7 @@ module _ (account : ℕ) (after : Part) (old new : Store) (becomes : PartBecomes
   pub window_after : (pages most : ℕ) (heap : NatMap Region) → after.account ≡ (part account old).account → IsOpenIn old account →
       ((k : ℕ) → option_map length (get after.spaces k) ≡ option_map length (get (part account old).spaces k)) →
       IsWindowOf old pages most heap → IsWindowOf new pages most heap
-  window_after pages most heap same opens lengths window = record {
-    size = window.size ∙ sym (account_after (account_in old account) (same ∙ own_account account old opens) refl opens).1;
-    few = window.few;
-    lie = window.lie;
-    most_is = window.most_is;
-    shown_whole = λ s r h. shown_after r (λ bytes has. lengths r.of ∙ ap (option_map length) has) (window.shown_whole s r h);
-    once = window.once;
-  }
+  window_after pages most heap same opens lengths window = search (rules, account_after, own_account, shown_after)
 
 -- ---- a new dataspace of an account is attached, and keeps a number
 
@@ -132,10 +115,7 @@ module _ (account ds size tag start : ℕ) (old new : Store) (pages most : ℕ) 
   charge_then = ap (λ (p : Part). p.account) becomes.own ∙ ap (λ (a : Account). Some (charged a (page_of size) 1)) (account_of-part account old)
 
   keys : (k : ℕ) → is_some (get (part account new).spaces k) ≡ (eqb k ds || is_some (get (part account old).spaces k))
-  keys k = ⊎_elim
-      (λ (same : k ≡ ds). let t : is_some (get (part account new).spaces k) ≡ true = ap (λ q. is_some (get (part account new).spaces q)) same ∙ ap is_some new_there in grind (arith, nat_tests))
-      (λ (other : k ≢ ds). let t = ap is_some (others_there k other) in grind (arith, nat_tests))
-      (cases_eq k ds)
+  keys k = search (rules, new_there, nat_tests, others_there, cases_eq)
 
   -- the account's share has the region more
   pub share_then : share account new (insert heap start region) (insert tags start tag) ≡ record { part = part account new; heap = insert (share account old heap tags).heap start region; tags = insert (share account old heap tags).tags start tag }
@@ -144,14 +124,7 @@ module _ (account ds size tag start : ℕ) (old new : Store) (pages most : ℕ) 
 
   -- all other shares stay
   pub shares_then : KeepsShares account old new heap tags (insert heap start region) (insert tags start tag)
-  shares_then = record {
-    shares = λ other apart.
-        ap (λ p. share_in p (insert heap start region) (insert tags start tag)) (becomes.others other apart)
-        ∙ share_attached_other heap tags start region tag free (part other old) (in_none other ds old fresh);
-    root = becomes.root;
-    parents = becomes.parents;
-    room = becomes.room;
-  }
+  shares_then = search (rules, share_attached_other, in_none)
 
   limits_then : (IsOpenIn new account) × (ram_limits_in new ≡ ram_limits_in old)
   limits_then = account_after account (part_with_space (part account old) ds size) old new becomes _ refl (ap (λ (a : Account). a.ram_limit) (account_of-part account old)) opens
@@ -179,27 +152,11 @@ module _ (account ds size tag start : ℕ) (old new : Store) (pages most : ℕ) 
       (cases_eq s start)
 
   once_then : (s t : ℕ) (r q : Region) → get (insert heap start region) s ≡ Some r → get (insert heap start region) t ≡ Some q → r.of ≡ q.of → s ≡ t
-  once_then s t r q h g e = ⊎_elim
-      (λ (here : s ≡ start). ⊎_elim
-      (λ (there : t ≡ start). here ∙ sym there)
-      (λ (other : t ≢ start). absurd (unshown t q (was_there t q other g) (sym e ∙ of_new s r here h)))
-      (cases_eq t start))
-      (λ (other : s ≢ start). ⊎_elim
-      (λ (there : t ≡ start). absurd (unshown s r (was_there s r other h) (e ∙ of_new t q there g)))
-      (λ (also : t ≢ start). window.once s t r q (was_there s r other h) (was_there t q also g) e)
-      (cases_eq t start))
-      (cases_eq s start)
+  once_then s t r q h g e = grind (arith, nat_tests, unshown, was_there, of_new, cases_eq)
 
   -- the window is still one of the memory
   pub window_then : 1 ≤ size → IsPlace heap_low (heap_high pages) heap (page_of size / 4096) start → IsWindowOf new pages most (insert heap start region)
-  window_then some place = record {
-    size = window.size ∙ sym limits_then.1;
-    few = window.few;
-    lie = LieApart-insert heap_low (heap_high pages) heap start region (omega (arith, some)) place window.lie;
-    most_is = window.most_is;
-    shown_whole = shown_then some;
-    once = once_then;
-  }
+  window_then some place = search (rules, limits_then, LieApart-insert, shown_then, once_then)
 
 -- before it is attached there is room for one region more, and as many pages
 pub record HasRoom (pages most more : ℕ) (heap : NatMap Region) : Type 0 where
@@ -209,20 +166,7 @@ pub record HasRoom (pages most more : ℕ) (heap : NatMap Region) : Type 0 where
 pub room_then : (account ds size : ℕ) (old new : Store) (pages most : ℕ) (heap : NatMap Region) → IsOpenIn old account → IsWindowOf old pages most heap → get old.spaces ds ≡ None →
     PartBecomes account (part_with_space (part account old) ds size) old new → 1 ≤ size →
     new ≡ with_space old ds account size → total (λ (s : Space). length s.bytes) new.spaces ≤ ram_limits_in new → HasRoom pages most (page_of size / 4096) heap
-room_then account ds size old new pages most heap opens window fresh becomes some now within =
-    let limits = (account_after account (part_with_space (part account old) ds size) old new becomes _ refl (ap (λ (a : Account). a.ram_limit) (account_of-part account old)) opens).1 in
-    let held = pages_held heap old.spaces window.shown_whole window.once in
-    let few = regions_within_pages heap (λ s r h. (window.shown_whole s r h).some) in
-    let more : total (λ (s : Space). length s.bytes) new.spaces ≡ total (λ (s : Space). length s.bytes) old.spaces + page_of size =
-    ap (λ (s : Store). total (λ (x : Space). length x.bytes) s.spaces) now
-    ∙ total-insert_new (λ (x : Space). length x.bytes) old.spaces ds _ fresh
-    ∙ ap (λ n. total (λ (x : Space). length x.bytes) old.spaces + n) (length-zeros (page_of size)) in
-    let machine = window.size in
-    let places = window.most_is in
-    record {
-      room = omega (arith, held, few, more, within, limits, machine, places, some);
-      fits = omega (arith, held, more, within, limits, machine);
-    }
+room_then account ds size old new pages most heap opens window fresh becomes some now within = grind (arith, nat_tests, account_after, account_of-part, pages_held, regions_within_pages, total-insert_new, length-zeros)
 
 -- a new dataspace is all zero in its account's part
 pub new_in_part : (account ds size : ℕ) (old new : Store) → PartBecomes account (part_with_space (part account old) ds size) old new → get (part account new).spaces ds ≡ Some (zeros (page_of size))

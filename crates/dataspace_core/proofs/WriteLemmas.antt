@@ -1,6 +1,6 @@
 -- A run of pages while a part is put into its bytes.
-use Rattle.std.proofs.Common.{◌≡◌, ◌≢◌, ℕ, ◌+◌, ◌*◌, ◌-◌, ◌/◌, ◌%◌, ◌<◌, ◌≤◌, List, [], ◌++◌, length, set, take, drop, Some, refl, sym, ap, subst, ◌∙◌, ◌⊎◌, inl, inr, arith}
-use Rattle.std.specs.Prelude.{Option, None}
+use Rattle.std.proofs.Common.{◌≡◌, ◌≢◌, ℕ, ◌+◌, ◌*◌, ◌-◌, ◌/◌, ◌%◌, ◌<◌, ◌≤◌, List, [], ◌++◌, length, set, take, drop, Some, ap, ◌∙◌, ◌⊎◌, inl, inr, arith, rules}
+use Rattle.std.specs.Prelude.{Option}
 use Rattle.std.proofs.Math.Seq.{take-add}
 use Rattle.std.proofs.lemmas.Bool.{cases_eq}
 use Rattle.std.proofs.lemmas.List.{get_or-set_other, length-set, length-take-le}
@@ -22,13 +22,7 @@ run_piece pages table start count i from n run below within = joined_piece _ cou
 
 -- before the first page is written
 pub IsWritten-nothing : (pages : List (Option (List ℕ))) (table : List PageNo) (start count offset : ℕ) → IsRun pages table start count → IsWritten pages pages table start count offset []
-IsWritten-nothing pages table start count offset run = record {
-  size = refl;
-  taken = refl;
-  held = run.held;
-  bytes = sym (with_bytes-nothing _ offset);
-  others = λ page outside. refl;
-}
+IsWritten-nothing pages table start count offset run = search (rules, with_bytes-nothing)
 
 -- a page is written next
 module _ (old_pages pages : List (Option (List ℕ))) (table : List PageNo) (start count offset i from : ℕ) (part more : List ℕ) (run : IsRun old_pages table start count) (so_far : IsWritten old_pages pages table start count offset part) (below : i < count) (place : offset + length part ≡ i * 4096 + from) (fits : from + length more ≤ 4096) where
@@ -62,30 +56,14 @@ module _ (old_pages pages : List (Option (List ℕ))) (table : List PageNo) (sta
 
   -- more of the part is written
   pub IsWritten-more : free_count written ≡ free_count pages → IsWritten old_pages written table start count offset (part ++ more)
-  IsWritten-more free = record {
-    size = length-set pages page _ ∙ so_far.size;
-    taken = free ∙ so_far.taken;
-    held = λ j before. still_held j before (cases_eq j i);
-    bytes =
-        bytes_after
-        ∙ ap (λ l. with_bytes l (i * 4096 + from) more) so_far.bytes
-        ∙ ap (λ k. with_bytes (with_bytes (run_bytes old_pages table start count) offset part) k more) (sym place)
-        ∙ with_bytes-more (run_bytes old_pages table start count) offset part more (omega (arith, length-run_bytes old_pages table start count run.held, place, fits, below));
-    others = λ q outside. get_or-set_other pages page q _ None (outside i below) ∙ so_far.others q outside;
-  }
+  IsWritten-more free = search (rules, length-set, still_held, cases_eq, bytes_after, with_bytes-more, length-run_bytes, get_or-set_other)
 
 -- a step of the walk writes the part of what is written that lies on its page
 pub IsWritten-step : (old_pages pages : List (Option (List ℕ))) (table : List PageNo) (start count offset done n : ℕ) (part : List ℕ) → IsRun old_pages table start count → IsInPage count (offset + done) n → done + n ≤ length part → IsWritten old_pages pages table start count offset (take done part) →
     let page = page_in table (start + (offset + done) / 4096) in
     let new_pages = set pages page (Some (with_bytes (page_bytes pages page) ((offset + done) % 4096) (take (done + n - done) (drop done part)))) in
     free_count new_pages ≡ free_count pages → IsWritten old_pages new_pages table start count offset (take (done + n) part)
-IsWritten-step old_pages pages table start count offset done n part run here within so_far free =
-    let lent = length-lent part done n within in
-    let all : take done part ++ take (done + n - done) (drop done part) ≡ take (done + n) part =
-    ap (λ k. take done part ++ take k (drop done part)) (omega arith) ∙ sym (take-add done n part) in
-    subst (IsWritten old_pages _ table start count offset) all
-    (IsWritten-more old_pages pages table start count offset ((offset + done) / 4096) ((offset + done) % 4096) (take done part) (take (done + n - done) (drop done part)) run so_far here.below
-    (omega (arith, here.place, length-take-le done part (omega (arith, within)))) (omega (arith, here.fits, lent)) free)
+IsWritten-step old_pages pages table start count offset done n part run here within so_far free = search (rules, length-lent, take-add, IsWritten-more, length-take-le)
 
 -- a word is written into one page
 pub IsWritten-word : (pages : List (Option (List ℕ))) (table : List PageNo) (start count offset word : ℕ) → IsRun pages table start count → IsInPage count offset 8 →

@@ -1,5 +1,5 @@
 -- How the pages of dataspaces lie in one table. No public clause cites this module.
-use Rattle.std.specs.Prelude.{◌≡◌, ◌≢◌, ℕ, zero, suc, ◌+◌, ◌-◌, ◌<◌, ◌≤◌, nat_lt, nat_le, false, true, List, [], ◌++◌, length, Option, Some, None, slice_index_or, if◌then◌else◌}
+use Rattle.std.specs.Prelude.{◌≡◌, ◌≢◌, ℕ, zero, suc, ◌+◌, ◌-◌, ◌*◌, ◌%◌, ◌<◌, ◌≤◌, nat_lt, nat_le, false, true, List, [], ◌++◌, length, Option, Some, None, slice_index_or, if◌then◌else◌}
 use Rattle.std.specs.Option.{option_map}
 use Rattle.trade_base.specs.Bytes.{with_bytes}
 use Rattle.page_pool.specs.Pages.{free_count, is_taken, page_bytes, zero_page}
@@ -74,6 +74,11 @@ pub record HasMovedDown (gap : Run) (spaces new_spaces : Slab Dataspace) : Type 
 -- no dataspace lies behind the gap
 abbrev pub NoneLiesBehind : Run → Slab Dataspace → Type 0
 NoneLiesBehind gap spaces = (ds : ℕ) (d : Dataspace) → get spaces ds ≡ Some d → d.run.start ≤ gap.start
+
+-- a word stands at an offset of so many pages
+pub record IsWordIn (count offset : ℕ) : Type 0 where
+  pub aligned : offset % 8 ≡ 0
+  pub within : offset + 8 ≤ count * 4096
 
 -- a part was put into the bytes of a run, and no other page changed
 pub record IsWritten (pages new_pages : List (Option (List ℕ))) (table : List PageNo) (start count offset : ℕ) (part : List ℕ) : Type 0 where

@@ -3,7 +3,7 @@ use Rattle.std.specs.Prelude.{◌≡◌, ◌≢◌, ℕ, ◌+◌, ◌*◌, ◌<�
 use Rattle.std.specs.FinMap.{get, insert}
 use Rattle.own_model.specs.Account.{Account, Fits}
 use Rattle.own_model.specs.NatMap.{total}
-use Rattle.dataspace_core.specs.Store.{Store, Part, part, parted_part, accounts_in, parents_in, root_in, room_in, caps_limits_in, account_in, IsOpenIn, IsChildIn, PartBecomes, RaisesPart, ClosesPart}
+use Rattle.dataspace_core.specs.Store.{Store, Part, part, parted_part, accounts_in, parents_in, root_in, room_in, caps_limits_in, account_in, IsOpenIn, IsChildIn, PartBecomes, RaisesPart, ShiftsPart, ClosesPart}
 
 -- an account counts that was opened under another than the root
 abbrev pub inner_weight : ℕ → ℕ → ℕ
@@ -67,6 +67,12 @@ abbrev pub RoomIsRaised : Type 0
 RoomIsRaised =
     (parent child ram caps : ℕ) (old new : Store) → RaisesPart parent child ram caps old new → IsOpenIn old parent →
     IsOuter old parent → IsChildIn old child parent → parent ≢ child → Fits (account_in old parent) ram caps → HasRoom old → HasRoom new
+
+-- limits that move between two accounts leave the room, where the one that parts with them is no inner one
+abbrev pub RoomIsShifted : Type 0
+RoomIsShifted =
+    (from to ram caps : ℕ) (old new : Store) → ShiftsPart from to ram caps old new → IsOpenIn old from → IsOpenIn old to →
+    IsOuter old from → from ≢ to → Fits (account_in old from) ram caps → HasRoom old → HasRoom new
 
 -- an account that goes gives its place back
 abbrev pub RoomIsGivenBack : Type 0

@@ -11,7 +11,7 @@ use Rattle.own_model.specs.Account.{Account, charged, credited, opened, parted_w
 use Rattle.own_model.specs.Donation.{raised}
 use Rattle.own_model.specs.OwnState.{zeros}
 use Rattle.quota_core.specs.Books.{Books, IsOpen, coded_books, fresh_books, account_at, with_account, with_child, ram_limits, caps_limits}
-use Rattle.quota_core.specs.Books.{IsChildOf, HasNoChild, AreRelated, parent_at, with_moved, without_account}
+use Rattle.quota_core.specs.Books.{IsChildOf, AreSiblings, HasNoChild, AreRelated, parent_at, with_moved, without_account}
 
 -- a dataspace: the account that pays for it, and its bytes
 pub record Space : Type 0 where
@@ -85,6 +85,10 @@ with_child_in store parent child ram caps = record store { books = with_child st
 -- the child was opened under this parent
 abbrev pub IsChildIn : Store → ℕ → ℕ → Type 0
 IsChildIn store child parent = IsChildOf store.books child parent
+
+-- two different accounts were opened under one parent
+abbrev pub AreSiblingsIn : Store → ℕ → ℕ → Type 0
+AreSiblingsIn store one other = AreSiblings store.books one other
 
 -- no account was opened under this one
 abbrev pub IsLeafIn : Store → ℕ → Type 0
@@ -238,6 +242,10 @@ pub record RaisesPart (parent child ram caps : ℕ) (old new : Store) : Type 0 w
   pub root : root_in new ≡ root_in old
   pub parents : parents_in new ≡ parents_in old
   pub room : room_in new ≡ room_in old
+
+-- one account parts with limits, and another is given them; all else stays, as where a parent's move to its child
+abbrev pub ShiftsPart : ℕ → ℕ → ℕ → ℕ → Store → Store → Type 0
+ShiftsPart from to ram caps old new = RaisesPart from to ram caps old new
 
 -- an account goes, its parent's is given its limits, and its place is free again; every other account's part stays, and so
 -- does the root's key

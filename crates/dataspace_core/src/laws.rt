@@ -1,6 +1,7 @@
 //! Laws for callers: that an account which covers a session's capabilities finds a place for another account. They do
 //! nothing at run time.
-ghost use Rattle.dataspace_core.specs.Room.{RoomAtFirst, RoomForOneMore, RoomStays, RoomIsTaken, RoomIsRaised, RoomIsGivenBack};
+ghost use Rattle.dataspace_core.specs.Room.{RoomAtFirst, RoomForOneMore, RoomStays, RoomIsTaken, RoomIsRaised};
+ghost use Rattle.dataspace_core.specs.Room.{RoomIsShifted, RoomIsGivenBack};
 
 /// Where places for accounts are half as many as the machine has capabilities, and each account that was opened below
 /// another than the root has two of these, one more finds a place wherever its parent covers two. Calls keep this.
@@ -10,5 +11,6 @@ pub fn accounts_find_places()
     ensures stays { RoomStays }
     ensures taken { RoomIsTaken }
     ensures raised { RoomIsRaised }
+    ensures shifted { RoomIsShifted }
     ensures given_back { RoomIsGivenBack }
 {}

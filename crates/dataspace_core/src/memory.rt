@@ -7,10 +7,13 @@ ghost use Rattle.trade_base.specs.Word.{word_of, word_bytes};
 ghost use Rattle.trade_base.specs.declared.refusal.Refusal.TheVariants.{OutOfCaps};
 ghost use Rattle.own_model.specs.NatMap.{total};
 ghost use Rattle.own_model.specs.Account.{alloc_refusal, shortage, charged, credited, WithinLimits};
-ghost use Rattle.dataspace_core.specs.Store.{fresh_store, accounts_in, root_in, room_in, places_in, IsOpenIn, account_in, with_account_in, with_child_in, ram_limits_in, caps_limits_in};
+ghost use Rattle.dataspace_core.specs.Store.{fresh_store, accounts_in, account_in, root_in, room_in, places_in, IsOpenIn};
+ghost use Rattle.dataspace_core.specs.Store.{with_account_in, with_child_in, with_moved_in, without_account_in};
+ghost use Rattle.dataspace_core.specs.Store.{ram_limits_in, caps_limits_in, parents_in, parent_in};
+ghost use Rattle.dataspace_core.specs.Store.{IsChildIn, AreSiblingsIn, IsLeafIn, AreRelatedIn};
 ghost use Rattle.dataspace_core.specs.Store.{Exists, space_at, with_space, without_space, with_bytes_at};
-ghost use Rattle.dataspace_core.specs.Store.{parents_in, parent_in, IsChildIn, IsLeafIn, AreRelatedIn, with_moved_in, without_account_in, RaisesPart, ClosesPart};
-ghost use Rattle.dataspace_core.specs.Store.{part, PartBecomes, OpensPart, part_with_space, part_without_space, part_with_bytes, charged_part, credited_part};
+ghost use Rattle.dataspace_core.specs.Store.{part, part_with_space, part_without_space, part_with_bytes, charged_part};
+ghost use Rattle.dataspace_core.specs.Store.{credited_part, PartBecomes, OpensPart, RaisesPart, ShiftsPart, ClosesPart};
 
 use crate::dataspace::{Dataspace, size_of, space_under};
 use crate::runs::{
@@ -281,6 +284,31 @@ impl Memory {
         ensures related { AreRelatedIn self.old child.0 parent.0 }
     {
         self.books.raise(parent, child, ram, caps)
+    }
+
+    /// Moves so much of an account's limits to another one that was opened under the same parent: RAM in bytes, and
+    /// capabilities.
+    ///
+    /// It is refused with `OutOfRam` where less RAM of the one's limit is free, and else with `OutOfCaps` where fewer
+    /// capabilities are.
+    pub fn shift(
+        &mut self,
+        from: AccountId,
+        to: AccountId,
+        ram: Ram,
+        caps: Caps,
+    ) -> Result<(), Refusal>
+        requires { AreSiblingsIn self.old from.0 to.0 }
+        ensures refusal { result_err result ≡ shortage (account_in self.old from.0) ram.0 caps.0 }
+        ensures ok { OnOk result (self.new ≡ with_moved_in self.old from.0 to.0 ram.0 caps.0) }
+        ensures part { OnOk result (ShiftsPart from.0 to.0 ram.0 caps.0 self.old self.new) }
+        ensures err { OnErr result (self.new ≡ self.old) }
+        ensures ram_moved { ram_limits_in self.new ≡ ram_limits_in self.old }
+        ensures caps_moved { caps_limits_in self.new ≡ caps_limits_in self.old }
+        ensures from { IsOpenIn self.old from.0 }
+        ensures to { IsOpenIn self.old to.0 }
+    {
+        self.books.shift(from, to, ram, caps)
     }
 
     /// Closes an account that isn't the root and that has no child. It may use no capability, so it pays for no dataspace.

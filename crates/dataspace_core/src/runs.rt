@@ -2,7 +2,7 @@
 ghost use Rattle.std.specs.Prelude.{◌≡◌, ◌+◌, ◌*◌, ◌%◌, ◌^◌, ◌<◌, ◌≤◌, [], length, slice_range, vec_len, vec_capacity, IfOk};
 ghost use Rattle.page_pool.specs.Pages.{free_count};
 ghost use Rattle.trade_base.specs.Word.{word_of, word_bytes};
-ghost use Rattle.dataspace_core.specs.Layout.{IsRun, IsNewRun, IsGiven, IsClosed, IsWritten, run_bytes};
+ghost use Rattle.dataspace_core.specs.Layout.{IsRun, IsNewRun, IsGiven, IsClosed, IsWordIn, IsWritten, run_bytes};
 
 use page_pool::{PageNo, Pool};
 use std::alloc::Global;
@@ -99,8 +99,7 @@ pub(crate) fn write_run(pool: &mut Pool, table: &Vec<PageNo>, run: Run, offset: 
 /// The word at `offset` of a run.
 pub(crate) fn load_run(pool: &Pool, table: &Vec<PageNo>, run: Run, offset: usize) -> u64
     requires run { IsRun pool.now table.now.items run.start run.count }
-    requires aligned { offset % 8 ≡ 0 }
-    requires range { offset + 8 ≤ run.count * 4096 }
+    requires word { IsWordIn run.count offset }
     ensures { let bytes = run_bytes pool.now table.now.items run.start run.count in
         result ≡ word_of (slice_range bytes offset (offset + 8)) }
 {
@@ -111,8 +110,7 @@ pub(crate) fn load_run(pool: &Pool, table: &Vec<PageNo>, run: Run, offset: usize
 /// Puts `word` at `offset` into a run.
 pub(crate) fn store_run(pool: &mut Pool, table: &Vec<PageNo>, run: Run, offset: usize, word: u64)
     requires run { IsRun pool.old table.now.items run.start run.count }
-    requires aligned { offset % 8 ≡ 0 }
-    requires range { offset + 8 ≤ run.count * 4096 }
+    requires word { IsWordIn run.count offset }
     ensures { IsWritten pool.old pool.new table.now.items run.start run.count offset
         (word_bytes word) }
 {

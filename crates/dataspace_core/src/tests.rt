@@ -212,3 +212,22 @@ fn place_of_a_closed_account_is_free_again(rt: HostRuntime) {
         .expect(&rt, "the root has it again");
     memory.alloc(again, 1).expect(&rt, "the page is free");
 }
+
+#[test]
+fn shifted_limits_pay_where_they_came_to(rt: HostRuntime) {
+    let mut memory = Memory::boot(rt.alloc(), 2, Caps(2), 3).expect(&rt, "memory for two pages");
+    let root = memory.root();
+    let one = memory
+        .open(root, Ram(8192), Caps(2))
+        .expect(&rt, "the root has it");
+    let other = memory
+        .open(root, Ram(0), Caps(0))
+        .expect(&rt, "nothing is always there");
+    memory
+        .shift(one, other, Ram(8192), Caps(2))
+        .expect(&rt, "the one has it");
+    assert_eq!(rt; refusal_of(&rt, &mut memory, one, 1), Refusal::OutOfRam);
+    memory
+        .alloc(other, 8192)
+        .expect(&rt, "it came to the other");
+}

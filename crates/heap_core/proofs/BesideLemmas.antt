@@ -1,7 +1,6 @@
 -- What a call of a heap leaves of the account's sliced blocks on the same map, and of its dataspaces that are no block's.
-use Rattle.std.proofs.Common.{rules, ◌≡◌, ◌≢◌, ℕ, ◌+◌, ◌/◌, ◌<◌, ◌≤◌, ◌==◌, false, true, Some, is_some, IsSome, refl, sym, ap, ◌∙◌, arith}
+use Rattle.std.proofs.Common.{rules, ◌≡◌, ◌≢◌, ℕ, ◌/◌, ◌<◌, ◌≤◌, false, true, Some, is_some, IsSome, refl, sym, ap, ◌∙◌, arith}
 use Rattle.std.proofs.lemmas.Bool.{false_from_ne_true}
-use Rattle.std.proofs.lemmas.Bool.Decides.{nat_tests}
 use Rattle.std.specs.Prelude.{None}
 use Rattle.std.specs.FinMap.{get, len}
 use Rattle.own_model.specs.HeapWindow.{heap_gap}
@@ -11,7 +10,7 @@ use Rattle.region_map.specs.Regions.{Regions, heap_attached, heap_detached}
 use Rattle.dataspace_core.specs.Store.{Store, Part, part}
 use Rattle.dataspace_core.proofs.ShareLaws.{in_share, some_alike}
 use Rattle.dataspace_core.proofs.WindowLaws.{in_none, unshown_free}
-use Rattle.heap_window.specs.Window.{share_at, IsMapOf, IsNoHeapBlock, sliced_tag, block_regions, large_tag, large_regions}
+use Rattle.heap_window.specs.Window.{share_at, IsMapOf, IsNoHeapBlock, block_regions, large_tag, large_regions}
 use Rattle.heap_window.proofs.BesideLemmas.{gap_is_free}
 use Rattle.heap_window.proofs.ShareLemmas.{IsShownAs, kept_tag, shown_large}
 use Rattle.heap_window.proofs.WindowLemmas.{ShowAlike, blocks_in_place, blocks_attached, blocks_detached}

@@ -1,9 +1,8 @@
 -- What stays of a heap while words of its chunks change, and nothing else.
-use Rattle.std.proofs.Common.{rules, ◌≡◌, ◌≢◌, ℕ, ◌<◌, ◌==◌, true, false, cond, List, [], length, get_or, refl, sym, ap, subst, ◌∙◌, ⊎_elim, unwrap_or, arith, Some, is_some}
-use Rattle.std.proofs.lemmas.Bool.{cases_eq}
+use Rattle.std.proofs.Common.{rules, ◌≡◌, ℕ, ◌<◌, true, false, List, [], length, get_or, refl, sym, ap, subst, ◌∙◌, unwrap_or, arith, Some, is_some}
 use Rattle.std.proofs.lemmas.Bool.Decides.{nat_tests}
-use Rattle.std.proofs.lemmas.Option.{none-some, same_Some}
-use Rattle.std.specs.Prelude.{Option, None}
+use Rattle.std.proofs.lemmas.Option.{same_Some}
+use Rattle.std.specs.Prelude.{Option}
 use Rattle.std.specs.Option.{option_map}
 use Rattle.std.specs.FinMap.{get}
 use Rattle.own_model.specs.Region.{Region}
@@ -17,7 +16,7 @@ use Rattle.dataspace_core.proofs.PartLaws.{open_in_part}
 use Rattle.dataspace_core.proofs.ShareLaws.{share_alike, some_alike, in_share}
 use Rattle.dataspace_core.proofs.WindowLaws.{length_some, window_after, own_account}
 use Rattle.heap_core.specs.declared.heap.Heap.{Heap}
-use Rattle.heap_core.specs.Heap.{IsLaid, IsSound, StandsChunk, StandsLarge, chunk_at, keys_in, payer_of, share_at, words_in, large_tag, is_large_tag, large_regions}
+use Rattle.heap_core.specs.Heap.{IsLaid, IsSound, StandsChunk, StandsLarge, chunk_at, keys_in, payer_of, share_at, words_in, large_tag, large_regions}
 use Rattle.heap_core.specs.Calls.{KeepsSpaces}
 use Rattle.heap_core.specs.Words.{Around, is_among, are_bytes, around, bytes_in_store, words_of}
 use Rattle.heap_core.proofs.AroundLemmas.{among_found, bytes_of-part, words_of-part, part_lengths, part_others, account_kept, around_becomes}

@@ -5,7 +5,7 @@ use Rattle.own_model.proofs.AccountLemmas.{credit_nothing, credit_twice}
 use Rattle.std.proofs.lemmas.Bool.{cases_eq, cases_lt}
 use Rattle.std.proofs.lemmas.Option.{none-some, same_Some}
 use Rattle.std.specs.Prelude.{Option, None}
-use Rattle.std.specs.FinMap.{get, remove, len, empty, len-empty}
+use Rattle.std.specs.FinMap.{get, remove, empty, len-empty}
 use Rattle.own_model.specs.Account.{Account, credited, opened}
 use Rattle.own_model.specs.Region.{Region}
 use Rattle.own_model.proofs.NatMapLemmas.{before_remove, get-remove_same, get-remove_other, none_if, same, get-empty, get-picked_none}
@@ -16,7 +16,7 @@ use Rattle.dataspace_core.specs.Share.{Share, IsWindowOf, KeepsShares}
 use Rattle.dataspace_core.proofs.PartLaws.{account_of-part}
 use Rattle.dataspace_core.proofs.WindowLaws.{own_account}
 use Rattle.heap_core.specs.declared.heap.Heap.{Heap}
-use Rattle.heap_core.specs.Heap.{HasNoBlocks, IsSound, chunk_at, heap_in, is_large_tag, keys_in, large_regions, large_tag, payer_of, share_at, times_in}
+use Rattle.heap_core.specs.Heap.{HasNoBlocks, IsSound, chunk_at, heap_in, is_large_tag, keys_in, large_regions, large_tag, payer_of, share_at}
 use Rattle.heap_core.specs.End.{EndsChunks, HasChunk, bytes_from}
 use Rattle.heap_core.specs.Calls.{GivesAll, KeepsElsewhere}
 use Rattle.heap_core.specs.declared.words.Chunk.{Chunk}
@@ -27,11 +27,9 @@ use Rattle.heap_core.proofs.StandLemmas.{blocks, chunk_total, count_blocks}
 use Rattle.own_model.specs.BestFit.{chunk_of}
 use Rattle.own_model.specs.Heap as model
 use Rattle.own_model.specs.Heap.{bytes_in}
-use Rattle.own_model.specs.NatMap.{total}
 use Rattle.own_model.specs.OwnHeap.{no_heap}
 use Rattle.own_model.specs.Use.{heap_count, heap_size}
 use Rattle.own_model.proofs.Totals.{total-empty}
-use Rattle.std.specs.Ordering.{nat_cmp}
 use Rattle.std.proofs.lemmas.List.Sums.{sum_by-cons}
 use Rattle.heap_core.proofs.ChunkLemmas.{key_is}
 use Rattle.dataspace_core.proofs.GoneLaws.{gone_charge, gone_count, gone_open, gone_others, gone_paid, gone_share, gone_shares, gone_window, in_map}

@@ -1,11 +1,10 @@
 -- A heap's large blocks are given back, one after another.
-use Rattle.std.proofs.Common.{rules, ◌≡◌, ℕ, ◌+◌, ◌-◌, ◌*◌, ◌≤◌, ◌==◌, Bool, List, length, get_or, false, Some, refl, sym, ap, subst, ◌∙◌, unwrap_or, arith}
+use Rattle.std.proofs.Common.{rules, ◌≡◌, ℕ, ◌+◌, ◌-◌, ◌*◌, ◌≤◌, ◌==◌, Bool, List, length, get_or, false, Some, sym, ap, subst, ◌∙◌, unwrap_or, arith}
 use Rattle.std.proofs.lemmas.Bool.Decides.{nat_tests}
 use Rattle.std.specs.Prelude.{Option}
 use Rattle.std.specs.Option.{option_and_then}
 use Rattle.std.specs.FinMap.{get, remove, len}
 use Rattle.own_model.specs.Account.{Account, credited, opened}
-use Rattle.own_model.specs.NatMap.{NatMap}
 use Rattle.own_model.specs.OwnHeap.{OwnHeap}
 use Rattle.own_model.specs.Region.{Region}
 use Rattle.own_model.specs.Use.{heap_count, heap_size}
@@ -16,11 +15,10 @@ use Rattle.dataspace_core.specs.Store.{Store, part, account_in}
 use Rattle.dataspace_core.specs.Share.{Share, KeepsShares}
 use Rattle.dataspace_core.proofs.PartLaws.{account_of-part}
 use Rattle.heap_core.specs.declared.heap.Heap.{Heap}
-use Rattle.heap_core.specs.Calls.{GivesAll, GivesLarge, IsNoBlock, KeepsElsewhere}
+use Rattle.heap_core.specs.Calls.{GivesAll, GivesLarge, IsNoBlock, Keeps, KeepsElsewhere}
 use Rattle.heap_core.specs.End.{EndsChunks, EndsLarge}
 use Rattle.heap_core.specs.Heap.{HasNoBlocks, IsSound, heap_at, heap_in, large_regions, large_tag, payer_of, share_at, times_in}
-use Rattle.heap_core.specs.Words.{is_among}
-use Rattle.heap_window.proofs.ShareLemmas.{large_kept, get-large}
+use Rattle.heap_window.proofs.ShareLemmas.{large_kept}
 use Rattle.dataspace_core.proofs.ShareLaws.{in_tags}
 use Rattle.own_model.proofs.AccountLemmas.{credit_twice}
 use Rattle.heap_core.proofs.EndChunkLemmas.{keeps_then, elsewhere_gone, elsewhere_then}
@@ -93,14 +91,14 @@ module _ (heap next later : Heap) (a : ℕ) (old mid new : Store) (regions betwe
   }
 
 -- one more is given back
-pub ends_large_more : (heap now next : Heap) (a : ℕ) (old mid new : Store) (regions between after : Regions) → EndsLarge heap now old mid regions between → GivesLarge now next a mid new between after → IsSound next new after →
-    KeepsShares (payer_of now) mid new between.heap between.tags after.heap after.tags → payer_of next ≡ payer_of now →
+pub ends_large_more : (heap now next : Heap) (a : ℕ) (old mid new : Store) (regions between after : Regions) → EndsLarge heap now old mid regions between → GivesLarge now next a mid new between after →
+    Keeps now next mid new between after →
     large_regions (share_at (payer_of now) new after) ≡ remove (large_regions (share_at (payer_of now) mid between)) a → EndsLarge heap next old new regions after
-ends_large_more heap now next a old mid new regions between after far one sound keeps payer left = record {
-  sound = sound;
-  payer = payer ∙ far.payer;
-  others = keeps_then (payer_of heap) old mid new regions between after far.others (subst (λ p. KeepsShares p mid new between.heap between.tags after.heap after.tags) far.payer keeps);
-  rest = λ later last all same rest. far.rest later last all same (gives_then now next later a mid new last between after all one payer left (same ∙ sym far.payer) rest);
+ends_large_more heap now next a old mid new regions between after far one keeps left = record {
+  sound = keeps.sound;
+  payer = keeps.payer ∙ far.payer;
+  others = keeps_then (payer_of heap) old mid new regions between after far.others (subst (λ p. KeepsShares p mid new between.heap between.tags after.heap after.tags) far.payer keeps.others);
+  rest = λ later last all same rest. far.rest later last all same (gives_then now next later a mid new last between after all one keeps.payer left (same ∙ sym far.payer) rest);
 }
 
 -- a list that isn't empty has an element

@@ -1,9 +1,9 @@
 -- Where a heap's payloads come from: each is a used block's of one chunk, or a large block's.
-use Rattle.std.proofs.Common.{rules, ◌≡◌, ◌≢◌, ℕ, suc, ◌+◌, ◌-◌, ◌*◌, ◌<◌, ◌≤◌, true, false, List, [], ◌∷◌, length, get_or, refl, sym, ap, subst, ◌∙◌, ⊎_elim, ◌⊎◌, inl, inr, arith, Some}
+use Rattle.std.proofs.Common.{rules, ◌≡◌, ◌≢◌, ℕ, suc, ◌+◌, ◌*◌, ◌<◌, ◌≤◌, List, [], ◌∷◌, length, get_or, refl, sym, ap, subst, ◌∙◌, ⊎_elim, ◌⊎◌, arith, Some}
 use Rattle.std.proofs.lemmas.Bool.{cases_eq, cases_lt}
 use Rattle.std.proofs.lemmas.Bool.Decides.{nat_tests}
 use Rattle.std.proofs.lemmas.Option.{none-some, same_Some}
-use Rattle.std.specs.Prelude.{None, nat_lt, slice_range}
+use Rattle.std.specs.Prelude.{None, slice_range}
 use Rattle.std.specs.Option.{option_or, option_and_then}
 use Rattle.std.specs.Cmp.{nat_cmp_total}
 use Rattle.std.specs.Ordering.{nat_cmp}
@@ -25,15 +25,15 @@ use Rattle.dataspace_core.specs.Store.{Store, Part, part, bytes_of}
 use Rattle.dataspace_core.specs.Share.{Share}
 use Rattle.heap_core.specs.declared.words.Chunk.{Chunk}
 use Rattle.heap_core.specs.declared.heap.Heap.{Heap}
-use Rattle.heap_core.specs.Heap.{IsSound, bytes_shown, chunk_at, heap_in, large_regions, large_tag, payer_of, payloads_of, share_at}
-use Rattle.heap_window.proofs.ShareLemmas.{large_kept, get-large, large_there}
+use Rattle.heap_core.specs.Heap.{IsSound, bytes_shown, chunk_at, heap_in, large_regions, payer_of, payloads_of, share_at}
+use Rattle.heap_window.proofs.ShareLemmas.{large_kept, large_there}
 use Rattle.heap_core.proofs.PayloadLemmas.{entries_of, no_chunk, payloads-at, payloads-none, told, value_of-payloads}
 use Rattle.dataspace_core.proofs.ShareLaws.{in_share}
 use Rattle.heap_core.proofs.StandLemmas.{blocks, chunk_blocks, chunk_total, count_blocks, no_blocks, not_in_chunk}
 use Rattle.heap_core.proofs.TakenLemmas.{in_other, other_chunk}
 
 -- an entry of all chunks is one of a chunk
-from_chunk : (part : Part) (chunks : List Chunk) (heap : model.Heap) (q : ℕ) (w : List ℕ) → value_of q (payloads_of part chunks heap) ≡ Some w →
+pub from_chunk : (part : Part) (chunks : List Chunk) (heap : model.Heap) (q : ℕ) (w : List ℕ) → value_of q (payloads_of part chunks heap) ≡ Some w →
     (k : ℕ) × (k < length chunks) × (value_of q (entries_of part (get_or chunks k no_chunk) (chunk_of heap k)) ≡ Some w)
 from_chunk part [] heap q w h = absurd (none-some w h)
 from_chunk part (x ∷ xs) [] q w h = absurd (none-some w h)
@@ -51,12 +51,7 @@ told_used start bytes bs q w h = search (rules, none-some, told_from, cases_lt)
 
 -- and a used block's payload is told
 used_told : (start y n : ℕ) (bytes : List ℕ) (bs : List Block) → used_at y bs ≡ Some n → told start 0 bytes bs (start + y + 16) ≡ Some (slice_range bytes (y + 16) (y + n))
-used_told start y n bytes bs at =
-    let a : nat_lt (start + y + 16) (start + 0 + 16) ≡ false = grind (arith, nat_tests) in
-    let o : start + y + 16 - 16 - (start + 0) ≡ y = omega arith in
-    let low : start + y + 16 - start ≡ y + 16 = omega arith in
-    let last : y + 16 - 16 + n ≡ y + n = omega arith in
-    rw (a, o, at, low) (ap (λ t. Some (slice_range bytes (y + 16) t)) last)
+used_told start y n bytes bs at = search (rules, nat_tests)
 
 module _ (heap : Heap) (store : Store) (regions : Regions) (sound : IsSound heap store regions) where
   abbrev pub S : Share

@@ -1,11 +1,9 @@
 -- A used block of a chunk is given back: its payload is gone, and all else stays.
 use Rattle.std.proofs.lemmas.Bool.Decides.{nat_tests}
-use Rattle.std.proofs.Common.{rules, ◌≡◌, ℕ, ◌+◌, ◌-◌, ◌*◌, ◌<◌, ◌≤◌, true, false, cond, eqb, eqb-true, List, [], length, get_or, refl, sym, ap, subst, ◌∙◌, true≢false, arith, Some}
+use Rattle.std.proofs.Common.{rules, ◌≡◌, ℕ, ◌+◌, ◌-◌, ◌<◌, ◌≤◌, true, cond, eqb, eqb-true, List, length, get_or, refl, sym, ap, subst, ◌∙◌, true≢false, arith, Some}
 use Rattle.std.proofs.lemmas.Option.{none-some}
 use Rattle.std.proofs.lemmas.List.{get_or-map, length-map}
 use Rattle.std.specs.Prelude.{Option, None, IfNone, OnSome, is_some}
-use Rattle.std.specs.Option.{option_or, option_and_then}
-use Rattle.std.specs.Cmp.{nat_cmp_total}
 use Rattle.std.specs.Ordering.{nat_cmp}
 use Rattle.std.specs.FinMap.{get, remove, from_entries, get-from_entries}
 use Rattle.own_model.specs.BestFit.{chunk_of, given, given_in, used_at}
@@ -14,20 +12,18 @@ use Rattle.own_model.specs.Growth.{shape_given}
 use Rattle.own_model.specs.Heap as model
 use Rattle.own_model.specs.Heap.{Block, AreBlocks, bytes_in}
 use Rattle.own_model.specs.HeapStep.{without_block}
-use Rattle.own_model.specs.NatMap.{NatMap, picked, joined}
+use Rattle.own_model.specs.NatMap.{NatMap, joined}
 use Rattle.own_model.specs.OwnHeap.{OwnHeap, chunk_with, offset_of, start_of}
 use Rattle.own_model.specs.Region.{Region}
 use Rattle.own_model.proofs.BlockLemmas.{AreBlocks-given}
 use Rattle.own_model.proofs.ChunkLemmas.{Lies, chunk_from_is}
 use Rattle.own_model.proofs.JoinedLemmas.{get-joined}
-use Rattle.own_model.proofs.NatMapLemmas.{same, get-picked, get-picked_none, get-remove, picked_alike}
+use Rattle.own_model.proofs.NatMapLemmas.{same, get-picked_none, get-remove, picked_alike}
 use Rattle.avl_alloc.specs.declared.best_fit.BestFit.{BestFit}
 use Rattle.avl_alloc.specs.Layout as avl
 use Rattle.avl_alloc.specs.Layout.{heap_of, sizes_of, ChangesHoles, weigh_holes, whole}
-use Rattle.avl_alloc.specs.Words.{place_at}
-use Rattle.avl_alloc.proofs.LayoutLemmas.{sound_told, chunk_there}
 use Rattle.region_map.specs.Regions.{Regions}
-use Rattle.dataspace_core.specs.Store.{Store, part, bytes_of}
+use Rattle.dataspace_core.specs.Store.{Store, part}
 use Rattle.dataspace_core.specs.Share.{Share, share_in}
 use Rattle.heap_core.specs.declared.words.Chunk.{Chunk}
 use Rattle.heap_core.specs.declared.heap.Heap.{Heap}
@@ -35,19 +31,18 @@ use Rattle.trade_base.specs.declared.refusal.Refusal.TheVariants.{PageFault}
 use Rattle.avl_alloc.specs.declared.best_fit.BlockAddr.{BlockAddr}
 use Rattle.heap_core.specs.Blocks.{Gives}
 use Rattle.heap_core.specs.Lookup.{LiesInChunk}
-use Rattle.heap_core.specs.Calls.{GivesSmall, free_refusal}
+use Rattle.heap_core.specs.Calls.{GivesSmall, Keeps, Unchanged, free_refusal}
 use Rattle.heap_core.specs.Heap.{IsSound, bytes_shown, chunk_at, heap_in, keys_in, large_regions, payer_of, payloads_of, share_at, starts_in, words_in}
 use Rattle.heap_core.specs.Words.{around, keys_of, words_of}
-use Rattle.heap_core.proofs.BlockLemmas.{length-heap_of}
-use Rattle.heap_core.proofs.ChangeLemmas.{later, large_apart, keeps_spaces, same_account, share_now, words_now}
+use Rattle.heap_core.proofs.ChangeLemmas.{later, large_apart, keeps_shares, keeps_spaces, still_sound, same_account, share_now, words_now}
 use Rattle.heap_core.proofs.FoundLemmas.{blocks_at, none_else, no_large_at, one_chunk, used_inside}
 use Rattle.heap_core.proofs.ChunkLemmas.{words_are}
 use Rattle.heap_core.proofs.LookupLemmas.{no_free, is_free}
 use Rattle.heap_core.proofs.MemoryLemmas.{memory_same}
 use Rattle.heap_core.proofs.FrameLemmas.{entries_same}
-use Rattle.heap_core.proofs.HoleLemmas.{used_no_hole}
+use Rattle.heap_core.proofs.HoleLemmas.{AreTold, are_told}
 use Rattle.heap_core.proofs.PayloadLemmas.{no_chunk, entries_of, value_of-payloads, told-given, payloads-less, payloads-same}
-use Rattle.heap_core.proofs.StandLemmas.{blocks, chunk_blocks, chunk_total, count_blocks, each_at}
+use Rattle.heap_core.proofs.StandLemmas.{blocks, chunk_blocks, chunk_total, count_blocks}
 
 -- one less in the first of two maps, where the second has none there
 joined-remove_first : {X : Type 0} (m n : NatMap X) (k : ℕ) → get n k ≡ None → joined (remove m k) n ≡ remove (joined m n) k
@@ -111,19 +106,11 @@ module _ (heap : Heap) (fit : BestFit) (c offset n : ℕ) (old new : Store) (reg
   G_sizes : length (sizes_of fit) ≡ length heap.chunks.items
   G_sizes = ap length sizes ∙ sound.laid.count
 
-  G_count : length G ≡ length heap.chunks.items
-  G_count = length-heap_of fit (words_of (keys_in heap) new) ∙ G_sizes
-
-  G_blocks : (k : ℕ) → k < length heap.chunks.items → AreBlocks (chunk_of G k)
-  G_blocks k in_heap = each_at AreBlocks G k [] (sound_told fit (words_of (keys_in heap) new) fit_sound).blocks (subst (λ m. k < m) (sym G_count) in_heap)
+  after : AreTold G fit (length heap.chunks.items)
+  after = are_told fit (words_of (keys_in heap) new) _ fit_sound G_sizes
 
   G_totals : (k : ℕ) → k < length heap.chunks.items → bytes_in (chunk_of G k) ≡ avl.bytes_of heap.fit k
-  G_totals k in_heap =
-      (chunk_there (words_of (keys_in heap) new) 0 (sizes_of fit) G k (sound_told fit (words_of (keys_in heap) new) fit_sound).laid.chunks (subst (λ m. k < m) (sym G_sizes) in_heap)).total
-      ∙ ap (λ xs. get_or xs k 0) sizes
-
-  G_no_hole : (k off m q : ℕ) → k < length heap.chunks.items → used_at off (chunk_of G k) ≡ Some m → place_at k off ≤ q → q < place_at k off + m → weigh_holes (whole q) G ≡ 0
-  G_no_hole k off m q in_heap at low high = used_no_hole fit (words_of (keys_in heap) new) k off m q fit_sound (subst (λ l. k < l) (sym G_count) in_heap) at low high
+  G_totals k in_heap = after.total k in_heap ∙ ap (λ xs. get_or xs k 0) sizes
 
   abbrev pub address : ℕ
   address = (chunk_at heap c).start + offset + 16
@@ -140,7 +127,7 @@ module _ (heap : Heap) (fit : BestFit) (c offset n : ℕ) (old new : Store) (reg
   each_entry : (q : ℕ) → value_of q (payloads_of (part account new) heap.chunks.items G) ≡ cond (eqb q address) None (value_of q (payloads_of S.part heap.chunks.items B))
   unfolding share_in
   each_entry q =
-      payloads-same (part account old) (part account new) q heap.chunks.items G (λ k in_heap. entries_same heap fit old new regions sound kept G G_no_hole changes G_blocks G_totals k in_heap q)
+      payloads-same (part account old) (part account new) q heap.chunks.items G (λ k in_heap. entries_same heap fit old new regions sound kept G after.no_hole changes after.each G_totals k in_heap q)
       ∙ ap (λ g. value_of q (payloads_of (part account old) heap.chunks.items g)) is
       ∙ payloads-less S.part address heap.chunks.items B c given_blocks q there (subst (λ m. c < m) (sym (count_blocks heap S sound.laid)) there) (one_less q)
       (λ k apart. none_else heap old regions sound k c address there (omega arith) inside apart)
@@ -198,38 +185,56 @@ tested_some : {X : Type 0} (o : Option X) → is_some o ≡ true → (x : X) × 
 tested_some None h = absurd (true≢false (sym h))
 tested_some (Some x) h = (x, refl)
 
-module _ (heap : Heap) (fit : BestFit) (addr : BlockAddr) (result : Option ℕ) (old new : Store) (regions : Regions) (sound : IsSound heap old regions) (kept : around (keys_in heap) new ≡ around (keys_in heap) old)
-    (gave : Gives addr result heap.fit fit (words_of (keys_in heap) old) (words_of (keys_in heap) new)) (address o : ℕ) (lies : LiesInChunk heap address addr.chunk o) (behind : 16 ≤ o) (at : addr.offset ≡ o - 16) where
-  result_is : result ≡ used_at addr.offset (blocks_at heap old regions sound addr.chunk)
-  result_is = gave.block ∙ ap (used_at addr.offset) (blocks_are heap old regions sound addr.chunk)
+module _ (heap : Heap) (fit : BestFit) (addr : BlockAddr) (result : Option ℕ) (old new : Store) (regions : Regions) (sound : IsSound heap old regions) (chunks : List Chunk) (are : chunks ≡ heap.chunks.items)
+    (around_kept : around (keys_of chunks) new ≡ around (keys_of chunks) old) (gives : Gives addr result heap.fit fit (words_of (keys_of chunks) old) (words_of (keys_of chunks) new)) where
+  kept : around (keys_in heap) new ≡ around (keys_in heap) old
+  kept = kept_there heap old new chunks are around_kept
 
-  -- no block was there
-  pub gave_none : result ≡ None → free_refusal (heap_in heap (share_at (payer_of heap) old regions)) address ≡ Some PageFault
-  gave_none none = no_free heap old regions sound address addr.chunk o lies (λ y n used is.
-      let same : y ≡ addr.offset = omega (arith, is, at, behind) in
-      none-some n (sym none ∙ result_is ∙ ap (λ z. used_at z (blocks_at heap old regions sound addr.chunk)) (sym same) ∙ used))
+  gave : Gives addr result heap.fit fit (words_of (keys_in heap) old) (words_of (keys_in heap) new)
+  gave = gave_there heap fit addr result old new chunks are gives
 
-  -- so the memory is as it was
-  pub gave_same : result ≡ None → new ≡ old
-  gave_same none = memory_same heap old new regions sound kept (subst (λ (r : Option ℕ). IfNone r (words_of (keys_in heap) new ≡ words_of (keys_in heap) old)) none gave.refused)
+  -- the heap is sound and the others' shares stay, whatever best fit answers
+  pub give_keeps : Keeps heap (record heap { fit = fit }) old new regions regions
+  give_keeps = record {
+    sound = still_sound heap fit old new regions sound kept gave.sound gave.sizes;
+    others = keeps_shares heap fit old new regions sound kept;
+    payer = refl;
+  }
 
-  module _ (some : is_some result ≡ true) where
-    size : (n : ℕ) × (result ≡ Some n)
-    size = tested_some result some
+  module _ (address o : ℕ) (lies : LiesInChunk heap address addr.chunk o) (behind : 16 ≤ o) (at : addr.offset ≡ o - 16) where
+    result_is : result ≡ used_at addr.offset (blocks_at heap old regions sound addr.chunk)
+    result_is = gave.block ∙ ap (used_at addr.offset) (blocks_are heap old regions sound addr.chunk)
 
-    used_there : used_at addr.offset (blocks_at heap old regions sound addr.chunk) ≡ Some size.0
-    used_there = sym result_is ∙ size.1
+    -- no block was there
+    pub gave_none : result ≡ None → free_refusal (heap_in heap (share_at (payer_of heap) old regions)) address ≡ Some PageFault
+    gave_none none = no_free heap old regions sound address addr.chunk o lies (λ y n used is.
+        let same : y ≡ addr.offset = omega (arith, is, at, behind) in
+        none-some n (sym none ∙ result_is ∙ ap (λ z. used_at z (blocks_at heap old regions sound addr.chunk)) (sym same) ∙ used))
 
-    -- the block that was there is gone
-    pub gave_free : free_refusal (heap_in heap (share_at (payer_of heap) old regions)) address ≡ None
-    gave_free = is_free heap old regions sound address addr.chunk o lies addr.offset size.0 used_there (omega (arith, at, behind))
+    -- so nothing has changed
+    gave_same : result ≡ None → new ≡ old
+    gave_same none = memory_same heap old new regions sound kept (subst (λ (r : Option ℕ). IfNone r (words_of (keys_in heap) new ≡ words_of (keys_in heap) old)) none gave.refused)
 
-    pub gave_small : GivesSmall heap (record heap { fit = fit }) address old new regions regions
-    gave_small =
-        let place = lies.at in
-        let is : (chunk_at heap addr.chunk).start + addr.offset + 16 ≡ address = omega (arith, place, at, behind) in
-        subst (λ a. GivesSmall heap (record heap { fit = fit }) a old new regions regions) is
-        (gives_small heap fit addr.chunk addr.offset size.0 old new regions sound kept lies.there used_there
-        (subst (λ (r : Option ℕ). OnSome r (heap_of fit (words_of (keys_in heap) new) ≡ given addr.chunk addr.offset (heap_of heap.fit (words_of (keys_in heap) old)))) size.1 gave.heap
-        ∙ ap (given addr.chunk addr.offset) (all_blocks_are heap old regions sound))
-        gave.sound gave.sizes gave.others)
+    pub gave_unchanged : result ≡ None → Unchanged (λ P. P) heap (record heap { fit = fit }) old new regions regions
+    gave_unchanged none = search (rules, gave_same, gave)
+
+    module _ (some : is_some result ≡ true) where
+      size : (n : ℕ) × (result ≡ Some n)
+      size = tested_some result some
+
+      used_there : used_at addr.offset (blocks_at heap old regions sound addr.chunk) ≡ Some size.0
+      used_there = sym result_is ∙ size.1
+
+      -- the block that was there is gone
+      pub gave_free : free_refusal (heap_in heap (share_at (payer_of heap) old regions)) address ≡ None
+      gave_free = is_free heap old regions sound address addr.chunk o lies addr.offset size.0 used_there (omega (arith, at, behind))
+
+      pub gave_small : GivesSmall heap (record heap { fit = fit }) address old new regions regions
+      gave_small =
+          let place = lies.at in
+          let is : (chunk_at heap addr.chunk).start + addr.offset + 16 ≡ address = omega (arith, place, at, behind) in
+          subst (λ a. GivesSmall heap (record heap { fit = fit }) a old new regions regions) is
+          (gives_small heap fit addr.chunk addr.offset size.0 old new regions sound kept lies.there used_there
+          (subst (λ (r : Option ℕ). OnSome r (heap_of fit (words_of (keys_in heap) new) ≡ given addr.chunk addr.offset (heap_of heap.fit (words_of (keys_in heap) old)))) size.1 gave.heap
+          ∙ ap (given addr.chunk addr.offset) (all_blocks_are heap old regions sound))
+          gave.sound gave.sizes gave.others)

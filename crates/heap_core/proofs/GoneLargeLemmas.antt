@@ -1,22 +1,21 @@
 -- A large block is given back: its dataspace is detached and goes, and so does its payload.
-use Rattle.std.proofs.Common.{rules, ◌≡◌, ◌≢◌, ℕ, zero, suc, ◌+◌, ◌*◌, ◌<◌, ◌≤◌, ◌==◌, true, false, cond, eqb, eqb-true, List, [], ◌∷◌, length, get_or, refl, sym, ap, subst, ◌∙◌, ⊎_elim, arith, Some, is_some}
+use Rattle.std.proofs.Common.{rules, ◌≡◌, ◌≢◌, ℕ, zero, suc, ◌+◌, ◌<◌, ◌≤◌, true, cond, eqb-true, List, [], ◌∷◌, length, get_or, refl, sym, ap, subst, ◌∙◌, ⊎_elim, arith, Some, is_some}
 use Rattle.std.proofs.lemmas.Bool.{cases_eq, cases_lt}
 use Rattle.std.proofs.lemmas.Bool.Decides.{nat_tests}
 use Rattle.std.proofs.lemmas.List.Sums.{sum_by-swap_remove}
 use Rattle.std.proofs.lemmas.Option.{none-some}
-use Rattle.std.specs.Prelude.{Option, None}
+use Rattle.std.specs.Prelude.{None}
 use Rattle.std.specs.List.{swap_remove}
-use Rattle.std.specs.Option.{option_or, option_and_then}
 use Rattle.std.specs.Cmp.{nat_cmp_total}
 use Rattle.std.specs.Ordering.{nat_cmp}
 use Rattle.std.specs.FinMap.{get, remove, len, from_entries, get-from_entries}
 use Rattle.arrayvec.specs.ArrayVec.{ArrayVec}
 use Rattle.own_model.specs.Entries.{value_of}
 use Rattle.own_model.specs.HeapStep.{without_large}
-use Rattle.own_model.specs.NatMap.{NatMap, picked, joined}
+use Rattle.own_model.specs.NatMap.{NatMap, joined}
 use Rattle.own_model.specs.Region.{Region}
 use Rattle.own_model.proofs.JoinedLemmas.{get-joined}
-use Rattle.own_model.proofs.NatMapLemmas.{same, get-picked, get-remove, get-remove_same, get-remove_other, before_remove, picked-remove, picked_alike}
+use Rattle.own_model.proofs.NatMapLemmas.{same, get-remove, get-remove_same, get-remove_other, before_remove, picked-remove, picked_alike}
 use Rattle.own_model.proofs.Totals.{len-remove_at}
 use Rattle.avl_alloc.specs.Layout as avl
 use Rattle.region_map.specs.Regions.{Regions, heap_detached}
@@ -24,12 +23,12 @@ use Rattle.dataspace_core.specs.Store.{Store, part, space_at, PartBecomes, part_
 use Rattle.dataspace_core.specs.Share.{Share, share_in, KeepsShares}
 use Rattle.heap_core.specs.declared.heap.Heap.{Heap}
 use Rattle.heap_core.specs.Calls.{GivesLarge}
-use Rattle.heap_core.specs.Heap.{starts_in, is_large_tag, large_regions, bytes_shown, heap_in, IsLaid, IsSound, StandsLarge, chunk_at, payer_of, payloads_of, share_at, times_in}
+use Rattle.heap_core.specs.Heap.{is_large_tag, large_regions, bytes_shown, heap_in, IsLaid, IsSound, StandsLarge, chunk_at, payer_of, payloads_of, share_at, times_in}
 use Rattle.heap_core.specs.Lookup.{LiesInLarge}
 use Rattle.heap_core.proofs.FoundLemmas.{chunk_large, large_outside}
 use Rattle.dataspace_core.proofs.GoneLaws.{gone_charge, gone_count, gone_open, gone_others, gone_paid, gone_share, gone_shares, gone_window, in_map, once_shown}
 use Rattle.heap_core.proofs.PayloadLemmas.{payloads-none, entries_of}
-use Rattle.heap_window.proofs.ShareLemmas.{get-large, large_there, numbered-remove}
+use Rattle.heap_window.proofs.ShareLemmas.{large_there, numbered-remove}
 use Rattle.dataspace_core.proofs.ShareLaws.{in_share}
 use Rattle.heap_core.proofs.StandLemmas.{blocks, no_blocks, not_in_chunk, SameChunks, words_kept, stands_kept, payloads_kept}
 

@@ -1,5 +1,5 @@
 -- A heap has grown by a chunk: it is sound, and else as it was.
-use Rattle.std.proofs.Common.{rules, ◌≡◌, ◌≢◌, ℕ, ◌+◌, ◌-◌, ◌*◌, ◌/◌, ◌^◌, ◌<◌, ◌≤◌, ◌==◌, ◌++◌, Bool, true, false, cond, List, [], ◌∷◌, length, get_or, map, refl, sym, ap, subst, ◌∙◌, ⊎_elim, unwrap_or, arith, Some, is_some}
+use Rattle.std.proofs.Common.{rules, ◌≡◌, ◌≢◌, ℕ, ◌+◌, ◌-◌, ◌/◌, ◌^◌, ◌<◌, ◌≤◌, ◌==◌, ◌++◌, true, false, cond, List, [], ◌∷◌, length, get_or, map, refl, sym, ap, subst, ◌∙◌, ⊎_elim, unwrap_or, arith, Some, is_some}
 use Rattle.std.proofs.Math.ListN.{get_or-append}
 use Rattle.std.proofs.Math.Seq.{get_or-append_seam}
 use Rattle.std.proofs.lemmas.Bool.{cases_eq, cases_lt}
@@ -13,12 +13,11 @@ use Rattle.std.specs.Ordering.{nat_cmp}
 use Rattle.std.specs.FinMap.{get, insert, remove, empty, len, from_entries, get-from_entries}
 use Rattle.arrayvec.specs.ArrayVec.{ArrayVec}
 use Rattle.trade_base.specs.Page.{page_of}
-use Rattle.own_model.specs.BestFit.{used_at, chunk_of}
 use Rattle.own_model.specs.Heap as model
 use Rattle.own_model.specs.Heap.{Hole, AreBlocks, bytes_in}
 use Rattle.own_model.specs.HeapStep.{with_chunk}
 use Rattle.own_model.specs.HeapWindow.{heap_gap, largest_machine}
-use Rattle.own_model.specs.NatMap.{NatMap, picked, joined}
+use Rattle.own_model.specs.NatMap.{NatMap, joined}
 use Rattle.own_model.specs.OwnState.{zeros}
 use Rattle.own_model.specs.Region.{Region}
 use Rattle.own_model.proofs.ByteLemmas.{length-zeros}
@@ -28,7 +27,6 @@ use Rattle.avl_alloc.specs.Layout as avl
 use Rattle.avl_alloc.specs.Layout.{heap_of, sizes_of, ChangesHoles, weigh_holes, whole}
 use Rattle.avl_alloc.specs.Words.{place_at}
 use Rattle.avl_alloc.proofs.HoleLemmas.{within_below}
-use Rattle.avl_alloc.proofs.LayoutLemmas.{sound_told}
 use Rattle.avl_alloc.proofs.WeightLemmas.{weigh_all-append}
 use Rattle.region_map.specs.Regions.{Regions, heap_attached}
 use Rattle.dataspace_core.specs.Store.{Store, Space, part, bytes_of, bytes_paid_by, PartBecomes, part_with_space, with_space}
@@ -39,20 +37,19 @@ use Rattle.dataspace_core.proofs.WindowLaws.{length_some, share_then, shares_the
 use Rattle.heap_core.specs.declared.heap.Heap.{Heap}
 use Rattle.heap_core.specs.declared.words.Chunk.{Chunk}
 use Rattle.heap_core.specs.Blocks.{Adds}
-use Rattle.heap_core.specs.Calls.{Grows}
+use Rattle.heap_core.specs.Calls.{Grows, Keeps}
 use Rattle.heap_core.specs.Heap.{IsLaid, IsSound, StandsChunk, StandsLarge, bytes_shown, chunk_at, heap_in, is_large_tag, keys_in, large_regions, payer_of, payloads_of, share_at, starts_in, words_in}
 use Rattle.heap_core.specs.Words.{Around, is_among, are_bytes, around, bytes_in_store, keys_of, words_of, word_in, spaces_but, blank_if}
 use Rattle.heap_core.proofs.AddLemmas.{among_more, are_then, blocks_then, key_other, keys_more, other_space, paid_then, word_then, word_low, word_out}
 use Rattle.heap_core.proofs.AroundLemmas.{get-part, bytes_of-part, part_lengths, account_kept, around_becomes, words_of-part}
-use Rattle.heap_core.proofs.BlockLemmas.{length-heap_of}
 use Rattle.heap_core.proofs.ChangeLemmas.{chunk_now, keeps_spaces, large_apart}
 use Rattle.heap_core.proofs.ChunkLemmas.{are_sound, key_is, stand_in, words_are}
 use Rattle.heap_core.proofs.FrameLemmas.{entries_same}
-use Rattle.heap_core.proofs.HoleLemmas.{used_no_hole}
+use Rattle.heap_core.proofs.HoleLemmas.{AreTold, are_told}
 use Rattle.heap_core.proofs.PayloadLemmas.{no_chunk, payloads-hole, payloads-same}
 use Rattle.heap_core.proofs.RoomLemmas.{len_alike}
-use Rattle.heap_window.proofs.ShareLemmas.{get-large, large_there, numbered-insert_other}
-use Rattle.heap_core.proofs.StandLemmas.{chunk_total, each_at, payloads_alike}
+use Rattle.heap_window.proofs.ShareLemmas.{large_there, numbered-insert_other}
+use Rattle.heap_core.proofs.StandLemmas.{payloads_alike}
 use Rattle.heap_core.proofs.TakeLargeLemmas.{gap_place}
 use Rattle.heap_core.proofs.WordsLemmas.{AreChunks, all_bytes, chunks_sound, sound_chunks, each_bytes, length_keys}
 
@@ -165,7 +162,7 @@ module _ (heap : Heap) (vec : ArrayVec Chunk) (fit : BestFit) (next ds asked sta
       ∙ (λ i. let s : Share = share_then account ds asked n start old mid regions.pages regions.heap_most regions.heap regions.tags sound.opens sound.window fresh becomes free i in
       record { part = part account new; heap = s.heap; tags = s.tags })
 
-  pub grown_others : KeepsShares account old new regions.heap regions.tags after.heap after.tags
+  grown_others : KeepsShares account old new regions.heap regions.tags after.heap after.tags
   grown_others =
       let first = shares_then account ds asked n start old mid regions.pages regions.heap_most regions.heap regions.tags sound.opens sound.window fresh becomes free in
       record {
@@ -296,7 +293,7 @@ module _ (heap : Heap) (vec : ArrayVec Chunk) (fit : BestFit) (next ds asked sta
     growth_most = next_most;
   }
 
-  pub grown_sound : IsSound later new after
+  grown_sound : IsSound later new after
   grown_sound = record {
     opens = open_in_part account new (ap is_some (now_account ∙ charge_then account ds asked n start old mid regions.pages regions.heap_most regions.heap regions.tags sound.opens sound.window fresh becomes free));
     window = window_after account (part account new) mid new now_becomes regions.pages regions.heap_most after.heap now_account
@@ -304,6 +301,9 @@ module _ (heap : Heap) (vec : ArrayVec Chunk) (fit : BestFit) (next ds asked sta
         (window_then account ds asked n start old mid regions.pages regions.heap_most regions.heap regions.tags sound.opens sound.window fresh becomes free some (gap_place regions (size / 4096) start gap));
     laid = subst (IsLaid later) (sym now) grown_laid;
   }
+
+  pub grown_keeps : Keeps heap later old new regions after
+  grown_keeps = record { sound = grown_sound; others = grown_others; payer = refl }
 
   -- ---- its value
 
@@ -313,21 +313,8 @@ module _ (heap : Heap) (vec : ArrayVec Chunk) (fit : BestFit) (next ds asked sta
   H_is : heap_of heap.fit (words_in heap (part account old)) ≡ H
   H_is = ap (heap_of heap.fit) (words_are heap old regions sound)
 
-  H_sound : avl.IsSound heap.fit (words_of (keys_in heap) old)
-  H_sound = (stand_in heap old regions sound).sound
-
-  H_count : length H ≡ length heap.chunks.items
-  H_count = length-heap_of heap.fit (words_of (keys_in heap) old) ∙ sound.laid.count
-
-  H_blocks : (k : ℕ) → k < length heap.chunks.items → AreBlocks (chunk_of H k)
-  H_blocks k there = each_at AreBlocks H k [] (sound_told heap.fit (words_of (keys_in heap) old) H_sound).blocks (subst (λ m. k < m) (sym H_count) there)
-
-  H_totals : (k : ℕ) → k < length heap.chunks.items → bytes_in (chunk_of H k) ≡ avl.bytes_of heap.fit k
-  unfolding share_in
-  H_totals k there = ap (λ h. bytes_in (chunk_of h k)) (sym H_is) ∙ chunk_total heap S sound.laid k there
-
-  H_no_hole : (k off m q : ℕ) → k < length heap.chunks.items → used_at off (chunk_of H k) ≡ Some m → place_at k off ≤ q → q < place_at k off + m → weigh_holes (whole q) H ≡ 0
-  H_no_hole k off m q there at low high = used_no_hole heap.fit (words_of (keys_in heap) old) k off m q H_sound (subst (λ l. k < l) (sym H_count) there) at low high
+  before : AreTold H heap.fit (length heap.chunks.items)
+  before = are_told heap.fit (words_of (keys_in heap) old) _ (stand_in heap old regions sound).sound sound.laid.count
 
   H_now : heap_of fit (words_of ks new) ≡ H ++ (Hole size ∷ []) ∷ []
   H_now = adds.heap ∙ ap (λ h. h ++ (Hole size ∷ []) ∷ []) (blocks_then heap old mid regions ds asked sound fresh ok becomes room).1
@@ -337,7 +324,7 @@ module _ (heap : Heap) (vec : ArrayVec Chunk) (fit : BestFit) (next ds asked sta
   back_changes q clear = ⊎_elim
       (λ (low : q / 2 ^ 32 - 1 < n).
       let e = n_is in
-      let c = H_count in
+      let c = before.count in
       let past : whole q (place_at (0 + length H) 0) size ≡ 0 = within_below (place_at (0 + length H) 0) (place_at (0 + length H) 0 + size) q (omega (arith, low, e, c)) in
       let sum = weigh_all-append avl.none (whole q) 0 H ((Hole size ∷ []) ∷ []) in
       let none_now : weigh_holes (whole q) (heap_of fit (words_of ks new)) ≡ 0 = ap (weigh_holes (whole q)) H_now ∙ omega (arith, sum, past, clear) in
@@ -351,11 +338,11 @@ module _ (heap : Heap) (vec : ArrayVec Chunk) (fit : BestFit) (next ds asked sta
   small_same : from_entries {R = nat_cmp} (payloads_of (part account new) vec.items (H ++ (Hole size ∷ []) ∷ [])) ≡ from_entries {R = nat_cmp} (payloads_of (part account old) heap.chunks.items H)
   small_same =
       ap (λ cs. from_entries {R = nat_cmp} (payloads_of (part account new) cs (H ++ (Hole size ∷ []) ∷ []))) items
-      ∙ ap (from_entries {R = nat_cmp}) (payloads-hole (part account new) heap.chunks.items H (record { ds = record { 0 = ds }; start = start }) size (sym H_count))
+      ∙ ap (from_entries {R = nat_cmp}) (payloads-hole (part account new) heap.chunks.items H (record { ds = record { 0 = ds }; start = start }) size (sym before.count))
       ∙ ap (from_entries {R = nat_cmp}) (payloads_alike (part account back) (part account new) heap.chunks.items H (λ k there. ap (λ (o : Option (List ℕ)). unwrap_or o []) (part_back _ (chunk_other k (let e = n_is in omega (arith, e, there))))))
       ∙ same _ _ (λ q.
       get-from_entries nat_cmp_total _ q
-      ∙ payloads-same (part account old) (part account back) q heap.chunks.items H (λ k there. entries_same heap heap.fit old back regions sound back_kept H H_no_hole back_changes H_blocks H_totals k there q)
+      ∙ payloads-same (part account old) (part account back) q heap.chunks.items H (λ k there. entries_same heap heap.fit old back regions sound back_kept H before.no_hole back_changes before.each before.total k there q)
       ∙ sym (get-from_entries nat_cmp_total _ q))
 
   shown_same : bytes_shown (part account new).spaces (large_regions larger) ≡ bytes_shown (part account old).spaces (large_regions S)

@@ -1,7 +1,6 @@
 -- Laws for callers: what a poke of a payload leaves of a heap.
-use Rattle.std.proofs.Common.{rules, ◌≡◌, ◌≢◌, ℕ, ◌+◌, ◌-◌, ◌*◌, ◌<◌, ◌≤◌, true, cond, eqb, List, [], length, get_or, refl, sym, ap, subst, ◌∙◌, ◌⊎◌, unwrap_or, arith, Some, is_some}
+use Rattle.std.proofs.Common.{rules, ◌≡◌, ◌≢◌, ℕ, ◌+◌, ◌-◌, ◌<◌, ◌≤◌, true, cond, eqb, List, [], length, get_or, refl, sym, ap, subst, ◌∙◌, ◌⊎◌, unwrap_or, arith, Some, is_some}
 use Rattle.std.specs.Prelude.{Option, None, slice_range}
-use Rattle.std.specs.Option.{option_and_then}
 use Rattle.std.specs.Cmp.{nat_cmp_total}
 use Rattle.std.specs.Ordering.{nat_cmp}
 use Rattle.std.specs.FinMap.{get, insert, from_entries, get-from_entries}
@@ -10,27 +9,27 @@ use Rattle.own_model.specs.BestFit.{used_at, chunk_of}
 use Rattle.own_model.specs.Entries.{value_of}
 use Rattle.own_model.specs.Heap as model
 use Rattle.own_model.specs.Heap.{AreBlocks, bytes_in}
-use Rattle.own_model.specs.NatMap.{picked, joined}
+use Rattle.own_model.specs.NatMap.{joined}
 use Rattle.own_model.specs.OwnState.{with_part}
 use Rattle.own_model.specs.Region.{Region}
 use Rattle.own_model.proofs.BlockLemmas.{used_within}
 use Rattle.own_model.proofs.JoinedLemmas.{joined-insert_first}
-use Rattle.own_model.proofs.NatMapLemmas.{same, get-picked, get-insert, picked_alike}
-use Rattle.avl_alloc.specs.Layout as avl
+use Rattle.own_model.proofs.NatMapLemmas.{same, get-insert, picked_alike}
 use Rattle.avl_alloc.specs.Layout.{heap_of}
 use Rattle.region_map.specs.Regions.{Regions}
 use Rattle.dataspace_core.specs.Store.{Store, part, bytes_of}
 use Rattle.dataspace_core.specs.Share.{Share, share_in}
 use Rattle.heap_core.specs.declared.heap.Heap.{Heap}
-use Rattle.heap_core.specs.Heap.{IsSound, bytes_shown, chunk_at, heap_in, keys_in, large_regions, payer_of, payloads_from, payloads_of, share_at, starts_in, words_in}
+use Rattle.heap_core.specs.Heap.{IsSound, bytes_shown, chunk_at, heap_in, keys_in, large_regions, payer_of, payloads_from, payloads_of, share_at, words_in}
 use Rattle.heap_core.specs.Words.{are_bytes, around, bytes_in_store, words_of}
 use Rattle.heap_core.proofs.AroundLemmas.{bytes_of-part}
 use Rattle.heap_core.proofs.ChangeLemmas.{keeps_spaces, large_apart, share_now, still_sound, words_now, chunk_now, part_there}
-use Rattle.heap_core.proofs.ChunkLemmas.{are_sound, key_is, words_are}
+use Rattle.heap_core.proofs.ChunkLemmas.{are_sound, key_is, stand_in, words_are}
 use Rattle.heap_core.proofs.PayloadLemmas.{entries_of, payloads-put, told, value_of-payloads}
 use Rattle.heap_core.proofs.PokeLemmas.{in_keys, exists, room, poked, poked_around, poked_blocks}
 use Rattle.heap_core.proofs.PokedLemmas.{told-poked}
-use Rattle.heap_core.proofs.StandLemmas.{chunk_blocks, chunk_total, count_blocks, told_outside}
+use Rattle.heap_core.proofs.HoleLemmas.{AreTold, are_told}
+use Rattle.heap_core.proofs.StandLemmas.{told_outside}
 use Rattle.heap_core.proofs.TakenLemmas.{other_chunk}
 use Rattle.heap_core.proofs.WordsLemmas.{put_at, put_other, distinct_apart, length_keys}
 
@@ -59,17 +58,8 @@ module _ (heap : Heap) (store : Store) (regions : Regions) (sound : IsSound heap
   H_is : heap_of heap.fit (words_in heap (part account store)) ≡ H
   H_is = ap (heap_of heap.fit) (words_are heap store regions sound)
 
-  H_blocks : (j : ℕ) → j < length heap.chunks.items → AreBlocks (chunk_of H j)
-  unfolding share_in
-  H_blocks j in_heap = subst (λ h. AreBlocks (chunk_of h j)) H_is (chunk_blocks heap S sound.laid j in_heap)
-
-  H_totals : (j : ℕ) → j < length heap.chunks.items → bytes_in (chunk_of H j) ≡ avl.bytes_of heap.fit j
-  unfolding share_in
-  H_totals j in_heap = ap (λ h. bytes_in (chunk_of h j)) (sym H_is) ∙ chunk_total heap S sound.laid j in_heap
-
-  H_count : length H ≡ length heap.chunks.items
-  unfolding share_in
-  H_count = ap length (sym H_is) ∙ count_blocks heap S sound.laid
+  before : AreTold H heap.fit (length heap.chunks.items)
+  before = are_told heap.fit (words_of (keys_in heap) store) _ (stand_in heap store regions sound).sound sound.laid.count
 
   -- where the payload starts
   abbrev pub address : ℕ
@@ -107,7 +97,7 @@ module _ (heap : Heap) (store : Store) (regions : Regions) (sound : IsSound heap
   written = with_part payload (offset - (y + 16)) bytes
 
   in_H : k < length H
-  in_H = subst (λ m. k < m) (sym H_count) there
+  in_H = subst (λ m. k < m) (sym before.count) there
 
   one_other : (q : ℕ) → value_of q (entries_of (part account later) (chunk_at heap k) (chunk_of H k)) ≡ cond (eqb q address) (Some written) (value_of q (entries_of (part account store) (chunk_at heap k) (chunk_of H k)))
   one_other q =
@@ -115,23 +105,23 @@ module _ (heap : Heap) (store : Store) (regions : Regions) (sound : IsSound heap
       let old = bytes_of (part account store) (chunk_at heap k).ds.0 in
       let was = sound.laid.chunks k there in
       let long = ap length (ap (λ (o : Option (List ℕ)). unwrap_or o []) (part_there heap heap.fit store later regions sound kept k there)) ∙ was.long in
-      let total = H_totals k there in
-      value_of-payloads start 0 (bytes_of (part account later) (chunk_at heap k).ds.0) (chunk_of H k) q (H_blocks k there)
+      let total = before.total k there in
+      value_of-payloads start 0 (bytes_of (part account later) (chunk_at heap k).ds.0) (chunk_of H k) q (before.each k there)
       ∙ ap (λ b. told start 0 b (chunk_of H k) q) own_bytes
-      ∙ told-poked start old (chunk_of H k) y n offset bytes q (H_blocks k there) at behind within (omega (arith, long, total))
-      ∙ ap (cond (eqb q address) (Some written)) (sym (value_of-payloads start 0 old (chunk_of H k) q (H_blocks k there)))
+      ∙ told-poked start old (chunk_of H k) y n offset bytes q (before.each k there) at behind within (omega (arith, long, total))
+      ∙ ap (cond (eqb q address) (Some written)) (sym (value_of-payloads start 0 old (chunk_of H k) q (before.each k there)))
 
   none_before : (j : ℕ) → j < k → value_of address (entries_of (part account store) (chunk_at heap j) (chunk_of H j)) ≡ None
   none_before j below =
       let in_heap : j < length heap.chunks.items = let i = there in omega (arith, below, i) in
-      let used = used_within y n (chunk_of H k) (H_blocks k there) at in
+      let used = used_within y n (chunk_of H k) (before.each k there) at in
       let least = used.0.least in
       let to = used.1 in
-      let total = H_totals k there in
+      let total = before.total k there in
       let outside = other_chunk heap store regions sound j k address in_heap there (λ e. absurd (omega (arith, below, e))) (omega arith) (omega (arith, least, to, total)) in
-      value_of-payloads (chunk_at heap j).start 0 (bytes_of (part account store) (chunk_at heap j).ds.0) (chunk_of H j) address (H_blocks j in_heap)
-      ∙ told_outside (chunk_at heap j).start (bytes_of (part account store) (chunk_at heap j).ds.0) (chunk_of H j) address (H_blocks j in_heap)
-      (subst (λ m. (address < (chunk_at heap j).start) ⊎ ((chunk_at heap j).start + m ≤ address)) (sym (H_totals j in_heap)) outside)
+      value_of-payloads (chunk_at heap j).start 0 (bytes_of (part account store) (chunk_at heap j).ds.0) (chunk_of H j) address (before.each j in_heap)
+      ∙ told_outside (chunk_at heap j).start (bytes_of (part account store) (chunk_at heap j).ds.0) (chunk_of H j) address (before.each j in_heap)
+      (subst (λ m. (address < (chunk_at heap j).start) ⊎ ((chunk_at heap j).start + m ≤ address)) (sym (before.total j in_heap)) outside)
 
   small_now : from_entries {R = nat_cmp} (payloads_of (part account later) heap.chunks.items H) ≡ insert (from_entries {R = nat_cmp} (payloads_of (part account store) heap.chunks.items H)) address written
   small_now = same _ _ (λ q.

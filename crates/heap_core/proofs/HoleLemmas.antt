@@ -1,5 +1,5 @@
 -- Words of used blocks lie in no hole, so they stay where only holes change; and words that stay keep bytes.
-use Rattle.std.proofs.Common.{◌≡◌, ◌≢◌, ℕ, zero, suc, ◌+◌, ◌-◌, ◌%◌, ◌<◌, ◌≤◌, ◌==◌, true, false, List, [], ◌∷◌, length, get_or, take, drop, refl, sym, ap, subst, ◌∙◌, ⊎_elim, arith, rules, Some}
+use Rattle.std.proofs.Common.{◌≡◌, ◌≢◌, ℕ, zero, suc, ◌+◌, ◌-◌, ◌%◌, ◌<◌, ◌≤◌, ◌==◌, true, false, List, [], ◌∷◌, length, get_or, take, drop, sym, ap, subst, ◌∙◌, ⊎_elim, arith, rules, Some}
 use Rattle.std.proofs.lemmas.Bool.{cases_eq, cases_lt}
 use Rattle.std.proofs.lemmas.Bool.Decides.{nat_tests}
 use Rattle.std.proofs.lemmas.List.{same_lists, places, get_or-take, get_or-drop}
@@ -12,22 +12,20 @@ use Rattle.own_model.specs.BestFit.{used_at, chunk_of}
 use Rattle.own_model.specs.Heap as model
 use Rattle.own_model.specs.Heap.{Block, Used, Hole, AreBlocks, bytes_in}
 use Rattle.own_model.proofs.BlockLemmas.{tail_blocks}
+use Rattle.own_model.proofs.ListLemmas.{all_within}
 use Rattle.avl_alloc.specs.Holes.{heads}
 use Rattle.std.specs.List.{AllByRecursion}
 use Rattle.avl_alloc.specs.declared.best_fit.BestFit.{BestFit}
-use Rattle.avl_alloc.specs.Layout.{heap_of, kept_at, sizes_of, weigh, weigh_all, weigh_holes, none, whole, IsSound}
+use Rattle.avl_alloc.specs.Layout.{heap_of, bytes_of, kept_at, sizes_of, weigh, weigh_all, weigh_holes, none, whole, IsSound}
 use Rattle.avl_alloc.specs.Words.{place_at, within}
-use Rattle.avl_alloc.proofs.LayoutLemmas.{sound_told}
+use Rattle.avl_alloc.proofs.HoleLemmas.{within_in}
+use Rattle.avl_alloc.proofs.LayoutLemmas.{sound_told, chunk_there}
 use Rattle.avl_alloc.proofs.WeightLemmas.{weigh_all-parts, within_le, within_mono, chunks_apart}
 use Rattle.heap_core.specs.Words.{are_bytes, word_from}
-use Rattle.heap_core.proofs.StandLemmas.{each_at}
+use Rattle.heap_core.proofs.BlockLemmas.{length-heap_of}
 use Rattle.heap_core.proofs.WordsLemmas.{bytes_below, bytes_taken, bytes_dropped, word_there}
 
 -- ---- a used block is in no hole
-
-within_at : (a b q : ℕ) → a ≤ q → q < b → within a b q ≡ 1
-unfolding within
-within_at a b q low high = let s : nat_lt q a ≡ false = grind (arith, nat_tests) in let t : nat_lt q b ≡ true = grind (arith, nat_tests) in rw (s, t) refl
 
 -- a place in a used block has a weight among the used ones
 used_weighs : (p off n q : ℕ) (blocks : List Block) → used_at off blocks ≡ Some n → p + off ≤ q → q < p + off + n → 1 ≤ weigh (whole q) none p blocks
@@ -36,7 +34,7 @@ used_weighs p off n q (Used m ∷ rest) at low high = ⊎_elim
     (λ (first : off ≡ 0).
     let t : (off == 0) ≡ true = grind (arith, nat_tests) in
     let same : m ≡ n = same_Some m n (rw t at at) in
-    let one = within_at p (p + m) q (omega (arith, low)) (omega (arith, high, first, same)) in omega (arith, one))
+    let one = within_in p (p + m) q (omega (arith, low)) (omega (arith, high, first, same)) in omega (arith, one))
     (λ (later : off ≢ 0).
     let t : (off == 0) ≡ false = grind (arith, nat_tests) in
     ⊎_elim
@@ -120,7 +118,7 @@ payload_weighs p off n q (Used m ∷ rest) sizes at low high = ⊎_elim
     (λ (first : off ≡ 0).
     let t : (off == 0) ≡ true = grind (arith, nat_tests) in
     let same : m ≡ n = same_Some m n (rw t at at) in
-    let one = within_at p (p + m) q (omega (arith, low)) (omega (arith, high, first, same)) in
+    let one = within_in p (p + m) q (omega (arith, low)) (omega (arith, high, first, same)) in
     let none_here = within_past p (p + 16) q (omega (arith, low, first)) in
     let rest_le = heads_in q (p + m) rest sizes.1 in omega (arith, one, none_here, rest_le))
     (λ (later : off ≢ 0).
@@ -164,7 +162,7 @@ payload_unkept fit w k off n q sound there at low high =
     let told = sound_told fit w sound in
     let none_here = used_no_hole fit w k off n q sound there at (omega (arith, low)) high in
     let number : k ≡ 0 + k = omega arith in
-    let blocks = each_at AreBlocks (heap_of fit w) k [] told.blocks there in
+    let blocks = all_within AreBlocks (heap_of fit w) k [] told.blocks there in
     let here = subst (λ m. weigh (heads q) none (place_at m 0) (get_or (heap_of fit w) k []) + 1 ≤ weigh (whole q) none (place_at m 0) (get_or (heap_of fit w) k [])) number
     (payload_weighs (place_at k 0) off n q (chunk_of (heap_of fit w) k) blocks at (omega (arith, low)) (omega (arith, high))) in
     let less = payload_all q 0 k (heap_of fit w) told.blocks there here in
@@ -189,3 +187,23 @@ kept_in_chunks fit w q sound kept =
     let at = within_some (place_at 0 0) (place_at (0 + length (heap_of fit w)) 0) q (omega (arith, kept, parts, bytes, less, apart)) in
     let high = at.1 in
     (at.0, omega (arith, high))
+
+-- ---- the blocks that words tell
+
+-- they are as many chunks as there are, of block sizes that make up each chunk's bytes, and no used block is in a hole
+pub record AreTold (blocks : model.Heap) (fit : BestFit) (n : ℕ) : Type 0 where
+  pub count : length blocks ≡ n
+  pub each : (k : ℕ) → k < n → AreBlocks (chunk_of blocks k)
+  pub total : (k : ℕ) → k < n → bytes_in (chunk_of blocks k) ≡ bytes_of fit k
+  pub no_hole : (k off m q : ℕ) → k < n → used_at off (chunk_of blocks k) ≡ Some m → place_at k off ≤ q → q < place_at k off + m → weigh_holes (whole q) blocks ≡ 0
+
+pub are_told : (fit : BestFit) (w : ℕ → ℕ) (n : ℕ) → IsSound fit w → length (sizes_of fit) ≡ n → AreTold (heap_of fit w) fit n
+are_told fit w n sound sizes =
+    let told = sound_told fit w sound in
+    let count = length-heap_of fit w ∙ sizes in
+    record {
+      count = count;
+      each = λ k there. all_within AreBlocks (heap_of fit w) k [] told.blocks (subst (λ m. k < m) (sym count) there);
+      total = λ k there. (chunk_there w 0 (sizes_of fit) (heap_of fit w) k told.laid.chunks (subst (λ m. k < m) (sym sizes) there)).total;
+      no_hole = λ k off m q there at low high. used_no_hole fit w k off m q sound (subst (λ l. k < l) (sym count) there) at low high;
+    }

@@ -1,30 +1,26 @@
 -- A large block comes, and goes.
-use Rattle.std.proofs.Common.{rules, ◌≡◌, ◌≢◌, ℕ, ◌+◌, ◌*◌, ◌<◌, ◌≤◌, ◌==◌, ◌++◌, Bool, true, false, cond, List, [], ◌∷◌, length, refl, sym, ap, subst, ◌∙◌, ⊎_elim, ◌⊎◌, arith, Some, is_some}
+use Rattle.std.proofs.Common.{rules, ◌≡◌, ◌≢◌, ℕ, ◌+◌, ◌*◌, ◌<◌, ◌≤◌, ◌++◌, cond, List, [], ◌∷◌, length, refl, sym, ap, subst, ◌∙◌, ⊎_elim, ◌⊎◌, arith, Some, is_some}
 use Rattle.std.proofs.lemmas.Bool.{cases_eq, cases_lt}
-use Rattle.std.proofs.lemmas.Bool.Decides.{nat_tests}
 use Rattle.std.proofs.lemmas.List.{length-append}
 use Rattle.std.proofs.lemmas.List.Sums.{sum_by-append}
 use Rattle.std.proofs.lemmas.Option.{none-some, same_Some}
-use Rattle.std.specs.Prelude.{Option, None}
-use Rattle.std.specs.Option.{option_and_then}
-use Rattle.std.specs.Cmp.{nat_cmp_total}
+use Rattle.std.specs.Prelude.{None}
 use Rattle.std.specs.Ordering.{nat_cmp}
 use Rattle.std.specs.FinMap.{get, insert, len, from_entries, get-from_entries}
 use Rattle.arrayvec.specs.ArrayVec.{ArrayVec}
-use Rattle.own_model.specs.NatMap.{NatMap, picked, joined}
-use Rattle.own_model.specs.Entries.{value_of}
+use Rattle.own_model.specs.NatMap.{NatMap}
 use Rattle.own_model.specs.OwnState.{zeros}
 use Rattle.own_model.specs.Region.{Region}
 use Rattle.own_model.proofs.JoinedLemmas.{joined-insert_second}
-use Rattle.own_model.proofs.NatMapLemmas.{same, get-picked, get-insert_same, get-insert_other, picked-insert_some, picked_alike}
+use Rattle.own_model.proofs.NatMapLemmas.{get-insert_same, get-insert_other, picked-insert_some, picked_alike}
 use Rattle.own_model.proofs.Totals.{len-insert_new}
 use Rattle.avl_alloc.specs.Layout as avl
 use Rattle.dataspace_core.specs.Store.{Part}
 use Rattle.dataspace_core.specs.Share.{Share}
 use Rattle.heap_core.specs.declared.heap.Heap.{Heap}
-use Rattle.heap_core.specs.Heap.{starts_in, large_tag, is_large_tag, large_regions, bytes_shown, heap_in, IsLaid, StandsLarge, chunk_at, payloads_of, times_in}
+use Rattle.heap_core.specs.Heap.{large_tag, is_large_tag, large_regions, bytes_shown, heap_in, IsLaid, StandsLarge, chunk_at, payloads_of, times_in}
 use Rattle.heap_core.proofs.PayloadLemmas.{payloads-none, entries_of}
-use Rattle.heap_window.proofs.ShareLemmas.{get-large, large_there, numbered-insert, numbered_free}
+use Rattle.heap_window.proofs.ShareLemmas.{large_there, numbered-insert, numbered_free}
 use Rattle.heap_core.proofs.StandLemmas.{blocks, no_blocks, not_in_chunk, SameChunks, words_kept, stands_kept, payloads_kept}
 
 -- what keeps the parts of a heap where a region comes or goes that is no chunk's

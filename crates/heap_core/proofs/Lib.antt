@@ -25,7 +25,6 @@ pub mod RangeLemmas
 pub mod BlockRangeLemmas
 pub mod ClearedLemmas
 pub mod BesideLemmas
-pub mod UnchangedLemmas
 pub mod SmallLemmas
 pub mod TakesGrownLemmas
 pub mod SiteLemmas

@@ -1,11 +1,8 @@
 -- A new heap has no block.
-use Rattle.std.proofs.Common.{rules, ◌≡◌, ℕ, ◌*◌, [], length, map, refl, sym, ap, ◌∙◌, arith, Some}
+use Rattle.std.proofs.Common.{rules, ◌≡◌, ℕ, ◌*◌, [], length, sym, ap, ◌∙◌, arith, Some}
 use Rattle.std.proofs.lemmas.Option.{none-some}
 use Rattle.std.specs.Prelude.{Option, None}
-use Rattle.std.specs.FinMap.{get, len, len-empty, empty, from_entries, get-from_entries}
-use Rattle.std.specs.Ordering.{nat_cmp}
-use Rattle.std.specs.Cmp.{nat_cmp_total}
-use Rattle.std.specs.Option.{option_or}
+use Rattle.std.specs.FinMap.{get, len-empty, empty, from_entries, get-from_entries}
 use Rattle.own_model.specs.Heap as model
 use Rattle.own_model.specs.NatMap.{picked, joined}
 use Rattle.own_model.specs.OwnHeap.{no_heap}
@@ -15,7 +12,6 @@ use Rattle.own_model.proofs.NatMapLemmas.{none_if, same, get-empty, get-picked_n
 use Rattle.avl_alloc.specs.Layout as avl
 use Rattle.avl_alloc.specs.Layout.{heap_of, sizes_of}
 use Rattle.dataspace_core.specs.Share.{Share}
-use Rattle.heap_core.specs.declared.words.Chunk.{Chunk}
 use Rattle.heap_core.specs.declared.heap.Heap.{Heap}
 use Rattle.heap_core.specs.Heap.{large_tag, large_regions, HasNoBlocks, IsLaid, heap_in, words_in, payloads_of, bytes_shown}
 use Rattle.heap_core.proofs.BlockLemmas.{length-heap_of}

@@ -1,12 +1,10 @@
 -- Bytes are put over those of a used block's payload: the heap stays but for these bytes.
-use Rattle.std.proofs.Common.{rules, ◌≡◌, ◌≢◌, ℕ, ◌+◌, ◌-◌, ◌/◌, ◌%◌, ◌^◌, ◌<◌, ◌≤◌, ◌==◌, ◌&&◌, Bool, true, false, cond, List, [], length, get_or, refl, sym, ap, subst, ◌∙◌, ⊎_elim, ◌⊎◌, inl, inr, unwrap_or, arith, Some}
+use Rattle.std.proofs.Common.{rules, ◌≡◌, ℕ, ◌+◌, ◌-◌, ◌/◌, ◌%◌, ◌^◌, ◌<◌, ◌≤◌, true, List, [], length, get_or, sym, ap, subst, ◌∙◌, ◌⊎◌, unwrap_or, arith, Some}
 use Rattle.std.proofs.lemmas.Bool.{cases_eq, cases_lt}
-use Rattle.std.proofs.lemmas.Bool.Decides.{nat_tests}
-use Rattle.std.specs.Prelude.{Option, nat_lt, nat_le, slice_range}
+use Rattle.std.specs.Prelude.{Option}
 use Rattle.std.specs.Option.{IsSome}
 use Rattle.std.specs.FinMap.{get}
 use Rattle.trade_base.specs.Bytes.{with_bytes}
-use Rattle.trade_base.specs.Word.{word_of}
 use Rattle.trade_base.proofs.BytesLemmas.{length-with_bytes}
 use Rattle.trade_base.proofs.ElsewhereLemmas.{range_before, range_after}
 use Rattle.own_model.specs.BestFit.{used_at, chunk_of}
@@ -15,8 +13,7 @@ use Rattle.own_model.specs.Heap.{Block, AreBlocks, bytes_in}
 use Rattle.own_model.proofs.BlockLemmas.{used_within}
 use Rattle.avl_alloc.specs.Layout as avl
 use Rattle.avl_alloc.specs.Layout.{heap_of, kept_at}
-use Rattle.avl_alloc.specs.Words.{place_at}
-use Rattle.avl_alloc.proofs.LayoutLemmas.{sound_kept, sound_told}
+use Rattle.avl_alloc.proofs.LayoutLemmas.{sound_kept}
 use Rattle.region_map.specs.Regions.{Regions}
 use Rattle.dataspace_core.specs.Store.{Store, part}
 use Rattle.dataspace_core.specs.Share.{share_in}
@@ -25,16 +22,11 @@ use Rattle.heap_core.specs.declared.heap.Heap.{Heap}
 use Rattle.heap_core.specs.Heap.{IsSound, keys_in, payer_of, share_at, words_in}
 use Rattle.heap_core.specs.Words.{are_bytes, around, bytes_in_store, words_of, word_in, word_from}
 use Rattle.heap_core.proofs.AroundLemmas.{bytes_of-part}
-use Rattle.heap_core.proofs.BlockLemmas.{length-heap_of}
 use Rattle.heap_core.proofs.ChunkLemmas.{in_chunks, chunk_there, chunk_paid, are_sound, stand_in, words_are}
 use Rattle.heap_core.proofs.FrameLemmas.{used_even}
-use Rattle.heap_core.proofs.HoleLemmas.{payload_unkept}
-use Rattle.heap_core.proofs.StandLemmas.{each_at, chunk_total}
-use Rattle.heap_core.proofs.WordsLemmas.{both_true, distinct_apart, length_keys, put, put_at, put_other, put_around}
-
-same_if : (b : Bool) (x y : ℕ) → (b ≡ true → x ≡ y) → cond b x 0 ≡ cond b y 0
-same_if true x y h = h refl
-same_if false x y h = refl
+use Rattle.heap_core.proofs.HoleLemmas.{AreTold, are_told, payload_unkept}
+use Rattle.heap_core.proofs.StandLemmas.{chunk_total}
+use Rattle.heap_core.proofs.WordsLemmas.{both_true, distinct_apart, length_keys, put, put_at, put_other, put_around, same_if}
 
 -- a word that the bytes put don't reach stays
 pub word_past : (bytes : List ℕ) (offset : ℕ) (part : List ℕ) (o : ℕ) → offset + length part ≤ length bytes → (o % 8 ≡ 0 → (o + 8 ≤ offset) ⊎ (offset + length part ≤ o)) → word_from (with_bytes bytes offset part) o ≡ word_from bytes o
@@ -60,11 +52,8 @@ module _ (heap : Heap) (store : Store) (regions : Regions) (sound : IsSound heap
   H_sound : avl.IsSound heap.fit W
   H_sound = (stand_in heap store regions sound).sound
 
-  in_H : k < length H
-  in_H = subst (λ m. k < m) (sym (length-heap_of heap.fit W ∙ sound.laid.count)) there
-
-  chunk_blocks : AreBlocks (chunk_of H k)
-  chunk_blocks = each_at AreBlocks H k [] (sound_told heap.fit W H_sound).blocks in_H
+  before : AreTold H heap.fit (length heap.chunks.items)
+  before = are_told heap.fit W _ H_sound sound.laid.count
 
   pub exists : IsSome (get store.spaces key)
   exists = (paid_in_part account key _ store (chunk_there heap store regions sound k in_keys)).exists
@@ -78,7 +67,7 @@ module _ (heap : Heap) (store : Store) (regions : Regions) (sound : IsSound heap
 
   pub room : offset + length bytes ≤ length (bytes_in_store store key)
   room =
-      let used = used_within y n (chunk_of H k) chunk_blocks at in
+      let used = used_within y n (chunk_of H k) (before.each k there) at in
       let inside = used.1 in
       let total = (ap (λ h. bytes_in (chunk_of h k)) (sym (ap (heap_of heap.fit) (words_are heap store regions sound))) ∙ total_of) in
       let long = ap length key_bytes ∙ (sound.laid.chunks k (in_chunks heap store regions sound k in_keys)).long in
@@ -93,7 +82,7 @@ module _ (heap : Heap) (store : Store) (regions : Regions) (sound : IsSound heap
 
   -- a word that the bytes reach is one of the payload, which the heap doesn't keep
   apart_from : (q : ℕ) → q / 2 ^ 32 - 1 ≡ k → 2 ^ 32 ≤ q → 1 ≤ kept_at q H → q % 2 ^ 32 % 8 ≡ 0 → (q % 2 ^ 32 + 8 ≤ offset) ⊎ (offset + length bytes ≤ q % 2 ^ 32)
-  apart_from q same high kept even = search (rules, used_even, chunk_blocks, payload_unkept, H_sound, in_H, cases_lt)
+  apart_from q same high kept even = search (rules, used_even, (before.each k there), payload_unkept, H_sound, (subst (λ m. k < m) (sym before.count) there), cases_lt)
 
   -- a word that the heap keeps for itself stays
   word_kept : (q : ℕ) → 1 ≤ kept_at q H → words_of (keys_in heap) poked q ≡ W q

@@ -1,15 +1,14 @@
 -- A range of a payload: where it stands, what is read there, and what a poke there leaves.
-use Rattle.std.proofs.Common.{◌≡◌, ◌≢◌, ℕ, suc, ◌+◌, ◌-◌, ◌*◌, ◌<◌, ◌≤◌, true, false, List, [], ◌∷◌, length, get_or, refl, sym, ap, subst, ◌∙◌, ⊎_elim, ◌⊎◌, inl, inr, arith, rules, Some}
+use Rattle.std.proofs.Common.{◌≡◌, ◌≢◌, ℕ, ◌+◌, ◌-◌, ◌*◌, ◌<◌, ◌≤◌, true, List, length, get_or, refl, sym, ap, subst, ◌∙◌, ⊎_elim, ◌⊎◌, inl, inr, arith, rules, Some}
 use Rattle.std.proofs.lemmas.Bool.{cases_eq, cases_lt}
 use Rattle.std.proofs.lemmas.Bool.Decides.{nat_tests}
 use Rattle.std.proofs.lemmas.List.{same_lists, places}
 use Rattle.std.proofs.lemmas.Option.{none-some, same_Some}
-use Rattle.std.specs.Prelude.{None, nat_lt, slice_range}
+use Rattle.std.specs.Prelude.{None, slice_range}
 use Rattle.std.specs.Option.{option_map, option_or}
 use Rattle.std.specs.Cmp.{nat_cmp_total}
 use Rattle.std.specs.Ordering.{nat_cmp}
 use Rattle.std.specs.FinMap.{get, insert, from_entries, get-from_entries}
-use Rattle.trade_base.specs.Bytes.{with_bytes}
 use Rattle.trade_base.proofs.BytesLemmas.{length-slice_range}
 use Rattle.own_model.specs.BestFit.{used_at, chunk_of}
 use Rattle.own_model.specs.Entries.{value_of}
@@ -19,9 +18,8 @@ use Rattle.own_model.specs.HeapStep.{with_poked}
 use Rattle.own_model.specs.OwnState.{with_part}
 use Rattle.own_model.specs.Region.{Region}
 use Rattle.own_model.proofs.BlockLemmas.{used_within}
-use Rattle.own_model.proofs.EntryLemmas.{value_of-append}
 use Rattle.own_model.proofs.HeapStepLemmas.{not_both}
-use Rattle.own_model.proofs.JoinedLemmas.{from_either, get-joined, joined-insert_second}
+use Rattle.own_model.proofs.JoinedLemmas.{get-joined, joined-insert_second}
 use Rattle.own_model.proofs.NatMapLemmas.{same, and_then_alike, and_then_from, get-picked, get-picked_at, get-insert_same, get-insert_other, value_at}
 use Rattle.avl_alloc.specs.Layout as avl
 use Rattle.avl_alloc.specs.Layout.{heap_of}
@@ -33,15 +31,15 @@ use Rattle.dataspace_core.proofs.PartLemmas.{becomes-with_bytes_at}
 use Rattle.dataspace_core.proofs.PokedLaws.{poked_there, poked_other, poked_length}
 use Rattle.dataspace_core.proofs.ShareLaws.{share_alike, some_alike, in_share}
 use Rattle.dataspace_core.proofs.WindowLaws.{in_memory, window_after}
-use Rattle.heap_core.specs.declared.words.Chunk.{Chunk}
 use Rattle.heap_core.specs.declared.heap.Heap.{Heap}
 use Rattle.heap_core.specs.Calls.{HoldsRange}
 use Rattle.heap_core.specs.Heap.{IsLaid, IsSound, chunk_at, heap_at, heap_in, keys_in, large_regions, large_tag, payer_of, payloads_of, share_at, words_in, bytes_shown}
 use Rattle.heap_core.specs.Laws.{Pokes, PayloadsArePoked, PayloadsAreRead, block_region}
 use Rattle.heap_core.specs.Words.{are_bytes, words_of}
+use Rattle.heap_core.proofs.FoundLemmas.{from_chunk}
 use Rattle.heap_core.proofs.ChunkLemmas.{key_is, words_are}
 use Rattle.heap_core.proofs.HeapLaws.{poke_sound, poke_value}
-use Rattle.heap_core.proofs.PayloadLemmas.{told, value_of-payloads, no_chunk, entries_of}
+use Rattle.heap_core.proofs.PayloadLemmas.{told, value_of-payloads}
 use Rattle.heap_core.proofs.PokedLemmas.{put_part}
 use Rattle.heap_window.proofs.ShareLemmas.{large_there, told_region, large_region}
 use Rattle.heap_core.proofs.StandLemmas.{chunk_blocks, chunk_bytes, chunk_total}
@@ -59,19 +57,6 @@ pub payload_read : PayloadsAreRead
 payload_read heap store regions ds offset address count held = grind (arith, nat_tests, range_in)
 
 -- ---- where a payload stands
-
--- what the payloads of chunks tell is a payload of one of them
-told_by_one : (part : Part) (chunks : List Chunk) (heap : model.Heap) (q : ℕ) (v : List ℕ) → value_of q (payloads_of part chunks heap) ≡ Some v →
-    (k : ℕ) × (k < length chunks) × (value_of q (entries_of part (get_or chunks k no_chunk) (chunk_of heap k)) ≡ Some v)
-told_by_one part [] heap q v h = absurd (none-some v h)
-told_by_one part (x ∷ xs) [] q v h = absurd (none-some v h)
-told_by_one part (x ∷ xs) (y ∷ ys) q v h = ⊎_elim
-    (λ (first : value_of q (entries_of part x y) ≡ Some v). (0, omega arith, first))
-    (λ (later : value_of q (payloads_of part xs ys) ≡ Some v).
-    let rest = told_by_one part xs ys q v later in
-    let l = rest.1 in
-    (suc rest.0, omega (arith, l), rest.2))
-    (from_either (value_of q (entries_of part x y)) (value_of q (payloads_of part xs ys)) v (sym (value_of-append q (entries_of part x y) (payloads_of part xs ys)) ∙ h))
 
 -- and one that a chunk tells is that of a used block
 told_block : (start : ℕ) (bytes : List ℕ) (blocks : List Block) (q : ℕ) (v : List ℕ) → told start 0 bytes blocks q ≡ Some v →
@@ -97,7 +82,7 @@ module _ (heap : Heap) (share : Share) (laid : IsLaid heap share) (q : ℕ) (v :
 
   in_chunk : value_of q (payloads_of share.part heap.chunks.items H) ≡ Some v → InChunk
   in_chunk h =
-      let one = told_by_one share.part heap.chunks.items H q v h in
+      let one = from_chunk share.part heap.chunks.items H q v h in
       let k = one.0 in
       let there = one.1 in
       let start = (chunk_at heap k).start in

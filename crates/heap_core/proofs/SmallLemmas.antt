@@ -1,17 +1,15 @@
 -- The best hole is taken, and its payload cleared.
-use Rattle.std.proofs.Common.{rules, ◌≡◌, ℕ, ◌+◌, ◌-◌, ◌<◌, true, eqb, List, [], length, get_or, set, refl, sym, ap, subst, ◌∙◌, arith, Some}
+use Rattle.std.proofs.Common.{rules, ◌≡◌, ℕ, ◌+◌, ◌-◌, ◌<◌, true, eqb, List, [], length, set, refl, sym, ap, subst, ◌∙◌, arith, Some}
 use Rattle.std.proofs.lemmas.Bool.Decides.{nat_tests}
 use Rattle.std.proofs.lemmas.List.{get_or-map, get_or-set_same}
 use Rattle.std.specs.Prelude.{Option, None, slice_range}
 use Rattle.std.specs.Option.{option_map}
-use Rattle.std.specs.FinMap.{insert}
 use Rattle.own_model.specs.BestFit.{Spot, block_size, used_at, chunk_of, taken_in}
-use Rattle.own_model.specs.Growth.{hole_for, shape_taken}
+use Rattle.own_model.specs.Growth.{hole_for}
 use Rattle.own_model.specs.Heap as model
 use Rattle.own_model.specs.Heap.{AreBlocks}
 use Rattle.own_model.specs.HeapStep.{size_taken}
 use Rattle.own_model.specs.OwnHeap.{OwnHeap, payload_start}
-use Rattle.own_model.specs.OwnState.{zeros}
 use Rattle.own_model.proofs.BlockLemmas.{used-taken}
 use Rattle.own_model.proofs.BestFitLemmas.{best_is_hole, IsHoleOf}
 use Rattle.std.specs.List.{AllByRecursion}
@@ -22,15 +20,14 @@ use Rattle.region_map.specs.Regions.{Regions}
 use Rattle.dataspace_core.specs.Store.{Store, bytes_of}
 use Rattle.dataspace_core.specs.Share.{KeepsShares, share_in}
 use Rattle.heap_core.specs.declared.heap.Heap.{Heap}
-use Rattle.heap_core.specs.declared.words.Chunk.{Chunk}
 use Rattle.heap_core.specs.Calls.{TakesHole, TakesSmall, part_at}
 use Rattle.heap_core.specs.Heap.{IsSound, chunk_at, heap_at, heap_in, keys_in, payer_of, shape_in, starts_in, words_in}
 use Rattle.heap_core.specs.Taken.{IsUsed, Clears}
 use Rattle.heap_core.specs.Words.{around}
 use Rattle.heap_core.proofs.ChangeLemmas.{keeps_shares, keeps_spaces, same_account}
-use Rattle.heap_core.proofs.ClearLemmas.{put_again}
+use Rattle.dataspace_core.proofs.PutLemmas.{put_again}
 use Rattle.heap_core.proofs.PayloadLemmas.{no_chunk}
-use Rattle.heap_core.proofs.StandLemmas.{each_at}
+use Rattle.own_model.proofs.ListLemmas.{all_within}
 use Rattle.heap_core.proofs.WordsLemmas.{length_keys}
 
 -- where a hole is told, one is the best
@@ -77,7 +74,7 @@ module _ (heap later : Heap) (n : ℕ) (hole : Spot) (old mid : Store) (regions 
     chunk = in_later;
     used = ap (λ h. used_at hole.offset (chunk_of h hole.chunk)) blocks_then
         ∙ ap (used_at hole.offset) (get_or-set_same H hole.chunk _ [] is_hole.within)
-        ∙ used-taken (block_size n) hole.size hole.offset hole.offset (chunk_of H hole.chunk) (each_at AreBlocks H hole.chunk [] H_blocks is_hole.within) is_hole.there
+        ∙ used-taken (block_size n) hole.size hole.offset hole.offset (chunk_of H hole.chunk) (all_within AreBlocks H hole.chunk [] H_blocks is_hole.within) is_hole.there
         ∙ (let t : eqb hole.offset hole.offset ≡ true = grind (arith, nat_tests) in rw t refl);
   }
 

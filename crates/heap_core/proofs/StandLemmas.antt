@@ -2,7 +2,6 @@
 use Rattle.std.proofs.Common.{rules, ◌≡◌, ℕ, zero, suc, ◌+◌, ◌-◌, ◌/◌, ◌%◌, ◌^◌, ◌<◌, ◌≤◌, ◌++◌, true, false, cond, List, [], ◌∷◌, length, get_or, refl, sym, ap, subst, ◌∙◌, ⊎_elim, ◌⊎◌, arith, Some, unwrap_or}
 use Rattle.std.proofs.lemmas.Bool.{cases_lt}
 use Rattle.std.proofs.lemmas.Bool.Decides.{nat_tests}
-use Rattle.std.specs.List.{AllByRecursion}
 use Rattle.std.specs.Prelude.{Option, None, nat_lt, slice_range}
 use Rattle.std.specs.Option.{option_map}
 use Rattle.std.specs.FinMap.{get}
@@ -10,6 +9,7 @@ use Rattle.own_model.specs.BestFit.{used_at, chunk_of}
 use Rattle.own_model.specs.Entries.{value_of}
 use Rattle.own_model.specs.Heap as model
 use Rattle.own_model.specs.Heap.{Block, AreBlocks, bytes_in}
+use Rattle.own_model.proofs.ListLemmas.{all_within}
 use Rattle.own_model.proofs.BlockLemmas.{used_within}
 use Rattle.avl_alloc.specs.Layout as avl
 use Rattle.avl_alloc.specs.Layout.{heap_of, sizes_of, IsChunk, IsSound}
@@ -44,12 +44,6 @@ told_outside start bytes blocks q sizes outside = ⊎_elim
     ] refl))
     (cases_lt q (start + 0 + 16))
 
--- what holds of each of a list's elements holds of one
-pub each_at : {X : Type 0} (P : X → Type 0) (xs : List X) (i : ℕ) (d : X) → AllByRecursion P xs → i < length xs → P (get_or xs i d)
-each_at P [] i d all there = absurd (omega (arith, there))
-each_at P (x ∷ xs) zero d all there = all.0
-each_at P (x ∷ xs) (suc i) d all there = each_at P xs i d all.1 (omega (arith, there))
-
 -- look-ups that agree on the chunks' dataspaces read the same words
 same_chunk : (keys : List ℕ) (old new : ℕ → List ℕ) (c : ℕ) → ((i : ℕ) → i < length keys → new (get_or keys i 0) ≡ old (get_or keys i 0)) → bytes_of_chunk keys new c ≡ bytes_of_chunk keys old c
 same_chunk keys old new c alike = search (rules, cases_lt)
@@ -69,7 +63,7 @@ module _ (heap : Heap) (share : Share) (laid : IsLaid heap share) where
   count_blocks = length-heap_of heap.fit (words_in heap share.part) ∙ laid.count
 
   pub chunk_blocks : (k : ℕ) → k < length heap.chunks.items → AreBlocks (chunk_of blocks k)
-  chunk_blocks k there = each_at AreBlocks blocks k [] (sound_told heap.fit (words_in heap share.part) laid.fit).blocks (subst (λ n. k < n) (sym count_blocks) there)
+  chunk_blocks k there = all_within AreBlocks blocks k [] (sound_told heap.fit (words_in heap share.part) laid.fit).blocks (subst (λ n. k < n) (sym count_blocks) there)
 
   is_chunk : (k : ℕ) → k < length heap.chunks.items → IsChunk (words_in heap share.part) (0 + k) (get_or (sizes_of heap.fit) k 0) (get_or blocks k [])
   is_chunk k there = chunk_there (words_in heap share.part) 0 (sizes_of heap.fit) blocks k (sound_told heap.fit (words_in heap share.part) laid.fit).laid.chunks (subst (λ n. k < n) (sym laid.count) there)

@@ -1,5 +1,5 @@
 -- The payload that starts at an address stands in the one heap region that holds the address.
-use Rattle.std.proofs.Common.{◌≡◌, ℕ, ◌+◌, ◌-◌, ◌%◌, ◌≤◌, true, List, length, sym, ap, subst, ◌∙◌, ⊎_elim, arith, Some, IsSome}
+use Rattle.std.proofs.Common.{◌≡◌, ℕ, ◌+◌, ◌-◌, ◌%◌, ◌≤◌, true, List, length, ap, subst, ◌∙◌, ⊎_elim, arith, Some, IsSome}
 use Rattle.std.proofs.lemmas.Bool.Decides.{nat_tests}
 use Rattle.std.proofs.lemmas.Option.{none-some}
 use Rattle.std.specs.Prelude.{None}

@@ -1,14 +1,11 @@
 -- What a heap has where its chunks and large blocks stand where they stood, and hold what they held.
-use Rattle.std.proofs.Common.{rules, ◌≡◌, ◌≢◌, ℕ, ◌<◌, ◌≤◌, ◌==◌, true, false, cond, List, length, refl, sym, ap, subst, ◌∙◌, ⊎_elim, arith, Some, IsSome, is_some}
-use Rattle.std.proofs.lemmas.Bool.{cases_eq, cases_lt}
+use Rattle.std.proofs.Common.{rules, ◌≡◌, ℕ, ◌<◌, cond, List, length, sym, ap, subst, ◌∙◌, arith, Some, is_some}
 use Rattle.std.proofs.lemmas.Bool.Decides.{nat_tests}
-use Rattle.std.proofs.lemmas.Option.{none-some, same_Some}
-use Rattle.std.specs.Prelude.{◌*◌, Option, None, nat_le}
-use Rattle.std.specs.Option.{option_map, option_and_then}
+use Rattle.std.specs.Option.{option_map}
 use Rattle.std.specs.Ordering.{nat_cmp}
 use Rattle.std.specs.FinMap.{get, from_entries, len}
 use Rattle.own_model.specs.HeapWindow.{heap_low, heap_high}
-use Rattle.own_model.specs.NatMap.{NatMap, picked, joined}
+use Rattle.own_model.specs.NatMap.{NatMap, joined}
 use Rattle.own_model.specs.Region.{Region}
 use Rattle.own_model.proofs.ApartLemmas.{LieApart-empty}
 use Rattle.own_model.proofs.NatMapLemmas.{same, none_in_empty, picked_alike}
@@ -19,9 +16,9 @@ use Rattle.dataspace_core.specs.Share.{Share, share_in}
 use Rattle.dataspace_core.proofs.PartLaws.{open_in_part, part_open}
 use Rattle.dataspace_core.proofs.WindowLaws.{length_some}
 use Rattle.heap_core.specs.declared.heap.Heap.{Heap}
-use Rattle.heap_core.specs.Heap.{IsLaid, StandsLarge, chunk_at, large_tag, is_large_tag, large_regions, bytes_shown, heap_in, payer_of, payloads_of, share_at, starts_in, words_in}
+use Rattle.heap_core.specs.Heap.{IsLaid, StandsLarge, chunk_at, large_tag, large_regions, bytes_shown, heap_in, payloads_of, words_in}
 use Rattle.heap_core.specs.Laws.{block_region, EmptyMapsHaveNoBlocks, HeapsStay, HeapsStayBeside}
-use Rattle.heap_window.proofs.ShareLemmas.{get-large, IsBlockRegion, told_region, block_here, large_among, large_block, large_region}
+use Rattle.heap_window.proofs.ShareLemmas.{IsBlockRegion, told_region, block_here, large_among, large_block, large_region}
 use Rattle.dataspace_core.proofs.ShareLaws.{in_share}
 use Rattle.heap_core.proofs.StandLemmas.{SameChunks, words_kept, stands_kept, payloads_kept}
 
@@ -104,14 +101,7 @@ module _ (heap : Heap) (S T : Share) (laid : IsLaid heap S) (stand : (s : ℕ) �
 
 pub heap_stays : HeapsStay
 unfolding share_in
-heap_stays heap old new regions after sound maps opens stand bytes =
-    let S = share_at (payer_of heap) old regions in
-    let T = share_at (payer_of heap) new after in
-    record {
-      sound = record { opens = opens; window = maps; laid = laid_same heap S T sound.laid stand (λ s k r. bytes s k r) };
-      value = value_same heap S T sound.laid stand (λ s k r. bytes s k r);
-      stands = stand;
-    }
+heap_stays heap old new regions after sound maps opens stand bytes = search (rules, laid_same, value_same)
 
 pub heap_stays_beside : HeapsStayBeside
 unfolding share_in

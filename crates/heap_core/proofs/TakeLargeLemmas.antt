@@ -1,26 +1,25 @@
 -- A large block is taken: a new dataspace is attached, and entered.
-use Rattle.std.proofs.Common.{rules, ◌≡◌, ◌≢◌, ℕ, ◌+◌, ◌*◌, ◌/◌, ◌<◌, ◌≤◌, ◌&&◌, ◌++◌, true, false, [], ◌∷◌, length, refl, sym, ap, subst, ◌∙◌, ⊎_elim, true≢false, ◌⊎◌, inl, inr, arith, Some}
+use Rattle.std.proofs.Common.{rules, ◌≡◌, ◌≢◌, ℕ, ◌+◌, ◌*◌, ◌/◌, ◌<◌, ◌≤◌, ◌++◌, false, [], ◌∷◌, length, sym, subst, ◌∙◌, true≢false, ◌⊎◌, arith, Some}
 use Rattle.std.proofs.lemmas.Bool.{cases_lt}
 use Rattle.std.proofs.lemmas.Bool.Decides.{nat_tests}
-use Rattle.std.specs.Prelude.{None, nat_lt}
-use Rattle.std.specs.Option.{option_map}
+use Rattle.std.specs.Prelude.{None}
 use Rattle.std.specs.FinMap.{get, insert}
 use Rattle.arrayvec.specs.ArrayVec.{ArrayVec}
 use Rattle.trade_base.specs.Page.{page_of}
 use Rattle.own_model.specs.HeapWindow.{heap_low, heap_high, heap_gap, largest_machine, pages_of_all}
 use Rattle.own_model.specs.OwnState.{zeros}
-use Rattle.own_model.specs.Region.{Region, overlap, IsFirstGap, IsPlace}
+use Rattle.own_model.specs.Region.{Region, overlap, IsPlace}
 use Rattle.own_model.proofs.ByteLemmas.{length-zeros}
 use Rattle.own_model.proofs.RegionLemmas.{first_gap_least}
 use Rattle.avl_alloc.specs.Layout as avl
 use Rattle.region_map.specs.Regions.{Regions, heap_attached}
 use Rattle.dataspace_core.specs.Store.{Store, part, PartBecomes, part_with_space}
-use Rattle.dataspace_core.specs.Share.{Share, KeepsShares, share_in}
+use Rattle.dataspace_core.specs.Share.{Share, share_in}
 use Rattle.dataspace_core.proofs.ShareLaws.{nothing_shown, in_share}
 use Rattle.dataspace_core.proofs.WindowLaws.{share_then, shares_then, window_then, open_then, unshown, others_there, new_there, count_then, charge_then}
 use Rattle.heap_core.specs.declared.heap.Heap.{Heap}
-use Rattle.heap_core.specs.Heap.{payer_of, share_at, large_tag, large_regions, heap_in, chunk_at, IsLaid, IsSound}
-use Rattle.heap_core.specs.Calls.{TakesLarge}
+use Rattle.heap_core.specs.Heap.{payer_of, share_at, large_tag, large_regions, chunk_at, IsLaid, IsSound}
+use Rattle.heap_core.specs.Calls.{TakesLarge, Keeps}
 use Rattle.heap_core.proofs.LargeLemmas.{large_laid, large_value}
 use Rattle.heap_core.proofs.RoomLemmas.{few_large}
 use Rattle.heap_window.proofs.ShareLemmas.{large_there}
@@ -93,7 +92,7 @@ module _ (heap : Heap) (vec : ArrayVec ℕ) (n ds pages start : ℕ) (old new : 
   apart : (k : ℕ) → k < length heap.chunks.items → (start < (chunk_at heap k).start) ⊎ ((chunk_at heap k).start + avl.bytes_of heap.fit k ≤ start)
   apart = outside_chunks heap old regions pages start sound.laid gap (omega (arith, of_pages, least))
 
-  pub takes_sound : IsSound later new after
+  takes_sound : IsSound later new after
   takes_sound = record {
     opens = open_then account ds n large_tag start old new regions.pages regions.heap_most regions.heap regions.tags sound.opens sound.window fresh becomes free;
     window = window_then account ds n large_tag start old new regions.pages regions.heap_most regions.heap regions.tags sound.opens sound.window fresh becomes free (omega (arith, large)) (gap_place regions (page_of n / 4096) start (subst (λ p. heap_gap regions.pages regions.heap p ≡ Some start) of_pages gap));
@@ -101,8 +100,8 @@ module _ (heap : Heap) (vec : ArrayVec ℕ) (n ds pages start : ℕ) (old new : 
         (large_laid heap S (part account new) start (record { of = ds; pages = page_of n / 4096 }) (zeros (page_of n)) vec sound.laid free_here is there whole least keeps apart);
   }
 
-  pub takes_others : KeepsShares account old new regions.heap regions.tags after.heap after.tags
-  takes_others = shares_then account ds n large_tag start old new regions.pages regions.heap_most regions.heap regions.tags sound.opens sound.window fresh becomes free
+  pub takes_keeps : Keeps heap later old new regions after
+  takes_keeps = search (rules, takes_sound, others, shares_then)
 
   pub takes_large : TakesLarge heap later n start old new regions after
   takes_large = grind (arith, nat_tests, charge_then, now, large_value, free_here, there, whole, least, keeps, apart, others, count_then)

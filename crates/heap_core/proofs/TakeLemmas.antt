@@ -1,45 +1,42 @@
 -- The best hole is taken: its payload is one more, of whatever bytes it has, and all else stays.
-use Rattle.std.proofs.Common.{rules, ◌≡◌, ℕ, ◌+◌, ◌*◌, ◌<◌, ◌≤◌, cond, eqb, List, [], length, refl, sym, ap, subst, ◌∙◌, ◌⊎◌, arith, Some}
+use Rattle.std.proofs.Common.{rules, ◌≡◌, ℕ, ◌+◌, ◌<◌, ◌≤◌, cond, eqb, List, length, sym, ap, subst, ◌∙◌, ◌⊎◌, arith, Some}
 use Rattle.std.proofs.lemmas.List.{get_or-map}
-use Rattle.std.specs.Prelude.{Option, None, slice_range}
-use Rattle.std.specs.Option.{option_and_then}
+use Rattle.std.specs.Prelude.{None, slice_range}
 use Rattle.std.specs.Cmp.{nat_cmp_total}
 use Rattle.std.specs.Ordering.{nat_cmp}
 use Rattle.std.specs.FinMap.{get, insert, from_entries, get-from_entries}
-use Rattle.own_model.specs.BestFit.{Spot, best_hole, block_size, holes_of, taken, taken_in, taken_at, used_at, chunk_of}
+use Rattle.own_model.specs.BestFit.{Spot, best_hole, block_size, holes_of, taken, taken_in, taken_at, chunk_of}
 use Rattle.own_model.specs.Entries.{value_of}
 use Rattle.own_model.specs.Heap as model
 use Rattle.own_model.specs.Heap.{Block, AreBlocks, bytes_in}
 use Rattle.own_model.specs.HeapStep.{size_taken}
-use Rattle.own_model.specs.NatMap.{picked, joined}
+use Rattle.own_model.specs.NatMap.{joined}
 use Rattle.own_model.specs.OwnHeap.{payload_start}
 use Rattle.own_model.specs.Growth.{shape_taken}
 use Rattle.own_model.specs.Region.{Region}
 use Rattle.own_model.proofs.BlockLemmas.{AreBlocks-taken, block_size-fits, hole_within}
 use Rattle.own_model.proofs.BestFitLemmas.{best_is_hole, IsHoleOf}
 use Rattle.own_model.proofs.JoinedLemmas.{joined-insert_first}
-use Rattle.own_model.proofs.NatMapLemmas.{same, get-picked, get-insert, picked_alike}
+use Rattle.own_model.proofs.NatMapLemmas.{same, get-insert, picked_alike}
 use Rattle.avl_alloc.specs.declared.best_fit.BestFit.{BestFit}
 use Rattle.avl_alloc.specs.Layout as avl
 use Rattle.avl_alloc.specs.Layout.{heap_of, sizes_of, ChangesHoles, weigh_holes, whole}
-use Rattle.avl_alloc.specs.Words.{place_at}
 use Rattle.avl_alloc.proofs.LayoutLemmas.{sound_told}
 use Rattle.region_map.specs.Regions.{Regions}
 use Rattle.dataspace_core.specs.Store.{Store, part, bytes_of}
 use Rattle.dataspace_core.specs.Share.{Share, share_in}
 use Rattle.heap_core.specs.declared.heap.Heap.{Heap}
 use Rattle.heap_core.specs.declared.words.Chunk.{Chunk}
-use Rattle.heap_core.specs.Heap.{IsSound, bytes_shown, chunk_at, heap_in, keys_in, large_regions, payer_of, payloads_of, share_at, shape_in, starts_in, words_in}
+use Rattle.heap_core.specs.Heap.{IsSound, bytes_shown, chunk_at, heap_in, keys_in, large_regions, payer_of, payloads_of, share_at, shape_in, words_in}
 use Rattle.heap_core.specs.Words.{around, words_of}
-use Rattle.heap_core.proofs.BlockLemmas.{length-heap_of}
 use Rattle.heap_core.proofs.ChangeLemmas.{later, large_apart, keeps_spaces, same_account, share_now, words_now}
 use Rattle.heap_core.specs.Calls.{TakesHole}
 use Rattle.heap_core.proofs.WordsLemmas.{length_keys}
 use Rattle.heap_core.proofs.ChunkLemmas.{stand_in, words_are}
 use Rattle.heap_core.proofs.FrameLemmas.{entries_same}
-use Rattle.heap_core.proofs.HoleLemmas.{used_no_hole}
+use Rattle.heap_core.proofs.HoleLemmas.{AreTold, are_told}
 use Rattle.heap_core.proofs.PayloadLemmas.{no_chunk, entries_of, value_of-payloads, told-taken, payloads-more, payloads-same}
-use Rattle.heap_core.proofs.StandLemmas.{told_outside, chunk_total, each_at}
+use Rattle.heap_core.proofs.StandLemmas.{told_outside}
 use Rattle.heap_core.proofs.TakenLemmas.{other_chunk}
 
 module _ (heap : Heap) (fit : BestFit) (n : ℕ) (hole : Spot) (old new : Store) (regions : Regions) (sound : IsSound heap old regions) (kept : around (keys_in heap) new ≡ around (keys_in heap) old)
@@ -61,25 +58,15 @@ module _ (heap : Heap) (fit : BestFit) (n : ℕ) (hole : Spot) (old new : Store)
   H_sound : avl.IsSound heap.fit (words_of (keys_in heap) old)
   H_sound = (stand_in heap old regions sound).sound
 
-  H_count : length H ≡ length heap.chunks.items
-  H_count = length-heap_of heap.fit (words_of (keys_in heap) old) ∙ sound.laid.count
-
-  H_blocks : (k : ℕ) → k < length heap.chunks.items → AreBlocks (chunk_of H k)
-  H_blocks k there = each_at AreBlocks H k [] (sound_told heap.fit (words_of (keys_in heap) old) H_sound).blocks (subst (λ m. k < m) (sym H_count) there)
-
-  H_totals : (k : ℕ) → k < length heap.chunks.items → bytes_in (chunk_of H k) ≡ avl.bytes_of heap.fit k
-  unfolding share_in
-  H_totals k there = ap (λ h. bytes_in (chunk_of h k)) (sym H_is) ∙ chunk_total heap S sound.laid k there
-
-  H_no_hole : (k off m q : ℕ) → k < length heap.chunks.items → used_at off (chunk_of H k) ≡ Some m → place_at k off ≤ q → q < place_at k off + m → weigh_holes (whole q) H ≡ 0
-  H_no_hole k off m q there at low high = used_no_hole heap.fit (words_of (keys_in heap) old) k off m q H_sound (subst (λ l. k < l) (sym H_count) there) at low high
+  before : AreTold H heap.fit (length heap.chunks.items)
+  before = are_told heap.fit (words_of (keys_in heap) old) _ H_sound sound.laid.count
 
   -- the hole
   is_hole : IsHoleOf H hole × (block_size n ≤ hole.size)
   is_hole = best_is_hole (block_size n) H hole (sound_told heap.fit (words_of (keys_in heap) old) H_sound).blocks best
 
   in_heap : hole.chunk < length heap.chunks.items
-  in_heap = subst (λ m. hole.chunk < m) H_count is_hole.0.within
+  in_heap = subst (λ m. hole.chunk < m) before.count is_hole.0.within
 
   -- the blocks of its chunk then
   abbrev cut_blocks : List Block
@@ -95,22 +82,22 @@ module _ (heap : Heap) (fit : BestFit) (n : ℕ) (hole : Spot) (old new : Store)
   one_more q =
       let c = chunk_at heap hole.chunk in
       let bytes = bytes_of (part account new) c.ds.0 in
-      value_of-payloads c.start 0 bytes cut_blocks q (AreBlocks-taken (block_size n) hole.size hole.offset (chunk_of H hole.chunk) (H_blocks hole.chunk in_heap) is_hole.0.there (block_size-fits n) is_hole.1)
-      ∙ told-taken c.start bytes (block_size n) hole.size hole.offset (chunk_of H hole.chunk) q (H_blocks hole.chunk in_heap) is_hole.0.there
-      ∙ ap (cond (eqb q address) (Some payload)) (sym (value_of-payloads c.start 0 bytes (chunk_of H hole.chunk) q (H_blocks hole.chunk in_heap)))
+      value_of-payloads c.start 0 bytes cut_blocks q (AreBlocks-taken (block_size n) hole.size hole.offset (chunk_of H hole.chunk) (before.each hole.chunk in_heap) is_hole.0.there (block_size-fits n) is_hole.1)
+      ∙ told-taken c.start bytes (block_size n) hole.size hole.offset (chunk_of H hole.chunk) q (before.each hole.chunk in_heap) is_hole.0.there
+      ∙ ap (cond (eqb q address) (Some payload)) (sym (value_of-payloads c.start 0 bytes (chunk_of H hole.chunk) q (before.each hole.chunk in_heap)))
 
   -- the address lies in the hole's chunk
   none_before : (k : ℕ) → k < hole.chunk → value_of address (entries_of (part account new) (chunk_at heap k) (chunk_of H k)) ≡ None
   none_before k below =
       let there : k < length heap.chunks.items = let i = in_heap in omega (arith, below, i) in
-      let within = hole_within hole.offset hole.size (chunk_of H hole.chunk) (H_blocks hole.chunk in_heap) is_hole.0.there in
+      let within = hole_within hole.offset hole.size (chunk_of H hole.chunk) (before.each hole.chunk in_heap) is_hole.0.there in
       let least = within.0.least in
       let to = within.1 in
-      let total = H_totals hole.chunk in_heap in
+      let total = before.total hole.chunk in_heap in
       let outside = other_chunk heap old regions sound k hole.chunk address there in_heap (λ e. absurd (omega (arith, below, e))) (omega arith) (omega (arith, least, to, total)) in
-      value_of-payloads (chunk_at heap k).start 0 (bytes_of (part account new) (chunk_at heap k).ds.0) (chunk_of H k) address (H_blocks k there)
-      ∙ told_outside (chunk_at heap k).start (bytes_of (part account new) (chunk_at heap k).ds.0) (chunk_of H k) address (H_blocks k there)
-      (subst (λ m. (address < (chunk_at heap k).start) ⊎ ((chunk_at heap k).start + m ≤ address)) (sym (H_totals k there)) outside)
+      value_of-payloads (chunk_at heap k).start 0 (bytes_of (part account new) (chunk_at heap k).ds.0) (chunk_of H k) address (before.each k there)
+      ∙ told_outside (chunk_at heap k).start (bytes_of (part account new) (chunk_at heap k).ds.0) (chunk_of H k) address (before.each k there)
+      (subst (λ m. (address < (chunk_at heap k).start) ⊎ ((chunk_at heap k).start + m ≤ address)) (sym (before.total k there)) outside)
 
   -- so of all payloads of chunks there is one more
   small_now : from_entries {R = nat_cmp} (payloads_of (part account new) heap.chunks.items (taken n H)) ≡ insert (from_entries {R = nat_cmp} (payloads_of (part account old) heap.chunks.items H)) address payload
@@ -119,7 +106,7 @@ module _ (heap : Heap) (fit : BestFit) (n : ℕ) (hole : Spot) (old new : Store)
       ∙ ap (λ o. value_of q (payloads_of (part account new) heap.chunks.items (taken_at (block_size n) o H))) best
       ∙ payloads-more (part account new) address payload heap.chunks.items H hole.chunk cut_blocks q in_heap is_hole.0.within (one_more q) none_before
       ∙ ap (cond (eqb q address) (Some payload)) (payloads-same (part account old) (part account new) q heap.chunks.items H
-      (λ k there. entries_same heap fit old new regions sound kept H H_no_hole changes H_blocks H_totals k there q)
+      (λ k there. entries_same heap fit old new regions sound kept H before.no_hole changes before.each before.total k there q)
       ∙ sym (get-from_entries nat_cmp_total _ q))
       ∙ sym (get-insert (from_entries {R = nat_cmp} (payloads_of (part account old) heap.chunks.items H)) address payload q))
 

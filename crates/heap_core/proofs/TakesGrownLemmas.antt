@@ -1,5 +1,5 @@
 -- A block is taken in the chunk by which a heap has grown for it.
-use Rattle.std.proofs.Common.{rules, ◌≡◌, ◌≢◌, ℕ, ◌+◌, ◌*◌, ◌≤◌, ◌++◌, Bool, true, false, cond, [], ◌∷◌, length, get_or, sym, ap, subst, ◌∙◌, arith, Some}
+use Rattle.std.proofs.Common.{rules, ◌≡◌, ◌≢◌, ℕ, ◌+◌, ◌*◌, ◌≤◌, Bool, true, false, cond, length, ap, subst, ◌∙◌, arith, Some}
 use Rattle.std.proofs.Math.Seq.{get_or-append_seam}
 use Rattle.std.proofs.lemmas.List.{length-map}
 use Rattle.std.specs.Prelude.{None, max, is_none}
@@ -10,15 +10,14 @@ use Rattle.own_model.specs.Account.{Account, shortage}
 use Rattle.own_model.specs.BestFit.{block_size}
 use Rattle.own_model.specs.Growth.{Growth, Shape, growth_of, hole_for, larger_growth, least_growth, new_hole, shape_grown}
 use Rattle.own_model.specs.HeapStep.{with_block}
-use Rattle.own_model.specs.OwnHeap.{OwnHeap, payload_start}
+use Rattle.own_model.specs.OwnHeap.{OwnHeap}
 use Rattle.own_model.proofs.BestFitLemmas.{new_hole_best}
 use Rattle.region_map.specs.Regions.{Regions}
 use Rattle.dataspace_core.specs.Store.{Store, part, account_in}
 use Rattle.dataspace_core.specs.Share.{share_in}
 use Rattle.heap_core.specs.declared.heap.Heap.{Heap}
-use Rattle.heap_core.specs.declared.words.Chunk.{Chunk}
 use Rattle.heap_core.specs.Calls.{Grows, TakesGrown, TakesSmall, growth_at, part_at}
-use Rattle.heap_core.specs.Heap.{IsSound, heap_in, keys_in, payer_of, shape_in, starts_in}
+use Rattle.heap_core.specs.Heap.{IsSound, heap_in, keys_in, payer_of, shape_in}
 use Rattle.heap_core.specs.Words.{is_among}
 use Rattle.heap_core.proofs.AddLemmas.{among_more}
 use Rattle.heap_core.proofs.GrowthLemmas.{chunk_count}

@@ -1,8 +1,9 @@
 -- What the calls of a heap take and give back.
-use Rattle.std.specs.Prelude.{◌<◌, ◌≡◌, ◌≢◌, ℕ, ◌+◌, ◌-◌, ◌*◌, ◌/◌, ◌≤◌, false, List, [], ◌∷◌, ◌++◌, length, is_some, if◌then◌else◌, Option, Some, None, slice_range}
+use Rattle.std.specs.Prelude.{◌<◌, ◌≡◌, ◌≢◌, ℕ, ◌+◌, ◌-◌, ◌*◌, ◌/◌, ◌^◌, ◌≤◌, false, List, [], ◌∷◌, ◌++◌, length, is_some, if◌then◌else◌, Option, Some, None, IfSome, IfNone, slice_range}
 use Rattle.std.specs.Option.{option_map}
-use Rattle.std.specs.FinMap.{get, insert, len}
+use Rattle.std.specs.FinMap.{get, insert, remove, len}
 use Rattle.trade_base.specs.Page.{page_of}
+use Rattle.trade_base.specs.declared.id.DsId.{DsId}
 use Rattle.trade_base.specs.declared.refusal.Refusal.{Refusal}
 use Rattle.trade_base.specs.declared.refusal.Refusal.TheVariants.{PageFault}
 use Rattle.own_model.specs.Account.{charged, credited}
@@ -17,14 +18,26 @@ use Rattle.own_model.specs.Region.{Region}
 use Rattle.own_model.specs.Use.{heap_size, heap_count}
 use Rattle.region_map.specs.Regions.{Regions, heap_attached, heap_detached}
 use Rattle.dataspace_core.specs.Store.{Store, Part, part, account_in, bytes_of}
-use Rattle.dataspace_core.specs.Share.{Share}
+use Rattle.dataspace_core.specs.Share.{Share, KeepsShares}
 use Rattle.heap_core.specs.declared.heap.Heap.{Heap}
 use Rattle.heap_core.specs.Words.{is_among}
-use Rattle.heap_core.specs.Heap.{HasNoBlocks, chunk_at, payer_of, share_at, keys_in, shape_in, heap_at, large_regions, large_tag}
+use Rattle.heap_core.specs.Heap.{IsSound, HasNoBlocks, chunk_at, payer_of, share_at, keys_in, shape_in, heap_at, large_regions, large_tag}
 
 -- the part of a heap's account
 abbrev pub part_at : Heap → Store → Part
 part_at heap store = part (payer_of heap) store
+
+-- what each call keeps: a sound heap of the same account, and every other account's share of the memory and the map
+pub record Keeps (heap later : Heap) (old new : Store) (regions after : Regions) : Type 0 where
+  pub sound : IsSound later new after
+  pub others : KeepsShares (payer_of heap) old new regions.heap regions.tags after.heap after.tags
+  pub payer : payer_of later ≡ payer_of heap
+
+-- nothing has changed, where a result is what it is refused with
+pub record Unchanged (If : Type 0 → Type 0) (heap later : Heap) (old new : Store) (regions after : Regions) : Type 0 where
+  pub same_memory : If (new ≡ old)
+  pub same_map : If (after ≡ regions)
+  pub same_heap : If (later ≡ heap)
 
 -- of the account's dataspaces none has changed but those of chunks, and each is as long as it was
 pub record KeepsSpaces (heap : Heap) (old new : Store) : Type 0 where
@@ -55,6 +68,13 @@ pub record TakesSmall (heap later : Heap) (n : ℕ) (hole : Spot) (address : ℕ
 -- how a heap grows for n bytes
 abbrev pub growth_at : ℕ → Heap → Store → Growth
 growth_at n heap store = growth_of n (shape_in heap (part_at heap store)) (account_in store (payer_of heap))
+
+-- a chunk can be asked for by so many bytes, after which the growth number is another one
+pub record IsGrowth (bytes next : ℕ) : Type 0 where
+  pub some : 1 ≤ bytes
+  pub short : bytes ≤ 2 ^ 20
+  pub next_some : 1 ≤ next
+  pub next_most : next ≤ 64
 
 -- of the account's dataspaces one is new, and no other has changed but those of chunks
 pub record AddsSpace (heap : Heap) (ds : ℕ) (old new : Store) : Type 0 where
@@ -125,6 +145,13 @@ pub record GivesLarge (heap later : Heap) (address : ℕ) (old new : Store) (reg
   pub others : (k : ℕ) → k ≢ ds → get (part_at heap new).spaces k ≡ get (part_at heap old).spaces k
   pub count : len (part_at heap new).spaces + 1 ≡ len (part_at heap old).spaces
 
+-- a large block has left a heap's list and its account's share: chunks and their blocks stay
+pub record LosesLarge (heap later : Heap) (start : ℕ) (share less : Share) : Type 0 where
+  pub count : length later.large.items + 1 ≡ length heap.large.items
+  pub chunks : later.chunks ≡ heap.chunks
+  pub fit : later.fit ≡ heap.fit
+  pub left : large_regions less ≡ remove (large_regions share) start
+
 -- a dataspace is none of a heap's: neither a chunk's nor a large block's
 abbrev pub IsNoBlock : Heap → Share → ℕ → Type 0
 IsNoBlock heap share k =
@@ -167,3 +194,8 @@ pub record HoldsRange (heap : Heap) (store : Store) (regions : Regions) (ds offs
   pub high : address + count ≤ at + length payload
   pub into : offset ≡ before + (address - at)
   pub found : block_found (heap_at heap store regions).payloads address count ≡ Some (at, address - at)
+
+-- the dataspace and the offset of a range of a payload are found, or none where no payload holds it
+pub record FindsRange (heap : Heap) (store : Store) (regions : Regions) (address count : ℕ) (result : Option (DsId × ℕ)) : Type 0 where
+  pub some : IfSome result (λ found. HoldsRange heap store regions found.0.0 found.1 address count)
+  pub none : IfNone result (block_found (heap_at heap store regions).payloads address count ≡ None)

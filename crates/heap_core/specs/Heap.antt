@@ -1,6 +1,6 @@
 -- What a contract sees of a heap: its blocks, where they stand and what they hold, as its fields and its account's share tell.
-use Rattle.std.specs.Prelude.{◌≡◌, ℕ, ◌+◌, ◌*◌, ◌≤◌, ◌<◌, ◌==◌, Bool, true, false, cond, List, [], ◌∷◌, ◌++◌, length, map, Option, Some, None, is_some, sum_by, slice_index_or, slice_range}
-use Rattle.std.specs.FinMap.{get, len, retain_keys, from_entries}
+use Rattle.std.specs.Prelude.{◌≡◌, ℕ, ◌+◌, ◌*◌, ◌≤◌, ◌<◌, ◌==◌, true, cond, List, [], ◌∷◌, ◌++◌, length, map, Some, is_some, sum_by, slice_index_or, slice_range}
+use Rattle.std.specs.FinMap.{get, len, from_entries}
 use Rattle.own_model.specs.Growth.{Shape, most_chunks, most_growth}
 use Rattle.own_model.specs.Heap as model
 use Rattle.own_model.specs.Heap.{Block, Used, Hole, header}

@@ -1,18 +1,18 @@
 -- The laws of heaps, as statements: what other calls leave of a heap, and what a range of a payload is.
-use Rattle.std.specs.Prelude.{◌≡◌, ◌≢◌, ℕ, ◌+◌, ◌-◌, ◌*◌, ◌≤◌, true, List, length, nat_le, if◌then◌else◌, slice_range, Option, Some, None}
+use Rattle.std.specs.Prelude.{◌≡◌, ◌≢◌, ℕ, ◌+◌, ◌-◌, ◌*◌, ◌≤◌, true, List, length, slice_range, Some}
 use Rattle.std.specs.FinMap.{get, empty}
-use Rattle.std.specs.Option.{option_map, option_and_then}
+use Rattle.std.specs.Option.{option_map}
 use Rattle.own_model.specs.HeapStep.{with_poked}
 use Rattle.own_model.specs.HeapWindow.{largest_machine}
 use Rattle.own_model.specs.OwnHeap.{ranges_of_heap}
 use Rattle.own_model.specs.Region.{Region}
 use Rattle.region_map.specs.Regions.{Regions}
 use Rattle.dataspace_core.specs.Store.{Store, part, IsOpenIn, PartBecomes, part_with_bytes, ram_limits_in}
-use Rattle.dataspace_core.specs.Share.{Share, IsWindowOf, KeepsShares}
+use Rattle.dataspace_core.specs.Share.{KeepsShares}
 pub use Rattle.heap_window.specs.Window.{IsMapOf, block_region}
 use Rattle.heap_core.specs.declared.heap.Heap.{Heap}
 use Rattle.heap_core.specs.Calls.{HoldsRange}
-use Rattle.heap_core.specs.Heap.{HasNoBlocks, IsSound, heap_at, large_tag, payer_of, share_at}
+use Rattle.heap_core.specs.Heap.{HasNoBlocks, IsSound, heap_at, payer_of, share_at}
 use Rattle.heap_core.specs.Words.{are_bytes}
 
 -- a map without a heap region is one of each memory of its size, and holds no block

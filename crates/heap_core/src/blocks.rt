@@ -2,10 +2,9 @@
 ghost use Rattle.std.specs.Prelude.{◌≡◌, ◌+◌, ◌-◌, ◌^◌, ◌<◌, ◌≤◌, length};
 ghost use Rattle.std.specs.Option.{option_map};
 ghost use Rattle.own_model.specs.BestFit.{chunk_of, payload_at};
-ghost use Rattle.own_model.specs.Heap.{IsBlockSize};
 ghost use Rattle.avl_alloc.specs.Found.{used_block};
 ghost use Rattle.avl_alloc.specs.Layout.{heap_of, sizes_of};
-ghost use Rattle.heap_core.specs.Blocks.{StandIn, Takes, Adds, Gives};
+ghost use Rattle.heap_core.specs.Blocks.{StandAt, KeepsAround, IsChunkSize, IsBlankOf, Takes, Adds, Gives};
 ghost use Rattle.heap_core.specs.Words.{keys_of, around, bytes_around, words_of};
 
 use crate::loads::Loads;
@@ -17,13 +16,10 @@ use std::sync::ledger::{Blank, Ledger};
 impl<L: Ledger> Words<'_, L> {
     // One chunk more, the last one.
     fn add(&mut self, fit: &mut BestFit, bytes: u64)
-        requires stand { StandIn fit.old
-            (words_of (keys_of self.old.chunks.now) self.old.memory.now)
-            (bytes_around (around (keys_of self.old.chunks.now) self.old.memory.now)) }
+        requires stand { StandAt fit.old (keys_of self.old.chunks.now) self.old.memory.now }
         requires last { length (sizes_of fit.old) + 1 ≡ length self.old.chunks.now }
         requires few { length self.old.chunks.now ≤ 64 }
-        requires size { IsBlockSize bytes }
-        requires short { bytes ≤ 2 ^ 32 }
+        requires size { IsChunkSize bytes }
         requires there { bytes
             ≤ bytes_around (around (keys_of self.old.chunks.now) self.old.memory.now)
             (length self.old.chunks.now - 1) }
@@ -31,8 +27,8 @@ impl<L: Ledger> Words<'_, L> {
         ensures adds { Adds bytes fit.old fit.new
             (words_of (keys_of self.old.chunks.now) self.old.memory.now)
             (words_of (keys_of self.old.chunks.now) self.new.memory.now) }
-        ensures around { around (keys_of self.old.chunks.now) self.new.memory.now
-            ≡ around (keys_of self.old.chunks.now) self.old.memory.now }
+        ensures around { KeepsAround
+            (keys_of self.old.chunks.now) self.old.memory.now self.new.memory.now }
     {
         let chunks = self.chunks;
         fit.add_chunk(self, chunks.len() - 1, bytes);
@@ -40,40 +36,34 @@ impl<L: Ledger> Words<'_, L> {
 
     // Takes the best hole for so many bytes.
     fn take(&mut self, fit: &mut BestFit, bytes: u64) -> Option<BlockAddr>
-        requires stand { StandIn fit.old
-            (words_of (keys_of self.old.chunks.now) self.old.memory.now)
-            (bytes_around (around (keys_of self.old.chunks.now) self.old.memory.now)) }
+        requires stand { StandAt fit.old (keys_of self.old.chunks.now) self.old.memory.now }
         requires few { bytes < 65536 }
         ensures same_reference { self.new.memory.ghost_name ≡ self.old.memory.ghost_name }
         ensures takes { Takes bytes result fit.old fit.new
             (words_of (keys_of self.old.chunks.now) self.old.memory.now)
             (words_of (keys_of self.old.chunks.now) self.new.memory.now) }
-        ensures around { around (keys_of self.old.chunks.now) self.new.memory.now
-            ≡ around (keys_of self.old.chunks.now) self.old.memory.now }
+        ensures around { KeepsAround
+            (keys_of self.old.chunks.now) self.old.memory.now self.new.memory.now }
     {
         fit.alloc(self, bytes)
     }
 
     // Gives a block back.
     fn give(&mut self, fit: &mut BestFit, block: BlockAddr) -> Option<u64>
-        requires stand { StandIn fit.old
-            (words_of (keys_of self.old.chunks.now) self.old.memory.now)
-            (bytes_around (around (keys_of self.old.chunks.now) self.old.memory.now)) }
+        requires stand { StandAt fit.old (keys_of self.old.chunks.now) self.old.memory.now }
         ensures same_reference { self.new.memory.ghost_name ≡ self.old.memory.ghost_name }
         ensures gives { Gives block result fit.old fit.new
             (words_of (keys_of self.old.chunks.now) self.old.memory.now)
             (words_of (keys_of self.old.chunks.now) self.new.memory.now) }
-        ensures around { around (keys_of self.old.chunks.now) self.new.memory.now
-            ≡ around (keys_of self.old.chunks.now) self.old.memory.now }
+        ensures around { KeepsAround
+            (keys_of self.old.chunks.now) self.old.memory.now self.new.memory.now }
     {
         fit.free(self, block)
     }
 
     // The used block whose payload holds an address.
     fn look(&mut self, fit: &BestFit, addr: BlockAddr) -> Option<UsedBlock>
-        requires stand { StandIn fit.now
-            (words_of (keys_of self.old.chunks.now) self.old.memory.now)
-            (bytes_around (around (keys_of self.old.chunks.now) self.old.memory.now)) }
+        requires stand { StandAt fit.now (keys_of self.old.chunks.now) self.old.memory.now }
         ensures same_reference { self.new.memory.ghost_name ≡ self.old.memory.ghost_name }
         ensures block { let blocks = chunk_of
             (heap_of fit.now
@@ -81,8 +71,8 @@ impl<L: Ledger> Words<'_, L> {
             result ≡ option_map (used_block addr.chunk) (payload_at 0 addr.offset blocks) }
         ensures words { words_of (keys_of self.old.chunks.now) self.new.memory.now
             ≡ words_of (keys_of self.old.chunks.now) self.old.memory.now }
-        ensures around { around (keys_of self.old.chunks.now) self.new.memory.now
-            ≡ around (keys_of self.old.chunks.now) self.old.memory.now }
+        ensures around { KeepsAround
+            (keys_of self.old.chunks.now) self.old.memory.now self.new.memory.now }
     {
         fit.block_at(self, addr)
     }
@@ -96,21 +86,16 @@ pub fn add<L: Ledger>(
     bytes: u64,
     blank: Blank,
 )
-    requires stand { StandIn fit.old (words_of (keys_of chunks.now) memory.old)
-        (bytes_around (around (keys_of chunks.now) memory.old)) }
+    requires stand { StandAt fit.old (keys_of chunks.now) memory.old }
     requires last { length (sizes_of fit.old) + 1 ≡ length chunks.now }
     requires few { length chunks.now ≤ 64 }
-    requires size { IsBlockSize bytes }
-    requires short { bytes ≤ 2 ^ 32 }
+    requires size { IsChunkSize bytes }
     requires there { bytes
         ≤ bytes_around (around (keys_of chunks.now) memory.old) (length chunks.now - 1) }
-    requires name { blank.name ≡ L.name }
-    requires parts { blank.parts ≡ L.parts }
-    requires some { 0 < blank.parts }
+    requires blank { IsBlankOf blank.name blank.parts L.name L.parts }
     ensures adds { Adds bytes fit.old fit.new (words_of (keys_of chunks.now) memory.old)
         (words_of (keys_of chunks.now) memory.new) }
-    ensures around { around (keys_of chunks.now) memory.new
-        ≡ around (keys_of chunks.now) memory.old }
+    ensures around { KeepsAround (keys_of chunks.now) memory.old memory.new }
 {
     let mut words = Words {
         memory,
@@ -134,16 +119,12 @@ pub fn take<L: Ledger>(
     bytes: u64,
     blank: Blank,
 ) -> Option<BlockAddr>
-    requires stand { StandIn fit.old (words_of (keys_of chunks.now) memory.old)
-        (bytes_around (around (keys_of chunks.now) memory.old)) }
+    requires stand { StandAt fit.old (keys_of chunks.now) memory.old }
     requires few { bytes < 65536 }
-    requires name { blank.name ≡ L.name }
-    requires parts { blank.parts ≡ L.parts }
-    requires some { 0 < blank.parts }
+    requires blank { IsBlankOf blank.name blank.parts L.name L.parts }
     ensures takes { Takes bytes result fit.old fit.new (words_of (keys_of chunks.now) memory.old)
         (words_of (keys_of chunks.now) memory.new) }
-    ensures around { around (keys_of chunks.now) memory.new
-        ≡ around (keys_of chunks.now) memory.old }
+    ensures around { KeepsAround (keys_of chunks.now) memory.old memory.new }
 {
     let mut words = Words {
         memory,
@@ -168,15 +149,11 @@ pub fn give<L: Ledger>(
     block: BlockAddr,
     blank: Blank,
 ) -> Option<u64>
-    requires stand { StandIn fit.old (words_of (keys_of chunks.now) memory.old)
-        (bytes_around (around (keys_of chunks.now) memory.old)) }
-    requires name { blank.name ≡ L.name }
-    requires parts { blank.parts ≡ L.parts }
-    requires some { 0 < blank.parts }
+    requires stand { StandAt fit.old (keys_of chunks.now) memory.old }
+    requires blank { IsBlankOf blank.name blank.parts L.name L.parts }
     ensures gives { Gives block result fit.old fit.new (words_of (keys_of chunks.now) memory.old)
         (words_of (keys_of chunks.now) memory.new) }
-    ensures around { around (keys_of chunks.now) memory.new
-        ≡ around (keys_of chunks.now) memory.old }
+    ensures around { KeepsAround (keys_of chunks.now) memory.old memory.new }
 {
     let mut words = Words {
         memory,
@@ -201,18 +178,14 @@ pub fn look<L: Ledger>(
     addr: BlockAddr,
     blank: Blank,
 ) -> Option<UsedBlock>
-    requires stand { StandIn fit.now (words_of (keys_of chunks.now) memory.old)
-        (bytes_around (around (keys_of chunks.now) memory.old)) }
-    requires name { blank.name ≡ L.name }
-    requires parts { blank.parts ≡ L.parts }
-    requires some { 0 < blank.parts }
+    requires stand { StandAt fit.now (keys_of chunks.now) memory.old }
+    requires blank { IsBlankOf blank.name blank.parts L.name L.parts }
     ensures block { let blocks = chunk_of
         (heap_of fit.now (words_of (keys_of chunks.now) memory.old)) addr.chunk in
         result ≡ option_map (used_block addr.chunk) (payload_at 0 addr.offset blocks) }
     ensures words { words_of (keys_of chunks.now) memory.new
         ≡ words_of (keys_of chunks.now) memory.old }
-    ensures around { around (keys_of chunks.now) memory.new
-        ≡ around (keys_of chunks.now) memory.old }
+    ensures around { KeepsAround (keys_of chunks.now) memory.old memory.new }
 {
     let mut words = Words {
         memory,

@@ -16,21 +16,10 @@ pub fn clear(memory: &mut Memory, ds: DsId, offset: u64, count: u64)
     requires short { offset + count < 2 ^ 64 }
     ensures { memory.new ≡ with_bytes_at memory.old ds.0 offset (zeros count) }
 {
-    write_pieces(memory, ds, offset, count, &[0; BLANK]);
-}
-
-// Writes zeros over `count` bytes of a dataspace from `offset` on, no more at once than are given.
-fn write_pieces(memory: &mut Memory, ds: DsId, offset: u64, count: u64, blank: &[u8])
-    requires exists { Exists memory.old ds.0 }
-    requires range { offset + count ≤ length (space_at memory.old ds.0).bytes }
-    requires short { offset + count < 2 ^ 64 }
-    requires some { 0 < length blank.now }
-    requires blank { blank.now ≡ replicate (length blank.now) 0 }
-    ensures { memory.new ≡ with_bytes_at memory.old ds.0 offset (zeros count) }
-{
+    let blank = [0; BLANK];
     let mut done = 0;
     while done < count {
-        let piece = (count - done).min(blank.len() as u64);
+        let piece = (count - done).min(BLANK as u64);
         memory.write(ds, offset + done, &blank[..piece as usize]);
         done += piece;
     }

@@ -1,12 +1,11 @@
 //! How a heap grows: by a chunk, as far as the account covers it.
-ghost use Rattle.std.specs.Prelude.{◌≡◌, ◌+◌, ◌<◌, ◌≤◌, ◌^◌, length, OnOk, OnErr};
+ghost use Rattle.std.specs.Prelude.{◌≡◌, ◌<◌, length, OnOk, OnErr};
 ghost use Rattle.std.specs.Result.{result_err};
 ghost use Rattle.trade_base.specs.Page.{page_of};
 ghost use Rattle.own_model.specs.Account.{shortage};
 ghost use Rattle.own_model.specs.Growth.{growth_refusal};
-ghost use Rattle.dataspace_core.specs.Share.{KeepsShares};
 ghost use Rattle.dataspace_core.specs.Store.{account_in};
-ghost use Rattle.heap_core.specs.Calls.{part_at, growth_at, Grows};
+ghost use Rattle.heap_core.specs.Calls.{part_at, growth_at, Grows, IsGrowth, Keeps, Unchanged};
 ghost use Rattle.heap_core.specs.Heap.{payer_of, shape_in, IsSound};
 
 use crate::blocks::add;
@@ -42,13 +41,9 @@ impl Heap {
         ensures grows { OnOk result (
             Grows self.old self.new
             (growth_at bytes self.old memory.old) memory.old memory.new map.old map.new) }
-        ensures sound { IsSound self.new memory.new map.new }
-        ensures others { KeepsShares (payer_of self.old) memory.old memory.new
-            map.old.heap map.old.tags map.new.heap map.new.tags }
-        ensures payer { payer_of self.new ≡ payer_of self.old }
-        ensures memory_err { OnErr result (memory.new ≡ memory.old) }
-        ensures map_err { OnErr result (map.new ≡ map.old) }
-        ensures err { OnErr result (self.new ≡ self.old) }
+        ensures keeps { Keeps self.old self.new memory.old memory.new map.old map.new }
+        ensures err { Unchanged (OnErr result)
+            self.old self.new memory.old memory.new map.old map.new }
     {
         if self.chunks.is_full() {
             return Err(Refusal::TooManyChunks);
@@ -72,22 +67,15 @@ impl Heap {
     ) -> Result<(), Refusal>
         requires sound { IsSound self.old memory.old map.old }
         requires room { length self.old.chunks.items < 64 }
-        requires some { 1 ≤ bytes }
-        requires short { bytes ≤ 2 ^ 20 }
-        requires next_some { 1 ≤ next }
-        requires next_most { next ≤ 64 }
+        requires growth { IsGrowth bytes next }
         ensures refusal { result_err result
             ≡ shortage (account_in memory.old (payer_of self.old)) (page_of bytes) 1 }
         ensures grows { OnOk result (
             Grows self.old self.new (record { bytes = page_of bytes; next = next })
             memory.old memory.new map.old map.new) }
-        ensures sound { IsSound self.new memory.new map.new }
-        ensures others { KeepsShares (payer_of self.old) memory.old memory.new
-            map.old.heap map.old.tags map.new.heap map.new.tags }
-        ensures payer { payer_of self.new ≡ payer_of self.old }
-        ensures memory_err { OnErr result (memory.new ≡ memory.old) }
-        ensures map_err { OnErr result (map.new ≡ map.old) }
-        ensures err { OnErr result (self.new ≡ self.old) }
+        ensures keeps { Keeps self.old self.new memory.old memory.new map.old map.new }
+        ensures err { Unchanged (OnErr result)
+            self.old self.new memory.old memory.new map.old map.new }
     {
         let ds = memory.alloc(self.account, bytes)?;
         let pages = memory.size(ds) / PAGE;

@@ -5,7 +5,7 @@ ghost use Rattle.std.specs.Option.{option_map};
 ghost use Rattle.own_model.specs.BestFit.{Spot};
 ghost use Rattle.own_model.specs.Growth.{hole_for, growth_refusal, heap_refusal};
 ghost use Rattle.avl_alloc.specs.Found.{block_addr};
-ghost use Rattle.heap_core.specs.Calls.{part_at, TakesLarge, TakesHole, TakesSmall, TakesGrown};
+ghost use Rattle.heap_core.specs.Calls.{part_at, Keeps, Unchanged, TakesLarge, TakesHole, TakesSmall, TakesGrown};
 ghost use Rattle.std.specs.Result.{result_err};
 ghost use Rattle.own_model.specs.OwnHeap.{no_heap};
 ghost use Rattle.region_map.specs.Regions.{Regions};
@@ -143,13 +143,9 @@ impl Heap {
             ≡ alloc_refusal bytes (account_in memory.old (payer_of self.old)) }
         ensures taken { IfOk result (λ address.
             TakesLarge self.old self.new bytes address memory.old memory.new map.old map.new) }
-        ensures sound { IsSound self.new memory.new map.new }
-        ensures others { KeepsShares (payer_of self.old) memory.old memory.new
-            map.old.heap map.old.tags map.new.heap map.new.tags }
-        ensures payer { payer_of self.new ≡ payer_of self.old }
-        ensures memory_err { OnErr result (memory.new ≡ memory.old) }
-        ensures map_err { OnErr result (map.new ≡ map.old) }
-        ensures err { OnErr result (self.new ≡ self.old) }
+        ensures keeps { Keeps self.old self.new memory.old memory.new map.old map.new }
+        ensures err { Unchanged (OnErr result)
+            self.old self.new memory.old memory.new map.old map.new }
     {
         let ds = memory.alloc(self.account, bytes)?;
         let start = map.attach_block(ds, memory.size(ds) / PAGE, LARGE);
@@ -172,13 +168,9 @@ impl Heap {
             (account_in memory.old (payer_of self.old)) }
         ensures taken { IfOk result (λ address.
             TakesGrown self.old self.new bytes address memory.old memory.new map.old map.new) }
-        ensures sound { IsSound self.new memory.new map.new }
-        ensures others { KeepsShares (payer_of self.old) memory.old memory.new
-            map.old.heap map.old.tags map.new.heap map.new.tags }
-        ensures payer { payer_of self.new ≡ payer_of self.old }
-        ensures memory_err { OnErr result (memory.new ≡ memory.old) }
-        ensures map_err { OnErr result (map.new ≡ map.old) }
-        ensures err { OnErr result (self.new ≡ self.old) }
+        ensures keeps { Keeps self.old self.new memory.old memory.new map.old map.new }
+        ensures err { Unchanged (OnErr result)
+            self.old self.new memory.old memory.new map.old map.new }
     {
         self.grow(memory, map, bytes)?;
         Ok(self.take_small(memory, map, bytes).unwrap())
@@ -194,12 +186,9 @@ impl Heap {
         ensures taken { (hole : Spot) → IfSome result (λ address.
             hole_for bytes (shape_in self.old (part_at self.old memory.old)) ≡ Some hole →
             TakesSmall self.old self.new bytes hole address memory.old memory.new map.now map.now) }
-        ensures sound { IsSound self.new memory.new map.now }
-        ensures others { KeepsShares (payer_of self.old) memory.old memory.new
-            map.now.heap map.now.tags map.now.heap map.now.tags }
-        ensures payer { payer_of self.new ≡ payer_of self.old }
-        ensures memory_none { IfNone result (memory.new ≡ memory.old) }
-        ensures none { IfNone result (self.new ≡ self.old) }
+        ensures keeps { Keeps self.old self.new memory.old memory.new map.now map.now }
+        ensures none { Unchanged (IfNone result)
+            self.old self.new memory.old memory.new map.now map.now }
     {
         let block = self.take_hole(memory, map, bytes)?;
         Some(self.clear_payload(memory, map, block))
@@ -233,14 +222,11 @@ impl Heap {
         ensures taken { (hole : Spot)
             → hole_for bytes (shape_in self.old (part_at self.old memory.old)) ≡ Some hole →
             TakesHole self.old self.new bytes hole memory.old memory.new map.now }
-        ensures sound { IsSound self.new memory.new map.now }
-        ensures others { KeepsShares (payer_of self.old) memory.old memory.new
-            map.now.heap map.now.tags map.now.heap map.now.tags }
-        ensures payer { payer_of self.new ≡ payer_of self.old }
+        ensures keeps { Keeps self.old self.new memory.old memory.new map.now map.now }
         ensures around { around (keys_in self.old) memory.new
             ≡ around (keys_in self.old) memory.old }
-        ensures none { IfNone result (memory.new ≡ memory.old) }
-        ensures unchanged { IfNone result (self.new ≡ self.old) }
+        ensures none { Unchanged (IfNone result)
+            self.old self.new memory.old memory.new map.now map.now }
     {
         let _ = map;
         take::<Brand>(&mut self.fit, memory, &self.chunks, bytes, Blank::new(1))

@@ -3,7 +3,7 @@ ghost use Rattle.std.specs.Prelude.{◌≡◌, ℕ, ◌+◌, ◌-◌, ◌%◌, �
 ghost use Rattle.std.specs.FinMap.{get};
 ghost use Rattle.own_model.specs.Sliced.{block_found};
 ghost use Rattle.dataspace_core.specs.Store.{Exists, space_at};
-ghost use Rattle.heap_core.specs.Calls.{HoldsRange};
+ghost use Rattle.heap_core.specs.Calls.{HoldsRange, FindsRange};
 ghost use Rattle.heap_core.specs.Heap.{payer_of, share_at, heap_at, IsSound};
 ghost use Rattle.heap_core.specs.Lookup.{LiesAt, LiesInChunk, LiesInLarge, LiesOutside};
 
@@ -111,10 +111,7 @@ impl Heap {
         requires sound { IsSound self.now memory.old map.now }
         requires some { 1 ≤ count }
         requires lies { LiesInChunk self.now address at.chunk at.offset }
-        ensures some { IfSome result
-            (λ found. HoldsRange self.now memory.old map.now found.0.0 found.1 address count) }
-        ensures none { IfNone result
-            (block_found (heap_at self.now memory.old map.now).payloads address count ≡ None) }
+        ensures finds { FindsRange self.now memory.old map.now address count result }
         ensures memory { memory.new ≡ memory.old }
     {
         let _ = map;
@@ -140,10 +137,7 @@ impl Heap {
         requires some { 1 ≤ count }
         requires lies { LiesInLarge
             (share_at (payer_of self.now) memory.now map.now) address start ds.0 }
-        ensures some { IfSome result
-            (λ found. HoldsRange self.now memory.now map.now found.0.0 found.1 address count) }
-        ensures none { IfNone result
-            (block_found (heap_at self.now memory.now map.now).payloads address count ≡ None) }
+        ensures { FindsRange self.now memory.now map.now address count result }
     {
         let _ = map;
         let offset = address - start;

@@ -1,11 +1,11 @@
 //! What a heap gives back.
-ghost use Rattle.std.specs.Prelude.{◌≡◌, ℕ, ◌+◌, ◌*◌, ◌<◌, ◌≤◌, [], length, slice_index, IsSome, OnOk, OnErr, Some, None};
-ghost use Rattle.std.specs.FinMap.{get, remove};
+ghost use Rattle.std.specs.Prelude.{◌≡◌, ℕ, ◌<◌, ◌≤◌, [], length, slice_index, IsSome, OnOk, OnErr, Some, None};
+ghost use Rattle.std.specs.FinMap.{get};
 ghost use Rattle.std.specs.Result.{result_err};
 ghost use Rattle.dataspace_core.specs.Share.{KeepsShares};
-ghost use Rattle.heap_core.specs.Calls.{GivesAll, GivesSmall, GivesLarge, free_refusal};
+ghost use Rattle.heap_core.specs.Calls.{GivesAll, GivesSmall, GivesLarge, LosesLarge, Keeps, Unchanged, free_refusal};
 ghost use Rattle.heap_core.specs.End.{EndsChunks, EndsLarge};
-ghost use Rattle.heap_core.specs.Heap.{payer_of, share_at, heap_at, large_regions, times_in, IsSound};
+ghost use Rattle.heap_core.specs.Heap.{payer_of, share_at, heap_at, times_in, IsSound};
 ghost use Rattle.heap_core.specs.Lookup.{LiesInChunk, LiesInLarge};
 
 use crate::blocks::give;
@@ -125,13 +125,9 @@ impl Heap {
         ensures small { OnOk result
             (GivesSmall self.old self.new address memory.old memory.new map.now map.now) }
         ensures is_small { get (heap_at self.old memory.old map.now).large address ≡ None }
-        ensures sound { IsSound self.new memory.new map.now }
-        ensures others { KeepsShares
-            (payer_of self.old) memory.old memory.new
-            map.now.heap map.now.tags map.now.heap map.now.tags }
-        ensures payer { payer_of self.new ≡ payer_of self.old }
-        ensures memory_err { OnErr result (memory.new ≡ memory.old) }
-        ensures err { OnErr result (self.new ≡ self.old) }
+        ensures keeps { Keeps self.old self.new memory.old memory.new map.now map.now }
+        ensures err { Unchanged (OnErr result)
+            self.old self.new memory.old memory.new map.now map.now }
     {
         let _ = map;
         let _ = address;
@@ -167,14 +163,9 @@ impl Heap {
             (GivesLarge self.old self.new address memory.old memory.new map.old map.new) }
         ensures is_large { OnOk result
             (IsSome (get (heap_at self.old memory.old map.old).large address)) }
-        ensures sound { IsSound self.new memory.new map.new }
-        ensures others { KeepsShares
-            (payer_of self.old) memory.old memory.new
-            map.old.heap map.old.tags map.new.heap map.new.tags }
-        ensures payer { payer_of self.new ≡ payer_of self.old }
-        ensures memory_err { OnErr result (memory.new ≡ memory.old) }
-        ensures map_err { OnErr result (map.new ≡ map.old) }
-        ensures err { OnErr result (self.new ≡ self.old) }
+        ensures keeps { Keeps self.old self.new memory.old memory.new map.old map.new }
+        ensures err { Unchanged (OnErr result)
+            self.old self.new memory.old memory.new map.old map.new }
     {
         if start != address {
             return Err(Refusal::PageFault);
@@ -192,18 +183,11 @@ impl Heap {
             LiesInLarge (share_at (payer_of self.old) memory.old map.old) start start ds.0 }
         ensures given { let start = slice_index self.old.large.items index in
             GivesLarge self.old self.new start memory.old memory.new map.old map.new }
-        ensures count { length self.new.large.items + 1 ≡ length self.old.large.items }
-        ensures chunks { self.new.chunks ≡ self.old.chunks }
-        ensures fit { self.new.fit ≡ self.old.fit }
-        ensures left { let start = slice_index self.old.large.items index in
+        ensures loses { let start = slice_index self.old.large.items index in
             let account = payer_of self.old in
-            large_regions (share_at account memory.new map.new)
-            ≡ remove (large_regions (share_at account memory.old map.old)) start }
-        ensures sound { IsSound self.new memory.new map.new }
-        ensures others { KeepsShares
-            (payer_of self.old) memory.old memory.new
-            map.old.heap map.old.tags map.new.heap map.new.tags }
-        ensures payer { payer_of self.new ≡ payer_of self.old }
+            LosesLarge self.old self.new start
+            (share_at account memory.old map.old) (share_at account memory.new map.new) }
+        ensures keeps { Keeps self.old self.new memory.old memory.new map.old map.new }
     {
         let start = self.large.swap_remove(index);
         map.detach_heap(start);

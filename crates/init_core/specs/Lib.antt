@@ -1,3 +1,4 @@
+pub mod Mark
 pub mod Members
 pub mod Rules
 pub mod Entries

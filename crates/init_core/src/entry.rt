@@ -5,13 +5,14 @@ ghost use Rattle.std.specs.Result.{result_map_both};
 ghost use Rattle.own_model.specs.Listed.{offers, serves};
 ghost use Rattle.serde_json.specs.View.{view};
 ghost use Rattle.init_core.specs.Entries.{binary_of, binary_told, entries_after, entry_of, is_service_of, is_taken, new_name, no_binary, own_route, provided, provided_in};
+ghost use Rattle.init_core.specs.Mark.{mark_of};
 ghost use Rattle.init_core.specs.Members.{name_in};
 ghost use Rattle.init_core.specs.View.{model_binary};
 ghost use Rattle.init_core.specs.declared.fault.BootFault.TheVariants.{NoMemory, BadConfig, QuotaExceeded};
 
 use crate::fault::{BootFault, Field};
 use crate::member::{amount_at, name_at, whole_at};
-use crate::name::Name;
+use crate::name::{Mark, Name};
 use crate::rule::{Rule, read_rules};
 use serde_json::Value;
 use std::alloc::Global;
@@ -62,6 +63,8 @@ impl Binary {
 #[derive(Debug, Drop)]
 pub struct Entry {
     name: Name,
+    /// Of its name.
+    mark: Mark,
     binary: Binary,
     ram: u64,
     caps: u32,
@@ -85,6 +88,11 @@ impl Model for Entry {
       provides = entry.provides;
       route = option_map (λ rules. rules.items) entry.route;
     } };
+
+    ghost use Rattle.std.specs.Prelude.{◌≡◌};
+    ghost use Rattle.init_core.specs.Mark.{mark_of};
+
+    ghost invariant = { λ entry. entry.mark.0 ≡ mark_of entry.name };
 }
 
 impl Entry {
@@ -107,6 +115,7 @@ impl Entry {
         ))?;
         let route = read_route(alloc, value.get("route"))?;
         Ok(Entry {
+            mark: Mark::of(name.as_bytes()),
             name,
             binary,
             ram,
@@ -122,6 +131,13 @@ impl Entry {
         ensures short { length result.now ≤ 32 }
     {
         self.name.as_bytes()
+    }
+
+    /// The mark of its name.
+    pub(crate) fn mark(&self) -> Mark
+        ensures { result.0 ≡ mark_of self.now.name }
+    {
+        self.mark
     }
 
     /// The fault of the entry where what init still has doesn't cover it.

@@ -14,6 +14,7 @@ ghost use Rattle.init_core.specs.declared.fault.BootFault.TheVariants.{NoMemory,
 use crate::entry::{Entry, read_entries};
 use crate::fault::{BootFault, Field};
 use crate::member::{short_list, whole_at};
+use crate::name::Mark;
 use crate::rule::{Rule, read_rules};
 use serde_json::Value;
 use std::alloc::Global;
@@ -166,7 +167,10 @@ impl StartList {
 fn place_of(entries: &[Entry], name: &[u8]) -> Option<usize>
     ensures { result ≡ position (λ entry. bytes_eq entry.name name.now) entries.now }
 {
-    entries.iter().position(|entry| entry.name() == name)
+    let mark = Mark::of(name);
+    entries
+        .iter()
+        .position(|entry| entry.mark() == mark && entry.name() == name)
 }
 
 /// The value that a text is.

@@ -1,6 +1,7 @@
 //! Names, which hold their own bytes.
 ghost use Rattle.std.specs.Prelude.{◌≡◌, ◌≤◌, length};
 ghost use Rattle.init_core.specs.Members.{name_in};
+ghost use Rattle.init_core.specs.Mark.{mark_of};
 
 use arrayvec::ArrayString;
 use std::fmt;
@@ -9,6 +10,25 @@ use text_read::is_name;
 
 /// The most bytes of a name.
 const LONGEST_NAME: usize = 32;
+
+/// What is compared before the bytes of names are: equal names have equal marks, and few others have.
+#[derive(Clone, Copy, Debug, PartialEq, Eq)]
+pub(crate) struct Mark(u32);
+
+impl Mark {
+    /// The mark of a name: its last four bytes, or else its last one.
+    pub(crate) fn of(name: &[u8]) -> Mark
+        ensures { result.0 ≡ mark_of name.now }
+    {
+        Mark(match name {
+            [.., fourth, third, second, last] => {
+                u32::from_le_bytes([*last, *second, *third, *fourth])
+            }
+            [.., last] => u32::from(*last),
+            [] => 0,
+        })
+    }
+}
 
 /// A name: 1 to 32 letters, digits, `_`, `-` and `.`.
 #[derive(Debug, Drop)]

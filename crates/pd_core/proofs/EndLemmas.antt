@@ -1,5 +1,5 @@
 -- A script's heaps end one after the other, and then its account uses nothing and closes.
-use Rattle.std.proofs.Common.{◌≡◌, ◌≢◌, ◌⊎◌, ℕ, ◌*◌, Option, Some, None, is_some, IsSome, unwrap_or, refl, sym, ap, subst, ◌∙◌, arith, inl, inr}
+use Rattle.std.proofs.Common.{◌≡◌, ◌≢◌, ℕ, ◌*◌, Option, Some, None, is_some, unwrap_or, refl, sym, ap, subst, ◌∙◌, arith, inl, inr}
 use Rattle.std.proofs.lemmas.Option.{none-some}
 use Rattle.std.specs.FinMap.{get, len}
 use Rattle.trade_base.specs.declared.id.AccountId.{AccountId}
@@ -8,7 +8,6 @@ use Rattle.own_model.specs.HeapWindow.{heap_low, heap_high}
 use Rattle.own_model.specs.NatMap.{total}
 use Rattle.own_model.specs.Region.{Region}
 use Rattle.own_model.specs.Sliced.{block_size}
-use Rattle.own_model.specs.Sound.{LieApart}
 use Rattle.own_model.specs.Use.{heap_count, heap_size, object_caps}
 use Rattle.own_model.proofs.ApartLemmas.{LieApart-fewer}
 use Rattle.own_model.proofs.NatMapLemmas.{none_at, some_of, value_at}
@@ -21,7 +20,7 @@ use Rattle.dataspace_core.proofs.PartLaws.{account_of-part, open_in_part, part_o
 use Rattle.heap_core.specs.declared.heap.Heap.{Heap}
 use Rattle.heap_core.specs.Calls.{GivesAll as GivesAllOfHeap}
 use Rattle.heap_core.specs.Heap.{payer_of as heap_payer, heap_at, IsSound as IsSoundHeap}
-use Rattle.heap_core.specs.Laws.{block_region, HeapStays}
+use Rattle.heap_core.specs.Laws.{HeapStays}
 use Rattle.sliced_heap.specs.declared.heap.SlicedHeap.{SlicedHeap}
 use Rattle.sliced_heap.specs.Heap.{payer_of, share_at, IsSound as IsSoundSliced, KeepsOthers, GivesAll}
 use Rattle.sliced_heap.specs.Sliced.{block_regions}
@@ -32,7 +31,7 @@ use Rattle.pd_core.specs.Release.{IsCleared}
 use Rattle.pd_core.specs.Sound.{IsSoundScript, Keeps}
 use Rattle.heap_window.proofs.BesideLemmas.{standing, none_standing, sliced_standing, elsewhere_standing}
 use Rattle.pd_core.proofs.OwnLemmas.{all_sessions, selects}
-use Rattle.pd_core.proofs.SlicedLemmas.{heap_beside, parts_stay}
+use Rattle.pd_core.proofs.SlicedLemmas.{LeavesHeap, heap_beside, parts_stay}
 
 module _ (store : Store) (script : Script) (sound : IsSoundScript store script) where
   -- ---- the sliced heap ends
@@ -52,31 +51,28 @@ module _ (store : Store) (script : Script) (sound : IsSoundScript store script) 
           | Some q ↦ λ one. absurd (none-some r (sym (given.gone s q one) ∙ at))
         ] refl
 
-    -- so it is a chunk's or a large block's
-    where_is : (s : ℕ) (r : Region) → get after.heap s ≡ Some r →
-        (get (block_regions (share_at script.account.0 mid after)) s ≡ Some r) ⊎ ((get script.regions.heap s ≡ Some r) × IsSome (block_region (share_at script.account.0 store script.regions) s))
-    where_is s r at = let was = was_there s r at in elim (sound.heaps.all s r was.0) [
-      | inl one ↦ absurd (none-some r (sym was.1 ∙ one))
-      | inr one ↦ inr (was.0, one)
-    ]
-
-    -- chunks and large blocks stand where they stood
-    beside : (s : ℕ) → standing after.heap after.tags s ≡ standing script.regions.heap script.regions.tags s
-    beside s =
+    -- so it is a chunk's or a large block's, and these stand where they stood
+    leaves : LeavesHeap store script mid after
+    leaves =
         let blocks = block_regions (share_at script.account.0 store script.regions) in
-        elim (get blocks s) as (λ o. get blocks s ≡ o → standing after.heap after.tags s ≡ standing script.regions.heap script.regions.tags s) [
-          | None ↦ λ none. let same = given.kept s none in elsewhere_standing script.regions.heap after.heap script.regions.tags after.tags s same.0 same.1
-          | Some q ↦ λ one.
-              let is = shown_block script.account.0 store script.regions s q one in
-              none_standing after.heap after.tags s (given.gone s q one) ∙ sym (sliced_standing script.regions.heap script.regions.tags s q is.there is.tag)
-        ] refl
-
-    lie : LieApart heap_low (heap_high script.regions.pages) after.heap
-    lie = LieApart-fewer heap_low (heap_high script.regions.pages) script.regions.heap after.heap (λ s r at. (was_there s r at).0) sound.heaps.heap.window.lie
+        let heap = script.regions.heap in record {
+          lie = LieApart-fewer heap_low (heap_high script.regions.pages) heap after.heap (λ s r at. (was_there s r at).0) sound.heaps.heap.window.lie;
+          beside = λ s. elim (get blocks s) as (λ o. get blocks s ≡ o → standing after.heap after.tags s ≡ standing heap script.regions.tags s) [
+            | None ↦ λ none. let same = given.kept s none in elsewhere_standing heap after.heap script.regions.tags after.tags s same.0 same.1
+            | Some q ↦ λ one.
+                let is = shown_block script.account.0 store script.regions s q one in
+                none_standing after.heap after.tags s (given.gone s q one) ∙ sym (sliced_standing heap script.regions.tags s q is.there is.tag)
+          ] refl;
+          keeps = λ k none held. given.dataspaces k none;
+          either = λ s r at. let was = was_there s r at in elim (sound.heaps.all s r was.0) [
+            | inl one ↦ absurd (none-some r (sym was.1 ∙ one))
+            | inr one ↦ inr (was.0, one)
+          ];
+        }
 
     -- so the other heap stays
     pub heap_left : HeapStays script.heap store mid script.regions after
-    heap_left = heap_beside store script sound left pays others lie beside (λ k none held. given.dataspaces k none) where_is
+    heap_left = heap_beside store script sound left pays others leaves
 
     -- the account is credited with the blocks
     credit : account_of (part script.account.0 mid)

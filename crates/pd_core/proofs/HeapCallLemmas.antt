@@ -25,7 +25,7 @@ use Rattle.pd_core.specs.Own.{Sessions, own_of, own_at}
 use Rattle.pd_core.specs.Sound.{IsScript, IsSoundScript, rpc_weight}
 use Rattle.pd_core.specs.declared.script.Script.{Script}
 use Rattle.heap_window.proofs.BesideLemmas.{maps_memory}
-use Rattle.pd_core.proofs.ScriptLemmas.{Finishes}
+use Rattle.pd_core.specs.Does.{Does}
 use Rattle.pd_core.proofs.SlicedLemmas.{ChangesHeaps, finishes_heaps}
 use Rattle.heap_window.proofs.WindowLemmas.{IsTagged, IsOfEither, of_either}
 use Rattle.heap_window.specs.Window.{IsNoHeapBlock}
@@ -127,7 +127,7 @@ module _ (store : Store) (script : Script) (sound : IsSoundScript store script) 
   -- what a call does in parts finishes
   pub finishes_parts : {call : Call} {reply : Reply} {store' : Store} {after : Regions} {heap' : Heap} →
       Ends (heap_payer script.heap) call reply store script.caps script.regions script.heap store' after heap' →
-      Finishes call reply store script store' (record script { regions = after; heap = heap' })
+      Does call reply store script store' (record script { regions = after; heap = heap' })
   unfolding own_of
   finishes_parts {call} {reply} {store'} {after} {heap'} ends =
       let e : Ends script.account.0 call reply store script.caps script.regions script.heap store' after heap'

@@ -35,7 +35,7 @@ use Rattle.pd_core.specs.Sound.{IsSoundScript}
 use Rattle.pd_core.specs.declared.script.Script.{Script}
 use Rattle.pd_core.proofs.HeapCallLemmas.{Owns, Ends, Alone, own_in, parts, finishes_parts}
 use Rattle.pd_core.proofs.OwnLemmas.{all_sessions}
-use Rattle.pd_core.proofs.ScriptLemmas.{Finishes}
+use Rattle.pd_core.specs.Does.{Does}
 use Rattle.pd_core.proofs.SlicedLemmas.{same_gap}
 use Rattle.pd_core.proofs.HeapChangeLemmas.{alone_in_place, alone_attached, alone_detached}
 
@@ -281,7 +281,7 @@ module _ (store : Store) (script : Script) (sound : IsSoundScript store script) 
         (65536 ≤ n → TakesLarge script.heap heap' n address store store' script.regions after) →
         ((hole : Spot) → n < 65536 → hole_for n (shape_in script.heap (part (heap_payer script.heap) store)) ≡ Some hole → TakesSmall script.heap heap' n hole address store store' script.regions after) →
         (n < 65536 → hole_for n (shape_in script.heap (part (heap_payer script.heap) store)) ≡ None → TakesGrown script.heap heap' n address store store' script.regions after) →
-        Finishes (New n) (Attached address) store script store' (record script { regions = after; heap = heap' })
+        Does (New n) (Attached address) store script store' (record script { regions = after; heap = heap' })
     new_finishes n address accepted large small grown =
         finishes_parts store script sound (new_ends (parts store script sound) sound' payer shares gaps n address accepted large small grown)
 
@@ -289,6 +289,6 @@ module _ (store : Store) (script : Script) (sound : IsSoundScript store script) 
     pub del_finishes : (address : ℕ) → None ≡ free_refusal (heap_at script.heap store script.regions) address →
         (get (heap_at script.heap store script.regions).large address ≡ None → GivesSmall script.heap heap' address store store' script.regions after) →
         ((size : ℕ) → get (heap_at script.heap store script.regions).large address ≡ Some size → GivesLarge script.heap heap' address store store' script.regions after) →
-        Finishes (Del address) Done store script store' (record script { regions = after; heap = heap' })
+        Does (Del address) Done store script store' (record script { regions = after; heap = heap' })
     del_finishes address accepted small large =
         finishes_parts store script sound (del_ends (parts store script sound) sound' payer shares address accepted small large)

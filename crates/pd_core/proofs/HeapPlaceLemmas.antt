@@ -1,8 +1,8 @@
 -- A script's peeks and pokes where a range lies in a payload of its heap.
 use Rattle.std.proofs.Common.{◌≡◌, ℕ, ◌+◌, ◌-◌, ◌*◌, ◌≤◌, ◌<◌, true, List, [], length, Some, is_some, refl, sym, ap, ◌∙◌, arith, slice_range, inl, inr}
 use Rattle.std.proofs.lemmas.Bool.{cases_eq}
-use Rattle.std.proofs.lemmas.Option.{none-some, same_Some}
-use Rattle.std.specs.Prelude.{Option, None}
+use Rattle.std.proofs.lemmas.Option.{same_Some}
+use Rattle.std.specs.Prelude.{None}
 use Rattle.std.specs.Option.{option_map, option_and_then}
 use Rattle.std.specs.FinMap.{get, len}
 use Rattle.trade_base.specs.Bytes.{with_bytes}
@@ -18,6 +18,7 @@ use Rattle.own_model.proofs.CallLemmas.{found_block, peeks_block, pokes_block}
 use Rattle.own_model.proofs.HeapStepLemmas.{not_both, payload_some, payload_within_range, heap_lies}
 use Rattle.own_model.proofs.Totals.{len-insert_at}
 use Rattle.cap_space.specs.Space.{Space}
+use Rattle.region_map.proofs.FoundLaws.{told_from}
 use Rattle.region_map.specs.Regions.{Regions}
 use Rattle.dataspace_core.specs.Store.{Store, Part, part, account_of, bytes_of, part_with_bytes, PartBecomes}
 use Rattle.dataspace_core.specs.Share.{share_in}
@@ -38,11 +39,6 @@ use Rattle.heap_core.proofs.RangeLemmas.{payload_poked, payload_read}
 use Rattle.heap_core.proofs.BlockRangeLemmas.{blocks_are_regions as heap_blocks_are_regions}
 use Rattle.heap_window.proofs.WindowLemmas.{IsPut, is_put, blocks_in_place, tagged}
 use Rattle.heap_window.proofs.ShareLemmas.{kept_tag, low_tag}
-
--- what is made of something comes from something
-mapped_from : {X Y : Type 0} (f : X → Y) (o : Option X) (y : Y) → option_map f o ≡ Some y → (x : X) × (o ≡ Some x) × (f x ≡ y)
-mapped_from f None y is = absurd (none-some y is)
-mapped_from f (Some x) y is = (x, refl, same_Some (f x) y is)
 
 module _ {store : Store} {space : Space} {regions : Regions} {heap : Heap} (o : Owns (heap_payer heap) store space regions heap) (ds offset address count : ℕ)
     (held : HoldsRange heap store regions ds offset address count) where
@@ -88,7 +84,7 @@ module _ {store : Store} {space : Space} {regions : Regions} {heap : Heap} (o : 
       let high = heap_high largest_machine in
       let within = payload_within_range high s.heap h.heap_parts (heap_lies s h) held.at held.payload held.starts in
       let long = payload_some high s.heap h.heap_parts (heap_lies s h) held.at held.payload held.starts in
-      let block = mapped_from (λ (e : Region × ℕ). record { of = 0; pages = e.0.pages }) (block_region (share_at a store regions) within.0) within.1.range
+      let block = told_from (λ (e : Region × ℕ). record { of = 0; pages = e.0.pages }) (block_region (share_at a store regions) within.0) within.1.range
       (sym (heap_blocks_are_regions heap store regions o.sound within.0) ∙ within.1.there) in
       let shared = region_of_block (share_at a store regions) within.0 block.0 block.1 in
       let low = low_tag (get (share_at a store regions).heap within.0) (get (share_at a store regions).tags within.0) (ap is_some block.1) in

@@ -8,6 +8,7 @@ use Rattle.own_model.specs.Text.{bytes_of_hex, hex_digit_of}
 use Rattle.std.proofs.lemmas.Option.{same_Some}
 use Rattle.heap_core.specs.Words.{are_bytes}
 use Rattle.own_model.proofs.LogLemmas.{bytes_of_digits}
+use Rattle.text_read.proofs.AddressLemmas.{digit_below}
 use Rattle.text_read.proofs.HexLemmas.{parts}
 use Rattle.pd_core.specs.Call.{bytes_in}
 
@@ -18,11 +19,7 @@ half_is text some =
     let same : length (bytes_in text) ≡ length bytes.0 = ap (λ o. length (unwrap_or o [])) bytes.1 in
     omega (arith, bytes_of_digits text bytes.0 bytes.1, same)
 
--- a digit's value is below 16
-digit_small : (b d : ℕ) → hex_digit_of b ≡ Some d → d < 16
-digit_small b d is = grind (arith, nat_tests, same_Some)
-
--- so two digits are a byte
+-- two digits are a byte
 byte_small : (high low : ℕ) → high < 16 → low < 16 → nat_lt (high * 16 + low) 256 ≡ true
 byte_small high low h l = grind (arith, nat_tests)
 
@@ -32,7 +29,7 @@ decoded_small [] bytes is = ap are_bytes (sym (same_Some [] bytes is))
 decoded_small (digit ∷ []) bytes is = absurd (true≢false (sym (ap is_some is)))
 decoded_small (high ∷ low ∷ rest) bytes is =
     let p = parts (hex_digit_of high) (hex_digit_of low) (bytes_of_hex rest) bytes is in
-    ap are_bytes p.all ∙ ap (λ b. b && are_bytes p.rest) (byte_small p.high p.low (digit_small high p.high p.is_high) (digit_small low p.low p.is_low))
+    ap are_bytes p.all ∙ ap (λ b. b && are_bytes p.rest) (byte_small p.high p.low (digit_below high p.high p.is_high) (digit_below low p.low p.is_low))
     ∙ decoded_small rest p.rest p.is_rest
 
 -- the same of the bytes that text stands for

@@ -2,9 +2,9 @@ pub mod HexLemmas
 pub mod SpellingLemmas
 pub mod NameLemmas
 pub mod SessionOwnLemmas
-pub mod SessionCallLemmas
+pub mod SessionStepLemmas
 pub mod SessionScriptLemmas
-pub mod SessionDoneLemmas
+pub mod NamedSessionLemmas
 pub mod ServerLemmas
 pub mod HeldLemmas
 pub mod ChangeLemmas
@@ -12,9 +12,9 @@ pub mod RoleLemmas
 pub mod WorldLemmas
 pub mod PlainLemmas
 pub mod SessionChangeLemmas
-pub mod SessionAccountLemmas
+pub mod ClientServerLemmas
 pub mod SessionRefusedLemmas
-pub mod SessionGoesLemmas
+pub mod SessionWorldLemmas
 pub mod SessionOpenLemmas
 pub mod OwnLemmas
 pub mod ScriptLemmas
@@ -26,7 +26,7 @@ pub mod PlaceLemmas
 pub mod ComponentLemmas
 pub mod QuotaLemmas
 pub mod RouterLemmas
-pub mod SessionLedLemmas
+pub mod RoutedSessionLemmas
 pub mod FreshLemmas
 pub mod HeapCallLemmas
 pub mod HeapChangeLemmas

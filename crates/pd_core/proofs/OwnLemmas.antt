@@ -2,21 +2,18 @@
 use Rattle.std.proofs.Common.{◌≡◌, ℕ, false, ◌+◌, ◌*◌, ◌/◌, ◌≤◌, ◌≢◌, List, [], ◌∷◌, length, Option, Some, None, is_some, IsSome, inl, inr, subst, true≢false, refl, sym, ap, ◌∙◌, arith}
 use Rattle.std.specs.Option.{option_map, option_and_then, unwrap_or}
 use Rattle.std.specs.FinMap.{get, insert, remove, len}
-use Rattle.std.specs.Prelude.{Result, IsErrAnd}
 use Rattle.std.proofs.lemmas.Bool.{cases_eq}
 use Rattle.std.proofs.lemmas.Option.{none-some, same_Some}
-use Rattle.std.proofs.lemmas.Result.{err_from_is_err_and}
 use Rattle.trade_base.specs.declared.id.DsId.{DsId}
 use Rattle.trade_base.specs.declared.id.Selector.{Selector}
 use Rattle.trade_base.specs.declared.id.SessionId.{SessionId}
-use Rattle.trade_base.specs.declared.refusal.Refusal.{Refusal}
 use Rattle.own_model.specs.NatMap.{NatMap, picked, total}
 use Rattle.own_model.specs.Account.{opened, charged, credited}
 use Rattle.own_model.specs.Call.{Call}
 use Rattle.own_model.specs.OwnHeap.{OwnHeap}
 use Rattle.own_model.specs.OwnState.{OwnState, named_bytes, Object, new_selector, pages_in}
 use Rattle.own_model.specs.OwnState.Object.{Dataspace as ADataspace, OpenSession, Buffer as ABuffer}
-use Rattle.own_model.specs.OwnStep.{Outcome, refused, script_step, unrouted}
+use Rattle.own_model.specs.OwnStep.{Outcome, script_step, unrouted}
 use Rattle.own_model.specs.Region.{Region}
 use Rattle.own_model.specs.Reply.{Reply}
 use Rattle.own_model.specs.Reply.Reply.{Selected, Done}
@@ -36,8 +33,6 @@ use Rattle.region_map.specs.Regions.{Regions}
 use Rattle.dataspace_core.specs.Store.{Store, Part, part, space_at, account_of, bytes_of, PartBecomes}
 use Rattle.dataspace_core.proofs.PartLaws.{paid_in_part}
 use Rattle.sliced_heap.specs.Laws.{KeepsHeapWindow}
-use Rattle.pd_core.specs.declared.answer.Answer.{Answer}
-use Rattle.pd_core.specs.Answer.{outcome_of}
 use Rattle.pd_core.specs.Own.{Sessions, HasSessions, object_of, selector_of, regions_of, own_of}
 use Rattle.pd_core.specs.Sound.{rpc_weight, session_weight, session_at, IsOne, AreNamed, AreBlocks, IsLawful, IsScript}
 use Rattle.pd_core.proofs.NameLemmas.{Names, is_named, regions_alike, attached_alike}
@@ -82,12 +77,6 @@ settled {call} {p} {q} {p'} {space} {t} {space'} {regions} {r} {heap = heap} {sl
 -- a map that stays
 pub same_window : {regions : Regions} → KeepsHeapWindow regions regions
 same_window = record { heap = refl; tags = refl; most = refl; pages = refl }
-
--- what a refused call gives back and leaves
-pub refused_told : (answered : Result Answer Refusal) {refusal : Refusal} {next b : OwnState} → IsErrAnd answered (λ y. y ≡ refusal) → next ≡ b → outcome_of answered next ≡ refused b refusal
-refused_told answered {refusal} {b = b} err same =
-    let told = err_from_is_err_and answered err in
-    ap (outcome_of answered) same ∙ ap (λ r. outcome_of r b) told.1 ∙ ap (refused b) told.2
 
 -- what holds of a capability's object, by kinds: a dataspace's depends on its bytes alone
 object_alike : (sessions : Sessions) (p p' : Part) (cap : Cap) → ((ds : DsId) → cap ≡ Dataspace ds → get p'.spaces ds.0 ≡ get p.spaces ds.0) → object_of sessions p' cap ≡ object_of sessions p cap

@@ -36,7 +36,8 @@ use Rattle.pd_core.proofs.HeapCallLemmas.{own_in, parts, finishes_parts}
 use Rattle.heap_core.proofs.StayLemmas.{heap_stays}
 use Rattle.pd_core.proofs.HeapPlaceLemmas.{block_fits, block_peeked, block_poked_ends}
 use Rattle.pd_core.proofs.OwnLemmas.{settled}
-use Rattle.pd_core.proofs.ScriptLemmas.{Finishes, finishes, at_heap, block_there, is_region}
+use Rattle.pd_core.specs.Does.{Does}
+use Rattle.pd_core.proofs.ScriptLemmas.{finishes, at_heap, block_there, is_region}
 use Rattle.pd_core.proofs.SlicedLemmas.{ChangesHeaps, no_block, finishes_heaps}
 use Rattle.heap_window.proofs.WindowLemmas.{IsPut, is_put}
 
@@ -160,7 +161,7 @@ module _ (store : Store) (script : Script) (sound : IsSoundScript store script) 
         }
 
     -- so the poke is the model's
-    payload_finishes : Finishes (Poke address bytes) Done store script store' script
+    payload_finishes : Does (Poke address bytes) Done store script store' script
     unfolding own_of
     payload_finishes =
         let blocks = subst (λ a. blocks_at a store' script.regions ≡ insert (blocks_at a store script.regions) (is.holds.start + header) over) sound.heaps.sliced_pays pokes.blocks in
@@ -230,7 +231,7 @@ module _ (store : Store) (script : Script) (sound : IsSoundScript store script) 
   -- a poke puts its bytes over them
   pub poke_finishes : (count : ℕ) (bytes : List ℕ) {store' : Store} → count ≡ length bytes → count_refusal count ≡ None → are_bytes bytes ≡ true → IsFound store script address count ds offset →
       PartBecomes script.account.0 (part_with_bytes (part_at store script) ds offset bytes) store store' →
-      Finishes (Poke address bytes) Done store script store' script
+      Does (Poke address bytes) Done store script store' script
   poke_finishes count bytes {store'} size few are is becomes = elim is [
     | inl at ↦ finishes store script sound becomes (settled becomes.own refl refl (poke_settles _ _ _ _ _ sound.own address count ds offset few at bytes size))
     | inr payload ↦

@@ -10,7 +10,7 @@ use Rattle.trade_base.specs.declared.refusal.Refusal.{Refusal}
 use Rattle.trade_base.specs.declared.refusal.Refusal.TheVariants.{InvalidSession}
 use Rattle.own_model.specs.NatMap.{NatMap, picked}
 use Rattle.own_model.specs.OwnState.{OwnState, session_named}
-use Rattle.own_model.specs.OwnState.Object.{Dataspace as ADataspace, OpenSession}
+use Rattle.own_model.specs.OwnState.Object.{OpenSession}
 use Rattle.own_model.specs.Session.{Session as AnOpenSession, Labelled}
 use Rattle.own_model.specs.Transcript.{nothing, state_at}
 use Rattle.own_model.proofs.NatMapLemmas.{get-empty, get-picked, get-picked_none}
@@ -31,8 +31,9 @@ use Rattle.pd_core.specs.Exit.{HasSelectorsTo}
 use Rattle.pd_core.specs.SessionCalls.{named_in}
 use Rattle.pd_core.specs.Sound.{session_at}
 use Rattle.pd_core.proofs.ServerLemmas.{row_is}
-use Rattle.pd_core.proofs.SessionAccountLemmas.{its as named_row}
-use Rattle.pd_core.proofs.SessionGoesLemmas.{Names, named_two, named_cap, host_within}
+use Rattle.pd_core.proofs.ClientServerLemmas.{its as named_row}
+use Rattle.pd_core.proofs.SessionRefusedLemmas.{no_space}
+use Rattle.pd_core.proofs.SessionWorldLemmas.{Names, named_two, named_cap, host_within}
 use Rattle.pd_core.proofs.WorldLemmas.{role_at}
 use Rattle.pd_core.specs.declared.component.Component.{Component}
 use Rattle.pd_core.specs.declared.component.Role.{Role}
@@ -92,11 +93,6 @@ none_at_place rules store components i d last here read to q past =
     ap (λ (s : OwnState). get s.selectors q) (own_at_place rules store components i d here ∙ ap (own S store) (sym read)) ∙ no_object S store d.role q (none_past last (caps_in d.role) to q past)
 
 -- ---- the sessions that selectors name
-
--- a dataspace is no session
-no_space : (o : Option (List ℕ)) → session_named (option_map ADataspace o) ≡ None
-no_space None = refl
-no_space (Some bytes) = refl
 
 -- an open session is itself
 itself : (o : Option AnOpenSession) → session_named (option_map OpenSession o) ≡ o

@@ -1,13 +1,16 @@
 -- A script over the memory: what its own calls leave, and what another's call leaves of it.
-use Rattle.std.proofs.Common.{◌≡◌, ℕ, [], Some, subst, refl, sym, ap, ◌∙◌, ⊎_elim, inl, inr, length, is_some}
-use Rattle.std.specs.Prelude.{◌⊎◌, Option, IsSome}
+use Rattle.std.proofs.Common.{rules, ◌≡◌, ℕ, [], Some, subst, refl, sym, ap, ◌∙◌, ⊎_elim, inl, inr, length, is_some}
+use Rattle.std.specs.Prelude.{◌⊎◌, Option, IsSome, Result, IsErrAnd}
+use Rattle.std.proofs.lemmas.Result.{err_from_is_err_and}
+use Rattle.trade_base.specs.declared.refusal.Refusal.{Refusal}
 use Rattle.std.specs.Option.{option_map, unwrap_or}
 use Rattle.std.specs.FinMap.{get}
 use Rattle.own_model.specs.Account.{Account, opened}
 use Rattle.own_model.specs.Call.{Call}
-use Rattle.own_model.specs.OwnStep.{Outcome, script_step}
+use Rattle.own_model.specs.OwnStep.{refused, script_step}
 use Rattle.own_model.specs.Region.{Region}
 use Rattle.own_model.specs.Reply.{Reply}
+use Rattle.own_model.specs.Reply.Reply.{Refused}
 use Rattle.own_model.proofs.NatMapLemmas.{some_of}
 use Rattle.cap_space.specs.Space.{Space}
 use Rattle.region_map.specs.Regions.{Regions}
@@ -22,19 +25,27 @@ use Rattle.sliced_heap.specs.Sliced.{block_regions}
 use Rattle.sliced_heap.specs.Laws.{HeapStays}
 use Rattle.heap_window.proofs.ShareLemmas.{shown_block}
 use Rattle.sliced_heap.proofs.HeapLaws.{map_stays_for_payer, heap_stays, heap_stays_elsewhere}
-use Rattle.pd_core.specs.Own.{Sessions, HasSessions, own_of, own_at, part_at, own_heap_at, sliced_at}
-use Rattle.pd_core.specs.Sound.{IsScript, IsSoundScript, Keeps}
+use Rattle.pd_core.specs.declared.answer.Answer.{Answer}
+use Rattle.pd_core.specs.Answer.{reply_of}
+use Rattle.pd_core.specs.Does.{Does}
+use Rattle.pd_core.specs.Own.{Sessions, own_of, own_at, part_at, own_heap_at, sliced_at}
+use Rattle.pd_core.specs.Sound.{IsScript, IsSoundScript}
 use Rattle.pd_core.specs.declared.script.Script.{Script}
 use Rattle.heap_window.proofs.BesideLemmas.{map_of, whole_share, whole_tags, stands_alike}
 use Rattle.heap_window.proofs.ShareLemmas.{region_of_block}
 use Rattle.heap_core.proofs.StayLemmas as heap_laws
 use Rattle.pd_core.proofs.OwnLemmas.{Settles}
 
--- what a call does to the script that makes it: the model's outcome, and what it keeps
-pub record Finishes (call : Call) (reply : Reply) (store : Store) (script : Script) (store' : Store) (script' : Script) : Type 0 where
-  pub outcome : (sessions : Sessions) → HasSessions sessions script.caps.caps →
-      ◌≡◌ {A = Outcome} (record { reply = reply; lines = []; next = own_at sessions store' script' }) (script_step call (own_at sessions store script))
-  pub keeps : Keeps store script store' script'
+-- a refused call leaves all as it is
+pub refuses : {call : Call} {refusal : Refusal} {store : Store} {script : Script} {new : Store} {after : Script} (answered : Result Answer Refusal) → IsErrAnd answered (λ y. y ≡ refusal) →
+    IsSoundScript store script → new ≡ store → after ≡ script → ((sessions : Sessions) → refused (own_at sessions store script) refusal ≡ script_step call (own_at sessions store script)) →
+    Does call (reply_of answered) store script new after
+refuses {call} {refusal} {store} {script} {new} {after} answered err sound memory same is =
+    let told = err_from_is_err_and answered err in
+    let replied : reply_of answered ≡ Refused refusal = ap reply_of told.1 ∙ ap Refused told.2 in
+    let here : Does call (Refused refusal) store script store script = record { outcome = λ sessions ready. is sessions; keeps = search (rules, sound) } in
+    subst (λ r. Does call r store script new after) (sym replied)
+    (subst (λ m. Does call (Refused refusal) store script m after) (sym memory) (subst (λ x. Does call (Refused refusal) store script store x) (sym same) here))
 
 -- a script that stays as it is while another's call changes the memory
 pub record Stays (store : Store) (script : Script) (store' : Store) : Type 0 where
@@ -81,7 +92,7 @@ module _ (store : Store) (script : Script) (sound : IsSoundScript store script) 
   -- a call that leaves the heaps
   pub finishes : {call : Call} {reply : Reply} {store' : Store} {q : Part} {space' : Space} {regions' : Regions} → PartBecomes script.account.0 q store store' →
       Settles call (part_at store script) script.caps script.regions (own_heap_at store script) (sliced_at store script) reply (part script.account.0 store') space' regions' →
-      Finishes call reply store script store' (record script { caps = space'; regions = regions' })
+      Does call reply store script store' (record script { caps = space'; regions = regions' })
   finishes {call} {reply} {store'} {q} {space'} {regions'} becomes done =
       let account = script.account.0 in
       let p' = part account store' in

@@ -31,9 +31,9 @@ use Rattle.pd_core.specs.Sound.{rpc_weight, session_weight, IsLawful, IsSoundScr
 use Rattle.pd_core.specs.declared.script.Script.{Script}
 use Rattle.pd_core.proofs.OwnLemmas.{same_new_selector}
 use Rattle.pd_core.proofs.SessionOwnLemmas.{AreNoSpaces, AreCounted, lawful_whichever}
-use Rattle.pd_core.proofs.SessionCallLemmas.{ChangesOne, some_sessions, some_are_open, some_same, own_put, opens_own}
+use Rattle.pd_core.proofs.SessionStepLemmas.{ChangesOne, some_sessions, some_are_open, some_same, own_put, opens_own}
 use Rattle.pd_core.proofs.SessionScriptLemmas.{own_still, sound_still}
-use Rattle.pd_core.proofs.SessionDoneLemmas.{limit_within, no_space}
+use Rattle.pd_core.proofs.NamedSessionLemmas.{limit_within, no_space}
 
 -- each selector that names a session of the server under this entry names an open one
 abbrev pub NamesOpen : Script → NatMap (Row Labelled) → ℕ → Type 0

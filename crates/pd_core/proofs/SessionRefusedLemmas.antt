@@ -38,7 +38,7 @@ use Rattle.pd_core.specs.declared.component.Role.{Role}
 use Rattle.pd_core.specs.declared.component.Role.TheVariants.{Script as AScript, Log as ALog, Files as AFiles, Gone as AGone}
 use Rattle.pd_core.specs.declared.script.Script.{Script}
 use Rattle.pd_core.proofs.WorldLemmas.{refused_goes}
-use Rattle.pd_core.proofs.SessionDoneLemmas.{refused_reply}
+use Rattle.pd_core.proofs.NamedSessionLemmas.{refused_reply}
 
 -- ---- what a look-up gives
 
@@ -61,7 +61,7 @@ named_script AGone selector named is = absurd (none-some named (ap result_ok is)
 -- ---- refusals
 
 -- a dataspace is none
-no_space : (o : Option (List ℕ)) → session_named (option_map ADataspace o) ≡ None
+pub no_space : (o : Option (List ℕ)) → session_named (option_map ADataspace o) ≡ None
 no_space None = refl
 no_space (Some bytes) = refl
 

@@ -23,6 +23,7 @@ use Rattle.own_model.specs.Sound.{LieApart}
 use Rattle.own_model.proofs.HeapRangeLemmas.{new_page, range_at}
 use Rattle.own_model.proofs.NatMapLemmas.{after_insert, before_remove, apart_from_free, get-insert_same, get-insert_other, get-remove_same, get-remove_other, some_of}
 use Rattle.own_model.proofs.RegionLemmas.{first_gap_alike}
+use Rattle.region_map.proofs.FoundLaws.{told_from}
 use Rattle.region_map.specs.Regions.{Regions}
 use Rattle.cap_space.specs.declared.cap.Cap.TheVariants.{Dataspace}
 use Rattle.dataspace_core.specs.Store.{Store, part, account_in, account_of, root_in, parents_in, room_in, IsOpenIn}
@@ -44,12 +45,8 @@ use Rattle.heap_window.proofs.BesideLemmas.{map_of, standing, whole_standing, sl
 use Rattle.heap_core.proofs.StayLemmas.{heap_stays}
 use Rattle.heap_core.proofs.BlockRangeLemmas.{blocks_are_regions as heap_blocks_are_regions}
 use Rattle.pd_core.proofs.OwnLemmas.{slices}
-use Rattle.pd_core.proofs.ScriptLemmas.{Finishes, at_heap, block_there, is_region}
-
--- what is made of something comes of something
-mapped_some : {X Y : Type 0} (f : X → Y) (o : Option X) (y : Y) → option_map f o ≡ Some y → (x : X) × (o ≡ Some x)
-mapped_some f None y h = absurd (none-some y h)
-mapped_some f (Some x) y h = (x, refl)
+use Rattle.pd_core.specs.Does.{Does}
+use Rattle.pd_core.proofs.ScriptLemmas.{at_heap, block_there, is_region}
 
 -- where no payload starts, none goes
 none_freed : (address : ℕ) (refusal : Refusal) (b : OwnState) (o : Option (List ℕ)) → Some refusal ≡ (if is_some o then None else Some PageFault) → refused b refusal ≡ sliced_freed address o b
@@ -71,6 +68,26 @@ pub record ChangesHeaps (store : Store) (script : Script) (store' : Store) (afte
   pub parents : parents_in store' ≡ parents_in store
   pub room : room_in store' ≡ room_in store
 
+-- a call of the sliced heap leaves the other heap
+pub record LeavesHeap (store : Store) (script : Script) (store' : Store) (after : Regions) : Type 0 where
+  -- the regions still lie apart
+  pub lie : LieApart heap_low (heap_high script.regions.pages) after.heap
+  -- chunks and large blocks stand where they stood
+  pub beside : (s : ℕ) → standing after.heap after.tags s ≡ standing script.regions.heap script.regions.tags s
+  -- other dataspaces stay
+  pub keeps : (k : ℕ) → IsNoBlock (share_at script.account.0 store script.regions) k → IsSome (get (part_at store script).spaces k) → get (part script.account.0 store').spaces k ≡ get (part_at store script).spaces k
+  -- a heap region is a sliced block's, or was there and is one of the heap's
+  pub either : (s : ℕ) (r : Region) → get after.heap s ≡ Some r →
+      (get (block_regions (share_at script.account.0 store' after)) s ≡ Some r) ⊎ ((get script.regions.heap s ≡ Some r) × IsSome (block_region (share_at script.account.0 store script.regions) s))
+
+-- and changes the sliced blocks and what is paid for them
+record ChangesBlocks (store : Store) (script : Script) (store' : Store) (after : Regions) : Type 0 where
+  pub leaves : LeavesHeap store script store' after
+  pub unnamed : (start selector : ℕ) (region : Region) (ds : DsId) → get after.heap start ≡ Some region → get script.caps.caps selector ≡ Some (Dataspace ds) → ds.0 ≢ region.of
+  pub ram_limit : (account_of (part script.account.0 store')).ram_limit ≡ (account_of (part_at store script)).ram_limit
+  pub caps_limit : (account_of (part script.account.0 store')).caps_limit ≡ (account_of (part_at store script)).caps_limit
+  pub spare : len (part script.account.0 store').spaces + total rpc_weight script.caps.caps ≤ (account_of (part script.account.0 store')).caps_used
+
 module _ (store : Store) (script : Script) (sound : IsSoundScript store script) where
   -- such a call finishes
   pub finishes_heaps : {store' : Store} {after : Regions} {heap' : Heap} {sliced' : SlicedHeap} → ChangesHeaps store script store' after heap' sliced' → {call : Call} {reply : Reply} →
@@ -78,7 +95,7 @@ module _ (store : Store) (script : Script) (sound : IsSoundScript store script) 
         reply = reply;
         lines = [];
         next = record (own_at sessions store script) { account = account_of (part script.account.0 store'); heap = heap_at heap' store' after; sliced = blocks_at script.account.0 store' after };
-      }) → Finishes call reply store script store' (record script { regions = after; heap = heap'; sliced = sliced' })
+      }) → Does call reply store script store' (record script { regions = after; heap = heap'; sliced = sliced' })
   finishes_heaps {store'} {after} {heap'} {sliced'} changes {call} {reply} is =
       let account = script.account.0 in
       let p' = part account store' in
@@ -142,18 +159,14 @@ module _ (store : Store) (script : Script) (sound : IsSoundScript store script) 
     unfolding share_in
     parts_stay other apart = ap (λ (s : Share). s.part) (others.shares other (λ e. apart (e ∙ sound.heaps.sliced_pays)))
 
-    module _ (lie : LieApart heap_low (heap_high script.regions.pages) after.heap)
-        (beside : (s : ℕ) → standing after.heap after.tags s ≡ standing script.regions.heap script.regions.tags s)
-        (keeps : (k : ℕ) → IsNoBlock (share_at script.account.0 store script.regions) k → IsSome (get (part_at store script).spaces k) → get (part script.account.0 store').spaces k ≡ get (part_at store script).spaces k)
-        (where_is : (s : ℕ) (r : Region) → get after.heap s ≡ Some r →
-        (get (block_regions (share_at script.account.0 store' after)) s ≡ Some r) ⊎ ((get script.regions.heap s ≡ Some r) × IsSome (block_region (share_at script.account.0 store script.regions) s))) where
+    module _ (leaves : LeavesHeap store script store' after) where
       -- the dataspace of a chunk or a large block stays
       block_stays : (s k : ℕ) (r : Region) → block_region (share_at script.account.0 store script.regions) s ≡ Some (r, k) → get (part script.account.0 store').spaces r.of ≡ get (part_at store script).spaces r.of
-      block_stays s k r at = keeps r.of (heap_apart s k r at) (sound.own.blocks.held s r (block_there store script sound s (r, k) at))
+      block_stays s k r at = leaves.keeps r.of (heap_apart s k r at) (sound.own.blocks.held s r (block_there store script sound s (r, k) at))
 
       -- each heap region is still of the account's
       held_after : (s : ℕ) (r : Region) → get after.heap s ≡ Some r → IsSome (get (part script.account.0 store').spaces r.of)
-      held_after s r at = elim (where_is s r at) [
+      held_after s r at = elim (leaves.either s r at) [
         | inl one ↦ (shown_block script.account.0 store' after s r one).paid
         | inr old ↦
             let e = some_of (block_region (share_at script.account.0 store script.regions) s) old.1 in
@@ -165,7 +178,7 @@ module _ (store : Store) (script : Script) (sound : IsSoundScript store script) 
       -- chunks and large blocks stand where they stood
       stand_after : (s : ℕ) → block_region (share_at script.account.0 store' after) s ≡ block_region (share_at script.account.0 store script.regions) s
       stand_after s =
-          whole_standing (part script.account.0 store') after.heap after.tags held_after s ∙ beside s
+          whole_standing (part script.account.0 store') after.heap after.tags held_after s ∙ leaves.beside s
           ∙ sym (whole_standing (part_at store script) script.regions.heap script.regions.tags sound.own.blocks.held s)
 
       -- so the heap stays
@@ -174,23 +187,37 @@ module _ (store : Store) (script : Script) (sound : IsSoundScript store script) 
           let pages : after.pages ≡ script.regions.pages = ap (λ (r : Regions). r.pages) others.rest in
           let window = sound.heaps.heap.window in
           heap_stays script.heap store store' script.regions after sound.heaps.heap
-          (map_of sound'.maps (rw pages window.few) (rw pages lie))
+          (map_of sound'.maps (rw pages window.few) (rw pages leaves.lie))
           (at_heap store script sound (IsOpenIn store') (subst (IsOpenIn store') (pays ∙ sound.heaps.sliced_pays) sound'.opens))
           (at_heap store script sound (λ a. (s : ℕ) → block_region (share_at a store' after) s ≡ block_region (share_at a store script.regions) s) stand_after)
           (at_heap store script sound (λ a. (s k : ℕ) (r : Region) → block_region (share_at a store script.regions) s ≡ Some (r, k) → get (part a store').spaces r.of ≡ get (part a store).spaces r.of) block_stays)
 
-      -- and both heaps are the script's
-      has_both : HasHeaps store' (record script { regions = after; sliced = sliced' })
-      has_both = record {
-        heap = heap_beside.sound;
-        sliced = sound';
-        heap_pays = sound.heaps.heap_pays;
-        sliced_pays = pays ∙ sound.heaps.sliced_pays;
-        all = λ s r at. elim (where_is s r at) [
-          | inl one ↦ inl one
-          | inr old ↦ inr (ap is_some (stand_after s) ∙ old.1)
-        ];
-      }
+    -- where sliced blocks change, the heaps do, and nothing else of the script
+    blocks_change : ChangesBlocks store script store' after → ChangesHeaps store script store' after script.heap sliced'
+    blocks_change changed =
+        let leaves = changed.leaves in record {
+          has = record {
+            heap = (heap_beside leaves).sound;
+            sliced = sound';
+            heap_pays = sound.heaps.heap_pays;
+            sliced_pays = pays ∙ sound.heaps.sliced_pays;
+            all = λ s r at. elim (leaves.either s r at) [
+              | inl one ↦ inl one
+              | inr old ↦ inr (ap is_some (stand_after leaves s) ∙ old.1)
+            ];
+          };
+          held = held_after leaves;
+          unnamed = changed.unnamed;
+          still = λ q d names. leaves.keeps d.0 (no_block q d names) (sound.own.named.there q d names);
+          rest = others.rest;
+          ram_limit = changed.ram_limit;
+          caps_limit = changed.caps_limit;
+          spare = changed.spare;
+          others = parts_stay;
+          root = others.root;
+          parents = others.parents;
+          room = others.room;
+        }
 
     -- ---- snew
 
@@ -199,87 +226,64 @@ module _ (store : Store) (script : Script) (sound : IsSoundScript store script) 
       taken : TakesBlock script.account.0 n address store store' script.regions after
       taken = subst (λ a. TakesBlock a n address store store' script.regions after) sound.heaps.sliced_pays takes
 
-      -- its region
+      -- its region is the only new one
       abbrev more : Region
       more = record { of = taken.ds; pages = sliced_size n / 4096 }
 
-      more_heap : after.heap ≡ insert script.regions.heap taken.start more
-      more_heap = ap (λ (r : Regions). r.heap) taken.attached
+      after_more : after.heap ≡ insert script.regions.heap taken.start more
+      after_more = ap (λ (r : Regions). r.heap) taken.attached
 
-      -- nothing stood there
-      more_free : get script.regions.heap taken.start ≡ None
-      more_free = gap_is_free script.regions.pages script.regions.heap (sliced_size n / 4096) taken.start (new_page n) sound.heaps.heap.window.lie taken.gap
+      grown : (s : ℕ) (r : Region) → get after.heap s ≡ Some r → ((s ≡ taken.start) × (r ≡ more)) ⊎ ((s ≢ taken.start) × (get script.regions.heap s ≡ Some r))
+      grown s r at = after_insert script.regions.heap taken.start more s r (sym (ap (λ m. get m s) after_more) ∙ at)
 
       -- its dataspace is new
-      more_fresh : get (part_at store script).spaces taken.ds ≡ None
-      more_fresh = part-fresh store script.account.0 taken.ds taken.fresh
-
-      -- the others stay, but those of sliced blocks
-      more_keeps : (k : ℕ) → IsNoBlock (share_at script.account.0 store script.regions) k → IsSome (get (part_at store script).spaces k) → get (part script.account.0 store').spaces k ≡ get (part_at store script).spaces k
-      more_keeps k none held = taken.dataspaces k (apart_from_free (part_at store script).spaces taken.ds k more_fresh held) none
-
-      -- a heap region is the new block's or was there
-      more_where : (s : ℕ) (r : Region) → get after.heap s ≡ Some r →
-          (get (block_regions (share_at script.account.0 store' after)) s ≡ Some r) ⊎ ((get script.regions.heap s ≡ Some r) × IsSome (block_region (share_at script.account.0 store script.regions) s))
-      more_where s r at =
-          let blocks = block_regions (share_at script.account.0 store script.regions) in
-          elim (after_insert script.regions.heap taken.start more s r (sym (ap (λ m. get m s) more_heap) ∙ at)) [
-            | inl here ↦ inl (ap (λ m. get m s) taken.stands ∙ get-insert_same blocks taken.start more s here.0 ∙ ap (λ x. Some x) (sym here.1))
-            | inr old ↦ elim (sound.heaps.all s r old.1) [
-              | inl one ↦ inl (ap (λ m. get m s) taken.stands ∙ get-insert_other blocks taken.start more s old.0 ∙ one)
-              | inr one ↦ inr (old.1, one)
-            ]
-          ]
-
-      -- the regions still lie apart
-      more_lie : LieApart heap_low (heap_high script.regions.pages) after.heap
-      more_lie = rw more_heap (lie_with script.regions.pages script.regions.heap taken.ds (sliced_size n / 4096) taken.start (new_page n) sound.heaps.heap.window.lie taken.gap)
-
-      -- chunks and large blocks stand where they stood
-      more_beside : (s : ℕ) → standing after.heap after.tags s ≡ standing script.regions.heap script.regions.tags s
-      more_beside s =
-          (λ i. standing (more_heap i) (ap (λ (r : Regions). r.tags) taken.attached i) s)
-          ∙ stands_beside_more script.regions.heap script.regions.tags taken.start more more_free s
+      fresh : get (part_at store script).spaces taken.ds ≡ None
+      fresh = part-fresh store script.account.0 taken.ds taken.fresh
 
       -- the account is charged
-      more_charge : account_of (part script.account.0 store') ≡ charged (account_of (part_at store script)) (sliced_size n) 1
-      more_charge = ap (λ (o : Option Account). unwrap_or o (opened 0 0)) taken.charge ∙ ap (λ a. charged a (sliced_size n) 1) (sym (account_of-part script.account.0 store))
+      charge : account_of (part script.account.0 store') ≡ charged (account_of (part_at store script)) (sliced_size n) 1
+      charge = ap (λ (o : Option Account). unwrap_or o (opened 0 0)) taken.charge ∙ ap (λ a. charged a (sliced_size n) 1) (sym (account_of-part script.account.0 store))
 
-      -- no selector names the new dataspace
-      more_apart : (q : ℕ) (d : DsId) → get script.caps.caps q ≡ Some (Dataspace d) → d.0 ≢ taken.ds
-      more_apart q d names = apart_from_free (part_at store script).spaces taken.ds d.0 more_fresh (sound.own.named.there q d names)
-
-      -- nothing else of the script changes
-      more_changes : ChangesHeaps store script store' after script.heap sliced'
-      more_changes = record {
-        has = has_both more_lie more_beside more_keeps more_where;
-        held = held_after more_lie more_beside more_keeps more_where;
-        unnamed = λ start q r d there names. elim (after_insert script.regions.heap taken.start more start r (sym (ap (λ m. get m start) more_heap) ∙ there)) [
-          | inl here ↦ λ e. more_apart q d names (e ∙ ap (λ (x : Region). x.of) here.1)
-          | inr old ↦ sound.own.blocks.unnamed start q r d old.1 names
-        ];
-        still = λ q d names. more_keeps d.0 (no_block q d names) (sound.own.named.there q d names);
-        rest = others.rest;
-        ram_limit = ap (λ (a : Account). a.ram_limit) more_charge;
-        caps_limit = ap (λ (a : Account). a.caps_limit) more_charge;
-        spare = omega (arith, taken.count, sound.own.paid.spare, ap (λ (a : Account). a.caps_used) more_charge);
-        others = parts_stay;
-        root = others.root;
-        parents = others.parents;
-        room = others.room;
-      }
+      -- sliced blocks change, by one more
+      one_more : ChangesBlocks store script store' after
+      one_more =
+          let heap = script.regions.heap in
+          let free : get heap taken.start ≡ None = gap_is_free script.regions.pages heap (sliced_size n / 4096) taken.start (new_page n) sound.heaps.heap.window.lie taken.gap in
+          let blocks = block_regions (share_at script.account.0 store script.regions) in record {
+            leaves = record {
+              lie = rw after_more (lie_with script.regions.pages heap taken.ds (sliced_size n / 4096) taken.start (new_page n) sound.heaps.heap.window.lie taken.gap);
+              beside = λ s.
+                  (λ i. standing (after_more i) (ap (λ (r : Regions). r.tags) taken.attached i) s)
+                  ∙ stands_beside_more heap script.regions.tags taken.start more free s;
+              keeps = λ k none held. taken.dataspaces k (apart_from_free (part_at store script).spaces taken.ds k fresh held) none;
+              either = λ s r at. elim (grown s r at) [
+                | inl here ↦ inl (ap (λ m. get m s) taken.stands ∙ get-insert_same blocks taken.start more s here.0 ∙ ap (λ x. Some x) (sym here.1))
+                | inr old ↦ elim (sound.heaps.all s r old.1) [
+                  | inl one ↦ inl (ap (λ m. get m s) taken.stands ∙ get-insert_other blocks taken.start more s old.0 ∙ one)
+                  | inr one ↦ inr (old.1, one)
+                ]
+              ];
+            };
+            unnamed = λ start q r d there names. elim (grown start r there) [
+              | inl here ↦ λ e. apart_from_free (part_at store script).spaces taken.ds d.0 fresh (sound.own.named.there q d names) (e ∙ ap (λ (x : Region). x.of) here.1)
+              | inr old ↦ sound.own.blocks.unnamed start q r d old.1 names
+            ];
+            ram_limit = ap (λ (a : Account). a.ram_limit) charge;
+            caps_limit = ap (λ (a : Account). a.caps_limit) charge;
+            spare = omega (arith, taken.count, sound.own.paid.spare, ap (λ (a : Account). a.caps_used) charge);
+          }
 
       -- a block that the sliced heap takes is the model's
-      pub snew_finishes : None ≡ sliced_refusal n (account_in store (payer_of script.sliced)) → Finishes (Snew n) (Attached address) store script store' (record script { regions = after; sliced = sliced' })
+      pub snew_finishes : None ≡ sliced_refusal n (account_in store (payer_of script.sliced)) → Does (Snew n) (Attached address) store script store' (record script { regions = after; sliced = sliced' })
       unfolding own_of part
       snew_finishes accepted =
           let fits : sliced_refusal n (account_of (part_at store script)) ≡ None = ap (λ a. sliced_refusal n (account_in store a)) (sym sound.heaps.sliced_pays) ∙ sym accepted in
           let blocks = taken.blocks ∙ ap (λ k. insert (sliced_at store script) k (zeros (sliced_size n - sliced_header))) taken.at in
-          let value = (heap_beside more_lie more_beside more_keeps more_where).value in
-          finishes_heaps more_changes (λ sessions.
+          let value = (heap_beside one_more.leaves).value in
+          finishes_heaps (blocks_change one_more) (λ sessions.
           let b = own_at sessions store script in
           ap (λ r. unless r b (sliced_in n (own_heap_gap (sliced_size n) b) b)) fits ∙ ap (λ o. sliced_in n o b) (same_gap sessions (sliced_size n) ∙ taken.lowest)
-          ∙ (λ i. record { reply = Attached (sym taken.at i); lines = []; next = record b { account = sym more_charge i; heap = sym value i; sliced = sym blocks i } }))
+          ∙ (λ i. record { reply = Attached (sym taken.at i); lines = []; next = record b { account = sym charge i; heap = sym value i; sliced = sym blocks i } }))
 
     -- ---- sdel
 
@@ -288,80 +292,62 @@ module _ (store : Store) (script : Script) (sound : IsSoundScript store script) 
       given : GivesBlock script.account.0 address store store' script.regions after
       given = subst (λ a. GivesBlock a address store store' script.regions after) sound.heaps.sliced_pays gives
 
-      -- its region
+      -- its region alone goes
       abbrev less : Region
       less = record { of = given.ds; pages = block_pages given.payload }
 
-      less_heap : after.heap ≡ remove script.regions.heap given.start
-      less_heap = ap (λ (r : Regions). r.heap) given.detached
+      after_less : after.heap ≡ remove script.regions.heap given.start
+      after_less = ap (λ (r : Regions). r.heap) given.detached
+
+      left : (s : ℕ) (r : Region) → get after.heap s ≡ Some r → get (remove script.regions.heap given.start) s ≡ Some r
+      left s r at = sym (ap (λ m. get m s) after_less) ∙ at
 
       -- it kept a sliced block's number
-      less_tag : get script.regions.tags given.start ≡ Some sliced_tag
-      less_tag =
+      tag : get script.regions.tags given.start ≡ Some sliced_tag
+      tag =
           let payload : get (sliced_at store script) (given.start + sliced_header) ≡ Some given.payload = ap (get (sliced_at store script)) (sym given.at) ∙ given.was in
           let range = sym (same_ranges given.start) ∙ range_at (sliced_at store script) given.start given.payload payload in
-          let one = mapped_some (λ (r : Region). record { of = 0; pages = r.pages }) (get (block_regions (share_at script.account.0 store script.regions)) given.start) _ range in
+          let one = told_from (λ (r : Region). record { of = 0; pages = r.pages }) (get (block_regions (share_at script.account.0 store script.regions)) given.start) _ range in
           (shown_block script.account.0 store script.regions given.start one.0 one.1).tag
 
-      -- other dataspaces stay, but those of sliced blocks
-      less_keeps : (k : ℕ) → IsNoBlock (share_at script.account.0 store script.regions) k → IsSome (get (part_at store script).spaces k) → get (part script.account.0 store').spaces k ≡ get (part_at store script).spaces k
-      less_keeps k none held = given.dataspaces k none
-
-      -- a heap region was there, and elsewhere
-      less_before : (s : ℕ) (r : Region) → get after.heap s ≡ Some r → get (remove script.regions.heap given.start) s ≡ Some r
-      less_before s r at = sym (ap (λ m. get m s) less_heap) ∙ at
-
-      less_where : (s : ℕ) (r : Region) → get after.heap s ≡ Some r →
-          (get (block_regions (share_at script.account.0 store' after)) s ≡ Some r) ⊎ ((get script.regions.heap s ≡ Some r) × IsSome (block_region (share_at script.account.0 store script.regions) s))
-      less_where s r at =
-          let left = less_before s r at in
-          let there = before_remove script.regions.heap given.start s r left in
-          let apart : s ≢ given.start = λ e. none-some r (sym (get-remove_same script.regions.heap given.start s e) ∙ left) in
-          elim (sound.heaps.all s r there) [
-            | inl one ↦ inl (ap (λ m. get m s) given.left ∙ get-remove_other (block_regions (share_at script.account.0 store script.regions)) given.start s apart ∙ one)
-            | inr one ↦ inr (there, one)
-          ]
-
-      -- the regions still lie apart
-      less_lie : LieApart heap_low (heap_high script.regions.pages) after.heap
-      less_lie = rw less_heap (lie_without script.regions.pages script.regions.heap given.start sound.heaps.heap.window.lie)
-
-      -- chunks and large blocks stand where they stood
-      less_beside : (s : ℕ) → standing after.heap after.tags s ≡ standing script.regions.heap script.regions.tags s
-      less_beside s =
-          (λ i. standing (less_heap i) (ap (λ (r : Regions). r.tags) given.detached i) s)
-          ∙ stands_beside_less script.regions.heap script.regions.tags given.start less given.region less_tag s
-
       -- the account is credited
-      less_credit : account_of (part script.account.0 store') ≡ credited (account_of (part_at store script)) (block_size given.payload) 1
-      less_credit = ap (λ (o : Option Account). unwrap_or o (opened 0 0)) given.charge ∙ ap (λ a. credited a (block_size given.payload) 1) (sym (account_of-part script.account.0 store))
+      credit : account_of (part script.account.0 store') ≡ credited (account_of (part_at store script)) (block_size given.payload) 1
+      credit = ap (λ (o : Option Account). unwrap_or o (opened 0 0)) given.charge ∙ ap (λ a. credited a (block_size given.payload) 1) (sym (account_of-part script.account.0 store))
 
-      -- nothing else of the script changes
-      less_changes : ChangesHeaps store script store' after script.heap sliced'
-      less_changes = record {
-        has = has_both less_lie less_beside less_keeps less_where;
-        held = held_after less_lie less_beside less_keeps less_where;
-        unnamed = λ start q r d there names. sound.own.blocks.unnamed start q r d (before_remove script.regions.heap given.start start r (less_before start r there)) names;
-        still = λ q d names. less_keeps d.0 (no_block q d names) (sound.own.named.there q d names);
-        rest = others.rest;
-        ram_limit = ap (λ (a : Account). a.ram_limit) less_credit;
-        caps_limit = ap (λ (a : Account). a.caps_limit) less_credit;
-        spare = omega (arith, given.count, sound.own.paid.spare, ap (λ (a : Account). a.caps_used) less_credit);
-        others = parts_stay;
-        root = others.root;
-        parents = others.parents;
-        room = others.room;
-      }
+      -- sliced blocks change, by one less
+      one_less : ChangesBlocks store script store' after
+      one_less =
+          let heap = script.regions.heap in
+          let blocks = block_regions (share_at script.account.0 store script.regions) in record {
+            leaves = record {
+              lie = rw after_less (lie_without script.regions.pages heap given.start sound.heaps.heap.window.lie);
+              beside = λ s.
+                  (λ i. standing (after_less i) (ap (λ (r : Regions). r.tags) given.detached i) s)
+                  ∙ stands_beside_less heap script.regions.tags given.start less given.region tag s;
+              keeps = λ k none held. given.dataspaces k none;
+              either = λ s r at.
+                  let there = before_remove heap given.start s r (left s r at) in
+                  let apart : s ≢ given.start = λ e. none-some r (sym (get-remove_same heap given.start s e) ∙ left s r at) in
+                  elim (sound.heaps.all s r there) [
+                    | inl one ↦ inl (ap (λ m. get m s) given.left ∙ get-remove_other blocks given.start s apart ∙ one)
+                    | inr one ↦ inr (there, one)
+                  ];
+            };
+            unnamed = λ start q r d there names. sound.own.blocks.unnamed start q r d (before_remove heap given.start start r (left start r there)) names;
+            ram_limit = ap (λ (a : Account). a.ram_limit) credit;
+            caps_limit = ap (λ (a : Account). a.caps_limit) credit;
+            spare = omega (arith, given.count, sound.own.paid.spare, ap (λ (a : Account). a.caps_used) credit);
+          }
 
       -- a block that the sliced heap gives back is the model's
-      pub sdel_finishes : Finishes (Sdel address) Done store script store' (record script { regions = after; sliced = sliced' })
+      pub sdel_finishes : Does (Sdel address) Done store script store' (record script { regions = after; sliced = sliced' })
       unfolding own_of
       sdel_finishes =
-          let value = (heap_beside less_lie less_beside less_keeps less_where).value in
-          finishes_heaps less_changes (λ sessions.
+          let value = (heap_beside one_less.leaves).value in
+          finishes_heaps (blocks_change one_less) (λ sessions.
           let b = own_at sessions store script in
           ap (λ o. sliced_freed address o b) given.was
-          ∙ (λ i. record { reply = Done; lines = []; next = record b { account = sym less_credit i; heap = sym value i; sliced = sym given.blocks i } }))
+          ∙ (λ i. record { reply = Done; lines = []; next = record b { account = sym credit i; heap = sym value i; sliced = sym given.blocks i } }))
 
   -- what the sliced heap refuses, a snew is refused
   pub snew_refused : (n : ℕ) (refusal : Refusal) → Some refusal ≡ sliced_refusal n (account_in store (payer_of script.sliced)) → (sessions : Sessions) → refused (own_at sessions store script) refusal ≡ script_step (Snew n) (own_at sessions store script)

@@ -26,7 +26,7 @@ use Rattle.server_frame.specs.Told.{Told}
 use Rattle.trade_base.specs.declared.refusal.Refusal.{Refusal}
 use Rattle.pd_core.specs.Answer.{told_alone}
 use Rattle.pd_core.specs.Component.{entry_of, kind_of, served_by, service_of, places_in, own_in, own, HasPlaces}
-use Rattle.pd_core.specs.Core.{roles_of, Rules, entries_of, sessions_in, world_of, IsCore}
+use Rattle.pd_core.specs.Core.{roles_of, Rules, entries_of, sessions_in, world_of, IsCore, IsCoreAt}
 use Rattle.pd_core.specs.Own.{Sessions}
 use Rattle.pd_core.specs.SessionCalls.{Agrees, Answers, Goes, Leads, service_at}
 use Rattle.pd_core.specs.declared.component.Component.{Component}
@@ -249,6 +249,12 @@ refused_goes rules {store} components i d call refusal core here is =
 pub place_within : (rules : Rules) (store : Store) (components : List Component) (world : World) (i : ℕ) → world_of rules store components ≡ world → i < length world.entries → i < length components
 place_within rules store components world i is within =
     omega (arith, within, ap (λ (w : World). length w.entries) is, length-entries rules components)
+
+-- components that are lent are a sound core's, and a place in its world is one among them
+pub core_at : (rules : Rules) (store : Store) (components lent : List Component) (world : World) (i : ℕ) → lent ≡ components → IsCore store components → world_of rules store components ≡ world →
+    i < length world.entries → IsCoreAt i store lent
+core_at rules store components lent world i is core same within =
+    record { core = subst (IsCore store) (sym is) core; caller = place_within rules store lent world i (ap (world_of rules store) is ∙ same) within }
 
 -- a call leaves as many components
 pub same_many : {rules : Rules} {store : Store} {components : List Component} {i : ℕ} {call : Call} {reply : Told} {store' : Store} {after : List Component} →

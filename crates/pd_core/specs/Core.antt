@@ -1,5 +1,5 @@
 -- The core as the model sees it, and what is true of it between calls.
-use Rattle.std.specs.Prelude.{◌≡◌, ◌≢◌, ℕ, List, map, get_or, Some}
+use Rattle.std.specs.Prelude.{◌≡◌, ◌≢◌, ℕ, List, map, get_or, Some, ◌<◌, length}
 use Rattle.std.specs.FinMap.{get}
 use Rattle.std.specs.List.{enumerate_from}
 use Rattle.std.specs.Option.{option_map}
@@ -97,3 +97,8 @@ pub record IsSoundCore (store : Store) (roles : Roles) : Type 0 where
 -- so are the components on a memory
 abbrev pub IsCore : Store → List Component → Type 0
 IsCore store components = IsSoundCore store (roles_of components)
+
+-- so they are, and a component stands at this place
+pub record IsCoreAt (i : ℕ) (store : Store) (components : List Component) : Type 0 where
+  pub core : IsCore store components
+  pub caller : i < length components

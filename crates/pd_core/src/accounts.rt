@@ -1,5 +1,5 @@
 //! The accounts of a core: their limits, and what of them is used.
-ghost use Rattle.std.specs.Prelude.{◌≡◌, ◌<◌, length};
+ghost use Rattle.std.specs.Prelude.{◌≡◌};
 ghost use Rattle.std.specs.FinMap.{get};
 ghost use Rattle.std.specs.Option.{option_map};
 ghost use Rattle.own_model.specs.OwnState.{session_named};
@@ -7,7 +7,7 @@ ghost use Rattle.own_model.specs.Session.{Session as AnOpenSession};
 ghost use Rattle.own_model.specs.Transcript.{state_at};
 ghost use Rattle.dataspace_core.specs.Store.{account_in, IsOpenIn};
 ghost use Rattle.pd_core.specs.Answer.{quotas_account};
-ghost use Rattle.pd_core.specs.Core.{Rules, world_of, IsCore};
+ghost use Rattle.pd_core.specs.Core.{Rules, world_of, IsCoreAt};
 
 use crate::answer::Quotas;
 use crate::component::{Component, Role};
@@ -147,8 +147,7 @@ impl Component {
 
 // The limits and the use of the account of the component at a place.
 fn component_quotas(memory: &Memory, components: &[Component], place: usize) -> Quotas
-    requires core { IsCore memory.now components.now }
-    requires place { place < length components.now }
+    requires { IsCoreAt place memory.now components.now }
     ensures { (rules : Rules) → quotas_account result
         ≡ (state_at (world_of rules memory.now components.now).states place).account }
 {
@@ -162,8 +161,7 @@ fn session_quotas(
     place: usize,
     selector: u64,
 ) -> Option<Quotas>
-    requires core { IsCore memory.now components.now }
-    requires place { place < length components.now }
+    requires { IsCoreAt place memory.now components.now }
     ensures { (rules : Rules) → option_map quotas_account result
         ≡ option_map (λ (s : AnOpenSession). s.account) (session_named (get
         (state_at (world_of rules memory.now components.now).states place).selectors selector)) }

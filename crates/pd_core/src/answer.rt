@@ -1,6 +1,7 @@
 //! The answers to calls, and their texts.
 ghost use Rattle.std.specs.Prelude.{◌≡◌, ◌+◌, ◌*◌, ◌≤◌, ◌++◌, length};
 ghost use Rattle.own_model.specs.Reply.{reply_text, share_text};
+ghost use Rattle.trade_base.specs.Refusal.{refusal_name};
 ghost use Rattle.pd_core.specs.Answer.{reply_of, told_alone};
 
 use crate::short_text::ShortText;
@@ -39,8 +40,15 @@ pub(crate) fn tell(outcome: Result<Answer, Refusal>, reply: &mut Reply)
 {
     match outcome {
         Ok(answer) => answer.tell(reply),
-        Err(refusal) => tell_text(refusal.name().as_bytes(), reply),
+        Err(refusal) => refuse(refusal, reply),
     }
+}
+
+/// Writes why a call is refused in place of what the reply was.
+pub(crate) fn refuse(refusal: Refusal, reply: &mut Reply)
+    ensures { reply.new ≡ told_alone (refusal_name refusal) }
+{
+    tell_text(refusal.name().as_bytes(), reply);
 }
 
 /// Writes a text in place of what the reply was, without log lines.

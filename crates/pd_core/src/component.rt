@@ -1,6 +1,6 @@
 //! A component: what it is, and what its calls do.
 
-use crate::answer::tell;
+use crate::answer::refuse;
 use crate::call::Call;
 use crate::label::{LONGEST_NAME, name_of};
 use crate::script::Script;
@@ -219,8 +219,8 @@ impl Component {
     {
         match &mut self.role {
             Role::Script(script) => script.step(memory, call, reply),
-            Role::Log(..) | Role::Files(..) => tell(Err(Refusal::NotAScript), reply),
-            Role::Gone => tell(Err(Refusal::Gone), reply),
+            Role::Log(..) | Role::Files(..) => refuse(Refusal::NotAScript, reply),
+            Role::Gone => refuse(Refusal::Gone, reply),
         }
     }
 }

@@ -1,7 +1,7 @@
 //! How a component exits.
-ghost use Rattle.std.specs.Prelude.{◌<◌, length, get_or};
+ghost use Rattle.std.specs.Prelude.{get_or};
 ghost use Rattle.own_model.specs.Call.Call.{Exit as ModelledExit};
-ghost use Rattle.pd_core.specs.Core.{Rules, IsCore};
+ghost use Rattle.pd_core.specs.Core.{Rules, IsCoreAt};
 ghost use Rattle.pd_core.specs.Exit.{ClosesTo, IsScriptRole};
 ghost use Rattle.pd_core.specs.SessionCalls.{GoesWith};
 ghost use Rattle.pd_core.specs.declared.component.Component.{Component as AnyComponent};
@@ -19,8 +19,7 @@ pub(crate) fn exit(
     components: &mut [Component],
     caller: usize,
 ) -> Result<Answer, Refusal>
-    requires core { IsCore memory.old components.old }
-    requires caller { caller < length components.old }
+    requires { IsCoreAt caller memory.old components.old }
     ensures { (rules : Rules) → GoesWith rules ModelledExit caller result
         memory.old components.old memory.new components.new }
 {
@@ -32,8 +31,7 @@ pub(crate) fn exit(
 
 // The sessions of a script go that are named by so many selectors, from the first on.
 fn close_all(memory: &mut Memory, components: &mut [Component], caller: usize, selectors: usize)
-    requires core { IsCore memory.old components.old }
-    requires caller { caller < length components.old }
+    requires at { IsCoreAt caller memory.old components.old }
     requires script { (d : AnyComponent) → IsScriptRole (get_or components.old caller d).role }
     ensures { ClosesTo caller selectors memory.old components.old memory.new components.new }
 {

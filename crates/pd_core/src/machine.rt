@@ -1,7 +1,6 @@
 //! The core: the memory, and the components whose calls it carries out.
-ghost use Rattle.std.specs.Prelude.{◌<◌, length};
 ghost use Rattle.pd_core.specs.Call.{model_call, IsWellFormed};
-ghost use Rattle.pd_core.specs.Core.{IsCore};
+ghost use Rattle.pd_core.specs.Core.{IsCoreAt};
 ghost use Rattle.pd_core.specs.SessionCalls.{Agrees, Goes};
 
 use crate::answer::tell;
@@ -110,33 +109,21 @@ fn carry_out<R: Router>(
     call: Call<'_>,
     reply: &mut Reply,
 )
-    requires core { IsCore memory.old components.old }
+    requires at { IsCoreAt caller memory.old components.old }
     requires routes { Agrees (R.rules routes.now) (R.leads routes.now) components.old }
-    requires caller { caller < length components.old }
     requires call { IsWellFormed call }
     ensures { Goes (R.rules routes.now) (model_call call.entry) caller reply.new
         memory.old components.old memory.new components.new }
 {
-    match call {
-        Call::Open { service, args } => {
-            let opened = open(memory, components, routes, caller, service, args);
-            tell(opened, reply);
-        }
-        Call::Upgrade { selector, args } => {
-            let upgraded = upgrade(memory, components, caller, selector, args);
-            tell(upgraded, reply);
-        }
+    let outcome = match call {
+        Call::Open { service, args } => open(memory, components, routes, caller, service, args),
+        Call::Upgrade { selector, args } => upgrade(memory, components, caller, selector, args),
+        Call::Close(selector) => close(memory, components, caller, selector),
+        Call::Exit => exit(memory, components, caller),
         Call::CallSession { selector, request } => {
-            session_calls::call(memory, components, caller, selector, request, reply);
+            return session_calls::call(memory, components, caller, selector, request, reply);
         }
-        Call::Close(selector) => {
-            let closed = close(memory, components, caller, selector);
-            tell(closed, reply);
-        }
-        Call::Exit => {
-            let gone = exit(memory, components, caller);
-            tell(gone, reply);
-        }
-        _ => components[caller].step(memory, call, reply),
-    }
+        _ => return components[caller].step(memory, call, reply),
+    };
+    tell(outcome, reply);
 }

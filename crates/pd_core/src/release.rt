@@ -1,6 +1,7 @@
 //! The end of a script: all that it holds goes, and then its account.
 
 use crate::script::Script;
+use cap_space::Cap;
 use dataspace_core::Memory;
 
 impl Script {
@@ -50,9 +51,18 @@ impl Script {
         ensures fewer { (other : ℕ) → IsSome (get self.new.caps.caps other) →
             IsSome (get self.old.caps.caps other) }
     {
-        // It is a dataspace or an RPC object, and the other call is refused.
-        let _ = self.free(memory, selector);
-        let _ = self.capfree(memory, selector);
+        match self.caps.get(selector) {
+            Some(Cap::Dataspace(_)) => {
+                let _ = self.free(memory, selector);
+            }
+            Some(Cap::RpcObject) => {
+                let _ = self.capfree(memory, selector);
+            }
+            None => {}
+            // Sessions are closed before, and no call gives a buffer.
+            Some(Cap::Session { .. }) => unreachable!(),
+            Some(Cap::Buffer { .. }) => unreachable!(),
+        }
     }
 
     // All blocks of both heaps go, and the account of a script without a selector then uses nothing.

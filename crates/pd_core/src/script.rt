@@ -1,7 +1,7 @@
 //! A script, and its calls: what each does to its account, its capabilities, its regions and the memory.
 
 use crate::accounts::quotas_of;
-use crate::answer::{Answer, Quotas, tell};
+use crate::answer::{Answer, Quotas, refuse, tell};
 use crate::bytes::{MOST_BYTES, tell_range};
 use crate::call::Call;
 use cap_space::{Cap, CapSpace};
@@ -33,18 +33,16 @@ impl Script {
     ghost use Rattle.own_model.specs.Call.Call.{New as ModelledNew, Del as ModelledDel, Snew as ModelledSnew, Sdel as ModelledSdel};
     ghost use Rattle.own_model.specs.Text.{bytes_of_hex};
     ghost use Rattle.dataspace_core.specs.Store.{account_in};
-    ghost use Rattle.pd_core.specs.Answer.{quotas_account};
-    ghost use Rattle.pd_core.specs.Call.{model_call, bytes_in, IsPlain, IsWellFormed};
+    ghost use Rattle.pd_core.specs.Answer.{quotas_account, reply_of};
+    ghost use Rattle.pd_core.specs.Call.{model_call, bytes_in};
     ghost use Rattle.pd_core.specs.declared.call.Call.TheVariants.{Peek};
-    ghost use Rattle.pd_core.specs.Does.{Does, DoesTold};
+    ghost use Rattle.pd_core.specs.Does.{Does, DoesTold, CanDo};
     ghost use Rattle.pd_core.specs.Own.{part_at, own_heap_at, sliced_at, sized_at, range_refusal, IsFound};
     ghost use Rattle.pd_core.specs.Sound.{IsSoundScript, Keeps};
 
     /// Carries a call out that is none of a session and no exit, and writes what it is answered in place of what the reply was.
     pub(crate) fn step(&mut self, memory: &mut Memory, call: Call<'_>, reply: &mut Reply)
-        requires sound { IsSoundScript memory.old self.old }
-        requires call { IsWellFormed call }
-        requires plain { IsPlain call }
+        requires { CanDo call memory.old self.old }
         ensures outcome { DoesTold (model_call call.entry) reply.new
             memory.old self.old memory.new self.new }
         ensures keeps { Keeps memory.old self.old memory.new self.new }
@@ -61,13 +59,10 @@ impl Script {
     /// Carries such a call out that is no peek, and tells how. Its arms share one place for their outcomes, which a function
     /// clears as it is entered.
     fn carry_out(&mut self, memory: &mut Memory, call: Call<'_>) -> Result<Answer, Refusal>
-        requires sound { IsSoundScript memory.old self.old }
-        requires call { IsWellFormed call }
-        requires plain { IsPlain call }
+        requires can { CanDo call memory.old self.old }
         requires no_peek { (address count : ℕ) → call ≢ Peek address count }
-        ensures outcome { Does
-            (model_call call.entry) result memory.old self.old memory.new self.new }
-        ensures keeps { Keeps memory.old self.old memory.new self.new }
+        ensures { Does (model_call call.entry) (reply_of result)
+            memory.old self.old memory.new self.new }
     {
         match call {
             Call::Alloc(bytes) => self.alloc(memory, bytes),
@@ -95,9 +90,8 @@ impl Script {
     /// A dataspace under a new selector, or why not: `InvalidSize`, then `OutOfRam`, then `OutOfCaps`.
     fn alloc(&mut self, memory: &mut Memory, bytes: u64) -> Result<Answer, Refusal>
         requires { IsSoundScript memory.old self.old }
-        ensures outcome { Does (ModelledAlloc bytes) result
+        ensures { Does (ModelledAlloc bytes) (reply_of result)
             memory.old self.old memory.new self.new }
-        ensures keeps { Keeps memory.old self.old memory.new self.new }
     {
         let space = memory.alloc(self.account, bytes)?;
         Ok(Answer::Selected(self.caps.insert(Cap::Dataspace(space))))
@@ -106,9 +100,8 @@ impl Script {
     /// The dataspace that the selector names goes with its regions, or `InvalidCap` where it names none.
     pub(crate) fn free(&mut self, memory: &mut Memory, selector: u64) -> Result<Answer, Refusal>
         requires { IsSoundScript memory.old self.old }
-        ensures outcome { Does (ModelledFree selector) result
+        ensures { Does (ModelledFree selector) (reply_of result)
             memory.old self.old memory.new self.new }
-        ensures keeps { Keeps memory.old self.old memory.new self.new }
     {
         let Some(space) = self.caps.take_dataspace(selector) else {
             return Err(Refusal::InvalidCap);
@@ -121,8 +114,8 @@ impl Script {
     /// An RPC object under a new selector, or `OutOfCaps`.
     fn capalloc(&mut self, memory: &mut Memory) -> Result<Answer, Refusal>
         requires { IsSoundScript memory.old self.old }
-        ensures outcome { Does ModelledCapalloc result memory.old self.old memory.new self.new }
-        ensures keeps { Keeps memory.old self.old memory.new self.new }
+        ensures { Does ModelledCapalloc (reply_of result)
+            memory.old self.old memory.new self.new }
     {
         memory.charge_cap(self.account)?;
         Ok(Answer::Selected(self.caps.insert(Cap::RpcObject)))
@@ -131,9 +124,8 @@ impl Script {
     /// The RPC object that the selector names goes, or `InvalidCap` where it names none.
     pub(crate) fn capfree(&mut self, memory: &mut Memory, selector: u64) -> Result<Answer, Refusal>
         requires { IsSoundScript memory.old self.old }
-        ensures outcome { Does (ModelledCapfree selector) result
+        ensures { Does (ModelledCapfree selector) (reply_of result)
             memory.old self.old memory.new self.new }
-        ensures keeps { Keeps memory.old self.old memory.new self.new }
     {
         if !self.caps.take_rpc_object(selector) {
             return Err(Refusal::InvalidCap);
@@ -146,9 +138,8 @@ impl Script {
     /// `TooManyRegions`, then `RegionConflict`.
     fn attach(&mut self, memory: &Memory, selector: u64) -> Result<Answer, Refusal>
         requires { IsSoundScript memory.now self.old }
-        ensures outcome { Does (ModelledAttach selector) result
+        ensures { Does (ModelledAttach selector) (reply_of result)
             memory.now self.old memory.now self.new }
-        ensures keeps { Keeps memory.now self.old memory.now self.new }
     {
         let (space, pages) = self.dataspace(memory, selector)?;
         let address = self.regions.attach(space, pages)?;
@@ -158,9 +149,8 @@ impl Script {
     /// The same at an address.
     fn attach_at(&mut self, memory: &Memory, selector: u64, address: u64) -> Result<Answer, Refusal>
         requires { IsSoundScript memory.now self.old }
-        ensures outcome { Does (ModelledAttachAt selector address) result
+        ensures { Does (ModelledAttachAt selector address) (reply_of result)
             memory.now self.old memory.now self.new }
-        ensures keeps { Keeps memory.now self.old memory.now self.new }
     {
         let (space, pages) = self.dataspace(memory, selector)?;
         let address = self.regions.attach_at(space, pages, address)?;
@@ -170,9 +160,8 @@ impl Script {
     /// The region that starts at an address goes, or `PageFault` where none does.
     fn detach(&mut self, memory: &Memory, address: u64) -> Result<Answer, Refusal>
         requires { IsSoundScript memory.now self.old }
-        ensures outcome { Does (ModelledDetach address) result
+        ensures { Does (ModelledDetach address) (reply_of result)
             memory.now self.old memory.now self.new }
-        ensures keeps { Keeps memory.now self.old memory.now self.new }
     {
         self.regions.detach(address)?;
         Ok(Answer::Done)
@@ -188,7 +177,7 @@ impl Script {
     {
         match self.range(memory, address, count) {
             Ok((space, offset)) => tell_range(reply, memory, space, offset, count as usize),
-            Err(refusal) => tell(Err(refusal), reply),
+            Err(refusal) => refuse(refusal, reply),
         }
     }
 
@@ -198,9 +187,8 @@ impl Script {
     fn poke(&self, memory: &mut Memory, address: u64, hex: &[u8]) -> Result<Answer, Refusal>
         requires hex { IsSome (bytes_of_hex hex.now) }
         requires sound { IsSoundScript memory.old self.now }
-        ensures outcome { Does (ModelledPoke address (bytes_in hex.now)) result
+        ensures { Does (ModelledPoke address (bytes_in hex.now)) (reply_of result)
             memory.old self.now memory.new self.now }
-        ensures keeps { Keeps memory.old self.now memory.new self.now }
     {
         let count = hex.len() / 2;
         let (space, offset) = self.range(memory, address, count as u64)?;
@@ -215,8 +203,8 @@ impl Script {
     /// a chunk more, `TooManyChunks`, then `OutOfRam`, then `OutOfCaps`.
     fn new_block(&mut self, memory: &mut Memory, bytes: u64) -> Result<Answer, Refusal>
         requires { IsSoundScript memory.old self.old }
-        ensures outcome { Does (ModelledNew bytes) result memory.old self.old memory.new self.new }
-        ensures keeps { Keeps memory.old self.old memory.new self.new }
+        ensures { Does (ModelledNew bytes) (reply_of result)
+            memory.old self.old memory.new self.new }
     {
         let address = self.heap.alloc(memory, &mut self.regions, bytes)?;
         Ok(Answer::Attached(address))
@@ -225,9 +213,8 @@ impl Script {
     /// The block of the heap whose payload starts at an address goes, or `PageFault` where none does.
     fn del_block(&mut self, memory: &mut Memory, address: u64) -> Result<Answer, Refusal>
         requires { IsSoundScript memory.old self.old }
-        ensures outcome { Does (ModelledDel address) result
+        ensures { Does (ModelledDel address) (reply_of result)
             memory.old self.old memory.new self.new }
-        ensures keeps { Keeps memory.old self.old memory.new self.new }
     {
         self.heap.free(memory, &mut self.regions, address)?;
         Ok(Answer::Done)
@@ -236,8 +223,8 @@ impl Script {
     /// A sliced block for so many bytes, or why not: `InvalidSize`, then `OutOfRam`, then `OutOfCaps`.
     fn snew(&mut self, memory: &mut Memory, bytes: u64) -> Result<Answer, Refusal>
         requires { IsSoundScript memory.old self.old }
-        ensures outcome { Does (ModelledSnew bytes) result memory.old self.old memory.new self.new }
-        ensures keeps { Keeps memory.old self.old memory.new self.new }
+        ensures { Does (ModelledSnew bytes) (reply_of result)
+            memory.old self.old memory.new self.new }
     {
         let address = self.sliced.alloc(memory, &mut self.regions, bytes)?;
         Ok(Answer::Attached(address))
@@ -246,9 +233,8 @@ impl Script {
     /// The sliced block whose payload starts at an address goes, or `PageFault` where none does.
     fn sdel(&mut self, memory: &mut Memory, address: u64) -> Result<Answer, Refusal>
         requires { IsSoundScript memory.old self.old }
-        ensures outcome { Does (ModelledSdel address) result
+        ensures { Does (ModelledSdel address) (reply_of result)
             memory.old self.old memory.new self.new }
-        ensures keeps { Keeps memory.old self.old memory.new self.new }
     {
         self.sliced.free(memory, &mut self.regions, address)?;
         Ok(Answer::Done)

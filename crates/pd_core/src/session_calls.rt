@@ -1,11 +1,10 @@
 //! The calls of sessions in the core: each finds the component that makes it and the one that serves it.
-ghost use Rattle.std.specs.Prelude.{◌<◌, length};
 ghost use Rattle.own_model.specs.Call.Call.{Open as ModelledOpen, Upgrade as ModelledUpgrade};
 ghost use Rattle.own_model.specs.Call.Call.{CallSession as ModelledCallSession, Close as ModelledClose};
-ghost use Rattle.pd_core.specs.Core.{Rules, IsCore};
+ghost use Rattle.pd_core.specs.Core.{Rules, IsCoreAt};
 ghost use Rattle.pd_core.specs.SessionCalls.{Agrees, Goes, GoesWith};
 
-use crate::answer::{Answer, tell};
+use crate::answer::{Answer, refuse};
 use crate::component::{Component, Role};
 use crate::label::label_of;
 use crate::router::Router;
@@ -22,8 +21,7 @@ pub(crate) fn close(
     caller: usize,
     selector: u64,
 ) -> Result<Answer, Refusal>
-    requires core { IsCore memory.old components.old }
-    requires caller { caller < length components.old }
+    requires { IsCoreAt caller memory.old components.old }
     ensures { (rules : Rules) → GoesWith rules (ModelledClose selector) caller result
         memory.old components.old memory.new components.new }
 {
@@ -41,8 +39,7 @@ pub(crate) fn upgrade(
     selector: u64,
     text: &[u8],
 ) -> Result<Answer, Refusal>
-    requires core { IsCore memory.old components.old }
-    requires caller { caller < length components.old }
+    requires { IsCoreAt caller memory.old components.old }
     ensures { (rules : Rules) → GoesWith rules (ModelledUpgrade selector text.now) caller result
         memory.old components.old memory.new components.new }
 {
@@ -62,15 +59,14 @@ pub(crate) fn call(
     request: &[u8],
     reply: &mut Reply,
 )
-    requires core { IsCore memory.old components.old }
-    requires caller { caller < length components.old }
+    requires { IsCoreAt caller memory.old components.old }
     ensures { (rules : Rules) →
         Goes rules (ModelledCallSession selector request.now) caller reply.new
         memory.old components.old memory.new components.new }
 {
     let (entry, session) = match components[caller].session(selector) {
         Ok(named) => named,
-        Err(refusal) => return tell(Err(refusal), reply),
+        Err(refusal) => return refuse(refusal, reply),
     };
     reply.clear();
     components[entry].serve_session(memory, session, request, reply);
@@ -87,9 +83,8 @@ pub(crate) fn open<R: Router>(
     service: &[u8],
     text: &[u8],
 ) -> Result<Answer, Refusal>
-    requires core { IsCore memory.old components.old }
+    requires at { IsCoreAt caller memory.old components.old }
     requires routes { Agrees (R.rules routes.now) (R.leads routes.now) components.old }
-    requires caller { caller < length components.old }
     ensures { GoesWith (R.rules routes.now) (ModelledOpen service.now text.now) caller result
         memory.old components.old memory.new components.new }
 {

@@ -1,12 +1,14 @@
 -- What a contract sees of the books.
-use Rattle.std.specs.Prelude.{◌≡◌, ◌≢◌, ℕ, ◌+◌, ◌-◌, ◌^◌, ◌<◌, Some, None, IsSome}
+use Rattle.std.specs.Prelude.{◌≡◌, ◌≢◌, ℕ, ⊤, ◌+◌, ◌-◌, ◌^◌, ◌<◌, Some, None, IsSome, Result, IfOk, OnOk, OnErr}
+use Rattle.std.specs.Result.{result_err}
 use Rattle.std.specs.Option.{unwrap_or}
 use Rattle.std.proofs.Common.{refl}
 use Rattle.std.specs.Coded.{Coded, code_by, coded×, coded_ℕ}
 use Rattle.std.specs.FinMap as map
 use Rattle.std.specs.FinMap.{get, insert, remove, empty}
+use Rattle.trade_base.specs.declared.refusal.Refusal.{Refusal}
 use Rattle.own_model.specs.NatMap.{NatMap, total}
-use Rattle.own_model.specs.Account.{Account, coded_account, opened, parted_with}
+use Rattle.own_model.specs.Account.{Account, coded_account, opened, parted_with, shortage}
 use Rattle.own_model.specs.Donation.{raised}
 
 -- the accounts by their keys, the parent's key of each but the root, the root's key, and how many more accounts find a place
@@ -37,6 +39,12 @@ account_at books account = unwrap_or (get books.accounts account) (opened 0 0)
 -- the child was opened under this parent
 abbrev pub IsChildOf : Books → ℕ → ℕ → Type 0
 IsChildOf books child parent = get books.parents child ≡ Some parent
+
+-- two different accounts were opened under one parent
+pub record AreSiblings (books : Books) (one other : ℕ) : Type 0 where
+  pub apart : one ≢ other
+  pub child : IsSome (get books.parents one)
+  pub same : get books.parents other ≡ get books.parents one
 
 -- no account was opened under this one
 abbrev pub HasNoChild : Books → ℕ → Type 0
@@ -87,6 +95,33 @@ ram_limits books = total (λ a. a.ram_limit) books.accounts
 -- all limits of capabilities
 abbrev pub caps_limits : Books → ℕ
 caps_limits books = total (λ a. a.caps_limit) books.accounts
+
+-- limits were moved and none was made: all together are what they were
+pub record KeepsLimits (old new : Books) : Type 0 where
+  pub ram : ram_limits new ≡ ram_limits old
+  pub caps : caps_limits new ≡ caps_limits old
+
+-- a part of one account's limits is taken out where the account covers it, and is then in no account; where it doesn't,
+-- nothing changes
+pub record TakesOut (account ram caps : ℕ) (result : Result Account Refusal) (old new : Books) : Type 0 where
+  pub refusal : result_err result ≡ shortage (account_at old account) ram caps
+  pub ok : OnOk result (new ≡ with_account old account (parted_with (account_at old account) ram caps))
+  pub part : IfOk result (λ part. part ≡ opened ram caps)
+  pub err : OnErr result (new ≡ old)
+  pub less_ram : IfOk result (λ part. ram_limits new + part.ram_limit ≡ ram_limits old)
+  pub fewer_caps : IfOk result (λ part. caps_limits new + part.caps_limit ≡ caps_limits old)
+
+-- so much of one account's limits is moved to another where the one covers it; where it doesn't, nothing changes
+pub record Moves (from to ram caps : ℕ) (result : Result ⊤ Refusal) (old new : Books) : Type 0 where
+  pub refusal : result_err result ≡ shortage (account_at old from) ram caps
+  pub ok : OnOk result (new ≡ with_moved old from to ram caps)
+  pub err : OnErr result (new ≡ old)
+  pub limits : KeepsLimits old new
+
+-- all limits together are a number of bytes in 64 bits and one of capabilities in 32
+pub record HasFewLimits (books : Books) : Type 0 where
+  pub ram : ram_limits books < 2 ^ 64
+  pub caps : caps_limits books < 2 ^ 32
 
 -- a child and its parent are two accounts, and both are open
 pub record AreRelated (books : Books) (child parent : ℕ) : Type 0 where

@@ -1,11 +1,12 @@
 //! The accounts, and what is done to them.
-ghost use Rattle.std.specs.Prelude.{◌≡◌, ◌+◌, ◌^◌, ◌<◌, ◌≤◌, Some, None, IsSome, IfOk, OnOk, OnErr};
+ghost use Rattle.std.specs.Prelude.{◌≡◌, ◌≢◌, ◌+◌, ◌^◌, ◌<◌, ◌≤◌, Some, None, IsSome, IfOk, OnOk, OnErr};
 ghost use Rattle.std.specs.Result.{result_err};
 ghost use Rattle.std.specs.FinMap.{get};
-ghost use Rattle.own_model.specs.Account.{shortage, charged, credited, opened, parted_with, WithinLimits};
+ghost use Rattle.own_model.specs.Account.{shortage, charged, credited, WithinLimits};
 ghost use Rattle.own_model.specs.Donation.{raised};
-ghost use Rattle.quota_core.specs.Books.{IsOpen, account_at, fresh_books, with_account, with_child, ram_limits, caps_limits};
-ghost use Rattle.quota_core.specs.Books.{IsChildOf, HasNoChild, AreRelated, parent_at, with_moved, without_account};
+ghost use Rattle.quota_core.specs.Books.{IsOpen, account_at, fresh_books, with_account, with_child};
+ghost use Rattle.quota_core.specs.Books.{IsChildOf, AreSiblings, HasNoChild, AreRelated, parent_at, with_moved};
+ghost use Rattle.quota_core.specs.Books.{without_account, ram_limits, caps_limits, KeepsLimits, TakesOut, Moves, HasFewLimits};
 
 use crate::account::Account;
 use slab::Slab;
@@ -83,8 +84,7 @@ impl Books {
         ensures fresh { IfOk result (λ child. get self.old.accounts child.0 ≡ None) }
         ensures leaf { IfOk result (λ child. HasNoChild self.new child.0) }
         ensures err { OnErr result (self.new ≡ self.old) }
-        ensures ram_moved { ram_limits self.new ≡ ram_limits self.old }
-        ensures caps_moved { caps_limits self.new ≡ caps_limits self.old }
+        ensures limits { KeepsLimits self.old self.new }
     {
         let account = self.part_with(parent, ram, caps)?;
         let child = self.entries.insert_reserved(Entry { account, parent });
@@ -105,14 +105,36 @@ impl Books {
         ensures refusal { result_err result ≡ shortage (account_at self.old parent.0) ram.0 caps.0 }
         ensures ok { OnOk result (self.new ≡ with_moved self.old parent.0 child.0 ram.0 caps.0) }
         ensures err { OnErr result (self.new ≡ self.old) }
-        ensures ram_moved { ram_limits self.new ≡ ram_limits self.old }
-        ensures caps_moved { caps_limits self.new ≡ caps_limits self.old }
+        ensures limits { KeepsLimits self.old self.new }
         ensures related { AreRelated self.old child.0 parent.0 }
     {
+        // A parent and its children are open accounts, as the books' invariant says.
         let _ = &self.entries;
-        let limits = self.part_with(parent, ram, caps)?;
-        self.take_over(child, limits);
-        Ok(())
+        self.pass_on(parent, child, ram, caps)
+    }
+
+    /// Moves so much of an account's limits to another one that was opened under the same parent: RAM in bytes, and
+    /// capabilities.
+    ///
+    /// It is refused with `OutOfRam` where less RAM of the one's limit is free, and else with `OutOfCaps` where fewer
+    /// capabilities are.
+    pub fn shift(
+        &mut self,
+        from: AccountId,
+        to: AccountId,
+        ram: Ram,
+        caps: Caps,
+    ) -> Result<(), Refusal>
+        requires { AreSiblings self.old from.0 to.0 }
+        ensures refusal { result_err result ≡ shortage (account_at self.old from.0) ram.0 caps.0 }
+        ensures ok { OnOk result (self.new ≡ with_moved self.old from.0 to.0 ram.0 caps.0) }
+        ensures err { OnErr result (self.new ≡ self.old) }
+        ensures limits { KeepsLimits self.old self.new }
+        ensures from { IsOpen self.old from.0 }
+        ensures to { IsOpen self.old to.0 }
+    {
+        let _ = &self.entries;
+        self.pass_on(from, to, ram, caps)
     }
 
     /// Closes an account that isn't the root and that has no child. Nothing of it may be in use. Its limits go back to its parent.
@@ -122,31 +144,36 @@ impl Books {
         requires ram_used { (account_at self.old account.0).ram_used ≡ 0 }
         requires caps_used { (account_at self.old account.0).caps_used ≡ 0 }
         ensures closed { self.new ≡ without_account self.old account.0 }
-        ensures ram_moved { ram_limits self.new ≡ ram_limits self.old }
-        ensures caps_moved { caps_limits self.new ≡ caps_limits self.old }
+        ensures limits { KeepsLimits self.old self.new }
         ensures related { AreRelated self.old account.0 (parent_at self.old account.0) }
     {
         let closed = self.entries.remove(account.0);
         self.take_over(closed.parent, closed.account);
     }
 
+    // Moves so much of an account's limits to another.
+    fn pass_on(
+        &mut self,
+        from: AccountId,
+        to: AccountId,
+        ram: Ram,
+        caps: Caps,
+    ) -> Result<(), Refusal>
+        requires apart { from.0 ≢ to.0 }
+        requires from { IsOpen self.old from.0 }
+        requires to { IsOpen self.old to.0 }
+        ensures { Moves from.0 to.0 ram.0 caps.0 result self.old self.new }
+    {
+        let limits = self.part_with(from, ram, caps)?;
+        self.take_over(to, limits);
+        Ok(())
+    }
+
     // Takes so much out of an account's limits.
     fn part_with(&mut self, account: AccountId, ram: Ram, caps: Caps) -> Result<Account, Refusal>
         requires { IsOpen self.old account.0 }
-        ensures refusal { result_err result
-            ≡ shortage (account_at self.old account.0) ram.0 caps.0 }
-        ensures ok { OnOk result
-            (self.new
-            ≡ with_account self.old account.0
-            (parted_with (account_at self.old account.0) ram.0 caps.0)) }
-        ensures part { IfOk result (λ part. part ≡ opened ram.0 caps.0) }
-        ensures err { OnErr result (self.new ≡ self.old) }
-        ensures ram { IfOk result
-            (λ part. ram_limits self.new + part.ram_limit ≡ ram_limits self.old) }
-        ensures caps { IfOk result
-            (λ part. caps_limits self.new + part.caps_limit ≡ caps_limits self.old) }
-        ensures few_ram { ram_limits self.old < 2 ^ 64 }
-        ensures few_caps { caps_limits self.old < 2 ^ 32 }
+        ensures taken { TakesOut account.0 ram.0 caps.0 result self.old self.new }
+        ensures few { HasFewLimits self.old }
     {
         self.entries[account.0].account.part_with(ram, caps)
     }

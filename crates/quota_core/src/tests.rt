@@ -145,3 +145,47 @@ fn limits_at_their_largest_come_back(rt: HostRuntime) {
     books.close(child);
     assert_eq!(rt; plain(books.limits(root)), (u64::MAX, u32::MAX));
 }
+
+#[test]
+fn limits_shift_between_two_of_one_parent(rt: HostRuntime) {
+    let mut books = Books::boot(rt.alloc(), Ram(u64::MAX), Caps(u32::MAX), 3).expect(&rt, "memory");
+    let root = books.root();
+    let one = books
+        .open(root, Ram(u64::MAX - 5), Caps(u32::MAX - 5))
+        .expect(&rt, "the root has it");
+    let other = books
+        .open(root, Ram(5), Caps(5))
+        .expect(&rt, "the root has it");
+    books
+        .shift(one, other, Ram(u64::MAX - 5), Caps(u32::MAX - 5))
+        .expect(&rt, "the one has it");
+    assert_eq!(rt; plain(books.limits(one)), (0, 0));
+    assert_eq!(rt; plain(books.limits(other)), (u64::MAX, u32::MAX));
+    assert_eq!(rt; plain(books.limits(root)), (0, 0));
+    assert_eq!(rt; books.shift(other, one, Ram(7), Caps(3)), Ok(()));
+    assert_eq!(rt; plain(books.limits(one)), (7, 3));
+    assert_eq!(rt; plain(books.limits(other)), (u64::MAX - 7, u32::MAX - 3));
+}
+
+#[test]
+fn refused_shift_changes_nothing(rt: HostRuntime) {
+    for (ram, caps, want) in [
+        (101, 3, Refusal::OutOfRam),
+        (101, 2, Refusal::OutOfRam),
+        (100, 3, Refusal::OutOfCaps),
+    ] {
+        let mut books = Books::boot(rt.alloc(), Ram(200), Caps(9), 3).expect(&rt, "memory");
+        let root = books.root();
+        let one = books
+            .open(root, Ram(120), Caps(4))
+            .expect(&rt, "the root has it");
+        let other = books
+            .open(root, Ram(50), Caps(2))
+            .expect(&rt, "the root has it");
+        assert_eq!(rt; books.charge(one, Ram(20), Caps(2)), Ok(()));
+        assert_eq!(rt; books.shift(one, other, Ram(ram), Caps(caps)), Err(want));
+        assert_eq!(rt; plain(books.limits(one)), (120, 4));
+        assert_eq!(rt; plain(books.limits(other)), (50, 2));
+        assert_eq!(rt; plain(books.used(one)), (20, 2));
+    }
+}

@@ -8,7 +8,7 @@ ghost use Rattle.own_model.specs.Call.Call.{AttachAt, Peek, Poke, Open, Upgrade,
 ghost use Rattle.pd_core.specs.Call.{model_call, IsWellFormed};
 
 use pd_core::Call;
-use text_read::{is_name, read_address, read_hex, split_first_word};
+use text_read::{read_address, read_hex, split_first_word, split_name};
 use trade_base::{Refusal, read_number};
 
 /// The component's name and the call of a line, or `Refusal::BadLine` where the line isn't a call. The line's length
@@ -20,15 +20,11 @@ pub fn read_line(line: &[u8]) -> Result<(&[u8], Call<'_>), Refusal>
     ensures refused { IfErr result (λ refusal. refusal ≡ BadLine) }
     ensures none { OnErr result (spoken line.now ≡ None) }
 {
-    let (name, text) = split_first_word(line);
-    if !is_name(name) {
+    let Some((name, Some(text))) = split_name(line) else {
         return Err(Refusal::BadLine);
-    }
-    match text {
-        Some(text) => match read_call(text) {
-            Some(call) => Ok((name, call)),
-            None => Err(Refusal::BadLine),
-        },
+    };
+    match read_call(text) {
+        Some(call) => Ok((name, call)),
         None => Err(Refusal::BadLine),
     }
 }
@@ -174,10 +170,7 @@ fn read_open(arguments: Option<&[u8]>) -> Option<Call<'_>>
     ensures call { option_map model_call result ≡ of_text Open name_of (option_copied arguments.entry) }
     ensures well_formed { IfSome result IsWellFormed }
 {
-    let (service, args) = split_first_word(arguments?);
-    if !is_name(service) {
-        return None;
-    }
+    let (service, args) = split_name(arguments?)?;
     let args = text_or_none(args);
     Some(Call::Open { service, args })
 }

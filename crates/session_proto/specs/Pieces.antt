@@ -1,6 +1,10 @@
 -- The first piece of a text, and the pieces after it.
-use Rattle.std.specs.Prelude.{ℕ, ◌+◌, ◌==◌, ◌&&◌, not, Bool, false, List, [], ◌∷◌, if◌then◌else◌, Option, Some, None}
+use Rattle.std.specs.Prelude.{ℕ, ◌+◌, ◌==◌, ◌&&◌, ◌||◌, not, Bool, false, List, [], ◌∷◌, if◌then◌else◌, Option, Some, None}
 use Rattle.own_model.specs.SessionArgs.{is_quote, pieces_of}
+
+-- a comma or a quote
+abbrev pub is_cut : ℕ → Bool
+is_cut b = b == 44 || b == 34
 
 -- how long the first piece is
 abbrev pub first_len : Bool → List ℕ → ℕ

@@ -6,7 +6,7 @@ ghost use Rattle.own_model.specs.SessionArgs.{is_key, is_key_start, is_key_byte,
 ghost use Rattle.session_proto.specs.View.{model_value, model_pair};
 
 use crate::text::{split_at_equals, trim};
-use text_read::has_name_bytes;
+use text_read::{has_name_bytes, is_key_byte, is_quotable};
 
 /// A key and its value.
 #[derive(Clone, Copy)]
@@ -56,18 +56,12 @@ fn has_key_bytes(text: &[u8]) -> bool
     text.iter().all(|byte| is_key_byte(*byte))
 }
 
-fn is_key_byte(byte: u8) -> bool
-    ensures { result ≡ is_key_byte byte }
-{
-    byte.is_ascii_alphanumeric() || byte == b'_'
-}
-
 /// The value that a text is, if it is one.
 fn read_value(text: &[u8]) -> Option<Value<'_>>
     ensures { option_map model_value result ≡ value_of text.now }
 {
     if let [b'"', inner @ .., b'"'] = text
-        && is_quotable(inner)
+        && has_quotable_bytes(inner)
     {
         return Some(Value::Quoted(inner));
     }
@@ -79,10 +73,10 @@ fn read_value(text: &[u8]) -> Option<Value<'_>>
 }
 
 /// Whether each byte may stand between quotes.
-fn is_quotable(text: &[u8]) -> bool
+fn has_quotable_bytes(text: &[u8]) -> bool
     ensures { result ≡ list_all is_quotable text.now }
 {
-    text.iter().all(|byte| matches!(*byte, b' '..=b'~') && !matches!(*byte, b'"' | b'\\'))
+    text.iter().all(|byte| is_quotable(*byte))
 }
 
 /// Whether a text is one or more letters, digits, `_`, `-` and `.`.

@@ -1,11 +1,11 @@
 //! Pieces of a text.
-ghost use Rattle.std.specs.Prelude.{◌≡◌, ◌<◌, ◌≤◌, ◌∷◌, length, IfSome, reverse, false};
+ghost use Rattle.std.specs.Prelude.{◌≡◌, ◌<◌, ◌≤◌, ◌∷◌, length, position, IfSome, reverse, false};
 ghost use Rattle.std.specs.Option.{option_copied};
 ghost use Rattle.std.specs.List.{before_first, after_first, list_all};
-ghost use Rattle.own_model.specs.SessionArgs.{is_space, is_equals, skip_spaces, trimmed, pieces_of};
-ghost use Rattle.session_proto.specs.Pieces.{first_len, pieces_after};
+ghost use Rattle.own_model.specs.SessionArgs.{is_space, is_quote, is_equals, skip_spaces, trimmed, pieces_of};
+ghost use Rattle.session_proto.specs.Pieces.{is_cut, first_len, pieces_after};
 
-use text_read::find_byte;
+use text_read::{find_byte, find_either};
 
 /// Whether a text is spaces alone, or nothing.
 pub(crate) fn is_blank(text: &[u8]) -> bool
@@ -73,14 +73,33 @@ fn piece_len(text: &[u8]) -> usize
     ensures value { result ≡ first_len false text.now }
     ensures within { result ≤ length text.now }
 {
-    let mut quoted = false;
-    for (at, byte) in text.iter().enumerate() {
-        if *byte == b',' && !quoted {
-            return at;
+    let mut at = 0;
+    while let Some(next) = find_cut(&text[at..]) {
+        let place = at + next;
+        if text[place] == b',' {
+            return place;
         }
-        if *byte == b'"' {
-            quoted = !quoted;
+        // What stands between quotes is passed whole.
+        match find_quote(&text[place + 1..]) {
+            Some(inner) => at = place + 1 + inner + 1,
+            None => return text.len(),
         }
     }
     text.len()
+}
+
+/// Where the first comma or quote is.
+fn find_cut(text: &[u8]) -> Option<usize>
+    ensures place { result ≡ position is_cut text.now }
+    ensures inside { IfSome result (λ at. at < length text.now) }
+{
+    find_either(b',', b'"', text)
+}
+
+/// Where the first quote is.
+fn find_quote(text: &[u8]) -> Option<usize>
+    ensures place { result ≡ position is_quote text.now }
+    ensures inside { IfSome result (λ at. at < length text.now) }
+{
+    find_byte(b'"', text)
 }

@@ -1,7 +1,6 @@
 -- A dataspace is allocated for a block, and can then be entered.
 use Rattle.std.proofs.Common.{◌≡◌, ◌≢◌, ◌≤◌, ◌+◌, ◌-◌, ◌/◌, ℕ, List, [], drop, length, Some, refl, sym, ap, ◌∙◌, unwrap_or, arith}
 use Rattle.std.proofs.lemmas.List.{drop-replicate}
-use Rattle.std.proofs.lemmas.Option.{none-some}
 use Rattle.std.specs.Prelude.{Option, None}
 use Rattle.std.specs.Option.{option_map}
 use Rattle.std.specs.FinMap.{get, insert, len}

@@ -1,5 +1,5 @@
 -- The blocks of a share whose headers are linked: their bytes, and which payload holds a range of addresses.
-use Rattle.std.proofs.Common.{◌≡◌, ◌≤◌, ◌<◌, ◌+◌, ◌-◌, ◌*◌, ◌/◌, ℕ, true, List, drop, length, Some, refl, sym, ap, ◌∙◌, ⊎_elim, arith}
+use Rattle.std.proofs.Common.{◌≡◌, ◌≤◌, ◌<◌, ◌+◌, ◌-◌, ◌*◌, ◌/◌, ℕ, true, List, drop, length, Some, refl, sym, ap, ◌∙◌, ⊎_elim, arith, rules}
 use Rattle.std.proofs.lemmas.Bool.{cases_lt, false_from_ne_true}
 use Rattle.std.proofs.lemmas.Bool.Decides.{nat_tests}
 use Rattle.std.proofs.lemmas.List.{length-drop}
@@ -79,13 +79,7 @@ module _ (S : Share) (first : ℕ) (linked : IsLinked S first) where
 
   -- where a payload holds a range, its block holds the range's start
   pub start_held : (address count j : ℕ) (payload : List ℕ) → 1 ≤ count → (of : IsOf j payload) → holds_in_payload address count (j, payload) ≡ true → (of.start + header ≤ address) × (address + count ≤ of.start + of.region.pages * 4096)
-  start_held address count j payload some of holds =
-      let test = payload_test address count j (length payload) payload refl holds in
-      let low = test.0 in
-      let high = test.1 in
-      let at = of.at in
-      let long = of.long in
-      (omega (arith, at, low), omega (arith, at, long, high))
+  start_held address count j payload some of holds = search (rules, payload_test)
 
   -- a range of which no block holds the start is in no payload
   pub none_found : (address count : ℕ) → 1 ≤ count → NoneHolds S address → block_found (sliced_of S) address count ≡ None

@@ -1,5 +1,5 @@
 -- A chain after a block is put before it, and after one is taken out.
-use Rattle.std.proofs.Common.{◌≡◌, ◌≢◌, ℕ, true, false, cond, eqb, List, [], ◌∷◌, not, ◌&&◌, refl, sym, ap, ◌∙◌, ⊎_elim, true≢false, arith}
+use Rattle.std.proofs.Common.{◌≡◌, ◌≢◌, ℕ, true, false, cond, eqb, List, [], ◌∷◌, not, ◌&&◌, refl, sym, ap, ◌∙◌, ⊎_elim, true≢false, arith, rules}
 use Rattle.std.proofs.lemmas.Bool.{cases_eq}
 use Rattle.std.proofs.lemmas.Bool.Decides.{nat_tests}
 use Rattle.sliced_heap.specs.Chain.{link_to, is_listed, has_no_repeat, Linked, IsChain}
@@ -68,10 +68,7 @@ module _ (next previous new_next new_previous : ℕ → ℕ) where
 
   -- a block put before a chain
   pub chain_pushed : (first block : ℕ) (xs : List ℕ) → is_listed xs block ≡ false → new_next block ≡ first → new_previous block ≡ 0 → ((b : ℕ) → is_listed xs b ≡ true → new_next b ≡ next b) → ((b : ℕ) → is_listed xs b ≡ true → new_previous b ≡ cond (eqb (link_to b) first) (link_to block) (previous b)) → IsChain next previous first xs → IsChain new_next new_previous (link_to block) (block ∷ xs)
-  chain_pushed first block xs fresh leads begins ahead back h = record {
-    linked = (refl, (begins, rw leads (linked_behind xs 0 (link_to block) first h.once ahead back h.linked)));
-    once = let o = h.once in grind (arith, nat_tests);
-  }
+  chain_pushed first block xs fresh leads begins ahead back h = search (rules, linked_behind, nat_tests)
 
 -- what follows a block that another block isn't linked to
 module _ (next previous : ℕ → ℕ) (block : ℕ) where

@@ -1,6 +1,6 @@
 -- All blocks are given back, one after another.
 use Rattle.own_model.proofs.AccountLemmas.{credit_nothing, credit_twice}
-use Rattle.std.proofs.Common.{◌≡◌, ◌≢◌, ◌+◌, ◌-◌, ℕ, true, List, [], ◌∷◌, Some, refl, sym, ap, subst, ◌∙◌, ⊎_elim, true≢false, unwrap_or, arith}
+use Rattle.std.proofs.Common.{◌≡◌, ◌+◌, ℕ, true, List, [], ◌∷◌, Some, refl, sym, ap, subst, ◌∙◌, true≢false, unwrap_or, arith, rules}
 use Rattle.std.proofs.lemmas.Bool.{cases_eq}
 use Rattle.std.proofs.lemmas.Option.{none-some}
 use Rattle.std.specs.Prelude.{Option, None}
@@ -88,13 +88,7 @@ module _ (heap : SlicedHeap) (store : Store) (regions : Regions) (sound : IsSoun
 
 -- others stay over two calls
 pub keeps_then : (account : ℕ) (old mid new : Store) (regions between after : Regions) → KeepsOthers account old mid regions between → KeepsOthers account mid new between after → KeepsOthers account old new regions after
-keeps_then account old mid new regions between after first next = record {
-  shares = λ other apart. next.shares other apart ∙ first.shares other apart;
-  root = next.root ∙ first.root;
-  parents = next.parents ∙ first.parents;
-  room = next.room ∙ first.room;
-  rest = next.rest ∙ ap (λ (m : Regions). record m { heap = after.heap; tags = after.tags }) first.rest;
-}
+keeps_then account old mid new regions between after first next = search (rules)
 
 module _ (heap : SlicedHeap) (address : ℕ) (old mid : Store) (regions between : Regions) (sound : IsSound heap old regions) (one : GivesBlock (payer_of heap) address old mid regions between) where
   abbrev account : ℕ
@@ -126,21 +120,11 @@ module _ (heap : SlicedHeap) (address : ℕ) (old mid : Store) (regions between 
 
     -- what isn't a block stays
     kept_at : (s : ℕ) → get (block_regions (share_at account old regions)) s ≡ None → (get after.heap s ≡ get regions.heap s) × (get after.tags s ≡ get regions.tags s)
-    kept_at s none =
-        let apart : s ≢ one.start = λ e. none-some block_there.0 (sym none ∙ ap (get (block_regions (share_at account old regions))) e ∙ block_there.1) in
-        let here = rest.kept s (left_at s ∙ get-remove_other _ one.start s apart ∙ none) in (
-          here.0 ∙ ap (λ (m : Regions). get m.heap s) one.detached ∙ get-remove_other regions.heap one.start s apart,
-          here.1 ∙ ap (λ (m : Regions). get m.tags s) one.detached ∙ get-remove_other regions.tags one.start s apart,
-        )
+    kept_at s none = search (rules, none-some, block_there, left_at, get-remove_other)
 
     -- and each block goes
     gone_at : (s : ℕ) (r : Region) → get (block_regions (share_at account old regions)) s ≡ Some r → get after.heap s ≡ None
-    gone_at s r h = ⊎_elim
-        (λ (here : s ≡ one.start).
-        (rest.kept s (left_at s ∙ get-remove_same _ one.start s here)).0
-        ∙ ap (λ (m : Regions). get m.heap s) one.detached ∙ get-remove_same regions.heap one.start s here)
-        (λ (other : s ≢ one.start). rest.gone s r (left_at s ∙ get-remove_other _ one.start s other ∙ h))
-        (cases_eq s one.start)
+    gone_at s r h = search (rules, left_at, get-remove_same, get-remove_other, cases_eq)
 
     pub gives_then : GivesAll account old new regions after
     gives_then = record {

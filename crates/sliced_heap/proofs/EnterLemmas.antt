@@ -1,15 +1,14 @@
 -- A dataspace is entered as the first block.
-use Rattle.std.proofs.Common.{◌≡◌, ◌≢◌, ◌<◌, ◌+◌, ◌^◌, ℕ, true, false, eqb, ◌||◌, List, [], ◌∷◌, drop, length, Some, is_some, refl, sym, ap, subst, ◌∙◌, ⊎_elim, inl, inr, true≢false, unwrap_or, arith}
+use Rattle.std.proofs.Common.{◌≡◌, ◌≢◌, ◌<◌, ◌+◌, ◌^◌, ℕ, true, false, eqb, ◌||◌, List, [], ◌∷◌, drop, length, Some, is_some, refl, sym, ap, ◌∙◌, true≢false, unwrap_or, arith, rules}
 use Rattle.std.proofs.lemmas.Bool.{cases_eq}
 use Rattle.std.proofs.lemmas.Bool.Decides.{nat_tests}
-use Rattle.std.proofs.lemmas.Option.{none-some}
 use Rattle.std.specs.Prelude.{Option, None}
 use Rattle.std.specs.Option.{option_map}
 use Rattle.std.specs.FinMap.{get, insert}
 use Rattle.own_model.specs.NatMap.{NatMap}
-use Rattle.own_model.specs.Region.{Region, IsFirstGap}
+use Rattle.own_model.specs.Region.{Region}
 use Rattle.own_model.specs.Sliced.{sliced_header as header}
-use Rattle.own_model.specs.HeapWindow.{heap_low, heap_high, heap_gap, largest_machine}
+use Rattle.own_model.specs.HeapWindow.{heap_gap, largest_machine}
 use Rattle.own_model.proofs.NatMapLemmas.{after_insert, each_after_insert}
 use Rattle.own_model.proofs.RegionLemmas.{first_gap_least}
 use Rattle.region_map.specs.Regions.{Regions, heap_attached}
@@ -28,10 +27,7 @@ use Rattle.sliced_heap.proofs.HeapLaws.{map_stays_for_payer}
 
 -- the start of a gap and a header beyond it fit 64 bits
 pub gap_small : (regions : NatMap Region) (pages start : ℕ) → heap_gap largest_machine regions pages ≡ Some start → start + 32 < 2 ^ 64
-gap_small regions pages start gap =
-    let least : IsFirstGap heap_low (heap_high largest_machine) regions pages (Some start) = subst (IsFirstGap heap_low (heap_high largest_machine) regions pages) gap (first_gap_least heap_low (heap_high largest_machine) regions pages) in
-    let high = least.0.to_high in
-    omega (arith, high)
+gap_small regions pages start gap = search (rules, first_gap_least)
 
 module _ (heap : SlicedHeap) (ds pages : ℕ) (old : Store) (regions : Regions) (sound : IsSound heap old regions) (can : CanEnter (payer_of heap) ds pages old regions) where
   -- the account, its first block, and its share
@@ -81,12 +77,7 @@ module _ (heap : SlicedHeap) (ds pages : ℕ) (old : Store) (regions : Regions) 
 
     -- the same dataspaces are there
     keys : (k : ℕ) → is_some (get (part account new).spaces k) ≡ (eqb k ds || is_some (get (part account old).spaces k))
-    keys k =
-        let same_key = some_alike (get (part account new).spaces k) (get (part account old).spaces k) (headers.lengths k) in
-        ⊎_elim
-        (λ (same : k ≡ ds). let h : is_some (get (part account old).spaces k) ≡ true = ap (λ q. is_some (get (part account old).spaces q)) same ∙ ap is_some can.there in grind (arith, nat_tests))
-        (λ (other : k ≢ ds). grind (arith, nat_tests))
-        (cases_eq k ds)
+    keys k = search (rules, some_alike, nat_tests, cases_eq)
 
     -- the share then
     share_then : share_at account new after ≡ record { part = part account new; heap = insert (share_at account old regions).heap start region; tags = insert (share_at account old regions).tags start sliced_tag }
@@ -106,15 +97,7 @@ module _ (heap : SlicedHeap) (ds pages : ℕ) (old : Store) (regions : Regions) 
 
     -- the shares of others stay
     pub enter_others : KeepsOthers account old new regions after
-    enter_others = record {
-      shares = λ other apart.
-          ap (λ p. share_in p after.heap after.tags) (becomes.others other apart)
-          ∙ share_attached_other regions.heap regions.tags start region sliced_tag free (part other old) (in_no_other account other ds can.bytes old can.there apart);
-      root = becomes.root;
-      parents = becomes.parents;
-      room = becomes.room;
-      rest = refl;
-    }
+    enter_others = search (rules, share_attached_other, in_no_other)
 
     -- the account stays as it is
     same_account : (part account new).account ≡ Some (account_in old account)
@@ -130,16 +113,7 @@ module _ (heap : SlicedHeap) (ds pages : ℕ) (old : Store) (regions : Regions) 
 
     -- no two regions show one dataspace, the new one among them
     once_then : (s t : ℕ) (r q : Region) → get after.heap s ≡ Some r → get after.heap t ≡ Some q → r.of ≡ q.of → s ≡ t
-    once_then s t r q h g e = elim (after_insert regions.heap start region s r h) [
-      | inl a ↦ elim (after_insert regions.heap start region t q g) [
-        | inl b ↦ a.0 ∙ sym b.0
-        | inr b ↦ absurd (can.unshown t q b.1 (sym e ∙ ap (λ (x : Region). x.of) a.1))
-      ]
-      | inr a ↦ elim (after_insert regions.heap start region t q g) [
-        | inl b ↦ absurd (can.unshown s r a.1 (e ∙ ap (λ (x : Region). x.of) b.1))
-        | inr b ↦ sound.maps.once s t r q a.1 b.1 e
-      ]
-    ]
+    once_then s t r q h g e = search (rules, after_insert)
 
     -- and with it the map is one of the memory
     pub enter_maps : MapsMemory new after

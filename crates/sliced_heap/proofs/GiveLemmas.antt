@@ -1,5 +1,5 @@
 -- A block is given back.
-use Rattle.std.proofs.Common.{◌≡◌, ◌≢◌, ◌+◌, ◌==◌, ℕ, true, false, cond, List, [], drop, length, Some, is_some, refl, sym, ap, ◌∙◌, true≢false, unwrap_or, arith}
+use Rattle.std.proofs.Common.{◌≡◌, ◌≢◌, ◌+◌, ◌==◌, ℕ, true, cond, List, drop, length, Some, is_some, refl, sym, ap, ◌∙◌, unwrap_or, arith, rules}
 use Rattle.std.proofs.lemmas.List.{length-drop}
 use Rattle.std.proofs.lemmas.Option.{none-some}
 use Rattle.std.specs.Prelude.{Option}
@@ -53,18 +53,11 @@ module _ (heap : SlicedHeap) (old : Store) (regions : Regions) (start ds : ℕ) 
   -- the block after it is listed, and the one before it
   pub next_listed : (b : ℕ) → next_in (part account old) ds ≡ link_to b → is_listed sound.linked.blocks b ≡ true
   unfolding share_in
-  next_listed b leads = elim (is_listed sound.linked.blocks b) as (λ t. is_listed sound.linked.blocks b ≡ t → t ≡ true) [
-    | true ↦ λ e. refl
-    | false ↦ λ e. absurd (ahead_apart (next_in S.part) (previous_in S.part) ds sound.linked.blocks 0 heap.first b listed e sound.linked.chain.linked (sym leads))
-  ] refl
+  next_listed b leads = search (rules, ahead_apart, listed)
 
   pub previous_listed : (b : ℕ) → previous_in (part account old) ds ≡ link_to b → is_listed sound.linked.blocks b ≡ true
   unfolding share_in
-  previous_listed b leads = elim (is_listed sound.linked.blocks b) as (λ t. is_listed sound.linked.blocks b ≡ t → t ≡ true) [
-    | true ↦ λ e. refl
-    | false ↦ λ e. absurd (back_apart (next_in S.part) (previous_in S.part) ds sound.linked.blocks 0 heap.first (link_to b) listed (λ z. omega (arith, z))
-        (λ k t same. true≢false (sym t ∙ ap (is_listed sound.linked.blocks) (let k_is_b : k ≡ b = omega (arith, same) in k_is_b) ∙ e)) sound.linked.chain.linked leads)
-  ] refl
+  previous_listed b leads = search (rules, back_apart, listed)
 
   -- its dataspace, and its region in the map
   pub whole : IsWhole S heap.first sound.linked start region
@@ -142,11 +135,7 @@ module _ (heap : SlicedHeap) (old : Store) (regions : Regions) (start ds : ℕ) 
       same_account = ap (λ (o : Option Account). unwrap_or o (opened 0 0)) (headers.account ∙ own_account account old sound.opens)
 
       charge : (part account new).account ≡ Some (credited (account_in old account) (block_size (drop header whole.bytes)) 1)
-      charge =
-          ap (λ (p : Part). p.account) freed.own
-          ∙ ap (λ (o : Option (List ℕ)). Some (credited (account_of (part account mid)) (length (unwrap_or o [])) 1)) mid_there
-          ∙ ap (λ n. Some (credited (account_of (part account mid)) n 1)) (mid_bytes.2 ∙ sym size_is)
-          ∙ ap (λ a. Some (credited a (block_size (drop header whole.bytes)) 1)) same_account
+      charge = search (rules, freed, mid_there, mid_bytes, size_is, whole, same_account)
 
       -- the account stays open, and the map is one of the memory
       limits : (IsOpenIn new account) × (ram_limits_in new ≡ ram_limits_in old)

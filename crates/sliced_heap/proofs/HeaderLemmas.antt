@@ -1,5 +1,5 @@
 -- What bytes put over those of a dataspace leave; a word of a header that is stored reads back, and all else stays.
-use Rattle.std.proofs.Common.{◌≡◌, ◌≢◌, ◌<◌, ◌≤◌, ◌^◌, ◌+◌, ◌-◌, ℕ, true, ◌⊎◌, List, [], ◌∷◌, drop, length, refl, sym, ap, ◌∙◌, ⊎_elim, unwrap_or, arith}
+use Rattle.std.proofs.Common.{◌≡◌, ◌<◌, ◌≤◌, ◌^◌, ◌+◌, ◌-◌, ℕ, true, ◌⊎◌, List, [], ◌∷◌, drop, length, refl, ap, ◌∙◌, unwrap_or, arith, rules}
 use Rattle.std.proofs.lemmas.Bool.{cases_eq}
 use Rattle.std.proofs.lemmas.Bool.Decides.{nat_tests}
 use Rattle.std.specs.Prelude.{Option, Some, slice_range}
@@ -37,16 +37,7 @@ module _ (p : Part) (ds offset : ℕ) (put bytes : List ℕ) (there : get p.spac
   -- a word before them stays, or after them, or of another dataspace
   pub poked_word : (other b : ℕ) → (other + 8 ≤ offset) ⊎ (offset + length put ≤ other) → word_at after other b ≡ word_at p other b
   unfolding word_at
-  poked_word other b clear = ⊎_elim
-      (λ (same : b ≡ ds). rw same (
-      ap (λ b. word_of (slice_range b other (other + 8))) bytes_then
-      ∙ ap word_of (⊎_elim
-      (λ (before : other + 8 ≤ offset). range_before bytes offset put other (other + 8) before fits)
-      (λ (after : offset + length put ≤ other). range_after bytes offset put other (other + 8) after fits)
-      clear)
-      ∙ ap (λ b. word_of (slice_range b other (other + 8))) (sym (bytes_of-there p ds bytes there))))
-      (λ (apart : b ≢ ds). ap (λ (o : Option (List ℕ)). word_of (slice_range (unwrap_or o []) other (other + 8))) (poked_other p ds offset put bytes there fits b apart))
-      (cases_eq b ds)
+  poked_word other b clear = search (rules, bytes_then, range_before, range_after, bytes_of-there, poked_other, cases_eq)
 
   -- so does what lies behind headers, where they are put before it
   pub poked_payload : offset + length put ≤ 32 → (q : ℕ) → option_map (drop 32) (get after.spaces q) ≡ option_map (drop 32) (get p.spaces q)
@@ -64,11 +55,7 @@ module _ (p : Part) (ds offset word : ℕ) (bytes : List ℕ) (there : get p.spa
   -- the word reads back
   word_stored : word_at stored offset ds ≡ word
   unfolding word_at
-  word_stored =
-      ap (λ (o : Option (List ℕ)). word_of (slice_range (unwrap_or o []) offset (offset + 8))) (poked_there p ds offset (word_bytes word) bytes there fits)
-      ∙ ap (λ n. word_of (slice_range (with_bytes bytes offset (word_bytes word)) offset (offset + n))) (sym (length-word_bytes word))
-      ∙ ap word_of (slice_range-with_bytes bytes offset (word_bytes word) fits)
-      ∙ word_of-word_bytes word small
+  word_stored = search (rules, poked_there, fits, length-word_bytes, slice_range-with_bytes, word_of-word_bytes)
 
   -- and all else stays
   pub is_stored : IsStored ds offset word p stored
@@ -91,23 +78,11 @@ module _ (p : Part) (ds offset word : ℕ) (bytes : List ℕ) (there : get p.spa
 
 -- a change of headers of some blocks is one of more
 pub headers_wider : (few more : List ℕ) (p q : Part) → ((k : ℕ) → is_listed few k ≡ true → is_listed more k ≡ true) → HeadersChange few p q → HeadersChange more p q
-headers_wider few more p q wider h = record {
-  account = h.account;
-  payloads = h.payloads;
-  lengths = h.lengths;
-  others = λ k none. h.others k (grind (arith, nat_tests, wider k));
-  count = h.count;
-}
+headers_wider few more p q wider h = search (rules, nat_tests)
 
 -- two changes are one
 pub headers_then : (blocks : List ℕ) (p q r : Part) → HeadersChange blocks p q → HeadersChange blocks q r → HeadersChange blocks p r
-headers_then blocks p q r g h = record {
-  account = h.account ∙ g.account;
-  payloads = λ k. h.payloads k ∙ g.payloads k;
-  lengths = λ k. h.lengths k ∙ g.lengths k;
-  others = λ k none. h.others k none ∙ g.others k none;
-  count = h.count ∙ g.count;
-}
+headers_then blocks p q r g h = search (rules)
 
 -- a block of a list alone is listed in it
 pub one_listed : (b : ℕ) (blocks : List ℕ) → is_listed blocks b ≡ true → (k : ℕ) → is_listed (b ∷ []) k ≡ true → is_listed blocks k ≡ true

@@ -1,5 +1,5 @@
 -- Laws for callers: what other calls leave of a heap, what a range of a payload is, and where blocks stand.
-use Rattle.std.proofs.Common.{◌≡◌, ◌≢◌, ◌+◌, ◌-◌, ◌*◌, ◌≤◌, ℕ, List, [], ◌++◌, take, drop, length, inl, Some, IsSome, is_some, refl, sym, ap, subst, ◌∙◌, ⊎_elim, true≢false, unwrap_or, arith}
+use Rattle.std.proofs.Common.{◌≡◌, ◌≢◌, ◌+◌, ◌-◌, ◌≤◌, ℕ, List, [], ◌++◌, take, drop, length, inl, Some, IsSome, is_some, refl, sym, ap, ◌∙◌, ⊎_elim, true≢false, unwrap_or, arith, rules}
 use Rattle.std.proofs.lemmas.Bool.{cases_eq}
 use Rattle.std.proofs.lemmas.List.{length-drop, length-take-le, take-append-drop, drop-drop}
 use Rattle.std.proofs.Math.Seq.{drop-append_seam}
@@ -43,12 +43,7 @@ module _ (old new : Store) (regions after : Regions) (maps : MapsMemory old regi
   was s r h = ap (λ (m : NatMap Region). get m s) (sym kept.heap) ∙ h
 
   still_maps : ram_limits_in new ≡ ram_limits_in old → ((s : ℕ) (r : Region) → get regions.heap s ≡ Some r → IsShown old.spaces r → IsShown new.spaces r) → MapsMemory new after
-  still_maps limits shown = record {
-    pages = ap (λ n. n * 4096) kept.pages ∙ maps.pages ∙ sym limits;
-    most = kept.most ∙ maps.most ∙ sym kept.pages;
-    shown = λ s r h. shown s r (was s r h) (maps.shown s r (was s r h));
-    once = λ s t r q h g. maps.once s t r q (was s r h) (was t q g);
-  }
+  still_maps limits shown = search (rules, was)
 
 -- a dataspace that is as long as another that was there
 as_long : (o : Option Space) (x : Space) → option_map (λ (s : Space). length s.bytes) o ≡ Some (length x.bytes) → (y : Space) × (o ≡ Some y) × (length y.bytes ≡ length x.bytes)
@@ -125,11 +120,7 @@ module _ (heap : SlicedHeap) (p : Part) (old new : Store) (regions after : Regio
 
 pub heap_stays_among : HeapsStayAmong
 unfolding share_in
-heap_stays_among heap old new regions after sound maps opens same_one bytes = record {
-  sound = record { opens = opens; maps = maps; linked = alike_linked (share_at (payer_of heap) old regions) (share_at (payer_of heap) new after) heap.first sound.linked same_one bytes };
-  blocks = alike_payloads (share_at (payer_of heap) old regions) (share_at (payer_of heap) new after) heap.first sound.linked same_one bytes;
-  stands = same_one;
-}
+heap_stays_among heap old new regions after sound maps opens same_one bytes = search (rules, alike_linked, alike_payloads)
 
 pub heap_stays : HeapsStay
 heap_stays heap p old new regions after sound kept maps becomes there bytes =
@@ -140,10 +131,7 @@ heap_stays heap p old new regions after sound kept maps becomes there bytes =
 -- a heap whose share is the same is as it was
 same_share : (heap : SlicedHeap) (old new : Store) (regions after : Regions) → IsSound heap old regions → MapsMemory new after → share_at (payer_of heap) new after ≡ share_at (payer_of heap) old regions → HeapStays heap old new regions after
 unfolding share_in
-same_share heap old new regions after sound maps same_one =
-    heap_stays_among heap old new regions after sound maps
-    (open_in_part (payer_of heap) new (subst (λ (S : Share). IsSome S.part.account) (sym same_one) (part_open (payer_of heap) old sound.opens)))
-    (ap block_regions same_one) (λ s r h. ap (λ (S : Share). get S.part.spaces r.of) same_one)
+same_share heap old new regions after sound maps same_one = search (rules, heap_stays_among, open_in_part, part_open)
 
 pub heap_stays_elsewhere : HeapsStayElsewhere
 heap_stays_elsewhere heap old new regions sound same_part limits paid =

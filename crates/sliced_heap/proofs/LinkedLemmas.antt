@@ -1,5 +1,5 @@
 -- The blocks of a share when their headers stay, when a block is put first, and when one is taken out.
-use Rattle.std.proofs.Common.{◌≡◌, ◌≢◌, ◌≤◌, ◌+◌, ◌*◌, ◌==◌, ℕ, true, false, cond, List, [], ◌∷◌, drop, length, refl, sym, ap, subst, ◌∙◌, ⊎_elim, true≢false, arith}
+use Rattle.std.proofs.Common.{◌≡◌, ◌≢◌, ◌≤◌, ◌+◌, ◌*◌, ◌==◌, ℕ, true, false, cond, List, [], ◌∷◌, drop, length, refl, sym, ap, subst, ◌∙◌, ⊎_elim, true≢false, arith, rules}
 use Rattle.std.proofs.lemmas.Bool.{cases_eq}
 use Rattle.std.proofs.lemmas.Bool.Decides.{nat_tests}
 use Rattle.std.proofs.lemmas.Option.{none-some, same_Some}
@@ -34,11 +34,7 @@ stands_header S ds s = record { bytes = s.bytes; there = s.there; long = let w =
 module _ (S : Share) (first : ℕ) (linked : IsLinked S first) where
   -- a dataspace of which no region is isn't listed
   pub no_block_unlisted : (k : ℕ) → ((s : ℕ) (r : Region) → get (block_regions S) s ≡ Some r → r.of ≢ k) → is_listed linked.blocks k ≡ false
-  no_block_unlisted k none =
-      elim (is_listed linked.blocks k) as (λ b. is_listed linked.blocks k ≡ b → b ≡ false) [
-        | true ↦ λ t. absurd (none _ _ (linked.stands k t).region refl)
-        | false ↦ λ t. refl
-      ] refl
+  no_block_unlisted k none = search (rules)
 
   -- no two regions are of one dataspace
   pub one_region : (s t : ℕ) (r q : Region) → get (block_regions S) s ≡ Some r → get (block_regions S) t ≡ Some q → r.of ≡ q.of → s ≡ t
@@ -50,28 +46,7 @@ module _ (S T : Share) (first : ℕ) (linked : IsLinked S first) (regions : bloc
   -- a share with the same regions, and the same headers of blocks, has the same blocks
   pub still_linked : ((offset b : ℕ) → offset + 8 ≤ header → is_listed linked.blocks b ≡ true → word_at T.part offset b ≡ word_at S.part offset b) →
       ((b : ℕ) → is_listed linked.blocks b ≡ true → option_map length (get T.part.spaces b) ≡ option_map length (get S.part.spaces b)) → IsLinked T first
-  still_linked words lengths = record {
-    blocks = linked.blocks;
-    chain = record {
-      linked = linked_kept (next_in S.part) (previous_in S.part) (next_in T.part) (previous_in T.part) linked.blocks 0 first
-          (λ b t. words 0 b (omega arith) t) (λ b t. words 8 b (omega arith) t) linked.chain.linked;
-      once = linked.chain.once;
-    };
-    stands = λ b t.
-        let s = linked.stands b t in
-        let found = length_some (get T.part.spaces b) (length s.bytes) (lengths b t ∙ ap (option_map length) s.there) in
-        record {
-          bytes = found.0;
-          pages = s.pages;
-          there = found.1;
-          some = s.some;
-          whole = found.2 ∙ s.whole;
-          region = ap (λ (m : NatMap Region). get m (start_in T.part b)) regions ∙ ap (get (block_regions S)) (words 16 b (omega arith) t) ∙ s.region;
-        };
-    all = λ s r h.
-        let was = linked.all s r (ap (λ (m : NatMap Region). get m s) (sym regions) ∙ h) in
-        (was.0, words 16 r.of (omega arith) was.0 ∙ was.1);
-  }
+  still_linked words lengths = search (rules, linked_kept, length_some)
 
   module _ (bytes : (s : ℕ) (r : Region) → get (block_regions S) s ≡ Some r → get T.part.spaces r.of ≡ get S.part.spaces r.of) where
     -- a listed block has the same bytes
@@ -122,32 +97,11 @@ module _ (S T : Share) (first ds start pages : ℕ) (bytes : List ℕ) (linked :
 
   -- the new block stands
   first_stands : Stands T ds
-  first_stands =
-      let found = length_some (get T.part.spaces ds) (length bytes) (headers.lengths ds ∙ ap (option_map length) there) in
-      record {
-        bytes = found.0;
-        pages = pages;
-        there = found.1;
-        some = some;
-        whole = found.2 ∙ whole;
-        region = region_at_place _ ∙ get-insert_same (block_regions S) start _ (start_in T.part ds) put.starts;
-      }
+  first_stands = search (rules, length_some, region_at_place, get-insert_same)
 
   -- and the others stand as before
   others_stand : (b : ℕ) → is_listed linked.blocks b ≡ true → Stands T b
-  others_stand b t =
-      let s = linked.stands b t in
-      let at : start_in T.part b ≡ start_in S.part b = put.others_start b (apart b t) in
-      let place : start_in T.part b ≢ start = λ e. none-some _ (sym free ∙ ap (get (block_regions S)) (sym e ∙ at) ∙ s.region) in
-      let found = length_some (get T.part.spaces b) (length s.bytes) (headers.lengths b ∙ ap (option_map length) s.there) in
-      record {
-        bytes = found.0;
-        pages = s.pages;
-        there = found.1;
-        some = s.some;
-        whole = found.2 ∙ s.whole;
-        region = region_at_place _ ∙ get-insert_other (block_regions S) start _ (start_in T.part b) place ∙ ap (get (block_regions S)) at ∙ s.region;
-      }
+  others_stand b t = search (rules, apart, none-some, length_some, region_at_place, get-insert_other)
 
   -- all blocks are linked
   pub put_linked : IsLinked T (link_to ds)
@@ -186,28 +140,11 @@ module _ (S T : Share) (first ds start : ℕ) (q : Part) (linked : IsLinked S fi
     (blocks : List ℕ) (headers : HeadersChange blocks S.part q) (out : TakenOut ds S.part q) (others : (k : ℕ) → k ≢ ds → get T.part.spaces k ≡ get q.spaces k) where
   -- a region that is left stood at another place, and is of another block
   left_region : (s : ℕ) (r : Region) → get (block_regions T) s ≡ Some r → (r.of ≢ ds) × (get (block_regions S) s ≡ Some r)
-  left_region s r h =
-      let now = ap (λ (m : NatMap Region). get m s) (sym regions) ∙ h in
-      let was = before_remove (block_regions S) start s r now in
-      (λ e. none-some r (sym (get-remove_same (block_regions S) start s (sym (linked.all s r was).1 ∙ ap (start_in S.part) e ∙ at)) ∙ now), was)
+  left_region s r h = search (rules, before_remove, none-some, get-remove_same)
 
   -- those that are left stand as before
   left_stand : (b : ℕ) → is_listed (taken_out ds linked.blocks) b ≡ true → Stands T b
-  left_stand b t =
-      let was = left_listed ds b linked.blocks t in
-      let apart = was.1 in
-      let s = linked.stands b was.0 in
-      let now : start_in T.part b ≡ start_in S.part b = word_same q T.part 16 b (others b apart) ∙ out.others_start b in
-      let place : start_in T.part b ≢ start = λ e. apart (ap (λ (r : Region). r.of) (same_Some _ _ (sym s.region ∙ ap (get (block_regions S)) (sym now ∙ e ∙ sym at) ∙ (linked.stands ds listed).region))) in
-      let found = length_some (get T.part.spaces b) (length s.bytes) (ap (option_map length) (others b apart) ∙ headers.lengths b ∙ ap (option_map length) s.there) in
-      record {
-        bytes = found.0;
-        pages = s.pages;
-        there = found.1;
-        some = s.some;
-        whole = found.2 ∙ s.whole;
-        region = ap (λ (m : NatMap Region). get m (start_in T.part b)) regions ∙ get-remove_other (block_regions S) start (start_in T.part b) place ∙ ap (get (block_regions S)) now ∙ s.region;
-      }
+  left_stand b t = search (rules, left_listed, apart, word_same, same_Some, length_some, get-remove_other)
 
   -- all that are left are linked
   pub out_linked : IsLinked T (cond (0 == previous_in S.part ds) (next_in S.part ds) first)

@@ -10,8 +10,8 @@ use Rattle.own_model.specs.OwnState.{zeros}
 use Rattle.own_model.specs.Region.{Region}
 use Rattle.own_model.specs.Sliced.{sliced_header as header, sliced_size, block_size, block_pages, block_found}
 use Rattle.region_map.specs.Regions.{Regions, heap_attached, heap_detached}
-use Rattle.dataspace_core.specs.Store.{Store, part, bytes_of, account_in, root_in, parents_in, room_in, IsOpenIn, ram_limits_in}
-use Rattle.dataspace_core.specs.Share.{Share, share, IsShown}
+use Rattle.dataspace_core.specs.Store.{Store, part, bytes_of, account_in, root_in, parents_in, room_in, IsOpenIn}
+use Rattle.dataspace_core.specs.Share.{Share, share}
 pub use Rattle.heap_window.specs.Window.{share_at, MapsMemory}
 use Rattle.sliced_heap.specs.declared.heap.SlicedHeap.{SlicedHeap}
 use Rattle.sliced_heap.specs.Sliced.{sliced_tag, block_regions, sliced_of, IsLinked}
@@ -52,6 +52,12 @@ pub record KeepsOthers (account : ℕ) (old new : Store) (regions after : Region
   pub parents : parents_in new ≡ parents_in old
   pub room : room_in new ≡ room_in old
   pub rest : after ≡ record regions { heap = after.heap; tags = after.tags }
+
+-- what a call that takes or gives back a block keeps: a sound heap of the same account, and all that isn't this account's
+pub record Keeps (heap later : SlicedHeap) (old new : Store) (regions after : Regions) : Type 0 where
+  pub sound : IsSound later new after
+  pub others : KeepsOthers (payer_of heap) old new regions after
+  pub payer : payer_of later ≡ payer_of heap
 
 -- a dataspace is entered as the first block, at the first gap of the heap window
 pub record Enters (account ds pages address : ℕ) (old new : Store) (regions after : Regions) : Type 0 where

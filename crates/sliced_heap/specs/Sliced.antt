@@ -1,13 +1,13 @@
 -- What a contract sees of a sliced heap: its blocks, as the account's share of the memory and of the heap window holds them.
-use Rattle.std.specs.Prelude.{◌≡◌, ◌≢◌, ℕ, ◌+◌, ◌*◌, ◌≤◌, ◌==◌, Bool, true, false, cond, ◌⊎◌, List, [], ◌∷◌, Option, Some, None, drop, length, slice_range}
-use Rattle.std.specs.FinMap.{get, len, retain_keys}
+use Rattle.std.specs.Prelude.{◌≡◌, ◌≢◌, ℕ, ◌+◌, ◌*◌, ◌%◌, ◌≤◌, ◌==◌, true, false, cond, ◌⊎◌, List, [], ◌∷◌, Option, Some, drop, length, slice_range}
+use Rattle.std.specs.FinMap.{get, len}
 use Rattle.std.specs.Option.{option_map}
 use Rattle.trade_base.specs.Word.{word_of}
 use Rattle.own_model.specs.NatMap.{NatMap, picked}
 use Rattle.own_model.specs.Moved.{moved_up}
 use Rattle.own_model.specs.Region.{Region}
 use Rattle.own_model.specs.Sliced.{sliced_header as header}
-use Rattle.dataspace_core.specs.Store.{Part, bytes_of}
+use Rattle.dataspace_core.specs.Store.{Store, Part, PartBecomes, part, bytes_of}
 use Rattle.dataspace_core.specs.Share.{Share}
 pub use Rattle.heap_window.specs.Window.{sliced_tag, is_sliced_tag, sliced_regions, block_regions}
 use Rattle.sliced_heap.specs.Chain.{link_to, is_listed, IsChain}
@@ -62,6 +62,15 @@ pub record HasHeader (part : Part) (ds : ℕ) : Type 0 where
   pub there : get part.spaces ds ≡ Some bytes
   pub long : header ≤ length bytes
 
+-- a word of a header starts there
+pub record IsField (field : ℕ) : Type 0 where
+  pub aligned : field % 8 ≡ 0
+  pub within : field + 8 ≤ header
+
+-- a link leads to a dataspace with a header, if it leads to one
+abbrev pub LeadsToHeader : ℕ → Part → Type 0
+LeadsToHeader link part = (b : ℕ) → link ≡ link_to b → HasHeader part b
+
 -- headers have changed, of these blocks alone, and nothing else: neither the account, nor which dataspaces there are, nor
 -- what they hold behind a header
 pub record HeadersChange (blocks : List ℕ) (old new : Part) : Type 0 where
@@ -70,6 +79,11 @@ pub record HeadersChange (blocks : List ℕ) (old new : Part) : Type 0 where
   pub lengths : (ds : ℕ) → option_map length (get new.spaces ds) ≡ option_map length (get old.spaces ds)
   pub others : (ds : ℕ) → is_listed blocks ds ≡ false → get new.spaces ds ≡ get old.spaces ds
   pub count : len new.spaces ≡ len old.spaces
+
+-- of the memory only this account's part has changed, and of that only the header to which a link leads
+pub record ChangesLinked (account link : ℕ) (old new : Store) : Type 0 where
+  pub becomes : PartBecomes account (part account new) old new
+  pub headers : (blocks : List ℕ) → ((b : ℕ) → link ≡ link_to b → is_listed blocks b ≡ true) → HeadersChange blocks (part account old) (part account new)
 
 -- a word of a header is stored
 pub record IsStored (ds offset word : ℕ) (old new : Part) : Type 0 where

@@ -3,7 +3,7 @@ ghost use Rattle.std.specs.Prelude.{◌≡◌, ◌+◌, ◌%◌, ◌≤◌, ◌<
 ghost use Rattle.dataspace_core.specs.Store.{part, PartBecomes, part_with_bytes};
 ghost use Rattle.trade_base.specs.Word.{word_bytes};
 ghost use Rattle.sliced_heap.specs.Chain.{link_to};
-ghost use Rattle.sliced_heap.specs.Sliced.{word_at, HasHeader, IsStored};
+ghost use Rattle.sliced_heap.specs.Sliced.{word_at, HasHeader, IsField, IsStored};
 
 use dataspace_core::Memory;
 use trade_base::{AccountId, DsId};
@@ -32,8 +32,7 @@ pub fn linked(link: u64) -> Option<DsId>
 /// A word of the header of a dataspace for which the account pays.
 pub fn load(memory: &Memory, account: AccountId, ds: DsId, field: u64) -> u64
     requires header { HasHeader (part account.0 memory.now) ds.0 }
-    requires aligned { field % 8 ≡ 0 }
-    requires within { field + 8 ≤ HEADER }
+    requires field { IsField field }
     ensures { result ≡ word_at (part account.0 memory.now) field ds.0 }
 {
     let _ = account;
@@ -43,8 +42,7 @@ pub fn load(memory: &Memory, account: AccountId, ds: DsId, field: u64) -> u64
 /// Stores a word in the header of a dataspace for which the account pays.
 pub fn store(memory: &mut Memory, account: AccountId, ds: DsId, field: u64, word: u64)
     requires header { HasHeader (part account.0 memory.old) ds.0 }
-    requires aligned { field % 8 ≡ 0 }
-    requires within { field + 8 ≤ HEADER }
+    requires field { IsField field }
     ensures becomes { PartBecomes account.0 (part account.0 memory.new) memory.old memory.new }
     ensures stored { IsStored ds.0 field word (part account.0 memory.old)
         (part account.0 memory.new) }

@@ -9,7 +9,8 @@ ghost use Rattle.own_model.specs.Sliced.{block_found};
 ghost use Rattle.region_map.specs.Regions.{Regions};
 ghost use Rattle.dataspace_core.specs.Store.{Store, account_in, IsOpenIn, Exists, space_at};
 ghost use Rattle.sliced_heap.specs.Sliced.{sliced_tag};
-ghost use Rattle.sliced_heap.specs.Heap.{payer_of, share_at, blocks_at, IsSound, MapsMemory, HasNoBlocks, KeepsOthers, TakesBlock, GivesBlock, GivesAll, IsBlockAt, HoldsAddress, NoneHolds, HoldsRange, Enters, CanEnter, free_refusal};
+ghost use Rattle.sliced_heap.specs.Heap.{payer_of, share_at, blocks_at, IsSound, MapsMemory, HasNoBlocks, KeepsOthers, Keeps, TakesBlock};
+ghost use Rattle.sliced_heap.specs.Heap.{GivesBlock, GivesAll, IsBlockAt, HoldsAddress, NoneHolds, HoldsRange, Enters, CanEnter, free_refusal};
 
 use crate::header::{HEADER, START, linked, load};
 use crate::links::{put_first, take_out};
@@ -182,9 +183,7 @@ impl SlicedHeap {
         requires block { IsBlockAt (share_at (payer_of self.old) memory.old map.old) start ds.0 }
         ensures given { GivesBlock (payer_of self.old)
             (start + header) memory.old memory.new map.old map.new }
-        ensures sound { IsSound self.new memory.new map.new }
-        ensures others { KeepsOthers (payer_of self.old) memory.old memory.new map.old map.new }
-        ensures payer { payer_of self.new ≡ payer_of self.old }
+        ensures keeps { Keeps self.old self.new memory.old memory.new map.old map.new }
     {
         self.first = take_out(memory, self.account, self.first, ds);
         map.detach_heap(start);
@@ -207,9 +206,7 @@ impl SlicedHeap {
         requires can { CanEnter (payer_of self.old) ds.0 pages memory.old map.old }
         ensures enters { Enters
             (payer_of self.old) ds.0 pages result memory.old memory.new map.old map.new }
-        ensures sound { IsSound self.new memory.new map.new }
-        ensures others { KeepsOthers (payer_of self.old) memory.old memory.new map.old map.new }
-        ensures payer { payer_of self.new ≡ payer_of self.old }
+        ensures keeps { Keeps self.old self.new memory.old memory.new map.old map.new }
     {
         let start = map.attach_block(ds, pages, SLICED);
         self.first = put_first(memory, self.account, self.first, ds, start);

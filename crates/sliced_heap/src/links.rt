@@ -2,7 +2,8 @@
 ghost use Rattle.std.specs.Prelude.{◌≡◌, ◌≢◌, ◌+◌, ◌<◌, ◌^◌, ◌==◌, true, cond, ℕ, List};
 ghost use Rattle.dataspace_core.specs.Store.{part, PartBecomes};
 ghost use Rattle.sliced_heap.specs.Chain.{link_to, is_listed};
-ghost use Rattle.sliced_heap.specs.Sliced.{next_in, previous_in, HasHeader, HeadersChange, LinkedBack, LinkedAhead, PutFirst, TakenOut};
+ghost use Rattle.sliced_heap.specs.Sliced.{next_in, previous_in, HasHeader, LeadsToHeader, HeadersChange};
+ghost use Rattle.sliced_heap.specs.Sliced.{ChangesLinked, LinkedBack, LinkedAhead, PutFirst, TakenOut};
 
 use crate::header::{NEXT, PREVIOUS, START, linked, load, store};
 use dataspace_core::Memory;
@@ -12,7 +13,7 @@ use trade_base::{AccountId, DsId};
 pub fn put_first(memory: &mut Memory, account: AccountId, first: u64, ds: DsId, start: u64) -> u64
     requires small { ds.0 + 1 < 2 ^ 64 }
     requires header { HasHeader (part account.0 memory.old) ds.0 }
-    requires next { (b : ℕ) → first ≡ link_to b → HasHeader (part account.0 memory.old) b }
+    requires next { LeadsToHeader first (part account.0 memory.old) }
     requires apart { first ≢ link_to ds.0 }
     ensures link { result ≡ link_to ds.0 }
     ensures becomes { PartBecomes account.0 (part account.0 memory.new) memory.old memory.new }
@@ -33,10 +34,8 @@ pub fn put_first(memory: &mut Memory, account: AccountId, first: u64, ds: DsId, 
 /// Links the blocks before and after a block to each other. It tells the link to the first block that is left.
 pub fn take_out(memory: &mut Memory, account: AccountId, first: u64, ds: DsId) -> u64
     requires header { HasHeader (part account.0 memory.old) ds.0 }
-    requires next { (b : ℕ) → next_in (part account.0 memory.old) ds.0 ≡ link_to b
-        → HasHeader (part account.0 memory.old) b }
-    requires previous { (b : ℕ) → previous_in (part account.0 memory.old) ds.0 ≡ link_to b
-        → HasHeader (part account.0 memory.old) b }
+    requires next { let p = part account.0 memory.old in LeadsToHeader (next_in p ds.0) p }
+    requires previous { let p = part account.0 memory.old in LeadsToHeader (previous_in p ds.0) p }
     ensures link { let p = part account.0 memory.old in result
         ≡ cond (0 == previous_in p ds.0) (next_in p ds.0) first }
     ensures becomes { PartBecomes account.0 (part account.0 memory.new) memory.old memory.new }
@@ -57,11 +56,9 @@ pub fn take_out(memory: &mut Memory, account: AccountId, first: u64, ds: DsId) -
 
 // Links the block to which `link` leads, if there is one, back by `back`.
 fn link_back(memory: &mut Memory, account: AccountId, link: u64, back: u64)
-    requires { (b : ℕ) → link ≡ link_to b → HasHeader (part account.0 memory.old) b }
-    ensures becomes { PartBecomes account.0 (part account.0 memory.new) memory.old memory.new }
+    requires { LeadsToHeader link (part account.0 memory.old) }
+    ensures changes { ChangesLinked account.0 link memory.old memory.new }
     ensures linked { LinkedBack link back (part account.0 memory.old) (part account.0 memory.new) }
-    ensures headers { (blocks : List ℕ) → ((b : ℕ) → link ≡ link_to b → is_listed blocks b ≡ true) →
-        HeadersChange blocks (part account.0 memory.old) (part account.0 memory.new) }
 {
     if let Some(ds) = linked(link) {
         store(memory, account, ds, PREVIOUS, back);
@@ -70,12 +67,10 @@ fn link_back(memory: &mut Memory, account: AccountId, link: u64, back: u64)
 
 // Links the block to which `link` leads, if there is one, to the block after it by `ahead`.
 fn link_ahead(memory: &mut Memory, account: AccountId, link: u64, ahead: u64)
-    requires { (b : ℕ) → link ≡ link_to b → HasHeader (part account.0 memory.old) b }
-    ensures becomes { PartBecomes account.0 (part account.0 memory.new) memory.old memory.new }
+    requires { LeadsToHeader link (part account.0 memory.old) }
+    ensures changes { ChangesLinked account.0 link memory.old memory.new }
     ensures linked { LinkedAhead link ahead (part account.0 memory.old)
         (part account.0 memory.new) }
-    ensures headers { (blocks : List ℕ) → ((b : ℕ) → link ≡ link_to b → is_listed blocks b ≡ true) →
-        HeadersChange blocks (part account.0 memory.old) (part account.0 memory.new) }
 {
     if let Some(ds) = linked(link) {
         store(memory, account, ds, NEXT, ahead);

@@ -3,3 +3,5 @@ pub mod WordLemmas
 pub mod AddressLemmas
 pub mod HexLemmas
 pub mod PairLemmas
+pub mod KindLemmas
+pub mod NameLemmas

@@ -15,11 +15,11 @@ pub after-next : (n b : ℕ) (bs : List ℕ) → after n bs ≡ after (1 + n) (b
 after-next n b bs = grind (arith, nat_tests)
 
 -- a text that is parted at place n
-abbrev parted_at : ℕ → List ℕ → FirstWord
+abbrev pub parted_at : ℕ → List ℕ → FirstWord
 parted_at n text = record { word = take n text; rest = after n text }
 
 -- a byte in front, which is a space or isn't
-parted-next : (space : Bool) (n b : ℕ) (bs : List ℕ) (next : FirstWord) → next ≡ parted_at n bs →
+pub parted-next : (space : Bool) (n b : ℕ) (bs : List ℕ) (next : FirstWord) → next ≡ parted_at n bs →
     cond {A = FirstWord} space (record { word = []; rest = Some bs }) (record { word = b ∷ next.word; rest = next.rest })
     ≡ parted_at (cond (not space) (1 + n) 0) (b ∷ bs)
 parted-next true n b bs next e = grind (arith, nat_tests)

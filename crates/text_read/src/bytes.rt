@@ -1,7 +1,7 @@
 //! Where a byte stands.
-ghost use Rattle.std.specs.Prelude.{◌≡◌, ◌==◌, ◌<◌, length, IfSome, position};
+ghost use Rattle.std.specs.Prelude.{◌≡◌, ◌==◌, ◌||◌, ◌<◌, length, IfSome, position};
 
-use memchr::memchr;
+use memchr::{memchr, memchr2};
 
 /// Where a byte stands first in a text.
 #[inline]
@@ -11,4 +11,14 @@ pub fn find_byte(byte: u8, text: &[u8]) -> Option<usize>
     ensures inside { IfSome result (λ at. at < length text.now) }
 {
     memchr(byte, text)
+}
+
+/// Where one of two bytes stands first in a text.
+#[inline]
+#[tactic(auto, using(crate::proofs::SearchLemmas::first_byte_is))]
+pub fn find_either(one: u8, other: u8, text: &[u8]) -> Option<usize>
+    ensures place { result ≡ position (λ b. b == one || b == other) text.now }
+    ensures inside { IfSome result (λ at. at < length text.now) }
+{
+    memchr2(one, other, text)
 }

@@ -2,6 +2,7 @@
 #![tactic(auto)]
 
 mod address;
+mod byte_kinds;
 mod bytes;
 mod hex_pairs;
 mod hex_text;
@@ -10,7 +11,8 @@ mod tests;
 mod words;
 
 pub use address::read_address;
-pub use bytes::find_byte;
+pub use byte_kinds::{is_key_byte, is_name_byte, is_quotable};
+pub use bytes::{find_byte, find_either};
 pub use hex_pairs::{decode_hex, decode_hex_from, encode_hex};
 pub use hex_text::read_hex;
-pub use words::{has_name_bytes, is_name, split_first_word};
+pub use words::{LONGEST_NAME, has_name_bytes, is_name, split_first_word, split_name};

@@ -1,13 +1,15 @@
 //! Words, parted by single spaces, and names.
-ghost use Rattle.std.specs.Prelude.{◌≡◌};
+ghost use Rattle.std.specs.Prelude.{◌≡◌, IfSome, is_some, position, not};
 ghost use Rattle.std.specs.Option.{option_copied};
 ghost use Rattle.std.specs.List.{list_all};
 ghost use Rattle.own_model.specs.Text.{first_word, is_name_byte, is_name};
+ghost use Rattle.text_read.specs.Names.{name_len};
 
+use crate::byte_kinds::is_name_byte;
 use crate::bytes::find_byte;
 
-/// The most bytes of a name.
-const LONGEST_NAME: usize = 32;
+/// The most bytes of a name, of a component or of a file.
+pub const LONGEST_NAME: usize = 32;
 
 /// A text up to its first space, and what stands after that space, if there is one.
 #[inline]
@@ -22,6 +24,42 @@ pub fn split_first_word(text: &[u8]) -> (&[u8], Option<&[u8]>)
     }
 }
 
+/// A text up to its first space, and what stands after that space, if there is one: where that word is a name. In one pass,
+/// since a name has no space.
+#[inline]
+pub fn split_name(text: &[u8]) -> Option<(&[u8], Option<&[u8]>)>
+    ensures word { IfSome result (λ parts. parts.0.now ≡ (first_word text.now).word) }
+    ensures rest { IfSome result (λ parts. option_copied parts.1 ≡ (first_word text.now).rest) }
+    ensures name { is_some result ≡ is_name (first_word text.now).word }
+{
+    let end = name_len(text);
+    if end < 1 || LONGEST_NAME < end {
+        return None;
+    }
+    match text.get(end) {
+        None => Some((text, None)),
+        Some(b' ') => Some((&text[..end], Some(&text[end + 1..]))),
+        Some(_) => None,
+    }
+}
+
+/// How many bytes at the front may stand in a name.
+fn name_len(text: &[u8]) -> usize
+    ensures { result ≡ name_len text.now }
+{
+    match find_other(text) {
+        Some(end) => end,
+        None => text.len(),
+    }
+}
+
+/// Where the first byte is that may not stand in a name.
+fn find_other(text: &[u8]) -> Option<usize>
+    ensures { result ≡ position (λ b. not (is_name_byte b)) text.now }
+{
+    text.iter().position(|byte| !is_name_byte(*byte))
+}
+
 /// Whether a word is a name: 1 to 32 letters, digits, `_`, `-` and `.`.
 pub fn is_name(word: &[u8]) -> bool
     ensures { result ≡ is_name word.now }
@@ -34,10 +72,4 @@ pub fn has_name_bytes(text: &[u8]) -> bool
     ensures { result ≡ list_all is_name_byte text.now }
 {
     text.iter().all(|byte| is_name_byte(*byte))
-}
-
-fn is_name_byte(byte: u8) -> bool
-    ensures { result ≡ is_name_byte byte }
-{
-    byte.is_ascii_alphanumeric() || matches!(byte, b'_' | b'-' | b'.')
 }

@@ -22,7 +22,7 @@ pub(super) struct Machine {
     memory: Memory,
     server: Server<LogService>,
     client: AccountId,
-    open: usize,
+    sessions: usize,
     reply: Reply,
 }
 
@@ -39,7 +39,7 @@ impl Model for Machine {
     ghost invariant = { λ m.
         Admits (λ session share.
         HasBlocksAlone share) m.server.sessions m.client.0 2049 m.memory m.server.map
-        × (m.open ≡ slab_len m.server.sessions) };
+        × (m.sessions ≡ slab_len m.server.sessions) };
 }
 
 impl Machine {
@@ -63,7 +63,7 @@ impl Machine {
             memory,
             server,
             client,
-            open: 0,
+            sessions: 0,
             reply: Reply::boot(alloc).expect(rt, "memory for a reply"),
         }
     }
@@ -76,11 +76,11 @@ impl Machine {
         ram: u64,
         caps: u32,
     ) -> Result<SessionId, Refusal> {
-        assert!(rt; label.len() <= 100 && self.open < SESSIONS);
+        assert!(rt; label.len() <= 100 && self.sessions < SESSIONS);
         let id = self
             .server
             .open(&mut self.memory, self.client, label, Ram(ram), Caps(caps))?;
-        self.open += 1;
+        self.sessions += 1;
         Ok(id)
     }
 
@@ -117,7 +117,7 @@ impl Machine {
     pub(super) fn close(&mut self, rt: &impl Abort, id: SessionId) {
         assert!(rt; self.server.is_open(id));
         self.server.close(&mut self.memory, id);
-        self.open -= 1;
+        self.sessions -= 1;
     }
 
     /// The use and the limits of the client.

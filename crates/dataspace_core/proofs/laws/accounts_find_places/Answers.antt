@@ -1,5 +1,5 @@
 -- By the laws of rooms.
-use Rattle.dataspace_core.proofs.RoomLaws.{room_at_first, room_for_one_more, room_stays, room_is_taken, room_is_raised, room_is_given_back}
+use Rattle.dataspace_core.proofs.RoomLaws.{room_at_first, room_for_one_more, room_stays, room_is_taken, room_is_raised, room_is_shifted, room_is_given_back}
 use Rattle.dataspace_core.proofs.laws.accounts_find_places.Goals as goal
 
 pub returns-clause-first : goal.returns-clause-first
@@ -16,6 +16,9 @@ returns-clause-taken c = room_is_taken
 
 pub returns-clause-raised : goal.returns-clause-raised
 returns-clause-raised c = room_is_raised
+
+pub returns-clause-shifted : goal.returns-clause-shifted
+returns-clause-shifted c = room_is_shifted
 
 pub returns-clause-given_back : goal.returns-clause-given_back
 returns-clause-given_back c = room_is_given_back

@@ -10,7 +10,7 @@ use Rattle.pd_core.proofs.accounts.component_quotas.Goals as goal
 pub quotas-requires : goal.quotas-requires
 quotas-requires c =
     let at = c.index-components-place in
-    subst (IsSoundRole c.args.memory.now) (role_read c.args.components.now c.args.place at.result c.requires.place at.is) (c.requires.core.sound c.args.place)
+    subst (IsSoundRole c.args.memory.now) (role_read c.args.components.now c.args.place at.result c.requires.caller at.is) (c.requires.core.sound c.args.place)
 
 pub returns : goal.returns
 returns c = λ rules.
@@ -19,4 +19,4 @@ returns c = λ rules.
     let sessions = sessions_in memory (roles_of components) in
     let at = c.index-components-place in
     c.quotas.ensures sessions ∙ ap (λ (d : Component). (own sessions memory d).account) at.is
-    ∙ sym (account_at_place rules memory components c.args.place at.result c.requires.place)
+    ∙ sym (account_at_place rules memory components c.args.place at.result c.requires.caller)

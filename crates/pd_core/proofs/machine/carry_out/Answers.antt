@@ -1,5 +1,9 @@
 -- Calls of sessions do what they promise; any other is the component's alone.
-use Rattle.std.proofs.Common.{rules, arith, subst, ◌≡◌, false, ap, refl}
+use Rattle.std.proofs.Common.{rules, arith, subst, ◌≡◌, ◌∙◌, false, ap, refl, Result}
+use Rattle.trade_base.specs.declared.refusal.Refusal.{Refusal}
+use Rattle.own_model.specs.Reply.{reply_text}
+use Rattle.pd_core.specs.declared.answer.Answer.{Answer}
+use Rattle.pd_core.specs.Answer.{reply_of, told_alone}
 use Rattle.std.proofs.lemmas.Grind.{common_steps}
 use Rattle.own_model.specs.Call.{is_exit}
 use Rattle.pd_core.specs.Call.{model_call}
@@ -9,11 +13,12 @@ use Rattle.pd_core.proofs.HeldLemmas.{names_open}
 use Rattle.pd_core.proofs.WorldLemmas.{goes_as, role_at}
 use Rattle.pd_core.specs.Component.{caps_in, IsSoundRole}
 use Rattle.pd_core.specs.Own.{HasSessions}
+use Rattle.pd_core.proofs.machine.carry_out.Goals.{in-Open, in-Upgrade, in-Close, in-Exit}
 use Rattle.pd_core.proofs.machine.carry_out.Goals as goal
 
 pub step-requires-clause-sound : goal.step-requires-clause-sound
 step-requires-clause-sound g c =
-    subst (IsSoundRole c.args.memory.now) (role_at c.args.components.now c.args.caller c.index-components-caller.result c.requires.caller) (c.requires.core.sound c.args.caller)
+    subst (IsSoundRole c.args.memory.now) (role_at c.args.components.now c.args.caller c.index-components-caller.result c.requires.at.caller) (c.requires.at.core.sound c.args.caller)
 
 pub step-requires-clause-plain : goal.step-requires-clause-plain
 step-requires-clause-plain g c = search rules
@@ -29,18 +34,21 @@ returns-in_default g c =
     let rules = g.R.Router.rules c.args.routes.now in
     let call = model_call c.args.call in
     let roles = roles_of components in
-    let ready = subst (λ r. HasSessions (sessions_in memory roles) (caps_in r)) (role_at components i d c.requires.caller) (names_open c.requires.core i) in
+    let ready = subst (λ r. HasSessions (sessions_in memory roles) (caps_in r)) (role_at components i d c.requires.at.caller) (names_open c.requires.at.core i) in
     let on : is_exit call ≡ false = (let is_not = c.in_default.not-Exit in grind (arith, common_steps, is_not)) in
-    plain_goes memory components i d c.requires.caller c.requires.core step.memory step.self done.keeps done.stays rules call step.reply on (done.outcome (rules i) (sessions_in memory roles) ready)
-
-pub returns-in-Upgrade : goal.returns-in-Upgrade
-returns-in-Upgrade g c = goes_as (ap model_call c.in-Upgrade.is) c.tell-in-Upgrade.ensures (c.upgrade-upgraded.ensures (g.R.Router.rules c.args.routes.now))
+    plain_goes memory components i d c.requires.at.caller c.requires.at.core step.memory step.self done.keeps done.stays rules call step.reply on (done.outcome (rules i) (sessions_in memory roles) ready)
 
 pub returns-in-CallSession : goal.returns-in-CallSession
 returns-in-CallSession g c = goes_as (ap model_call c.in-CallSession.is) refl (c.call.ensures (g.R.Router.rules c.args.routes.now))
 
-pub returns-in-Close : goal.returns-in-Close
-returns-in-Close g c = goes_as (ap model_call c.in-Close.is) c.tell-in-Close.ensures (c.close-closed.ensures (g.R.Router.rules c.args.routes.now))
-
-pub returns-in-Exit : goal.returns-in-Exit
-returns-in-Exit g c = goes_as (ap model_call c.in-Exit.is) c.tell-in-Exit.ensures (c.exit-gone.ensures (g.R.Router.rules c.args.routes.now))
+pub returns : goal.returns
+returns g c =
+    let rules = g.R.Router.rules c.args.routes.now in
+    let told : (answered : Result Answer Refusal) → c.match-call.outcome ≡ answered → c.tell.new.reply ≡ told_alone (reply_text (reply_of answered))
+    = λ answered is. c.tell.ensures ∙ ap (λ o. told_alone (reply_text (reply_of o))) is in
+    elim c.match-call.branch [
+      | in-Open w ↦ rw (w.memory-is, w.components-is) (goes_as (ap model_call w.in-Open.is) (told _ w.outcome-is) w.open-outcome.ensures)
+      | in-Upgrade w ↦ rw (w.memory-is, w.components-is) (goes_as (ap model_call w.in-Upgrade.is) (told _ w.outcome-is) (w.upgrade-outcome.ensures rules))
+      | in-Close w ↦ rw (w.memory-is, w.components-is) (goes_as (ap model_call w.in-Close.is) (told _ w.outcome-is) (w.close-outcome.ensures rules))
+      | in-Exit w ↦ rw (w.memory-is, w.components-is) (goes_as (ap model_call w.in-Exit.is) (told _ w.outcome-is) (w.exit-outcome.ensures rules))
+    ]

@@ -2,7 +2,7 @@
 use Rattle.std.proofs.Common.{rules, get_or, set, length-set, refl, sym, ◌∙◌, arith}
 use Rattle.own_model.specs.Call.Call.{Close}
 use Rattle.pd_core.proofs.SessionRefusedLemmas.{close_asks, unnamed_goes, passed_on, unchanged}
-use Rattle.pd_core.proofs.SessionGoesLemmas.{Names, named_two, named_cap, host_within, host_read, host_serves, close_goes}
+use Rattle.pd_core.proofs.SessionWorldLemmas.{Names, named_two, named_cap, host_within, host_read, host_serves, close_goes}
 use Rattle.pd_core.proofs.session_calls.close.Goals as goal
 
 pub returns-in_err-entry : goal.returns-in_err-entry

@@ -4,7 +4,7 @@ use Rattle.std.specs.Prelude.{IsErrAnd}
 use Rattle.trade_base.specs.declared.refusal.Refusal.TheVariants.{BadArgs}
 use Rattle.own_model.specs.Call.Call.{Upgrade}
 use Rattle.pd_core.proofs.SessionRefusedLemmas.{upgrade_asks, unnamed_goes, passed_on, unchanged, arguments_are}
-use Rattle.pd_core.proofs.SessionGoesLemmas.{Names, named_two, named_cap, host_within, host_serves, unread_goes, short_goes, upgrade_goes}
+use Rattle.pd_core.proofs.SessionWorldLemmas.{Names, named_two, named_cap, host_within, host_serves, unread_goes, short_goes, upgrade_goes}
 use Rattle.pd_core.proofs.WorldLemmas.{role_at}
 use Rattle.pd_core.proofs.session_calls.upgrade.Goals as goal
 

@@ -12,7 +12,10 @@ load_word-requires-clause-exists c = (paid_in_part c.args.account.0 c.args.ds.0 
 pub load_word-requires-clause-range : goal.load_word-requires-clause-range
 load_word-requires-clause-range c =
     let paid = paid_in_part c.args.account.0 c.args.ds.0 c.requires.header.bytes c.args.memory.now c.requires.header.there in
-    rw paid.bytes_are (let long = c.requires.header.long in let within = c.requires.within in omega (arith, long, within))
+    rw paid.bytes_are (let long = c.requires.header.long in let within = c.requires.field.within in omega (arith, long, within))
+
+pub load_word-requires-clause-aligned : goal.load_word-requires-clause-aligned
+load_word-requires-clause-aligned c = c.requires.field.aligned
 
 pub returns : goal.returns
 unfolding word_at

@@ -12,4 +12,4 @@ pub returns-clause-headers : goal.returns-clause-headers
 returns-clause-headers c = λ blocks there first.
     headers_then blocks _ _ _ (stored_in blocks _ _ _ _ _ there c.store.ensures.stored)
     (headers_then blocks _ _ _ (stored_in blocks _ _ _ _ _ there c.store-2.ensures.stored)
-    (headers_then blocks _ _ _ (stored_in blocks _ _ _ _ _ there c.store-3.ensures.stored) (c.link_back.ensures.headers blocks first)))
+    (headers_then blocks _ _ _ (stored_in blocks _ _ _ _ _ there c.store-3.ensures.stored) (c.link_back.ensures.changes.headers blocks first)))

@@ -20,7 +20,7 @@ pub invariant_of-self : goal.invariant_of-self
 invariant_of-self c =
     IsSound-close c.self.invariant c.args.account.0 c.close.ensures.related
     (unused c)
-    c.close.new.self c.close.ensures.closed c.close.ensures.ram_moved c.close.ensures.caps_moved
+    c.close.new.self c.close.ensures.closed c.close.ensures.limits
 
 pub returns-clause-part : goal.returns-clause-part
 returns-clause-part c =

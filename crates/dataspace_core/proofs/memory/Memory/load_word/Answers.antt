@@ -11,7 +11,7 @@ space_under-requires c = key_there c.self.invariant c.args.ds.0 c.self.view_is c
 pub load_run-requires : goal.load_run-requires
 load_run-requires c =
     let found = is_found c.self.invariant c.args.ds.0 c.space_under.result c.space_under.ensures c.self.view_is in
-    record { run = found.run; aligned = c.requires.aligned; range = omega (arith, c.requires.range, found.size) }
+    record { run = found.run; word = record { aligned = c.requires.aligned; within = omega (arith, c.requires.range, found.size) } }
 
 pub returns : goal.returns
 returns c =

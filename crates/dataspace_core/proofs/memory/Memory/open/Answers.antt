@@ -14,7 +14,7 @@ parent_open c = subst (λ (s : Store). IsOpenIn s c.args.parent.0) (sym c.self.v
 pub invariant_of-self : goal.invariant_of-self
 invariant_of-self c =
     IsSound-open c.self.invariant c.args.parent.0 c.args.ram.0 c.args.caps.0 (parent_open c)
-    c.open.new.self c.open.ensures.ram_moved c.open.ensures.caps_moved c.open.result c.open.ensures.refusal c.open.ensures.ok c.open.ensures.fresh c.open.ensures.err
+    c.open.new.self c.open.ensures.limits c.open.result c.open.ensures.refusal c.open.ensures.ok c.open.ensures.fresh c.open.ensures.err
 
 pub returns-clause-part : goal.returns-clause-part
 returns-clause-part c =

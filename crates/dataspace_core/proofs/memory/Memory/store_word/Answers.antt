@@ -14,7 +14,7 @@ space_under-requires c = key_there c.self.invariant c.args.ds.0 c.self.view_is c
 pub store_run-requires : goal.store_run-requires
 store_run-requires c =
     let found = is_found c.self.invariant c.args.ds.0 c.space_under.result c.space_under.ensures c.self.view_is in
-    record { run = found.run; aligned = c.requires.aligned; range = omega (arith, c.requires.range, found.size) }
+    record { run = found.run; word = record { aligned = c.requires.aligned; within = omega (arith, c.requires.range, found.size) } }
 
 pub invariant_of-self : goal.invariant_of-self
 invariant_of-self c =

@@ -10,13 +10,13 @@ use Rattle.heap_core.specs.Blocks.{StandIn, Adds}
 use Rattle.heap_core.specs.Heap.{keys_in}
 use Rattle.heap_core.specs.Words.{around, bytes_around, keys_of, words_of}
 use Rattle.heap_core.proofs.AddLemmas.{keys, keys_more, stand_then, there_then}
-use Rattle.heap_core.proofs.GrownLemmas.{grows, grown_others, grown_sound}
+use Rattle.heap_core.proofs.GrownLemmas.{grows, grown_keeps}
 use Rattle.heap_core.proofs.WordsLemmas.{length_keys}
 use Rattle.heap_core.proofs.heap.Heap.add_chunk.Goals as goal
 
 -- there is room for its region
 has_room : (c : goal.After-len) → HasRoom c.args.map.now.pages c.args.map.now.heap_most (page_of c.args.bytes / 4096) c.args.map.now.heap
-has_room c = let s = c.requires.sound in room_then _ _ _ _ _ _ _ _ s.opens s.window c.in_ok-ds.ensures.fresh c.in_ok-ds.ensures.part c.requires.some c.in_ok-ds.ensures.ok c.in_ok-ds.ensures.within
+has_room c = let s = c.requires.sound in room_then _ _ _ _ _ _ _ _ s.opens s.window c.in_ok-ds.ensures.fresh c.in_ok-ds.ensures.part c.requires.growth.some c.in_ok-ds.ensures.ok c.in_ok-ds.ensures.within
 
 pages : (c : goal.After-len) → c.size-pages.result / 4096 ≡ page_of c.args.bytes / 4096
 pages c = new_pages _ _ _ _ _ _ c.in_ok-ds.ensures.part c.size-pages.ensures
@@ -25,7 +25,7 @@ pub size-pages-requires : goal.size-pages-requires
 size-pages-requires c = (paid_in_part _ _ _ _ (new_in_part _ _ _ _ _ c.in_ok-ds.ensures.part)).exists
 
 pub attach_block-start-requires-clause-some : goal.attach_block-start-requires-clause-some
-attach_block-start-requires-clause-some c = let e = pages c in let l = c.requires.some in omega (arith, e, l)
+attach_block-start-requires-clause-some c = let e = pages c in let l = c.requires.growth.some in omega (arith, e, l)
 
 pub attach_block-start-requires-clause-room : goal.attach_block-start-requires-clause-room
 attach_block-start-requires-clause-room c = (has_room c).room
@@ -55,10 +55,11 @@ pub add-requires-clause-few : goal.add-requires-clause-few
 add-requires-clause-few c = let room = c.requires.room in let now = length_are c in omega (arith, room, now)
 
 pub add-requires-clause-size : goal.add-requires-clause-size
-add-requires-clause-size c = let some = c.requires.some in let e = whole c in record { least = omega (arith, some, e); even = omega arith }
-
-pub add-requires-clause-short : goal.add-requires-clause-short
-add-requires-clause-short c = let e = whole c in let l = c.requires.short in omega (arith, e, l)
+add-requires-clause-size c =
+    let e = whole c in
+    let some = c.requires.growth.some in
+    let short = c.requires.growth.short in
+    record { block = record { least = omega (arith, some, e); even = omega arith }; short = omega (arith, e, short) }
 
 pub add-requires-clause-there : goal.add-requires-clause-there
 add-requires-clause-there c =
@@ -101,12 +102,8 @@ added c =
 
 pub returns-clause-grows : goal.returns-clause-grows
 returns-clause-grows c = rw (attached c) (grows c.args.self.now c.push.new.self c.add.new.fit c.args.next c.in_ok-ds.ds.0 c.args.bytes c.attach_block-start.result c.args.memory.now c.alloc.new.self c.add.new.memory c.args.map.now c.requires.sound
-    c.in_ok-ds.ensures.fresh c.in_ok-ds.ensures.ok c.in_ok-ds.ensures.part c.requires.room c.requires.some c.attach_block-start.ensures.free (gap c) (lowest c) c.push.ensures.items (added c) (kept c) c.requires.next_some c.requires.next_most)
+    c.in_ok-ds.ensures.fresh c.in_ok-ds.ensures.ok c.in_ok-ds.ensures.part c.requires.room c.requires.growth.some c.attach_block-start.ensures.free (gap c) (lowest c) c.push.ensures.items (added c) (kept c) c.requires.growth.next_some c.requires.growth.next_most)
 
-pub returns-clause-sound : goal.returns-clause-sound
-returns-clause-sound c = rw (attached c) (grown_sound c.args.self.now c.push.new.self c.add.new.fit c.args.next c.in_ok-ds.ds.0 c.args.bytes c.attach_block-start.result c.args.memory.now c.alloc.new.self c.add.new.memory c.args.map.now c.requires.sound
-    c.in_ok-ds.ensures.fresh c.in_ok-ds.ensures.ok c.in_ok-ds.ensures.part c.requires.room c.requires.some c.attach_block-start.ensures.free (gap c) (lowest c) c.push.ensures.items (added c) (kept c) c.requires.next_some c.requires.next_most)
-
-pub returns-clause-others : goal.returns-clause-others
-returns-clause-others c = rw (attached c) (grown_others c.args.self.now c.push.new.self c.add.new.fit c.args.next c.in_ok-ds.ds.0 c.args.bytes c.attach_block-start.result c.args.memory.now c.alloc.new.self c.add.new.memory c.args.map.now c.requires.sound
-    c.in_ok-ds.ensures.fresh c.in_ok-ds.ensures.ok c.in_ok-ds.ensures.part c.requires.room c.requires.some c.attach_block-start.ensures.free (gap c) (lowest c) c.push.ensures.items (added c) (kept c) c.requires.next_some c.requires.next_most)
+pub returns-clause-keeps : goal.returns-clause-keeps
+returns-clause-keeps c = rw (attached c) (grown_keeps c.args.self.now c.push.new.self c.add.new.fit c.args.next c.in_ok-ds.ds.0 c.args.bytes c.attach_block-start.result c.args.memory.now c.alloc.new.self c.add.new.memory c.args.map.now c.requires.sound
+    c.in_ok-ds.ensures.fresh c.in_ok-ds.ensures.ok c.in_ok-ds.ensures.part c.requires.room c.requires.growth.some c.attach_block-start.ensures.free (gap c) (lowest c) c.push.ensures.items (added c) (kept c) c.requires.growth.next_some c.requires.growth.next_most)

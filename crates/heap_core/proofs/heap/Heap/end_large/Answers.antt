@@ -8,4 +8,4 @@ large_ds-ds-requires-clause-there c =
 
 pub loop-self-preserved : goal.loop-self-preserved
 loop-self-preserved c =
-    ends_large_more _ _ _ _ _ _ _ _ _ _ c.loop-self.invariant c.give_large.ensures.given c.give_large.ensures.sound c.give_large.ensures.others c.give_large.ensures.payer c.give_large.ensures.left
+    ends_large_more _ _ _ _ _ _ _ _ _ _ c.loop-self.invariant c.give_large.ensures.given c.give_large.ensures.keeps c.give_large.ensures.loses.left

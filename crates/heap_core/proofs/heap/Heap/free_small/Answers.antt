@@ -1,11 +1,10 @@
 -- Best fit gives the block back where one starts there, and changes nothing but words of holes.
-use Rattle.std.proofs.Common.{◌-◌, List, refl, sym, subst, arith}
+use Rattle.std.proofs.Common.{List, refl, sym, subst, arith}
 use Rattle.heap_core.specs.declared.words.Chunk.{Chunk}
 use Rattle.heap_core.specs.Blocks.{StandIn}
 use Rattle.heap_core.specs.Words.{around, bytes_around, keys_of, words_of}
-use Rattle.heap_core.proofs.ChangeLemmas.{keeps_shares, still_sound}
 use Rattle.heap_core.proofs.ChunkLemmas.{stand_in}
-use Rattle.heap_core.proofs.GiveLemmas.{gave_there, kept_there, gave_none, gave_same, gave_free, gave_small}
+use Rattle.heap_core.proofs.GiveLemmas.{give_keeps, gave_none, gave_unchanged, gave_free, gave_small}
 use Rattle.heap_core.proofs.LookupLemmas.{no_free, not_large}
 use Rattle.heap_core.proofs.heap.Heap.free_small.Goals as goal
 
@@ -23,34 +22,30 @@ give-given-requires-clause-stand c =
 
 pub returns-then-is_none-clause-refusal : goal.returns-then-is_none-clause-refusal
 returns-then-is_none-clause-refusal c =
-    sym (gave_none _ _ _ _ _ _ _ c.requires.sound (kept_there c.args.self.now c.args.memory.now c.give-given.new.memory _ c.deref.ensures.0 c.give-given.ensures.around) (gave_there c.args.self.now c.give-given.new.fit (record { chunk = c.args.at.chunk; offset = c.args.at.offset - 16 }) c.give-given.result c.args.memory.now c.give-given.new.memory _ c.deref.ensures.0 c.give-given.ensures.gives) _ _ c.requires.lies c.if-at-lt-HEADER.false refl (let x = c.is_none.ensures in let y = c.if-is_none.true in grind arith))
+    sym (gave_none _ _ _ _ _ _ _ c.requires.sound _ c.deref.ensures.0 c.give-given.ensures.around c.give-given.ensures.gives _ _ c.requires.lies c.if-at-lt-HEADER.false refl (let x = c.is_none.ensures in let y = c.if-is_none.true in grind arith))
 
 pub returns-then-is_none-clause-is_small : goal.returns-then-is_none-clause-is_small
 returns-then-is_none-clause-is_small c = not_large _ _ _ c.requires.sound _ _ _ c.requires.lies
 
-pub returns-then-is_none-clause-sound : goal.returns-then-is_none-clause-sound
-returns-then-is_none-clause-sound c = still_sound _ _ _ _ _ c.requires.sound (kept_there c.args.self.now c.args.memory.now c.give-given.new.memory _ c.deref.ensures.0 c.give-given.ensures.around) (gave_there c.args.self.now c.give-given.new.fit (record { chunk = c.args.at.chunk; offset = c.args.at.offset - 16 }) c.give-given.result c.args.memory.now c.give-given.new.memory _ c.deref.ensures.0 c.give-given.ensures.gives).sound (gave_there c.args.self.now c.give-given.new.fit (record { chunk = c.args.at.chunk; offset = c.args.at.offset - 16 }) c.give-given.result c.args.memory.now c.give-given.new.memory _ c.deref.ensures.0 c.give-given.ensures.gives).sizes
+pub returns-then-is_none-clause-keeps : goal.returns-then-is_none-clause-keeps
+returns-then-is_none-clause-keeps c =
+    give_keeps _ _ _ _ _ _ _ c.requires.sound _ c.deref.ensures.0 c.give-given.ensures.around c.give-given.ensures.gives
 
-pub returns-then-is_none-clause-others : goal.returns-then-is_none-clause-others
-returns-then-is_none-clause-others c = keeps_shares _ c.give-given.new.fit _ _ _ c.requires.sound (kept_there c.args.self.now c.args.memory.now c.give-given.new.memory _ c.deref.ensures.0 c.give-given.ensures.around)
-
-pub returns-then-is_none-clause-memory_err : goal.returns-then-is_none-clause-memory_err
-returns-then-is_none-clause-memory_err c =
-    gave_same _ _ _ _ _ _ _ c.requires.sound (kept_there c.args.self.now c.args.memory.now c.give-given.new.memory _ c.deref.ensures.0 c.give-given.ensures.around) (gave_there c.args.self.now c.give-given.new.fit (record { chunk = c.args.at.chunk; offset = c.args.at.offset - 16 }) c.give-given.result c.args.memory.now c.give-given.new.memory _ c.deref.ensures.0 c.give-given.ensures.gives) _ _ c.requires.lies c.if-at-lt-HEADER.false refl (let x = c.is_none.ensures in let y = c.if-is_none.true in grind arith)
+pub returns-then-is_none-clause-err : goal.returns-then-is_none-clause-err
+returns-then-is_none-clause-err c =
+    gave_unchanged _ _ _ _ _ _ _ c.requires.sound _ c.deref.ensures.0 c.give-given.ensures.around c.give-given.ensures.gives _ _ c.requires.lies c.if-at-lt-HEADER.false refl (let x = c.is_none.ensures in let y = c.if-is_none.true in grind arith)
 
 pub returns-clause-refusal : goal.returns-clause-refusal
 returns-clause-refusal c =
-    sym (gave_free _ _ _ _ _ _ _ c.requires.sound (kept_there c.args.self.now c.args.memory.now c.give-given.new.memory _ c.deref.ensures.0 c.give-given.ensures.around) (gave_there c.args.self.now c.give-given.new.fit (record { chunk = c.args.at.chunk; offset = c.args.at.offset - 16 }) c.give-given.result c.args.memory.now c.give-given.new.memory _ c.deref.ensures.0 c.give-given.ensures.gives) _ _ c.requires.lies c.if-at-lt-HEADER.false refl (let x = c.is_none.ensures in let y = c.if-is_none.false in grind arith))
+    sym (gave_free _ _ _ _ _ _ _ c.requires.sound _ c.deref.ensures.0 c.give-given.ensures.around c.give-given.ensures.gives _ _ c.requires.lies c.if-at-lt-HEADER.false refl (let x = c.is_none.ensures in let y = c.if-is_none.false in grind arith))
 
 pub returns-clause-small : goal.returns-clause-small
 returns-clause-small c =
-    gave_small _ _ _ _ _ _ _ c.requires.sound (kept_there c.args.self.now c.args.memory.now c.give-given.new.memory _ c.deref.ensures.0 c.give-given.ensures.around) (gave_there c.args.self.now c.give-given.new.fit (record { chunk = c.args.at.chunk; offset = c.args.at.offset - 16 }) c.give-given.result c.args.memory.now c.give-given.new.memory _ c.deref.ensures.0 c.give-given.ensures.gives) _ _ c.requires.lies c.if-at-lt-HEADER.false refl (let x = c.is_none.ensures in let y = c.if-is_none.false in grind arith)
+    gave_small _ _ _ _ _ _ _ c.requires.sound _ c.deref.ensures.0 c.give-given.ensures.around c.give-given.ensures.gives _ _ c.requires.lies c.if-at-lt-HEADER.false refl (let x = c.is_none.ensures in let y = c.if-is_none.false in grind arith)
 
 pub returns-clause-is_small : goal.returns-clause-is_small
 returns-clause-is_small c = not_large _ _ _ c.requires.sound _ _ _ c.requires.lies
 
-pub returns-clause-sound : goal.returns-clause-sound
-returns-clause-sound c = still_sound _ _ _ _ _ c.requires.sound (kept_there c.args.self.now c.args.memory.now c.give-given.new.memory _ c.deref.ensures.0 c.give-given.ensures.around) (gave_there c.args.self.now c.give-given.new.fit (record { chunk = c.args.at.chunk; offset = c.args.at.offset - 16 }) c.give-given.result c.args.memory.now c.give-given.new.memory _ c.deref.ensures.0 c.give-given.ensures.gives).sound (gave_there c.args.self.now c.give-given.new.fit (record { chunk = c.args.at.chunk; offset = c.args.at.offset - 16 }) c.give-given.result c.args.memory.now c.give-given.new.memory _ c.deref.ensures.0 c.give-given.ensures.gives).sizes
-
-pub returns-clause-others : goal.returns-clause-others
-returns-clause-others c = keeps_shares _ c.give-given.new.fit _ _ _ c.requires.sound (kept_there c.args.self.now c.args.memory.now c.give-given.new.memory _ c.deref.ensures.0 c.give-given.ensures.around)
+pub returns-clause-keeps : goal.returns-clause-keeps
+returns-clause-keeps c =
+    give_keeps _ _ _ _ _ _ _ c.requires.sound _ c.deref.ensures.0 c.give-given.ensures.around c.give-given.ensures.gives

@@ -17,17 +17,21 @@ returns-clause-given c =
     rw (c.detach_heap.ensures ∙ ap (heap_detached c.args.map.now) (item_is _ _ _ _ _ c.requires.there c.swap_remove-start.ensures.value refl))
     (gives_large c.args.self.now _ _ _ _ _ c.requires.sound c.requires.block _ _ _ c.requires.there refl c.swap_remove-start.ensures.items c.free.ensures.part)
 
-pub returns-clause-sound : goal.returns-clause-sound
-returns-clause-sound c =
+pub returns-clause-keeps : goal.returns-clause-keeps
+returns-clause-keeps c =
     rw (c.detach_heap.ensures ∙ ap (heap_detached c.args.map.now) (item_is _ _ _ _ _ c.requires.there c.swap_remove-start.ensures.value refl))
-    (gone_sound c.args.self.now _ _ _ _ _ c.requires.sound c.requires.block _ _ _ c.requires.there refl c.swap_remove-start.ensures.items c.free.ensures.part c.swap_remove-start.ensures.len)
+    (record {
+      sound = gone_sound c.args.self.now _ _ _ _ _ c.requires.sound c.requires.block _ _ _ c.requires.there refl c.swap_remove-start.ensures.items c.free.ensures.part c.swap_remove-start.ensures.len;
+      others = gone_keeps c.args.self.now _ _ _ _ _ c.requires.sound c.requires.block _ _ _ c.requires.there refl c.swap_remove-start.ensures.items c.free.ensures.part;
+      payer = refl;
+    })
 
-pub returns-clause-others : goal.returns-clause-others
-returns-clause-others c =
+pub returns-clause-loses : goal.returns-clause-loses
+returns-clause-loses c =
     rw (c.detach_heap.ensures ∙ ap (heap_detached c.args.map.now) (item_is _ _ _ _ _ c.requires.there c.swap_remove-start.ensures.value refl))
-    (gone_keeps c.args.self.now _ _ _ _ _ c.requires.sound c.requires.block _ _ _ c.requires.there refl c.swap_remove-start.ensures.items c.free.ensures.part)
-
-pub returns-clause-left : goal.returns-clause-left
-returns-clause-left c =
-    rw (c.detach_heap.ensures ∙ ap (heap_detached c.args.map.now) (item_is _ _ _ _ _ c.requires.there c.swap_remove-start.ensures.value refl))
-    (gone_left c.args.self.now _ _ _ _ _ c.requires.sound c.requires.block _ _ _ c.requires.there refl c.swap_remove-start.ensures.items c.free.ensures.part)
+    (record {
+      count = c.swap_remove-start.ensures.len;
+      chunks = refl;
+      fit = refl;
+      left = gone_left c.args.self.now _ _ _ _ _ c.requires.sound c.requires.block _ _ _ c.requires.there refl c.swap_remove-start.ensures.items c.free.ensures.part;
+    })

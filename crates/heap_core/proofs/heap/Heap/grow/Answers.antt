@@ -39,7 +39,7 @@ returns-in-Err-clause-refusal c =
     let count = chunk_count c.args.self.now c.args.memory.now c.args.map.now c.requires.sound in
     let room = has_room c.args.self.now.chunks c.is_full.result c.is_full.ensures.value c.is_full.ensures.fits c.if-is_full.false in
     c.add_chunk-in-Err.ensures.refusal
-    ∙ ap (λ (s : Store). shortage (account_in s (payer_of c.add_chunk.new.self)) (page_of c.block_bytes-least.result) 1) c.in-Err.ensures.memory_err
-    ∙ ap (λ p. shortage (account_in c.args.memory.now p) (page_of c.block_bytes-least.result) 1) c.add_chunk.ensures.payer
+    ∙ ap (λ (s : Store). shortage (account_in s (payer_of c.add_chunk.new.self)) (page_of c.block_bytes-least.result) 1) c.in-Err.ensures.err.same_memory
+    ∙ ap (λ p. shortage (account_in c.args.memory.now p) (page_of c.block_bytes-least.result) 1) c.add_chunk.ensures.keeps.payer
     ∙ ap (λ b. shortage a (page_of b) 1) c.block_bytes-least.ensures
     ∙ sym (room_refused c.args.bytes (shape_in c.args.self.now (part_at c.args.self.now c.args.memory.now)) a (omega (arith, count, room)))

@@ -13,17 +13,17 @@ overflow_sub-size c =
     let high = c.requires.lies.high in
     omega (arith, size, told, high)
 
-pub returns-then-count-size-clause-none : goal.returns-then-count-size-clause-none
-returns-then-count-size-clause-none c =
+pub returns-then-count-size : goal.returns-then-count-size
+returns-then-count-size c =
     let size = large_size _ _ _ c.requires.sound _ _ _ c.requires.lies in
     let told = c.size.ensures in
     let past = c.if-count-size.true in
-    large_none_past _ _ _ c.requires.sound _ _ _ c.requires.lies _ c.requires.some (omega (arith, size, told, past))
+    record { some = tt; none = large_none_past _ _ _ c.requires.sound _ _ _ c.requires.lies _ c.requires.some (omega (arith, size, told, past)) }
 
-pub returns-clause-some : goal.returns-clause-some
-returns-clause-some c =
+pub returns : goal.returns
+returns c =
     let size = large_size _ _ _ c.requires.sound _ _ _ c.requires.lies in
     let told = c.size.ensures in
     let within = c.if-count-size.false in
     let high = c.requires.lies.high in
-    large_held _ _ _ c.requires.sound _ _ _ c.requires.lies _ c.requires.some (omega (arith, size, told, within, high))
+    record { some = large_held _ _ _ c.requires.sound _ _ _ c.requires.lies _ c.requires.some (omega (arith, size, told, within, high)); none = tt }

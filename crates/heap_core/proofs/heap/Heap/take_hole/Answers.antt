@@ -1,6 +1,6 @@
 -- Best fit takes the best hole, and changes nothing but words of holes.
-use Rattle.std.proofs.Common.{◌≡◌, ℕ, List, Some, sym, ap, subst, ◌∙◌}
-use Rattle.std.specs.Prelude.{None, IfNone}
+use Rattle.std.proofs.Common.{◌≡◌, ℕ, List, Some, refl, sym, ap, subst, ◌∙◌}
+use Rattle.std.specs.Prelude.{Option, None, IfNone}
 use Rattle.std.specs.Option.{option_map}
 use Rattle.own_model.specs.BestFit.{best_hole, block_size, holes_of}
 use Rattle.avl_alloc.specs.Found.{block_addr}
@@ -12,7 +12,7 @@ use Rattle.heap_core.specs.Words.{around, bytes_around, keys_of, words_of}
 use Rattle.heap_core.proofs.ChangeLemmas.{keeps_shares, still_sound}
 use Rattle.heap_core.proofs.ChunkLemmas.{stand_in, words_are}
 use Rattle.heap_core.proofs.TakeLemmas.{takes_hole}
-use Rattle.heap_core.proofs.UnchangedLemmas.{store_same}
+use Rattle.heap_core.proofs.MemoryLemmas.{memory_same}
 use Rattle.heap_core.proofs.heap.Heap.take_hole.Goals as goal
 
 pub take-requires-clause-stand : goal.take-requires-clause-stand
@@ -36,15 +36,22 @@ returns-clause-taken c hole best =
     let was = ap (λ (w : ℕ → ℕ). best_hole (block_size c.args.bytes) (holes_of (heap_of c.args.self.now.fit w))) (sym (words_are c.args.self.now c.args.memory.now c.args.map.now c.requires.sound)) ∙ best in
     takes_hole c.args.self.now c.take.new.fit c.args.bytes hole c.args.memory.now c.take.new.memory c.args.map.now c.requires.sound (kept c) was (took c).others (took c).heap
 
-pub returns-clause-sound : goal.returns-clause-sound
-returns-clause-sound c = still_sound c.args.self.now c.take.new.fit c.args.memory.now c.take.new.memory c.args.map.now c.requires.sound (kept c) (took c).sound (took c).sizes
+pub returns-clause-keeps : goal.returns-clause-keeps
+returns-clause-keeps c = record {
+  sound = still_sound c.args.self.now c.take.new.fit c.args.memory.now c.take.new.memory c.args.map.now c.requires.sound (kept c) (took c).sound (took c).sizes;
+  others = keeps_shares c.args.self.now c.take.new.fit c.args.memory.now c.take.new.memory c.args.map.now c.requires.sound (kept c);
+  payer = refl;
+}
 
-pub returns-clause-others : goal.returns-clause-others
-returns-clause-others c = keeps_shares c.args.self.now c.take.new.fit c.args.memory.now c.take.new.memory c.args.map.now c.requires.sound (kept c)
+-- where there is none, what follows from one thing follows
+where_none : {X A B : Type 0} (o : Option X) → (A → B) → IfNone o A → IfNone o B
+where_none None then is = then is
+where_none (Some x) then is = tt
 
 -- where no hole is large enough no word has changed, so nothing has
 pub returns-clause-none : goal.returns-clause-none
-returns-clause-none c = elim c.take.result as (λ o. IfNone o (words_of (keys_in c.args.self.now) c.take.new.memory ≡ words_of (keys_in c.args.self.now) c.args.memory.now) → IfNone o (c.take.new.memory ≡ c.args.memory.now)) [
-  | None ↦ λ same. store_same c.args.self.now c.args.memory.now c.take.new.memory c.args.map.now c.requires.sound (kept c) same
-  | Some block ↦ λ same. tt
-] (took c).refused
+returns-clause-none c = record {
+  same_memory = where_none c.take.result (memory_same c.args.self.now c.args.memory.now c.take.new.memory c.args.map.now c.requires.sound (kept c)) (took c).refused;
+  same_map = where_none c.take.result (λ _. refl) (took c).refused;
+  same_heap = where_none c.take.result (ap (λ f. record c.args.self.now { fit = f })) (took c).unchanged;
+}

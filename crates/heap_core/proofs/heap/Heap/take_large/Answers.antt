@@ -4,7 +4,7 @@ use Rattle.trade_base.specs.Page.{page_of}
 use Rattle.dataspace_core.proofs.PartLaws.{paid_in_part}
 use Rattle.dataspace_core.proofs.WindowLaws.{room_then, new_in_part, new_pages}
 use Rattle.region_map.specs.Regions.{heap_attached}
-use Rattle.heap_core.proofs.TakeLargeLemmas.{room_for_large, takes_sound, takes_others, takes_large}
+use Rattle.heap_core.proofs.TakeLargeLemmas.{room_for_large, takes_keeps, takes_large}
 use Rattle.heap_core.proofs.heap.Heap.take_large.Goals as goal
 
 pub size-requires : goal.size-requires
@@ -35,14 +35,11 @@ push-requires c =
 attached : (c : goal.After-push) → c.attach_block-start.new.self ≡ heap_attached c.args.map.now c.in_ok-ds.ds.0 (page_of c.args.bytes / 4096) 64 c.attach_block-start.result
 attached c = c.attach_block-start.ensures.attached ∙ ap (λ p. heap_attached c.args.map.now c.in_ok-ds.ds.0 p 64 c.attach_block-start.result) (new_pages _ _ _ _ _ _ c.in_ok-ds.ensures.part c.size.ensures)
 
+-- what the new region, and the block's start in the list, make of the heap
 pub returns-clause-taken : goal.returns-clause-taken
 returns-clause-taken c = rw (attached c) (takes_large c.args.self.now c.push.new.self c.args.bytes _ _ _ _ _ _ c.requires.sound c.requires.large c.in_ok-ds.ensures.fresh c.in_ok-ds.ensures.part
     c.attach_block-start.ensures.free (new_pages _ _ _ _ _ _ c.in_ok-ds.ensures.part c.size.ensures) c.attach_block-start.ensures.gap c.attach_block-start.ensures.lowest c.push.ensures.items)
 
-pub returns-clause-sound : goal.returns-clause-sound
-returns-clause-sound c = rw (attached c) (takes_sound c.args.self.now c.push.new.self c.args.bytes _ _ _ _ _ _ c.requires.sound c.requires.large c.in_ok-ds.ensures.fresh c.in_ok-ds.ensures.part
-    c.attach_block-start.ensures.free (new_pages _ _ _ _ _ _ c.in_ok-ds.ensures.part c.size.ensures) c.attach_block-start.ensures.gap c.attach_block-start.ensures.lowest c.push.ensures.items)
-
-pub returns-clause-others : goal.returns-clause-others
-returns-clause-others c = rw (attached c) (takes_others c.args.self.now c.push.new.self c.args.bytes _ _ _ _ _ _ c.requires.sound c.requires.large c.in_ok-ds.ensures.fresh c.in_ok-ds.ensures.part
+pub returns-clause-keeps : goal.returns-clause-keeps
+returns-clause-keeps c = rw (attached c) (takes_keeps c.args.self.now c.push.new.self c.args.bytes _ _ _ _ _ _ c.requires.sound c.requires.large c.in_ok-ds.ensures.fresh c.in_ok-ds.ensures.part
     c.attach_block-start.ensures.free (new_pages _ _ _ _ _ _ c.in_ok-ds.ensures.part c.size.ensures) c.attach_block-start.ensures.gap c.attach_block-start.ensures.lowest c.push.ensures.items)

@@ -39,11 +39,15 @@ returns-clause-taken c hole best =
     (c.clear_payload.ensures.cleared _ (used_at_hole c.args.self.now c.take_hole.new.self c.args.bytes hole c.in_ok-block.block c.args.memory.now c.take_hole.new.memory c.args.map.now c.requires.sound (found_at c hole best) best takes))
     c.take_hole.ensures.around c.clear_payload.ensures.around
 
-pub returns-clause-others : goal.returns-clause-others
-returns-clause-others c =
+pub returns-clause-keeps : goal.returns-clause-keeps
+returns-clause-keeps c =
     let h = told_hole _ c.in_ok-block.block c.in_ok-block.ensures.found in
     let takes = c.take_hole.ensures.taken h.0 h.1 in
-    small_others c.args.self.now c.take_hole.new.self c.args.bytes h.0 c.args.memory.now c.take_hole.new.memory c.args.map.now c.requires.sound h.1 takes c.clear_payload.new.memory c.clear_payload.result
-    (c.clear_payload.ensures.start ∙ ap (λ (b : BlockAddr). (chunk_at c.take_hole.new.self b.chunk).start + b.offset + 16) (found_at c h.0 h.1))
-    (c.clear_payload.ensures.cleared _ (used_at_hole c.args.self.now c.take_hole.new.self c.args.bytes h.0 c.in_ok-block.block c.args.memory.now c.take_hole.new.memory c.args.map.now c.requires.sound (found_at c h.0 h.1) h.1 takes))
-    c.take_hole.ensures.around c.clear_payload.ensures.around
+    record {
+      sound = c.clear_payload.ensures.sound;
+      others = small_others c.args.self.now c.take_hole.new.self c.args.bytes h.0 c.args.memory.now c.take_hole.new.memory c.args.map.now c.requires.sound h.1 takes c.clear_payload.new.memory c.clear_payload.result
+          (c.clear_payload.ensures.start ∙ ap (λ (b : BlockAddr). (chunk_at c.take_hole.new.self b.chunk).start + b.offset + 16) (found_at c h.0 h.1))
+          (c.clear_payload.ensures.cleared _ (used_at_hole c.args.self.now c.take_hole.new.self c.args.bytes h.0 c.in_ok-block.block c.args.memory.now c.take_hole.new.memory c.args.map.now c.requires.sound (found_at c h.0 h.1) h.1 takes))
+          c.take_hole.ensures.around c.clear_payload.ensures.around;
+      payer = c.take_hole.ensures.keeps.payer;
+    }

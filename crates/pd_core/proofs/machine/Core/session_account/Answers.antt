@@ -1,23 +1,17 @@
 -- The account is the one that the world has.
-use Rattle.std.proofs.Common.{ap, subst, sym, ◌∙◌}
+use Rattle.std.proofs.Common.{ap, ◌∙◌}
 use Rattle.std.specs.FinMap.{get}
 use Rattle.std.specs.Option.{option_map}
 use Rattle.own_model.specs.OwnState.{session_named}
 use Rattle.own_model.specs.Session.{Session as AnOpenSession}
 use Rattle.own_model.specs.Transcript.{state_at}
 use Rattle.own_model.specs.World.{World}
-use Rattle.pd_core.specs.Core.{world_of, IsCore}
-use Rattle.pd_core.proofs.WorldLemmas.{place_within}
+use Rattle.pd_core.specs.Core.{world_of}
+use Rattle.pd_core.proofs.WorldLemmas.{core_at}
 use Rattle.pd_core.proofs.machine.Core.session_account.Goals as goal
 
-pub session_quotas-requires-clause-core : goal.session_quotas-requires-clause-core
-session_quotas-requires-clause-core g c = subst (IsCore c.self.inside.memory) (sym c.as_slice.ensures.value) c.self.invariant.0
-
-pub session_quotas-requires-clause-place : goal.session_quotas-requires-clause-place
-session_quotas-requires-clause-place g c =
-    let rules = g.R.Router.rules c.self.inside.routes in
-    let memory = c.self.inside.memory in
-    place_within rules memory c.as_slice.result.now c.args.self.now c.args.component (ap (world_of rules memory) c.as_slice.ensures.value ∙ c.self.view_is) c.requires
+pub session_quotas-requires : goal.session_quotas-requires
+session_quotas-requires g c = core_at (g.R.Router.rules c.self.inside.routes) c.self.inside.memory _ _ c.args.self.now c.args.component c.as_slice.ensures.value c.self.invariant.0 c.self.view_is c.requires
 
 pub returns : goal.returns
 returns g c =

@@ -11,22 +11,16 @@ use Rattle.pd_core.specs.Call.{model_call}
 use Rattle.pd_core.specs.Core.{IsCore, world_of}
 use Rattle.pd_core.specs.SessionCalls.{Agrees}
 use Rattle.pd_core.specs.declared.component.Component.{Component}
-use Rattle.pd_core.proofs.WorldLemmas.{place_within, same_many}
+use Rattle.pd_core.proofs.WorldLemmas.{core_at, same_many}
 use Rattle.pd_core.proofs.machine.Core.step.Goals as goal
 
 -- components that are lent come back as they are then, where they are as many
 written : (v : Vec Component) (lent after : List Component) → lent ≡ v.items → length after ≡ length lent → (with_items v after).items ≡ after
 written v lent after is many = with_items_is v after (many ∙ ap length is ∙ sym v.ok.0)
 
-pub carry_out-requires-clause-core : goal.carry_out-requires-clause-core
-carry_out-requires-clause-core g c = subst (IsCore c.self.inside.memory) (sym c.as_mut_slice.ensures.value) c.self.invariant.0
-
-pub carry_out-requires-clause-caller : goal.carry_out-requires-clause-caller
-carry_out-requires-clause-caller g c =
-    let lent = c.as_mut_slice in
-    let rules = g.R.Router.rules c.self.inside.routes in
-    let memory = c.self.inside.memory in
-    place_within rules memory lent.result.now c.args.self.now c.args.component (ap (world_of rules memory) lent.ensures.value ∙ c.self.view_is) c.requires.component
+pub carry_out-requires-clause-at : goal.carry_out-requires-clause-at
+carry_out-requires-clause-at g c =
+    core_at (g.R.Router.rules c.self.inside.routes) c.self.inside.memory _ _ c.args.self.now c.args.component c.as_mut_slice.ensures.value c.self.invariant.0 c.self.view_is c.requires.component
 
 pub invariant_of-self : goal.invariant_of-self
 invariant_of-self g c =

@@ -1,19 +1,19 @@
 -- Bytes are put over those of a region or of a payload.
-use Rattle.std.proofs.Common.{ap, ◌∙◌, ◌/◌, length, subst, sym, arith}
+use Rattle.std.proofs.Common.{ap, ◌/◌, length, subst, sym, arith, refl}
 use Rattle.dataspace_core.specs.Store.{Exists, part, space_at, part_with_bytes, PartBecomes}
 use Rattle.dataspace_core.proofs.PartLaws.{paid_in_part}
 use Rattle.pd_core.specs.Call.{bytes_in}
-use Rattle.pd_core.specs.Own.{own_at}
-use Rattle.pd_core.proofs.OwnLemmas.{refused_told, for_payer}
+use Rattle.pd_core.proofs.OwnLemmas.{for_payer}
 use Rattle.pd_core.proofs.BytesLemmas.{few, poke_refused}
 use Rattle.pd_core.proofs.PlaceLemmas.{found_has, found_fits, poke_finishes}
 use Rattle.pd_core.proofs.HexLemmas.{half_is, bytes_small}
+use Rattle.pd_core.proofs.ScriptLemmas.{refuses}
 use Rattle.pd_core.proofs.script.Script.poke.Goals as goal
 
-pub returns-in_err-space-clause-outcome : goal.returns-in_err-space-clause-outcome
-returns-in_err-space-clause-outcome c sessions ready =
-    refused_told c.from_residual.result c.from_residual.ensures.1 (ap (λ m. own_at sessions m c.args.self.now) c.in_err-space.ensures.memory)
-    ∙ poke_refused _ _ _ _ _ c.requires.sound.own c.args.address (length c.args.hex.now / 2) _ c.in_err-space.ensures.refusal sessions (bytes_in c.args.hex.now) (half_is c.args.hex.now c.requires.hex)
+pub returns-in_err-space : goal.returns-in_err-space
+returns-in_err-space c =
+    refuses c.from_residual.result c.from_residual.ensures.1 c.requires.sound c.in_err-space.ensures.memory refl
+    (λ sessions. poke_refused _ _ _ _ _ c.requires.sound.own c.args.address (length c.args.hex.now / 2) _ c.in_err-space.ensures.refusal sessions (bytes_in c.args.hex.now) (half_is c.args.hex.now c.requires.hex))
 
 pub write-requires-clause-exists : goal.write-requires-clause-exists
 write-requires-clause-exists c =
@@ -40,5 +40,4 @@ returns c =
     let written = subst (λ m. PartBecomes (space_at m c.in_ok-space.space.0).payer (part_with_bytes (part (space_at m c.in_ok-space.space.0).payer m) c.in_ok-space.space.0 c.in_ok-space.offset c.decode_hex.new.bytes) m c.write.new.self) c.in_ok-space.ensures.memory c.write.ensures.part in
     let becomes = for_payer (λ p. part_with_bytes p c.in_ok-space.space.0 c.in_ok-space.offset bytes) paid.payer
     (subst (λ l. PartBecomes (space_at c.args.memory.now c.in_ok-space.space.0).payer (part_with_bytes (part (space_at c.args.memory.now c.in_ok-space.space.0).payer c.args.memory.now) c.in_ok-space.space.0 c.in_ok-space.offset l) c.args.memory.now c.write.new.self) c.decode_hex.ensures written) in
-    let done = poke_finishes _ _ c.requires.sound c.args.address _ _ count bytes (half_is c.args.hex.now c.requires.hex) some (bytes_small c.args.hex.now c.requires.hex) c.in_ok-space.ensures.found becomes in
-    record { outcome = done.outcome; keeps = done.keeps }
+    poke_finishes _ _ c.requires.sound c.args.address _ _ count bytes (half_is c.args.hex.now c.requires.hex) some (bytes_small c.args.hex.now c.requires.hex) c.in_ok-space.ensures.found becomes

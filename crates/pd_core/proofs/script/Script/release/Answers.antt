@@ -1,11 +1,20 @@
--- What isn't a dataspace is an RPC object or nothing.
-use Rattle.pd_core.proofs.ReleaseLemmas.{both_leave, both_before}
+-- A dataspace or an RPC object is taken out, and nothing else is there.
+use Rattle.std.proofs.Common.{Some, sym, ap, ◌∙◌}
+use Rattle.pd_core.proofs.OwnLemmas.{no_buffer}
+use Rattle.pd_core.proofs.ReleaseLemmas.{free_takes_out, capfree_takes_out}
 use Rattle.pd_core.proofs.script.Script.release.Goals as goal
 
-pub returns-clause-gone : goal.returns-clause-gone
-returns-clause-gone c =
-    both_leave _ _ _ c.requires.sound c.free.ensures.outcome c.free.ensures.keeps c.capfree.ensures.outcome c.capfree.ensures.keeps c.requires.plain
+pub returns-in-Some-Dataspace-clause-gone : goal.returns-in-Some-Dataspace-clause-gone
+returns-in-Some-Dataspace-clause-gone c = (free_takes_out _ c.requires.sound _ (sym c.in-Some-Dataspace.ensures.found ∙ ap (λ cap. Some cap) c.in-Some-Dataspace.field-0-is) c.free.ensures).gone
 
-pub returns-clause-fewer : goal.returns-clause-fewer
-returns-clause-fewer c =
-    both_before _ _ _ c.requires.sound c.free.ensures.outcome c.free.ensures.keeps c.capfree.ensures.outcome c.capfree.ensures.keeps
+pub returns-in-Some-Dataspace-clause-fewer : goal.returns-in-Some-Dataspace-clause-fewer
+returns-in-Some-Dataspace-clause-fewer c = (free_takes_out _ c.requires.sound _ (sym c.in-Some-Dataspace.ensures.found ∙ ap (λ cap. Some cap) c.in-Some-Dataspace.field-0-is) c.free.ensures).fewer
+
+pub returns-in-Some-RpcObject-clause-gone : goal.returns-in-Some-RpcObject-clause-gone
+returns-in-Some-RpcObject-clause-gone c = (capfree_takes_out _ c.requires.sound (sym c.in-Some-RpcObject.ensures.found ∙ ap (λ cap. Some cap) c.in-Some-RpcObject.field-0-is) c.capfree.ensures).gone
+
+pub returns-in-Some-RpcObject-clause-fewer : goal.returns-in-Some-RpcObject-clause-fewer
+returns-in-Some-RpcObject-clause-fewer c = (capfree_takes_out _ c.requires.sound (sym c.in-Some-RpcObject.ensures.found ∙ ap (λ cap. Some cap) c.in-Some-RpcObject.field-0-is) c.capfree.ensures).fewer
+
+pub unreachable-requires-in-Some-Buffer : goal.unreachable-requires-in-Some-Buffer
+unreachable-requires-in-Some-Buffer c = no_buffer _ _ _ _ _ c.requires.sound.own _ _ _ (sym c.in-Some-Buffer.ensures.found ∙ ap (λ cap. Some cap) c.in-Some-Buffer.field-0-is)

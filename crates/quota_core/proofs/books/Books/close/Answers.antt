@@ -29,17 +29,11 @@ returns-clause-closed c =
     c.take_over.ensures.raised
     ∙ (entry_leaves _ _ _ c.self.view_is _ _ c.remove-closed.result (subst AreSound c.self.view_is c.self.invariant) gone.value c.requires.child c.requires.leaf gone.updates gone.len gone.room gone.capacity).closed
 
-pub returns-clause-ram_moved : goal.returns-clause-ram_moved
-returns-clause-ram_moved c =
+pub returns-clause-limits : goal.returns-clause-limits
+returns-clause-limits c =
     let gone = c.remove-closed.ensures in
-    c.take_over.ensures.ram
-    ∙ (entry_leaves _ _ _ c.self.view_is _ _ c.remove-closed.result (subst AreSound c.self.view_is c.self.invariant) gone.value c.requires.child c.requires.leaf gone.updates gone.len gone.room gone.capacity).ram
-
-pub returns-clause-caps_moved : goal.returns-clause-caps_moved
-returns-clause-caps_moved c =
-    let gone = c.remove-closed.ensures in
-    c.take_over.ensures.caps
-    ∙ (entry_leaves _ _ _ c.self.view_is _ _ c.remove-closed.result (subst AreSound c.self.view_is c.self.invariant) gone.value c.requires.child c.requires.leaf gone.updates gone.len gone.room gone.capacity).caps
+    let left = entry_leaves _ _ _ c.self.view_is _ _ c.remove-closed.result (subst AreSound c.self.view_is c.self.invariant) gone.value c.requires.child c.requires.leaf gone.updates gone.len gone.room gone.capacity in
+    record { ram = c.take_over.ensures.ram ∙ left.ram; caps = c.take_over.ensures.caps ∙ left.caps }
 
 pub returns-clause-related : goal.returns-clause-related
 returns-clause-related c =

@@ -16,34 +16,36 @@ entered c =
 
 pub invariant_of-self : goal.invariant_of-self
 invariant_of-self c =
-    let parted = c.in_ok-account.ensures in
+    let parted = c.in_ok-account.ensures.taken in
+    let few = c.in_ok-account.ensures.few in
     subst AreSound (sym (entered c))
     (sound_entered c.part_with.new.self (subst AreSound c.self.view_is c.self.invariant) c.insert_reserved-child.result c.args.parent.0 c.in_ok-account.account _
     (free_key _ _ _ c.self.view_is _ c.insert_reserved-child.ensures.was_vacant)
     (rw parted.ok (IsSome-insert c.args.self.now.accounts _ _ _ c.requires.parent))
-    (omega (arith, parted.ram, parted.few_ram))
-    (omega (arith, parted.caps, parted.few_caps)))
+    (omega (arith, parted.less_ram, few.ram))
+    (omega (arith, parted.fewer_caps, few.caps)))
 
 pub returns-clause-ok : goal.returns-clause-ok
 returns-clause-ok c =
     entered c
-    ∙ opened_in_two c.args.self.now _ _ _ _ _ _ c.in_ok-account.ensures.ok c.in_ok-account.ensures.part
+    ∙ opened_in_two c.args.self.now _ _ _ _ _ _ c.in_ok-account.ensures.taken.ok c.in_ok-account.ensures.taken.part
 
 pub returns-clause-fresh : goal.returns-clause-fresh
 returns-clause-fresh c =
-    free_before c.args.self.now _ _ _ (ap (λ (b : Books). get b.accounts c.insert_reserved-child.result) (sym c.in_ok-account.ensures.ok) ∙ free_key _ _ _ c.self.view_is _ c.insert_reserved-child.ensures.was_vacant)
+    free_before c.args.self.now _ _ _ (ap (λ (b : Books). get b.accounts c.insert_reserved-child.result) (sym c.in_ok-account.ensures.taken.ok) ∙ free_key _ _ _ c.self.view_is _ c.insert_reserved-child.ensures.was_vacant)
 
-pub returns-clause-ram_moved : goal.returns-clause-ram_moved
-returns-clause-ram_moved c =
-    ap ram_limits (entered c) ∙ opened_ram c.part_with.new.self _ c.args.parent.0 (c.part_with.new.self.room - 1) _ (free_key _ _ _ c.self.view_is _ c.insert_reserved-child.ensures.was_vacant) ∙ c.in_ok-account.ensures.ram
-
-pub returns-clause-caps_moved : goal.returns-clause-caps_moved
-returns-clause-caps_moved c =
-    ap caps_limits (entered c) ∙ opened_caps c.part_with.new.self _ c.args.parent.0 (c.part_with.new.self.room - 1) _ (free_key _ _ _ c.self.view_is _ c.insert_reserved-child.ensures.was_vacant) ∙ c.in_ok-account.ensures.caps
+pub returns-clause-limits : goal.returns-clause-limits
+returns-clause-limits c =
+    let taken = c.in_ok-account.ensures.taken in
+    let free = free_key _ _ _ c.self.view_is _ c.insert_reserved-child.ensures.was_vacant in
+    record {
+      ram = ap ram_limits (entered c) ∙ opened_ram c.part_with.new.self _ c.args.parent.0 (c.part_with.new.self.room - 1) _ free ∙ taken.less_ram;
+      caps = ap caps_limits (entered c) ∙ opened_caps c.part_with.new.self _ c.args.parent.0 (c.part_with.new.self.room - 1) _ free ∙ taken.fewer_caps;
+    }
 
 pub returns-clause-leaf : goal.returns-clause-leaf
 returns-clause-leaf c =
     subst (λ (b : Books). HasNoChild b c.insert_reserved-child.result) (sym (entered c))
     (leaf_entered c.part_with.new.self (subst AreSound c.self.view_is c.self.invariant) c.insert_reserved-child.result c.args.parent.0 c.in_ok-account.account (c.part_with.new.self.room - 1)
     (free_key _ _ _ c.self.view_is _ c.insert_reserved-child.ensures.was_vacant)
-    (rw c.in_ok-account.ensures.ok (IsSome-insert c.args.self.now.accounts _ _ _ c.requires.parent)))
+    (rw c.in_ok-account.ensures.taken.ok (IsSome-insert c.args.self.now.accounts _ _ _ c.requires.parent)))

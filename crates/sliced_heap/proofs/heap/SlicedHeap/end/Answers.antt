@@ -10,7 +10,7 @@ give_back-requires-clause-block c = first_block _ _ _ c.loop-ds.invariant.sound 
 
 pub loop-ds-preserved : goal.loop-ds-preserved
 loop-ds-preserved c =
-    ends_further _ _ _ _ _ _ _ _ _ _ c.loop-ds.invariant c.give_back.ensures.given c.give_back.ensures.sound c.give_back.ensures.others c.give_back.ensures.payer
+    ends_further _ _ _ _ _ _ _ _ _ _ c.loop-ds.invariant c.give_back.ensures.given c.give_back.ensures.keeps.sound c.give_back.ensures.keeps.others c.give_back.ensures.keeps.payer
 
 pub returns-clause-given : goal.returns-clause-given
 returns-clause-given c = ends_all _ _ _ _ _ _ c.loop-ds.invariant c.in_default.ensures.none

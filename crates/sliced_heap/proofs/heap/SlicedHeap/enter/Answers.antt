@@ -1,5 +1,5 @@
 -- The region is attached where there is a gap, and the headers link the block before the others.
-use Rattle.std.proofs.Common.{arith}
+use Rattle.std.proofs.Common.{refl, arith}
 use Rattle.sliced_heap.proofs.EnterLemmas.{gap_small, first_header, first_apart, ds_touched, first_touched, enter_others, enter_open, enter_maps, enter_linked, enters}
 use Rattle.sliced_heap.proofs.heap.SlicedHeap.enter.Goals as goal
 
@@ -18,17 +18,15 @@ returns-clause-enters c =
     rw c.attach_block-start.ensures.attached
     (enters _ _ _ _ _ c.requires.sound c.requires.can _ _ c.attach_block-start.ensures.gap c.attach_block-start.ensures.lowest c.attach_block-start.ensures.free c.put_first-self.ensures.becomes headers c.put_first-self.ensures.put)
 
-pub returns-clause-sound : goal.returns-clause-sound
-returns-clause-sound c =
+pub returns-clause-keeps : goal.returns-clause-keeps
+returns-clause-keeps c =
     let headers = c.put_first-self.ensures.headers _ (ds_touched _ _ _ _ _ c.requires.sound c.requires.can) (first_touched _ _ _ _ _ c.requires.sound c.requires.can) in
     rw c.attach_block-start.ensures.attached (record {
-      opens = enter_open _ _ _ _ _ c.requires.sound c.requires.can _ _ c.attach_block-start.ensures.gap c.attach_block-start.ensures.lowest c.attach_block-start.ensures.free c.put_first-self.ensures.becomes headers c.put_first-self.ensures.put;
-      maps = enter_maps _ _ _ _ _ c.requires.sound c.requires.can _ _ c.attach_block-start.ensures.gap c.attach_block-start.ensures.lowest c.attach_block-start.ensures.free c.put_first-self.ensures.becomes headers c.put_first-self.ensures.put;
-      linked = rw c.put_first-self.ensures.link (enter_linked _ _ _ _ _ c.requires.sound c.requires.can _ _ c.attach_block-start.ensures.gap c.attach_block-start.ensures.lowest c.attach_block-start.ensures.free c.put_first-self.ensures.becomes headers c.put_first-self.ensures.put);
+      sound = record {
+        opens = enter_open _ _ _ _ _ c.requires.sound c.requires.can _ _ c.attach_block-start.ensures.gap c.attach_block-start.ensures.lowest c.attach_block-start.ensures.free c.put_first-self.ensures.becomes headers c.put_first-self.ensures.put;
+        maps = enter_maps _ _ _ _ _ c.requires.sound c.requires.can _ _ c.attach_block-start.ensures.gap c.attach_block-start.ensures.lowest c.attach_block-start.ensures.free c.put_first-self.ensures.becomes headers c.put_first-self.ensures.put;
+        linked = rw c.put_first-self.ensures.link (enter_linked _ _ _ _ _ c.requires.sound c.requires.can _ _ c.attach_block-start.ensures.gap c.attach_block-start.ensures.lowest c.attach_block-start.ensures.free c.put_first-self.ensures.becomes headers c.put_first-self.ensures.put);
+      };
+      others = enter_others _ _ _ _ _ c.requires.sound c.requires.can _ _ c.attach_block-start.ensures.gap c.attach_block-start.ensures.lowest c.attach_block-start.ensures.free c.put_first-self.ensures.becomes headers c.put_first-self.ensures.put;
+      payer = refl;
     })
-
-pub returns-clause-others : goal.returns-clause-others
-returns-clause-others c =
-    let headers = c.put_first-self.ensures.headers _ (ds_touched _ _ _ _ _ c.requires.sound c.requires.can) (first_touched _ _ _ _ _ c.requires.sound c.requires.can) in
-    rw c.attach_block-start.ensures.attached
-    (enter_others _ _ _ _ _ c.requires.sound c.requires.can _ _ c.attach_block-start.ensures.gap c.attach_block-start.ensures.lowest c.attach_block-start.ensures.free c.put_first-self.ensures.becomes headers c.put_first-self.ensures.put)

@@ -1,4 +1,5 @@
 -- The block's neighbours are linked to each other, its region goes, and its dataspace.
+use Rattle.std.proofs.Common.{refl}
 use Rattle.sliced_heap.proofs.GiveLemmas.{listed, listed_header, next_listed, previous_listed, region_there, mid_paid, give_others, give_sound, gives}
 use Rattle.sliced_heap.proofs.heap.SlicedHeap.give_back.Goals as goal
 
@@ -26,12 +27,11 @@ returns-clause-given c =
     let headers = c.take_out-self.ensures.headers _ (next_listed _ _ _ _ _ c.requires.sound c.requires.block) (previous_listed _ _ _ _ _ c.requires.sound c.requires.block) in
     rw c.detach_heap.ensures (gives _ _ _ _ _ c.requires.sound c.requires.block _ c.take_out-self.ensures.becomes headers _ c.free.ensures.part c.take_out-self.ensures.out)
 
-pub returns-clause-sound : goal.returns-clause-sound
-returns-clause-sound c =
+pub returns-clause-keeps : goal.returns-clause-keeps
+returns-clause-keeps c =
     let headers = c.take_out-self.ensures.headers _ (next_listed _ _ _ _ _ c.requires.sound c.requires.block) (previous_listed _ _ _ _ _ c.requires.sound c.requires.block) in
-    rw c.detach_heap.ensures (give_sound _ _ _ _ _ c.requires.sound c.requires.block _ c.take_out-self.ensures.becomes headers _ c.free.ensures.part c.take_out-self.ensures.out _ c.take_out-self.ensures.link)
-
-pub returns-clause-others : goal.returns-clause-others
-returns-clause-others c =
-    let headers = c.take_out-self.ensures.headers _ (next_listed _ _ _ _ _ c.requires.sound c.requires.block) (previous_listed _ _ _ _ _ c.requires.sound c.requires.block) in
-    rw c.detach_heap.ensures (give_others _ _ _ _ _ c.requires.sound c.requires.block _ c.take_out-self.ensures.becomes headers _ c.free.ensures.part c.take_out-self.ensures.out)
+    rw c.detach_heap.ensures (record {
+      sound = give_sound _ _ _ _ _ c.requires.sound c.requires.block _ c.take_out-self.ensures.becomes headers _ c.free.ensures.part c.take_out-self.ensures.out _ c.take_out-self.ensures.link;
+      others = give_others _ _ _ _ _ c.requires.sound c.requires.block _ c.take_out-self.ensures.becomes headers _ c.free.ensures.part c.take_out-self.ensures.out;
+      payer = refl;
+    })

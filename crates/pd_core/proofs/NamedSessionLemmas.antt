@@ -37,7 +37,7 @@ use Rattle.pd_core.specs.Sessions.{row_session, AgreeBut, NamesSession, DoesSess
 use Rattle.pd_core.specs.Sound.{rpc_weight, session_weight, IsSoundScript}
 use Rattle.pd_core.specs.declared.script.Script.{Script}
 use Rattle.pd_core.proofs.SessionOwnLemmas.{AreNoSpaces, AreCounted}
-use Rattle.pd_core.proofs.SessionCallLemmas.{ChangesOne, some_sessions, some_are_open, some_same, with_session, with_session_same, with_session_other, closes_own, upgrades_own, serves_own, lawful_after}
+use Rattle.pd_core.proofs.SessionStepLemmas.{ChangesOne, some_sessions, some_are_open, some_same, with_session, with_session_same, with_session_other, closes_own, upgrades_own, serves_own, lawful_after}
 use Rattle.pd_core.proofs.SessionScriptLemmas.{own_still, sound_still}
 
 -- a session is no dataspace

@@ -31,9 +31,9 @@ use Rattle.pd_core.specs.declared.script.Script.{Script}
 use Rattle.pd_core.proofs.HeldLemmas.{names_open as all_open}
 use Rattle.pd_core.proofs.PlainLemmas.{face_is}
 use Rattle.pd_core.proofs.RouterLemmas.{led_to_service}
-use Rattle.pd_core.proofs.SessionAccountLemmas.{payer_open, no_session, has_place, has_room, script_sound, names_open, new_alone, changes_opened}
+use Rattle.pd_core.proofs.ClientServerLemmas.{payer_open, no_session, has_place, has_room, script_sound, names_open, new_alone, changes_opened}
 use Rattle.pd_core.proofs.SessionChangeLemmas.{AreTwo, ReplacesTwo, two_places, sessions_agree, now_there, step_goes}
-use Rattle.pd_core.proofs.SessionGoesLemmas.{kept_put}
+use Rattle.pd_core.proofs.SessionWorldLemmas.{kept_put}
 use Rattle.pd_core.proofs.SessionOpenLemmas.{OpensFor, opens_for, script_with, has_place as has_selector}
 use Rattle.pd_core.proofs.SessionOwnLemmas.{is_step}
 use Rattle.pd_core.proofs.WorldLemmas.{face_of, SameFaces, face_set, refused_goes, role_at}

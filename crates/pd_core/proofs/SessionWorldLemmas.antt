@@ -40,9 +40,9 @@ use Rattle.pd_core.specs.declared.component.Role.TheVariants.{Script as AScript,
 use Rattle.pd_core.specs.declared.script.Script.{Script}
 use Rattle.pd_core.proofs.PlainLemmas.{face_is}
 use Rattle.pd_core.proofs.ServerLemmas.{paid_in}
-use Rattle.pd_core.proofs.SessionAccountLemmas.{its as its_row, row_paid, names_session, row_alone, raise_moves, serve_moves, changes_written, changes_closed, script_sound}
+use Rattle.pd_core.proofs.ClientServerLemmas.{its as its_row, row_paid, names_session, row_alone, raise_moves, serve_moves, changes_written, changes_closed, script_sound}
 use Rattle.pd_core.proofs.SessionChangeLemmas.{AreTwo, ReplacesTwo, session_goes, two_places}
-use Rattle.pd_core.proofs.SessionDoneLemmas.{closes_done, upgrades_done, serves_done, upgrade_unread, upgrade_refused}
+use Rattle.pd_core.proofs.NamedSessionLemmas.{closes_done, upgrades_done, serves_done, upgrade_unread, upgrade_refused}
 use Rattle.pd_core.proofs.SessionOwnLemmas.{is_step}
 use Rattle.pd_core.proofs.SessionRefusedLemmas.{named_script}
 use Rattle.pd_core.proofs.WorldLemmas.{face_of, face_set, place_of, refused_goes, role_at, role_set, role_kept}
