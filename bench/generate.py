@@ -419,7 +419,27 @@ def steady(take, give):
     return shape
 
 
+def named(lines, rng, size):
+    """A file dropped and made anew in turn, of so many of a session."""
+    yield "alice open File_system ram_quota=4M, cap_quota=80"
+    for number in range(size):
+        yield f"alice call 1 CREATE f{number}"
+    for number in range(lines):
+        if number % 2 == 0:
+            name = f"f{rng.randrange(size)}"
+        yield f"alice call 1 {'CREATE' if number % 2 else 'DROP'} {name}"
+
+
+def sized(lines, rng, size):
+    """The size of a file asked, of so many of a session."""
+    yield from named(0, rng, size)
+    for _ in range(lines):
+        yield f"alice call 1 SIZE f{rng.randrange(size)}"
+
+
 STEADY = {
+    "named": named,
+    "sized": sized,
     "live": steady("alice alloc 4096", lambda n: f"alice free {n + 1}"),
     "selectors": steady("alice capalloc", lambda n: f"alice capfree {n + 1}"),
     "blocks": steady("alice snew 256", lambda n: f"alice sdel {HEAP_WINDOW + n * PAGE + SLICED_HEADER:#x}"),

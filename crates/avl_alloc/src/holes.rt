@@ -44,7 +44,7 @@ fn comes_before(size: u64, node: u64, other_size: u64, other: u64) -> bool
 }
 
 impl<M: WordMemory> Nodes for Holes<M> {
-    ghost use Rattle.std.specs.Prelude.{ℕ};
+    ghost use Rattle.std.proofs.Common.{◌≡◌, ◌∙◌, ℕ, refl, sym, subst};
     ghost use Rattle.avl_alloc.specs.Words.{IsNode as IsHole};
     ghost use Rattle.avl_alloc.specs.Holes.{rank_of, view_of, hole_plan};
 
@@ -54,11 +54,9 @@ impl<M: WordMemory> Nodes for Holes<M> {
 
     ghost Rest = { ℕ };
 
-    ghost Around = { M.Rest };
+    ghost IsNode = { λ holes memory place. IsHole (M.bytes (M.rest memory)) place };
 
-    ghost around = { λ holes memory. M.rest memory };
-
-    ghost IsNode = { λ rest place. IsHole (M.bytes rest) place };
+    ghost Keeps = { λ holes old new. M.rest new ≡ M.rest old };
 
     ghost rank = { rank_of };
 
@@ -97,4 +95,11 @@ impl<M: WordMemory> Nodes for Holes<M> {
         store(memory, node + RIGHT, links.right);
         store(memory, node + HIGH, links.high);
     }
+
+    ghost keeps_same = { λ holes memory. refl };
+
+    ghost keeps_then = { λ holes old between new first second. second ∙ first };
+
+    ghost keeps_node = { λ holes old new place kept is.
+        subst (λ rest. IsHole (M.bytes rest) place) (sym kept) is };
 }

@@ -236,3 +236,52 @@ found-first k low (Node l b s h r) up o some =
     right lt place (somewhere a t fits there least) =
         somewhere a t fits (omega (arith, there))
         (omega (arith, least, not_between_low k t b s lt, tally_le (between k t) (at_least k) (between_least k t) l, none_least k low l s (omega arith) o.0))
+
+-- the node of a rank is found
+pub found-there : (k low : ℕ) (t : Tree) (up a : ℕ) → 0 < a → IsOrdered low t up → 1 ≤ tally (same a k) t → found k t ≡ a
+unfolding found
+found-there k low Leaf up a some o there = absurd (omega (arith, there))
+found-there k low (Node l b s h r) up a some o there =
+    elim (nat_lt k s) as (λ v. nat_lt k s ≡ v → (if v then or_else (found k l) b else (if nat_lt s k then found k r else b)) ≡ a) [
+      | true ↦ λ less.
+          let before : k < s = grind (arith, nat_tests) in
+          let none = none_below (s + 1) a k r up (omega (arith, before)) o.1 in
+          let other = differs-same a k b s (λ e. omega (arith, e, before)) in
+          let at = found-there k low l s a some o.0 (omega (arith, there, none, other)) in
+          or_else-some (found k l) b a at some
+      | false ↦ λ no. elim (nat_lt s k) as (λ v. nat_lt s k ≡ v → (if v then found k r else b) ≡ a) [
+        | true ↦ λ less.
+            let behind : s < k = grind (arith, nat_tests) in
+            let none = none_above low a k l s (omega (arith, behind)) o.0 in
+            let other = differs-same a k b s (λ e. omega (arith, e, behind)) in
+            found-there k (s + 1) r up a some o.1 (omega (arith, there, none, other))
+        | false ↦ λ not.
+            let at : s ≡ k = grind (arith, nat_tests) in
+            let none = none_above low a k l s (omega (arith, at)) o.0 in
+            let past = none_below (s + 1) a k r up (omega (arith, at)) o.1 in
+            same-node a k b s (omega (arith, there, none, past))
+      ] refl
+    ] refl
+  where
+    or_else-some : (x b a : ℕ) → x ≡ a → 0 < a → or_else x b ≡ a
+    or_else-some x b a is some = grind (arith, nat_tests)
+
+-- what is found is a node of the tree
+pub found-in : (k : ℕ) (t : Tree) → 0 < found k t → 1 ≤ tally (is_at (found k t)) t
+unfolding found
+found-in k Leaf some = absurd (omega (arith, some))
+found-in k (Node l b s h r) some =
+    elim (nat_lt k s) as (λ v. 0 < (if v then or_else (found k l) b else (if nat_lt s k then found k r else b)) →
+    1 ≤ tally (is_at (if v then or_else (found k l) b else (if nat_lt s k then found k r else b))) (Node l b s h r)) [
+      | true ↦ λ there. before (found k l) (found-in k l) there
+      | false ↦ elim (nat_lt s k) as (λ v. 0 < (if v then found k r else b) → 1 ≤ tally (is_at (if v then found k r else b)) (Node l b s h r)) [
+        | true ↦ λ there. omega (arith, found-in k r there)
+        | false ↦ λ there. let one : is_at b b s ≡ 1 = grind (arith, nat_tests) in omega (arith, one)
+      ]
+    ] some
+  where
+    before : (x : ℕ) → (0 < x → 1 ≤ tally (is_at x) l) → 0 < or_else x b → 1 ≤ tally (is_at (or_else x b)) (Node l b s h r)
+    before x in_l there = elim (x == 0) as (λ v. (x == 0) ≡ v → 1 ≤ tally (is_at (if v then b else x)) (Node l b s h r)) [
+      | true ↦ λ none. let one : is_at b b s ≡ 1 = grind (arith, nat_tests) in omega (arith, one)
+      | false ↦ λ other. let some : 0 < x = grind (arith, nat_tests) in omega (arith, in_l some)
+    ] refl

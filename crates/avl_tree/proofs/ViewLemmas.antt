@@ -1,10 +1,10 @@
 -- Trees in a memory: what stays of them when links change, and what a node makes that is put over two.
-use Rattle.std.proofs.Common.{◌≡◌, ◌≢◌, ℕ, ◌+◌, ◌^◌, ◌<◌, ◌≤◌, refl, sym, ◌∙◌, subst, arith}
+use Rattle.std.proofs.Common.{◌≡◌, ◌≢◌, ℕ, ◌+◌, ◌^◌, ◌<◌, ◌≤◌, true, false, refl, sym, ap, ◌∙◌, subst, arith}
 use Rattle.std.specs.Prelude.{max, ◌==◌, if◌then◌else◌}
 use Rattle.std.proofs.lemmas.Bool.Decides.{nat_tests}
 use Rattle.avl_tree.specs.declared.node.Links.{Links}
 use Rattle.avl_tree.specs.declared.node.Limb.{Limb}
-use Rattle.avl_tree.specs.Tree.{Tree, Leaf, Node, root_of, high, tally, is_at, forked, IsBalanced}
+use Rattle.avl_tree.specs.Tree.{Tree, Leaf, Node, root_of, high, tally, is_at, ranked, same, forked, IsBalanced}
 use Rattle.avl_tree.specs.View.{View, Plan, covered, trodden, IsRelinked, IsHere, Holds, AreNodes, Stands, ChangesLinks, height_at}
 use Rattle.avl_tree.specs.Made.{IsLimb, IsPlot, Forms}
 
@@ -103,3 +103,44 @@ height_is w (Node l a s h r) root held at =
   where
     some_height : (x : ℕ) → x ≢ 0 → (k n : ℕ) → k ≡ n → (if x == 0 then 0 else k) ≡ n
     some_height x some k n is = grind (arith, nat_tests)
+
+-- ---- a tree and the ranks of its nodes
+
+module _ {Rest : Type 0} (w : View Rest) where
+  -- a node stands in it with the rank that it has
+  pub ranked_there : (a : ℕ) (t : Tree) → Holds w t → tally (is_at a) t ≤ tally (same a (w.rank a)) t
+  ranked_there a Leaf held = omega arith
+  ranked_there a (Node l b s h r) held =
+      omega (arith, ranked_there a l held.1, ranked_there a r held.2, here s held.0.rank)
+    where
+      here : (k : ℕ) → w.rank b ≡ k → is_at a b k ≤ same a (w.rank a) b k
+      here k is =
+          elim (a == b) as (λ v. (a == b) ≡ v → is_at a b k ≤ same a (w.rank a) b k) [
+            | true ↦ λ at. let e : a ≡ b = grind (arith, nat_tests) in let rank : w.rank a ≡ k = ap w.rank e ∙ is in grind (arith, nat_tests)
+            | false ↦ λ no. grind (arith, nat_tests)
+          ] refl
+
+  -- a rank that none of its nodes has isn't in it
+  pub unranked : (k : ℕ) (t : Tree) → Holds w t → ((a : ℕ) → 1 ≤ tally (is_at a) t → w.rank a ≢ k) → tally (ranked k) t ≡ 0
+  unranked k Leaf held none = refl
+  unranked k (Node l b s h r) held none =
+      let one : is_at b b s ≡ 1 = grind (arith, nat_tests) in
+      let other : s ≢ k = λ e. none b (omega (arith, one)) (held.0.rank ∙ e) in
+      let here : ranked k b s ≡ 0 = grind (arith, nat_tests) in
+      omega (arith, here, unranked k l held.1 (λ a there. none a (omega (arith, there))), unranked k r held.2 (λ a there. none a (omega (arith, there))))
+
+-- a tree whose nodes keep their links and ranks is still there, also in a memory that is seen otherwise
+pub holds_same : {A B : Type 0} (w : View A) (v : View B) (t : Tree) → ((a : ℕ) → 1 ≤ tally (is_at a) t → (v.links a ≡ w.links a) × (v.rank a ≡ w.rank a)) → Holds w t → Holds v t
+holds_same w v Leaf kept held = tt
+holds_same w v (Node l a s h r) kept held =
+    let one : is_at a a s ≡ 1 = grind (arith, nat_tests) in
+    let here = kept a (omega (arith, one)) in (
+      record { some = held.0.some; rank = here.1 ∙ held.0.rank; links = here.0 ∙ held.0.links },
+      holds_same w v l (λ b there. kept b (omega (arith, there))) held.1,
+      holds_same w v r (λ b there. kept b (omega (arith, there))) held.2,
+    )
+
+pub stands_same : {A B : Type 0} (plan : Plan) (w : View A) (v : View B) (t : Tree) (root : ℕ) → ((a : ℕ) → 1 ≤ tally (is_at a) t → (v.links a ≡ w.links a) × (v.rank a ≡ w.rank a)) →
+    Stands plan w t root → Stands plan v t root
+stands_same plan w v t root kept stands =
+    record { at = stands.at; holds = holds_same w v t kept stands.holds; balanced = stands.balanced; low = stands.low; apart = stands.apart }

@@ -11,11 +11,11 @@ pub(crate) const NO_LIMB: Limb = Limb { root: 0, high: 0 };
 
 /// A tree by its root.
 pub(crate) fn limb_of<N: Nodes>(nodes: &N, memory: &mut N::Memory, root: u64) -> Limb
-    requires { root ≢ 0 → N.IsNode (N.around nodes.now memory.old) root }
+    requires { root ≢ 0 → N.IsNode nodes.now memory.old root }
     ensures is { (t : Tree) → Holds (N.view nodes.now memory.old) t → root_of t ≡ root →
         IsLimb t result }
     ensures view { N.view nodes.now memory.new ≡ N.view nodes.now memory.old }
-    ensures around { N.around nodes.now memory.new ≡ N.around nodes.now memory.old }
+    ensures keeps { N.Keeps nodes.now memory.old memory.new }
     ensures loads { N.loads memory.new ≤ N.loads memory.old + N.cost }
 {
     if root == 0 {
@@ -33,12 +33,12 @@ pub(crate) fn limb_now<N: Nodes>(
     root: u64,
     change: Option<Limb>,
 ) -> Limb
-    requires { root ≢ 0 → N.IsNode (N.around nodes.now memory.old) root }
+    requires { root ≢ 0 → N.IsNode nodes.now memory.old root }
     ensures is { (old new : Tree) → IsTold old new change →
         Holds (N.view nodes.now memory.old) new →
         root_of old ≡ root → IsLimb new result }
     ensures view { N.view nodes.now memory.new ≡ N.view nodes.now memory.old }
-    ensures around { N.around nodes.now memory.new ≡ N.around nodes.now memory.old }
+    ensures keeps { N.Keeps nodes.now memory.old memory.new }
     ensures loads { N.loads memory.new ≤ N.loads memory.old + N.cost }
 {
     match change {
@@ -49,18 +49,18 @@ pub(crate) fn limb_now<N: Nodes>(
 
 /// The trees below a node.
 pub(crate) fn arms_of<N: Nodes>(nodes: &N, memory: &mut N::Memory, node: u64) -> Arms
-    requires { ReadsArms (N.IsNode (N.around nodes.now memory.old))
+    requires { ReadsArms (N.IsNode nodes.now memory.old)
         (N.view nodes.now memory.old) node }
     ensures arms { (l : Tree) (s h : ℕ) (r : Tree) →
         Holds (N.view nodes.now memory.old) (Node l node s h r) → AreArms l r result }
     ensures left_low { result.left.high < 2 ^ 18 }
     ensures right_low { result.right.high < 2 ^ 18 }
     ensures left_node { 1 ≤ result.left.high →
-        N.IsNode (N.around nodes.now memory.old) result.left.root }
+        N.IsNode nodes.now memory.old result.left.root }
     ensures right_node { 1 ≤ result.right.high →
-        N.IsNode (N.around nodes.now memory.old) result.right.root }
+        N.IsNode nodes.now memory.old result.right.root }
     ensures view { N.view nodes.now memory.new ≡ N.view nodes.now memory.old }
-    ensures around { N.around nodes.now memory.new ≡ N.around nodes.now memory.old }
+    ensures keeps { N.Keeps nodes.now memory.old memory.new }
     ensures loads { N.loads memory.new ≤ N.loads memory.old + 3 * N.cost }
 {
     let links = nodes.links(memory, node);
@@ -77,14 +77,14 @@ pub(crate) fn fork<N: Nodes>(
     node: u64,
     right: Limb,
 ) -> Limb
-    requires node { N.IsNode (N.around nodes.now memory.old) node }
+    requires node { N.IsNode nodes.now memory.old node }
     requires left_low { left.high < 2 ^ 20 }
     requires right_low { right.high < 2 ^ 20 }
     ensures limb { result ≡ record { root = node; high = 1 + max left.high right.high } }
     ensures links { IsRelinked N.plan (N.view nodes.now memory.old)
         (N.view nodes.now memory.new) node
         (record { left = left.root; right = right.root; high = 1 + max left.high right.high }) }
-    ensures around { N.around nodes.now memory.new ≡ N.around nodes.now memory.old }
+    ensures keeps { N.Keeps nodes.now memory.old memory.new }
     ensures loads { N.loads memory.new ≡ N.loads memory.old }
 {
     let high = 1 + left.high.max(right.high);

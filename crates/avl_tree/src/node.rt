@@ -37,13 +37,11 @@ pub trait Nodes {
     /// What stands at a place beside links and ranks.
     ghost Rest: { Type 0 };
 
-    /// What no call changes.
-    ghost Around: { Type 0 };
-
-    ghost around: { Self → Self.Memory → Around };
-
     /// Which numbers are nodes.
-    ghost IsNode: { Around → ℕ → Type 0 };
+    ghost IsNode: { Self → Self.Memory → ℕ → Type 0 };
+
+    /// What is as it was after a call, beside what the view tells.
+    ghost Keeps: { Self → Self.Memory → Self.Memory → Type 0 };
 
     ghost rank: { Self.Key → ℕ };
 
@@ -59,35 +57,46 @@ pub trait Nodes {
 
     /// Where the search for a key goes on from a node.
     fn step(&self, memory: &mut Self::Memory, key: Self::Key, node: u64) -> Step
-        requires { IsNode (around self.now memory.old) node }
+        requires { IsNode self.now memory.old node }
         ensures step { IsStep (view self.now memory.old) (rank key) node result }
         ensures view { view self.now memory.new ≡ view self.now memory.old }
-        ensures around { around self.now memory.new ≡ around self.now memory.old }
+        ensures keeps { Keeps self.now memory.old memory.new }
         ensures loads { loads memory.new ≤ loads memory.old + cost };
 
     /// The links of a node.
     fn links(&self, memory: &mut Self::Memory, node: u64) -> Links
-        requires { IsNode (around self.now memory.old) node }
+        requires { IsNode self.now memory.old node }
         ensures links { result ≡ (view self.now memory.old).links node }
         ensures view { view self.now memory.new ≡ view self.now memory.old }
-        ensures around { around self.now memory.new ≡ around self.now memory.old }
+        ensures keeps { Keeps self.now memory.old memory.new }
         ensures loads { loads memory.new ≤ loads memory.old + cost };
 
     /// The height of the tree below and with a node.
     fn high(&self, memory: &mut Self::Memory, node: u64) -> u64
-        requires { IsNode (around self.now memory.old) node }
+        requires { IsNode self.now memory.old node }
         ensures high { result ≡ ((view self.now memory.old).links node).high }
         ensures view { view self.now memory.new ≡ view self.now memory.old }
-        ensures around { around self.now memory.new ≡ around self.now memory.old }
+        ensures keeps { Keeps self.now memory.old memory.new }
         ensures loads { loads memory.new ≤ loads memory.old + cost };
 
     /// Gives a node other links. Nothing else changes.
     fn set_links(&self, memory: &mut Self::Memory, node: u64, links: Links)
-        requires { IsNode (around self.now memory.old) node }
+        requires { IsNode self.now memory.old node }
         ensures links { IsRelinked plan (view self.now memory.old)
             (view self.now memory.new) node links }
-        ensures around { around self.now memory.new ≡ around self.now memory.old }
+        ensures keeps { Keeps self.now memory.old memory.new }
         ensures loads { loads memory.new ≡ loads memory.old };
+
+    /// A memory that nothing was done to is kept.
+    ghost keeps_same: { (nodes : Self) (memory : Self.Memory) → Keeps nodes memory memory };
+
+    /// What two calls keep one after the other is kept.
+    ghost keeps_then: { (nodes : Self) (old between new : Self.Memory) →
+        Keeps nodes old between → Keeps nodes between new → Keeps nodes old new };
+
+    /// A node stays one.
+    ghost keeps_node: { (nodes : Self) (old new : Self.Memory) (node : ℕ) →
+        Keeps nodes old new → IsNode nodes old node → IsNode nodes new node };
 }
 
 /// A tree, by its root and its height; 0 and 0 where it has no node.

@@ -10,12 +10,12 @@ use super::turns::{balance, with_left, with_right};
 
 /// The first node whose key doesn't come before this one, or 0 where there is none.
 pub fn find<N: Nodes>(nodes: &N, memory: &mut N::Memory, root: u64, key: N::Key) -> u64
-    requires { HasTree (N.IsNode (N.around nodes.now memory.old)) N.plan
+    requires { HasTree (N.IsNode nodes.now memory.old) N.plan
         (N.view nodes.now memory.old) root }
     ensures found { (t : Tree) → Stands N.plan (N.view nodes.now memory.old) t root →
         result ≡ found (N.rank key) t }
     ensures view { N.view nodes.now memory.new ≡ N.view nodes.now memory.old }
-    ensures around { N.around nodes.now memory.new ≡ N.around nodes.now memory.old }
+    ensures keeps { N.Keeps nodes.now memory.old memory.new }
     ensures loads { (t : Tree) → Stands N.plan (N.view nodes.now memory.old) t root →
         N.loads memory.new ≤ N.loads memory.old + N.cost * high t }
 {
@@ -36,13 +36,13 @@ pub fn find<N: Nodes>(nodes: &N, memory: &mut N::Memory, root: u64, key: N::Key)
 
 /// Enters a node in the tree, and answers the root of what the tree then is.
 pub fn insert<N: Nodes>(nodes: &N, memory: &mut N::Memory, root: u64, key: N::Key, node: u64) -> u64
-    requires { LacksNode (N.IsNode (N.around nodes.now memory.old)) N.plan
+    requires { LacksNode (N.IsNode nodes.now memory.old) N.plan
         (N.view nodes.now memory.old) root node (N.rank key) }
     ensures made { (t : Tree) → Stands N.plan (N.view nodes.now memory.old) t root →
         IsNew N.plan (N.view nodes.now memory.old) t node (N.rank key) →
         Becomes N.plan (N.view nodes.now memory.old) (N.view nodes.now memory.new)
         (inserted node (N.rank key) t) result }
-    ensures around { N.around nodes.now memory.new ≡ N.around nodes.now memory.old }
+    ensures keeps { N.Keeps nodes.now memory.old memory.new }
     ensures loads { (t : Tree) → Stands N.plan (N.view nodes.now memory.old) t root →
         IsNew N.plan (N.view nodes.now memory.old) t node (N.rank key) →
         N.loads memory.new ≤ N.loads memory.old + 10 * (N.cost * high t) }
@@ -52,12 +52,12 @@ pub fn insert<N: Nodes>(nodes: &N, memory: &mut N::Memory, root: u64, key: N::Ke
 
 /// Takes the node of a key out of the tree, if there is one, and answers the root of what is left.
 pub fn remove<N: Nodes>(nodes: &N, memory: &mut N::Memory, root: u64, key: N::Key) -> u64
-    requires { HasTree (N.IsNode (N.around nodes.now memory.old)) N.plan
+    requires { HasTree (N.IsNode nodes.now memory.old) N.plan
         (N.view nodes.now memory.old) root }
     ensures made { (t : Tree) → Stands N.plan (N.view nodes.now memory.old) t root →
         Becomes N.plan (N.view nodes.now memory.old) (N.view nodes.now memory.new)
         (removed (N.rank key) t) result }
-    ensures around { N.around nodes.now memory.new ≡ N.around nodes.now memory.old }
+    ensures keeps { N.Keeps nodes.now memory.old memory.new }
     ensures loads { (t : Tree) → Stands N.plan (N.view nodes.now memory.old) t root →
         N.loads memory.new ≤ N.loads memory.old + 10 * (N.cost * high t) }
 {
@@ -82,13 +82,13 @@ fn grow<N: Nodes>(
     key: N::Key,
     node: u64,
 ) -> Option<Limb>
-    requires { LacksNode (N.IsNode (N.around nodes.now memory.old)) N.plan
+    requires { LacksNode (N.IsNode nodes.now memory.old) N.plan
         (N.view nodes.now memory.old) root node (N.rank key) }
     ensures made { (t : Tree) → Stands N.plan (N.view nodes.now memory.old) t root →
         IsNew N.plan (N.view nodes.now memory.old) t node (N.rank key) →
         Reforms N.plan (N.view nodes.now memory.old) (N.view nodes.now memory.new) t
         (inserted node (N.rank key) t) result }
-    ensures around { N.around nodes.now memory.new ≡ N.around nodes.now memory.old }
+    ensures keeps { N.Keeps nodes.now memory.old memory.new }
     ensures loads { (t : Tree) → Stands N.plan (N.view nodes.now memory.old) t root →
         IsNew N.plan (N.view nodes.now memory.old) t node (N.rank key) →
         N.loads memory.new ≤ N.loads memory.old + 10 * (N.cost * high t) }
@@ -111,12 +111,12 @@ fn grow<N: Nodes>(
 
 /// Takes the node of a key out of the tree of a root, and tells the tree as `grow` does.
 fn prune<N: Nodes>(nodes: &N, memory: &mut N::Memory, root: u64, key: N::Key) -> Option<Limb>
-    requires { HasTree (N.IsNode (N.around nodes.now memory.old)) N.plan
+    requires { HasTree (N.IsNode nodes.now memory.old) N.plan
         (N.view nodes.now memory.old) root }
     ensures made { (t : Tree) → Stands N.plan (N.view nodes.now memory.old) t root →
         Reforms N.plan (N.view nodes.now memory.old) (N.view nodes.now memory.new) t (removed
         (N.rank key) t) result }
-    ensures around { N.around nodes.now memory.new ≡ N.around nodes.now memory.old }
+    ensures keeps { N.Keeps nodes.now memory.old memory.new }
     ensures loads { (t : Tree) → Stands N.plan (N.view nodes.now memory.old) t root →
         N.loads memory.new ≤ N.loads memory.old + 10 * (N.cost * high t) }
 {
@@ -140,12 +140,12 @@ fn prune<N: Nodes>(nodes: &N, memory: &mut N::Memory, root: u64, key: N::Key) ->
 fn join<N: Nodes>(nodes: &N, memory: &mut N::Memory, node: u64) -> Limb
     requires { (l : Tree) × (s h : ℕ) × (r : Tree) ×
         Stands N.plan (N.view nodes.now memory.old) (Node l node s h r) node ×
-        AreNodes (N.IsNode (N.around nodes.now memory.old)) (Node l node s h r) }
+        AreNodes (N.IsNode nodes.now memory.old) (Node l node s h r) }
     ensures made { (l : Tree) (s h : ℕ) (r : Tree) →
         Stands N.plan (N.view nodes.now memory.old) (Node l node s h r) node →
         Forms N.plan (N.view nodes.now memory.old) (N.view nodes.now memory.new)
         (joined l r) result }
-    ensures around { N.around nodes.now memory.new ≡ N.around nodes.now memory.old }
+    ensures keeps { N.Keeps nodes.now memory.old memory.new }
     ensures loads { (l : Tree) (s h : ℕ) (r : Tree) →
         Stands N.plan (N.view nodes.now memory.old) (Node l node s h r) node →
         N.loads memory.new ≤ N.loads memory.old + 10 * (N.cost * high r) + 9 * N.cost }
@@ -173,13 +173,13 @@ struct Parted {
 /// Takes the first node out of a tree that has one.
 fn part_first<N: Nodes>(nodes: &N, memory: &mut N::Memory, root: u64) -> Parted
     requires { (t : Tree) × Stands N.plan (N.view nodes.now memory.old) t root ×
-        AreNodes (N.IsNode (N.around nodes.now memory.old)) t × (root ≢ 0) }
+        AreNodes (N.IsNode nodes.now memory.old) t × (root ≢ 0) }
     ensures first { (t : Tree) → Stands N.plan (N.view nodes.now memory.old) t root →
         result.first ≡ (first_of t).0 }
     ensures made { (t : Tree) → Stands N.plan (N.view nodes.now memory.old) t root →
         Reforms N.plan (N.view nodes.now memory.old) (N.view nodes.now memory.new) t
         (rest_of t) result.rest }
-    ensures around { N.around nodes.now memory.new ≡ N.around nodes.now memory.old }
+    ensures keeps { N.Keeps nodes.now memory.old memory.new }
     ensures loads { (t : Tree) → Stands N.plan (N.view nodes.now memory.old) t root →
         N.loads memory.new ≤ N.loads memory.old + 10 * (N.cost * high t) }
 {

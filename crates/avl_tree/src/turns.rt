@@ -17,12 +17,12 @@ pub(crate) fn balance<N: Nodes>(
 ) -> Limb
     requires { (l : Tree) × (s : ℕ) × (r : Tree) ×
         IsSlope N.plan (N.view nodes.now memory.old) l node s r left right ×
-        AreNodes (N.IsNode (N.around nodes.now memory.old)) (Node l node s 0 r) }
+        AreNodes (N.IsNode nodes.now memory.old) (Node l node s 0 r) }
     ensures made { (l : Tree) (s : ℕ) (r : Tree) →
         IsSlope N.plan (N.view nodes.now memory.old) l node s r left right →
         Forms N.plan (N.view nodes.now memory.old) (N.view nodes.now memory.new)
         (balanced l node s r) result }
-    ensures around { N.around nodes.now memory.new ≡ N.around nodes.now memory.old }
+    ensures keeps { N.Keeps nodes.now memory.old memory.new }
     ensures loads { N.loads memory.new ≤ N.loads memory.old + 6 * N.cost }
 {
     if right.high + 1 < left.high {
@@ -44,14 +44,14 @@ fn turn_right<N: Nodes>(
 ) -> Limb
     requires { (l : Tree) × (s : ℕ) × (r : Tree) ×
         IsSlope N.plan (N.view nodes.now memory.old) l node s r left right ×
-        (high l ≡ high r + 2) × AreNodes (N.IsNode (N.around nodes.now memory.old))
+        (high l ≡ high r + 2) × AreNodes (N.IsNode nodes.now memory.old)
         (Node l node s 0 r) }
     ensures made { (l : Tree) (s : ℕ) (r : Tree) →
         IsSlope N.plan (N.view nodes.now memory.old) l node s r left right →
         high l ≡ high r + 2 →
         Forms N.plan (N.view nodes.now memory.old) (N.view nodes.now memory.new)
         (turned_right l node s r) result }
-    ensures around { N.around nodes.now memory.new ≡ N.around nodes.now memory.old }
+    ensures keeps { N.Keeps nodes.now memory.old memory.new }
     ensures loads { N.loads memory.new ≤ N.loads memory.old + 6 * N.cost }
 {
     let under = arms_of(nodes, memory, left.root);
@@ -76,14 +76,14 @@ fn turn_left<N: Nodes>(
 ) -> Limb
     requires { (l : Tree) × (s : ℕ) × (r : Tree) ×
         IsSlope N.plan (N.view nodes.now memory.old) l node s r left right ×
-        (high r ≡ high l + 2) × AreNodes (N.IsNode (N.around nodes.now memory.old))
+        (high r ≡ high l + 2) × AreNodes (N.IsNode nodes.now memory.old)
         (Node l node s 0 r) }
     ensures made { (l : Tree) (s : ℕ) (r : Tree) →
         IsSlope N.plan (N.view nodes.now memory.old) l node s r left right →
         high r ≡ high l + 2 →
         Forms N.plan (N.view nodes.now memory.old) (N.view nodes.now memory.new)
         (turned_left l node s r) result }
-    ensures around { N.around nodes.now memory.new ≡ N.around nodes.now memory.old }
+    ensures keeps { N.Keeps nodes.now memory.old memory.new }
     ensures loads { N.loads memory.new ≤ N.loads memory.old + 6 * N.cost }
 {
     let under = arms_of(nodes, memory, right.root);
@@ -108,12 +108,12 @@ pub(crate) fn with_left<N: Nodes>(
 ) -> Option<Limb>
     requires { (l l' : Tree) × (s h : ℕ) × (r : Tree) ×
         IsLeftNew N.plan (N.view nodes.now memory.old) l l' node s h r left ×
-        AreNodes (N.IsNode (N.around nodes.now memory.old)) (Node l' node s h r) }
+        AreNodes (N.IsNode nodes.now memory.old) (Node l' node s h r) }
     ensures made { (l l' : Tree) (s h : ℕ) (r : Tree) →
         IsLeftNew N.plan (N.view nodes.now memory.old) l l' node s h r left →
         Reforms N.plan (N.view nodes.now memory.old) (N.view nodes.now memory.new)
         (Node l node s h r) (balanced l' node s r) result }
-    ensures around { N.around nodes.now memory.new ≡ N.around nodes.now memory.old }
+    ensures keeps { N.Keeps nodes.now memory.old memory.new }
     ensures loads { N.loads memory.new ≤ N.loads memory.old + 8 * N.cost }
 {
     let left = left?;
@@ -132,12 +132,12 @@ pub(crate) fn with_right<N: Nodes>(
 ) -> Option<Limb>
     requires { (l : Tree) × (s h : ℕ) × (r r' : Tree) ×
         IsRightNew N.plan (N.view nodes.now memory.old) l node s h r r' right ×
-        AreNodes (N.IsNode (N.around nodes.now memory.old)) (Node l node s h r') }
+        AreNodes (N.IsNode nodes.now memory.old) (Node l node s h r') }
     ensures made { (l : Tree) (s h : ℕ) (r r' : Tree) →
         IsRightNew N.plan (N.view nodes.now memory.old) l node s h r r' right →
         Reforms N.plan (N.view nodes.now memory.old) (N.view nodes.now memory.new)
         (Node l node s h r) (balanced l node s r') result }
-    ensures around { N.around nodes.now memory.new ≡ N.around nodes.now memory.old }
+    ensures keeps { N.Keeps nodes.now memory.old memory.new }
     ensures loads { N.loads memory.new ≤ N.loads memory.old + 8 * N.cost }
 {
     let right = right?;

@@ -1,5 +1,5 @@
 -- A node that is stored, a link that is set, and a file put behind the last one.
-use Rattle.std.proofs.Common.{rules, ◌≡◌, ◌≢◌, ℕ, ◌-◌, true, false, cond, eqb, List, [], ◌∷◌, ◌++◌, length, map, sym, ap, subst, ◌∙◌, ⊎_elim, arith}
+use Rattle.std.proofs.Common.{rules, ◌≡◌, ◌≢◌, ℕ, ◌-◌, true, false, cond, eqb, List, [], ◌∷◌, ◌++◌, length, map, refl, sym, ap, subst, ◌∙◌, ⊎_elim, arith}
 use Rattle.std.proofs.lemmas.Bool.{cases_eq}
 use Rattle.std.proofs.lemmas.Bool.Decides.{nat_tests}
 use Rattle.std.specs.Option.{unwrap_or}
@@ -11,9 +11,11 @@ use Rattle.own_model.proofs.NatMapLemmas.{get-insert}
 use Rattle.sliced_heap.specs.Chain.{is_listed}
 use Rattle.file_service.specs.Calls.{HasBytes}
 use Rattle.file_service.specs.Files.{node_at, link_in, file_at, files_of, IsFile, StandAt}
+use Rattle.file_service.specs.Index.{KeepsPlace}
 use Rattle.file_service.specs.Node.{FileNode, node_of}
 use Rattle.file_service.specs.Session.{LinksTo, KeepsFile, IsFresh}
 use Rattle.file_service.proofs.FileListLemmas.{append_map}
+use Rattle.file_service.proofs.NodeKeptLemmas.{place_same}
 use Rattle.file_service.proofs.KeptLemmas.{Stays, stand_appended, files_kept, files_are, blocks_are}
 use Rattle.file_service.proofs.LinkLemmas.{listed_first, listed_later, last_listed, unlisted}
 use Rattle.file_service.proofs.SearchLemmas.{link_some}
@@ -28,16 +30,16 @@ module _ (nodes later : OwnHeap) (block : ℕ) (payload : List ℕ) (stored : la
   pub stored_node : (b : ℕ) → b ≢ block → node_at later b ≡ node_at nodes b
   stored_node b other = ap (λ o. node_of (unwrap_or o [])) (stored_payload b other)
 
-  pub stored_there : (b : ℕ) → b ≢ block → HasBytes nodes.payloads b 0 64 → HasBytes later.payloads b 0 64
+  pub stored_there : (b : ℕ) → b ≢ block → HasBytes nodes.payloads b 0 96 → HasBytes later.payloads b 0 96
   stored_there b other was = search (rules, stored_payload)
 
   pub stored_rest : later ≡ record nodes { payloads = later.payloads }
   stored_rest = stored ∙ ap (λ p. record nodes { payloads = p }) (sym (ap (λ (n : OwnHeap). n.payloads) stored))
 
   -- so a node with another link is all that has changed
-  pub stored_links : (first target : ℕ) → block ≢ 0 → node_at later block ≡ record (node_at nodes block) { next = target } → HasBytes later.payloads block 0 64 →
+  pub stored_links : (first target : ℕ) → block ≢ 0 → node_at later block ≡ record (node_at nodes block) { next = target } → HasBytes later.payloads block 0 96 → KeepsPlace nodes later block →
       LinksTo first block target first nodes later
-  stored_links first target some is there = record {
+  stored_links first target some is there place = record {
     linked = link_some first later block some ∙ ap (λ (n : FileNode). n.next) is;
     links = λ b other. ap (λ (n : FileNode). cond (eqb b 0) first n.next) (stored_node b other);
     rest = stored_rest;
@@ -47,26 +49,28 @@ module _ (nodes later : OwnHeap) (block : ℕ) (payload : List ℕ) (stored : la
           size = ap (λ (n : FileNode). n.size) is;
           content = ap (λ (n : FileNode). n.content) is;
           there = there;
+          place = place;
         }))
         (λ (other : b ≢ block). record {
           name = ap (λ (n : FileNode). n.name) (stored_node b other);
           size = ap (λ (n : FileNode). n.size) (stored_node b other);
           content = ap (λ (n : FileNode). n.content) (stored_node b other);
           there = stored_there b other was;
+          place = place_same nodes later b (stored_payload b other);
         })
         (cases_eq b block);
   }
 
 -- the session's own link is another one
 pub first_links : (first target : ℕ) (nodes : OwnHeap) → LinksTo first 0 target target nodes nodes
-first_links first target nodes = search rules
+first_links first target nodes = search (rules, place_same)
 
 -- ---- a file more
 
 -- the last file's node is still there when the new one is stored
 module _ (first last : ℕ) (nodes mid : OwnHeap) (contents : NatMap (List ℕ)) (blocks : List ℕ) (stand : StandAt first last nodes contents blocks)
     (block : ℕ) (fresh : IsFresh first nodes block) (payload : List ℕ) (stored : mid ≡ record nodes { payloads = insert nodes.payloads block payload }) where
-  pub last_there : last ≢ 0 → HasBytes mid.payloads last 0 64
+  pub last_there : last ≢ 0 → HasBytes mid.payloads last 0 96
   last_there some =
       let among : is_listed (0 ∷ blocks) last ≡ true = subst (λ l. is_listed (0 ∷ blocks) l ≡ true) (sym stand.last_is) (last_listed 0 blocks) in
       let listed : is_listed blocks last ≡ true = grind (arith, nat_tests, among, some) in
@@ -75,7 +79,7 @@ module _ (first last : ℕ) (nodes mid : OwnHeap) (contents : NatMap (List ℕ))
 
 module _ (first last : ℕ) (nodes mid later : OwnHeap) (contents : NatMap (List ℕ)) (blocks : List ℕ) (stand : StandAt first last nodes contents blocks)
     (block : ℕ) (fresh : IsFresh first nodes block) (payload : List ℕ) (stored : mid ≡ record nodes { payloads = insert nodes.payloads block payload })
-    (name : List ℕ) (back : node_at mid block ≡ record { next = 0; content = 0; size = 0; name = name }) (there : HasBytes mid.payloads block 0 64)
+    (name : List ℕ) (back : node_at mid block ≡ record { next = 0; content = 0; size = 0; name = name }) (there : HasBytes mid.payloads block 0 96)
     (first_later : ℕ) (links : LinksTo first last block first_later mid later) where
   not_listed : is_listed (0 ∷ blocks) block ≡ false
   not_listed = ap (λ xs. is_listed (0 ∷ xs) block) (sym (blocks_are first last nodes contents blocks stand)) ∙ fresh.free
@@ -96,7 +100,19 @@ module _ (first last : ℕ) (nodes mid later : OwnHeap) (contents : NatMap (List
   count_same = ap (λ (n : OwnHeap). length n.shape.chunks) rest
 
   stays : (b : ℕ) → is_listed blocks b ≡ true → Stays nodes later contents contents b
-  stays b t = grind (arith, nat_tests, other_block, listed_later, stored_node, stored_there, chunk_same, offset_same)
+  stays b t =
+      let other = other_block b (listed_later 0 b blocks t) in
+      let one = stored_node nodes mid block payload stored b other in
+      let file = links.files b (stored_there nodes mid block payload stored b other (stand.each b t).there) in
+      record {
+        name = file.name ∙ ap (λ (n : FileNode). n.name) one;
+        size = file.size ∙ ap (λ (n : FileNode). n.size) one;
+        content = file.content ∙ ap (λ (n : FileNode). n.content) one;
+        there = file.there;
+        chunk = chunk_same (b - 16);
+        offset = offset_same (b - 16);
+        bytes = λ some. refl;
+      }
 
   same_links : (b : ℕ) → is_listed (0 ∷ blocks) b ≡ true → b ≢ last → link_in first_later later b ≡ link_in first nodes b
   same_links b t other = search (rules, stored_node, other_block)

@@ -1,5 +1,5 @@
 -- A block that is taken for the node of a new file: the other files stay, and it is where the model puts the file.
-use Rattle.std.proofs.Common.{◌≡◌, ◌≢◌, ℕ, ◌+◌, ◌-◌, ◌<◌, ◌≤◌, true, false, List, [], ◌∷◌, ◌++◌, length, map, Option, Some, None, is_some, refl, sym, ap, subst, ◌∙◌, arith}
+use Rattle.std.proofs.Common.{◌≡◌, ◌≢◌, ℕ, ◌+◌, ◌-◌, ◌^◌, ◌<◌, ◌≤◌, true, false, List, [], ◌∷◌, ◌++◌, length, map, Option, Some, None, is_some, refl, sym, ap, subst, ◌∙◌, arith}
 use Rattle.std.proofs.lemmas.Bool.Decides.{nat_tests}
 use Rattle.std.proofs.lemmas.Option.{none-some}
 use Rattle.std.specs.Option.{unwrap_or}
@@ -31,6 +31,7 @@ pub record Takes (first last : ℕ) (blocks : List ℕ) (block : ℕ) (old new :
   pub stand : StandAt first last new.nodes new.contents blocks
   pub files : map (file_at new.nodes new.contents) blocks ≡ map (file_at old.nodes old.contents) blocks
   pub fresh : IsFresh first new.nodes block
+  pub same : (b : ℕ) → is_listed blocks b ≡ true → get new.nodes.payloads b ≡ get old.nodes.payloads b
   pub is_created : (name : List ℕ) (files : List File) →
       created name (hole_for node_size old.nodes.shape) (record { files = files; shape = old.nodes.shape }) old.account
       ≡ told Done (record {
@@ -63,24 +64,25 @@ module _ (first last : ℕ) (nodes later : OwnHeap) (contents : NatMap (List ℕ
   files_taken = files_kept first last nodes later contents contents blocks stand more taken_stays
 
   -- the block is none of those of files
-  pub fresh_taken : 0 < block → 64 ≤ length payload → chunk_with later (block - 16) < length later.shape.chunks → IsFresh first later block
-  fresh_taken some long place =
+  pub fresh_taken : 0 < block → block < 2 ^ 64 → 96 ≤ length payload → chunk_with later (block - 16) < length later.shape.chunks → IsFresh first later block
+  fresh_taken some low long place =
       let there : get later.payloads block ≡ Some payload = ap (λ m. get m block) is ∙ get-insert_same nodes.payloads block payload block refl in
       let unlisted : is_listed blocks block ≡ false = elim (is_listed blocks block) as (λ t. is_listed blocks block ≡ t → t ≡ false) [
         | true ↦ λ t. absurd (not_it block t refl)
         | false ↦ λ _. refl
       ] refl in
       record {
-        there = record { there = ap is_some there; within = subst (λ (o : Option (List ℕ)). 0 + 64 ≤ length (unwrap_or o [])) (sym there) (omega (arith, long)) };
+        there = record { there = ap is_some there; within = subst (λ (o : Option (List ℕ)). 0 + 96 ≤ length (unwrap_or o [])) (sym there) (omega (arith, long)) };
+        small = low;
         place = place;
         free = ap (λ xs. is_listed (0 ∷ xs) block) (blocks_are first last later contents blocks stand_taken) ∙ grind (arith, nat_tests);
       }
 
 -- what a hole gives is as long as a block for a node, or longer
-long_taken : (size : ℕ) → 112 ≤ size → 64 ≤ length (zeros (size_taken 112 size - 16))
+long_taken : (size : ℕ) → 112 ≤ size → 96 ≤ length (zeros (size_taken 112 size - 16))
 long_taken size enough = let e = length-zeros (size_taken 112 size - 16) in grind (arith, nat_tests, e)
 
-module _ (first last : ℕ) (blocks : List ℕ) (block : ℕ) (old : Stock) (stand : StandAt first last old.nodes old.contents blocks) (has : HasPlaces old.nodes)
+module _ (first last : ℕ) (blocks : List ℕ) (block : ℕ) (low : block < 2 ^ 64) (old : Stock) (stand : StandAt first last old.nodes old.contents blocks) (has : HasPlaces old.nodes)
     (free : get old.nodes.payloads block ≡ None) where
   -- in the best hole
   in_hole : (hole : Spot) (new : Stock) → hole_for node_size old.nodes.shape ≡ Some hole → TakesInHole hole block old new → Takes first last blocks block old new
@@ -99,8 +101,9 @@ module _ (first last : ℕ) (blocks : List ℕ) (block : ℕ) (old : Stock) (sta
       let takes : Takes first last blocks block old (record old { nodes = later }) = record {
         stand = stand_taken first last old.nodes later old.contents blocks stand block payload free is chunk offset (omega (arith, count));
         files = files_taken first last old.nodes later old.contents blocks stand block payload free is chunk offset (omega (arith, count));
+        same = same_payload first last old.nodes later old.contents blocks stand block payload free is chunk offset (omega (arith, count));
         fresh = fresh_taken first last old.nodes later old.contents blocks stand block payload free is chunk offset (omega (arith, count))
-            (omega (arith, t.at)) (long_taken hole.size enough) (omega (arith, here, place.0, count));
+            (omega (arith, t.at)) low (long_taken hole.size enough) (omega (arith, here, place.0, count));
         is_created = λ name files.
             ap (λ o. created name o (record { files = files; shape = old.nodes.shape }) old.account) best
             ∙ (λ i. told Done (record {
@@ -131,8 +134,9 @@ module _ (first last : ℕ) (blocks : List ℕ) (block : ℕ) (old : Stock) (sta
       let takes : Takes first last blocks block old (record old { account = charged old.account growth.bytes 1; nodes = later }) = record {
         stand = stand_taken first last old.nodes later old.contents blocks stand block payload free is chunk offset more;
         files = files_taken first last old.nodes later old.contents blocks stand block payload free is chunk offset more;
+        same = same_payload first last old.nodes later old.contents blocks stand block payload free is chunk offset more;
         fresh = fresh_taken first last old.nodes later old.contents blocks stand block payload free is chunk offset more
-            (omega (arith, t.at)) (long_taken growth.bytes fits) (omega (arith, place.0, place.1.0));
+            (omega (arith, t.at)) low (long_taken growth.bytes fits) (omega (arith, place.0, place.1.0));
         is_created = λ name files.
             ap (λ o. created name o (record { files = files; shape = old.nodes.shape }) old.account) none
             ∙ (λ i. told Done (record {

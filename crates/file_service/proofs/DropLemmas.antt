@@ -1,13 +1,14 @@
 -- DROP: a file goes, with its node and its content.
 use Rattle.std.proofs.Common.{◌≡◌, ◌≢◌, ℕ, ◌<◌, true, false, cond, eqb, List, [], ◌∷◌, ◌++◌, length, refl, sym, ap, subst, ◌∙◌, arith}
 use Rattle.std.proofs.lemmas.Bool.Decides.{nat_tests}
-use Rattle.std.specs.Prelude.{IsSome}
+use Rattle.std.specs.Prelude.{IsSome, Some}
 use Rattle.std.specs.Option.{unwrap_or}
 use Rattle.std.specs.FinMap.{get, remove}
 use Rattle.own_model.specs.Account.{Account, credited}
 use Rattle.own_model.specs.FileService.{File, content_credited, content_ram, content_caps}
 use Rattle.own_model.specs.FileText.FileReply.{Done}
 use Rattle.own_model.specs.FileText.FileRequest.{Drop}
+use Rattle.own_model.specs.FileService.{request_served}
 use Rattle.own_model.specs.HeapStep.{without_block}
 use Rattle.own_model.specs.NatMap.{NatMap}
 use Rattle.own_model.specs.OwnHeap.{OwnHeap}
@@ -15,25 +16,58 @@ use Rattle.own_model.specs.Sliced.{block_size}
 use Rattle.own_model.proofs.NatMapLemmas.{get-remove}
 use Rattle.sliced_heap.specs.Chain.{is_listed}
 use Rattle.file_service.specs.Calls.{payload_in, content_given, HasBytes}
-use Rattle.file_service.specs.Files.{file_at}
+use Rattle.file_service.specs.Files.{file_at, StandAt}
 use Rattle.file_service.specs.Furnished.{Stock}
+use Rattle.file_service.specs.Index.{ChangesTails, IsNamed, KeepsPlace, LeadsBack, previous_at}
 use Rattle.file_service.specs.Node.{FileNode}
-use Rattle.file_service.specs.Session.{IsFound, KeepsOwn, LinksTo, Serves, served_in}
+use Rattle.file_service.specs.Session.{IsFound, KeepsOwn, LinksTo, Serves, Unlists, served_in}
 use Rattle.file_service.specs.declared.session.FileSession.{FileSession}
-use Rattle.file_service.proofs.LinkLemmas.{listed_append, last_listed}
+use Rattle.file_service.proofs.BackLemmas.{back_kept}
+use Rattle.file_service.proofs.IndexLemmas.{named_kept}
+use Rattle.file_service.proofs.LinkLemmas.{listed_append, last_listed, once_apart, once_later, unlisted}
+use Rattle.file_service.proofs.NodeKeptLemmas.{indexed_by, place_same, place_then}
 use Rattle.file_service.proofs.RemoveLemmas.{stand_removed, files_removed}
 use Rattle.file_service.proofs.ReplaceLemmas.{credited_is}
 use Rattle.file_service.proofs.SearchLemmas.{found_named, found_long, found_file, found_content}
 use Rattle.file_service.proofs.ServeLemmas.{serves_done, drop_done, file_name}
+use Rattle.file_service.proofs.TailFileLemmas.{account_same, files_tails, found_tails}
 
 -- the node before a file that is found
 pub previous_there : (first last : ℕ) (nodes : OwnHeap) (contents : NatMap (List ℕ)) (name : List ℕ) (previous address : ℕ) (node : FileNode) →
-    IsFound first last nodes contents name previous address node → previous ≢ 0 → HasBytes nodes.payloads previous 0 64
+    IsFound first last nodes contents name previous address node → previous ≢ 0 → HasBytes nodes.payloads previous 0 96
 previous_there first last nodes contents name previous address node found some =
     let among : is_listed (0 ∷ found.before) previous ≡ true = subst (λ l. is_listed (0 ∷ found.before) l ≡ true) (sym found.previous_is) (last_listed 0 found.before) in
     let listed : is_listed found.before previous ≡ true = grind (arith, nat_tests, among, some) in
     let all = listed_append found.before (address ∷ found.behind) previous in
     (found.stand.each previous (grind (arith, nat_tests, all, listed))).there
+
+-- one of these is one of more
+listed_more : (before behind : List ℕ) (a b : ℕ) → is_listed (before ++ behind) b ≡ true → is_listed (before ++ a ∷ behind) b ≡ true
+listed_more before behind a b t = let all = listed_append before (a ∷ behind) b in let part = listed_append before behind b in grind (arith, nat_tests)
+
+-- what is so of a file whose node is out of the tree, and still linked to
+pub record IsUnlisted (session : FileSession) (old was : Stock) (root : ℕ) (name : List ℕ) (previous address : ℕ) (node : FileNode) : Type 0 where
+  pub found : IsFound session.first session.last was.nodes was.contents name previous address node
+  pub named : IsNamed root was.nodes (found.before ++ found.behind)
+  pub back : LeadsBack (previous_at was.nodes) 0 (found.before ++ found.behind)
+  pub served : served_in (Drop name) session was ≡ served_in (Drop name) session old
+
+pub is_unlisted : (session later : FileSession) (old was : Stock) (name : List ℕ) (previous address : ℕ) (node : FileNode) →
+    IsFound session.first session.last old.nodes old.contents name (previous_at old.nodes address) address node → previous ≡ previous_at old.nodes address → ChangesTails old was → Unlists session later address old was →
+    IsUnlisted session old was later.root name previous address node
+unfolding found_tails
+is_unlisted session later old was name previous address node was_found is tails unlists =
+    let from = subst (λ p. IsFound session.first session.last old.nodes old.contents name p address node) (sym is) was_found in
+    let lists = unlists from.before from.behind from.stand in
+    let all : List ℕ = from.before ++ address ∷ from.behind in
+    let files = files_tails session.first session.last old was tails all from.stand in
+    let account = account_same session.first session.last old was tails all from.stand in
+    record {
+      found = found_tails session.first session.last old was name previous address node tails from;
+      named = lists.0;
+      back = lists.1;
+      served = λ i. request_served (Some (Drop name)) (files i) (account i);
+    }
 
 -- nothing is credited
 credited_none : (account : Account) → credited account 0 0 ≡ account
@@ -42,7 +76,7 @@ credited_none account = grind (arith, nat_tests)
 module _ (session later : FileSession) (was linked given : Stock) (name : List ℕ) (previous address : ℕ) (node : FileNode)
     (found : IsFound session.first session.last was.nodes was.contents name previous address node)
     (links : LinksTo session.first previous node.next later.first was.nodes linked.nodes)
-    (rest : linked ≡ record was { nodes = linked.nodes }) where
+    (rest : linked ≡ record was { nodes = linked.nodes }) (named : IsNamed later.root was.nodes (found.before ++ found.behind)) (back : LeadsBack (previous_at was.nodes) 0 (found.before ++ found.behind)) where
   -- its block is still there after the links lead past it
   pub linked_there : IsSome (get linked.nodes.payloads address)
   linked_there = (links.files address (found_file session.first session.last was.nodes was.contents name previous address node found).there).there.there
@@ -74,9 +108,24 @@ module _ (session later : FileSession) (was linked given : Stock) (name : List �
           (files_removed session.first session.last was.nodes linked.nodes new.nodes was.contents new.contents name previous address node found later.first later.last links without last_is gone)
           (record {
             blocks = found.before ++ found.behind;
-            stand = stand_removed session.first session.last was.nodes linked.nodes new.nodes was.contents new.contents name previous address node found later.first later.last links without last_is gone;
+            stand = stand new without gone;
+            indexed = indexed_by later.first later.last later.root new.nodes new.contents (found.before ++ found.behind) (stand new without gone)
+                (named_kept later.root was.nodes new.nodes (found.before ++ found.behind) (λ b t. let p = places new without b t in record { name = p.name; padded = p.padded }) (λ b t. (places new without b t).links) named)
+                (back_kept (previous_at was.nodes) (previous_at new.nodes) 0 (found.before ++ found.behind) (λ b t. (places new without b t).previous) back);
           })
           own
+        where
+          stand : (new : Stock) → new.nodes ≡ without_block address linked.nodes → ((a : ℕ) → (0 < node.size → a ≢ node.content) → get new.contents a ≡ get was.contents a) →
+              StandAt later.first later.last new.nodes new.contents (found.before ++ found.behind)
+          stand new without gone = stand_removed session.first session.last was.nodes linked.nodes new.nodes was.contents new.contents name previous address node found later.first later.last links without last_is gone
+
+          -- the others keep their places
+          places : (new : Stock) → new.nodes ≡ without_block address linked.nodes → (b : ℕ) → is_listed (found.before ++ found.behind) b ≡ true → KeepsPlace was.nodes new.nodes b
+          places new without b t =
+              let listed = listed_more found.before found.behind address b t in
+              let other : b ≢ address = unlisted (found.before ++ found.behind) address b (once_apart found.before found.behind address (once_later 0 (found.before ++ address ∷ found.behind) found.stand.line.once)) t in
+              let left : get new.nodes.payloads b ≡ get linked.nodes.payloads b = ap (λ (n : OwnHeap). get n.payloads b) without ∙ get-remove linked.nodes.payloads address b ∙ (let e : eqb b address ≡ false = grind (arith, nat_tests) in rw e refl) in
+              place_then was.nodes linked.nodes new.nodes b (links.files b (found.stand.each b listed).there).place (place_same linked.nodes new.nodes b left)
 
       long : length file.bytes ≡ node.size
       long = found_long session.first session.last was.nodes was.contents name previous address node found

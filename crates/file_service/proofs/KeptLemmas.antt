@@ -18,7 +18,7 @@ use Rattle.file_service.proofs.LinkLemmas.{unlisted, listed_first, listed_later,
 -- ---- the blocks are found along the links
 
 -- keys of a map, none twice, are no more than it has
-few_keys : {X : Type 0} (xs : List ℕ) (m : NatMap X) → has_no_repeat xs ≡ true → ((b : ℕ) → is_listed xs b ≡ true → IsSome (get m b)) → length xs ≤ len m
+pub few_keys : {X : Type 0} (xs : List ℕ) (m : NatMap X) → has_no_repeat xs ≡ true → ((b : ℕ) → is_listed xs b ≡ true → IsSome (get m b)) → length xs ≤ len m
 few_keys [] m once there = omega arith
 few_keys {X} (x ∷ xs) m once there =
     let first = some_of (get m x) (there x (listed_first x xs)) in
@@ -57,7 +57,7 @@ pub record Stays (nodes later : OwnHeap) (contents after : NatMap (List ℕ)) (b
   pub name : (node_at later b).name ≡ (node_at nodes b).name
   pub size : (node_at later b).size ≡ (node_at nodes b).size
   pub content : (node_at later b).content ≡ (node_at nodes b).content
-  pub there : HasBytes later.payloads b 0 64
+  pub there : HasBytes later.payloads b 0 96
   pub chunk : chunk_with later (b - 16) ≡ chunk_with nodes (b - 16)
   pub offset : offset_of later (b - 16) ≡ offset_of nodes (b - 16)
   pub bytes : 0 < (node_at nodes b).size → get after (node_at nodes b).content ≡ get contents (node_at nodes b).content

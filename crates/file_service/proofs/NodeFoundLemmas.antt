@@ -21,7 +21,7 @@ use Rattle.file_service.proofs.FurnishedLemmas.{nodes_are}
 use Rattle.file_service.proofs.NodePlaceLemmas.{one_payload}
 
 module _ {heap : Heap} {sliced : SlicedHeap} {store : Store} {regions : Regions} (f : IsFurnished heap sliced store regions) (address : ℕ)
-    (has : HasBytes (heap_in heap (holding_of sliced store regions)).payloads address 0 64) (count : ℕ) (some : 1 ≤ count) (few : count ≤ 64) where
+    (has : HasBytes (heap_in heap (holding_of sliced store regions)).payloads address 0 96) (into count : ℕ) (some : 1 ≤ count) (few : into + count ≤ 96) where
   abbrev payload : List ℕ
   payload = payload_in (heap_in heap (holding_of sliced store regions)).payloads address
 
@@ -29,7 +29,7 @@ module _ {heap : Heap} {sliced : SlicedHeap} {store : Store} {regions : Regions}
   pub payload_there : get (heap_at heap store regions).payloads address ≡ Some payload
   payload_there = search (rules, nodes_are, there_is)
 
-  module _ (ds offset : ℕ) (held : HoldsRange heap store regions ds offset address count) where
+  module _ (ds offset : ℕ) (held : HoldsRange heap store regions ds offset (address + into) count) where
     -- what is found is that payload
     pub same_at : held.at ≡ address
     same_at =
@@ -37,8 +37,8 @@ module _ {heap : Heap} {sliced : SlicedHeap} {store : Store} {regions : Regions}
         let high = held.high in
         let within = has.within in
         let none = ap (λ (h : OwnHeap). h.large) (sym (nodes_are heap sliced store regions f.payer)) ∙ f.nodes.no_large in
-        one_payload heap store regions f.sound none address held.at address held.payload payload held.starts payload_there
-        (record { from = low; to = omega (arith, high) }) (record { from = omega arith; to = omega (arith, within) })
+        one_payload heap store regions f.sound none (address + into) held.at address held.payload payload held.starts payload_there
+        (record { from = low; to = omega (arith, high) }) (record { from = omega arith; to = omega (arith, within, few, some) })
 
     pub same_payload : held.payload ≡ payload
     same_payload = same_Some held.payload payload (sym held.starts ∙ ap (get (heap_at heap store regions).payloads) same_at ∙ payload_there)
@@ -46,7 +46,7 @@ module _ {heap : Heap} {sliced : SlicedHeap} {store : Store} {regions : Regions}
     pub node_paid : IsPaidBy (heap_payer heap) ds held.bytes store
     node_paid = paid_in_part (heap_payer heap) ds held.bytes store held.there
 
-    pub finds_node : FindsNode heap store regions ds offset address count
+    pub finds_node : FindsNode heap store regions ds offset address into count
     finds_node =
         let into = held.into in
         let low = held.low in
@@ -56,11 +56,9 @@ module _ {heap : Heap} {sliced : SlicedHeap} {store : Store} {regions : Regions}
         record { held = held; at = same_at; there = record { exists = node_paid.exists; within = omega (arith, into, low, high, within, long) } }
 
     -- its bytes are the payload's
-    pub node_read : slice_range (space_at store ds).bytes offset (offset + count) ≡ slice_range payload 0 count
+    pub node_read : slice_range (space_at store ds).bytes offset (offset + count) ≡ slice_range payload into (into + count)
     node_read =
-        let zero : address - held.at ≡ 0 = omega (arith, same_at) in
-        let end : 0 + count ≡ count = omega arith in
+        let far : address + into - held.at ≡ into = omega (arith, same_at) in
         ap (λ (l : List ℕ). slice_range l offset (offset + count)) node_paid.bytes_are
-        ∙ payload_read heap store regions ds offset address count held
-        ∙ (λ i. slice_range (same_payload i) (zero i) (zero i + count))
-        ∙ ap (slice_range payload 0) end
+        ∙ payload_read heap store regions ds offset (address + into) count held
+        ∙ (λ i. slice_range (same_payload i) (far i) (far i + count))

@@ -7,8 +7,8 @@ use Rattle.std.specs.Prelude.{min, slice_range}
 use Rattle.trade_base.specs.Bytes.{with_bytes}
 use Rattle.trade_base.specs.Word.{word_of, word_bytes}
 use Rattle.trade_base.proofs.WordLemmas.{length-word_bytes, word_of-word_bytes}
-use Rattle.own_model.specs.OwnState.{with_part}
-use Rattle.own_model.proofs.ByteLemmas.{with_part-within}
+use Rattle.own_model.specs.OwnState.{with_part, zeros}
+use Rattle.own_model.proofs.ByteLemmas.{with_part-within, length-zeros}
 use Rattle.file_service.specs.Node.{FileNode, IsNode, node_of, bytes_of, word_from, longest_name}
 
 -- a part between others
@@ -18,12 +18,16 @@ slice_mid xs ys zs n m long to =
     (λ i. take (size i) (drop (sym long i) (xs ++ (ys ++ zs)))) ∙ ap (take (length ys)) (drop-append_seam xs (ys ++ zs)) ∙ take-append_seam ys zs
 
 -- a word between others
-word_mid : (xs zs : List ℕ) (word n : ℕ) → length xs ≡ n → word < 2 ^ 64 → word_from (xs ++ (word_bytes word ++ zs)) n ≡ word
+pub word_mid : (xs zs : List ℕ) (word n : ℕ) → length xs ≡ n → word < 2 ^ 64 → word_from (xs ++ (word_bytes word ++ zs)) n ≡ word
 word_mid xs zs word n long small = simp (slice_mid, length-word_bytes, word_of-word_bytes)
 
--- six lists one after another
-parted : (a b c d e f : List ℕ) → a ++ b ++ c ++ d ++ e ++ f ≡ a ++ (b ++ (c ++ (d ++ (e ++ f))))
-parted a b c d e f = simp append_assoc refl
+-- lists one after another
+pub joined : (a b c d e z : List ℕ) → a ++ b ++ c ++ d ++ e ++ z ≡ a ++ (b ++ (c ++ (d ++ (e ++ z))))
+joined a b c d e z = simp append_assoc refl
+
+-- seven of them
+parted : (a b c d e z f : List ℕ) → (a ++ (b ++ (c ++ (d ++ (e ++ z))))) ++ f ≡ a ++ (b ++ (c ++ (d ++ (e ++ (z ++ f)))))
+parted a b c d e z f = simp append_assoc refl
 
 first_two : (a b r : List ℕ) → a ++ (b ++ r) ≡ (a ++ b) ++ r
 first_two a b r = sym (append_assoc a b r)
@@ -42,11 +46,11 @@ module _ (v : FileNode) (is : IsNode v) (rest : List ℕ) where
   d = word_bytes (length v.name)
 
   abbrev tail : List ℕ
-  tail = v.name ++ rest
+  tail = v.name ++ (zeros (longest_name - length v.name) ++ rest)
 
   is_parted : bytes_of v ++ rest ≡ a ++ (b ++ (c ++ (d ++ tail)))
   unfolding bytes_of
-  is_parted = parted a b c d v.name rest
+  is_parted = parted a b c d v.name (zeros (longest_name - length v.name)) rest
 
   two : length (a ++ b) ≡ 16
   two = length-append a b ∙ (λ i. length-word_bytes v.next i + length-word_bytes v.content i)
@@ -77,7 +81,7 @@ module _ (v : FileNode) (is : IsNode v) (rest : List ℕ) where
       let few = is.name in
       let to : 32 + min (word_from (bytes_of v ++ rest) 24) longest_name ≡ 32 + length v.name = omega (arith, few, name_length) in
       ap (λ l. slice_range l 32 (32 + min (word_from (bytes_of v ++ rest) 24) longest_name)) in_four
-      ∙ slice_mid (((a ++ b) ++ c) ++ d) v.name rest 32 (32 + min (word_from (bytes_of v ++ rest) 24) longest_name) four to
+      ∙ slice_mid (((a ++ b) ++ c) ++ d) v.name (zeros (longest_name - length v.name) ++ rest) 32 (32 + min (word_from (bytes_of v ++ rest) 24) longest_name) four to
 
   -- the bytes of a node tell it, whatever stands behind them
   pub node_back : node_of (bytes_of v ++ rest) ≡ v
@@ -90,21 +94,36 @@ module _ (v : FileNode) (is : IsNode v) (rest : List ℕ) where
   }
 
 -- so many bytes stand for it
-pub length-bytes_of : (v : FileNode) → length (bytes_of v) ≡ 32 + length v.name
+pub length-bytes_of : (v : FileNode) → length v.name ≤ longest_name → length (bytes_of v) ≡ 64
 unfolding bytes_of
-length-bytes_of v = grind (arith, nat_tests, length-word_bytes, length-append)
+length-bytes_of v few = let z = length-zeros (longest_name - length v.name) in grind (arith, nat_tests, length-word_bytes, length-append)
 
--- put over the front of a payload they tell the node
-pub node_stored_back : (v : FileNode) → IsNode v → (payload : List ℕ) → 64 ≤ length payload → node_of (with_part payload 0 (bytes_of v)) ≡ v
-unfolding with_bytes
-node_stored_back v is payload long = grind (arith, nat_tests, length-bytes_of, with_part-within, node_back)
+-- put over the front of a payload, with more behind them, they tell the node and are its front
+module _ (v : FileNode) (is : IsNode v) (payload more : List ℕ) (long : 64 + length more ≤ length payload) where
+  pub stored_front : with_part payload 0 (bytes_of v ++ more) ≡ bytes_of v ++ (more ++ drop (64 + length more) payload)
+  unfolding with_bytes
+  stored_front =
+      let sum : length (bytes_of v ++ more) ≡ 64 + length more = length-append (bytes_of v) more ∙ ap (λ n. n + length more) (length-bytes_of v is.name) in
+      let size : 0 + length (bytes_of v ++ more) ≡ 64 + length more = omega (arith, sum) in
+      with_part-within payload 0 (bytes_of v ++ more) (omega (arith, sum, long))
+      ∙ ap (λ n. (bytes_of v ++ more) ++ drop n payload) size
+      ∙ append_assoc (bytes_of v) more (drop (64 + length more) payload)
+
+  pub node_stored_back : node_of (with_part payload 0 (bytes_of v ++ more)) ≡ v
+  node_stored_back = ap node_of stored_front ∙ node_back v is (more ++ drop (64 + length more) payload)
+
+  pub front_stored : take 64 (with_part payload 0 (bytes_of v ++ more)) ≡ bytes_of v
+  front_stored =
+      ap (take 64) stored_front
+      ∙ ap (λ n. take n (bytes_of v ++ (more ++ drop (64 + length more) payload))) (sym (length-bytes_of v is.name))
+      ∙ take-append_seam (bytes_of v) (more ++ drop (64 + length more) payload)
 
 -- a range of the first of two lists
 slice_left : (xs ys : List ℕ) (from count : ℕ) → from + count ≤ length xs → slice_range (xs ++ ys) from (from + count) ≡ slice_range xs from (from + count)
 slice_left xs ys from count within = grind (arith, nat_tests, length-drop, drop-append-le, take-append-le)
 
 -- what stands behind the bytes of a node tells nothing of it
-slice_front : (bytes : List ℕ) (from count : ℕ) → 64 ≤ length bytes → from + count ≤ 64 → slice_range (slice_range bytes 0 64) from (from + count) ≡ slice_range bytes from (from + count)
+pub slice_front : (bytes : List ℕ) (from count : ℕ) → 64 ≤ length bytes → from + count ≤ 64 → slice_range (slice_range bytes 0 64) from (from + count) ≡ slice_range bytes from (from + count)
 slice_front bytes from count long within =
     let front : slice_range bytes 0 64 ≡ take 64 bytes = refl in
     let size = length-take-le 64 bytes long in

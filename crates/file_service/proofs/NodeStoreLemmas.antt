@@ -1,11 +1,14 @@
 -- A write of a node changes its payload alone.
-use Rattle.std.proofs.Common.{rules, ◌≡◌, ℕ, ◌+◌, ◌-◌, ◌*◌, ◌<◌, ◌≤◌, true, List, [], ◌∷◌, length, get_or, suc, Some, refl, sym, ap, ◌∙◌, ⊎_elim, arith, inl, inr}
+use Rattle.std.proofs.Common.{rules, ◌≡◌, ℕ, ◌+◌, ◌-◌, ◌*◌, ◌^◌, ◌<◌, ◌≤◌, true, List, [], ◌∷◌, length, get_or, suc, Some, refl, sym, ap, subst, ◌∙◌, ⊎_elim, arith, inl, inr}
 use Rattle.std.proofs.lemmas.Bool.{cases_eq}
 use Rattle.std.proofs.lemmas.Bool.Decides.{nat_tests}
 use Rattle.std.proofs.lemmas.Option.{same_Some}
 use Rattle.std.specs.Prelude.{nat_lt}
 use Rattle.std.specs.FinMap.{get, len}
 use Rattle.trade_base.specs.Bytes.{with_bytes}
+use Rattle.own_model.specs.OwnState.{zeros}
+use Rattle.own_model.proofs.ByteLemmas.{length-zeros}
+use Rattle.file_service.proofs.FoundLemmas.{window_low}
 use Rattle.own_model.specs.Region.{Region}
 use Rattle.own_model.proofs.HeapStepLemmas.{not_both}
 use Rattle.own_model.proofs.Totals.{len-insert_at}
@@ -48,11 +51,11 @@ module _ (heap : Heap) (store : Store) (regions : Regions) (sound : IsSoundHeap 
   abbrev region : Region
   region = record { of = ds; pages = held.pages }
 
-  there : get regions.heap held.start ≡ Some region
+  pub there : get regions.heap held.start ≡ Some region
   there = (in_share p regions.heap regions.tags held.start region held.region).0
 
   -- the bytes are all that it shows
-  whole : length held.bytes ≡ held.pages * 4096
+  pub whole : length held.bytes ≡ held.pages * 4096
   whole =
       let shown = sound.window.shown_whole held.start region there in
       let mine = in_memory (heap_payer heap) ds held.bytes store held.there in
@@ -108,3 +111,13 @@ module _ (heap : Heap) (store : Store) (regions : Regions) (sound : IsSoundHeap 
 
     pub poked_changes : ChangesNodes (heap_payer heap) heap store regions heap new regions
     poked_changes = search (rules, pokes, blocks_in_place, lent_places, put, held_tag, there, spaces_count, poked_account)
+
+-- a node's bytes end below 2^40
+pub range_low : (heap : Heap) (store : Store) (regions : Regions) → IsSoundHeap heap store regions → (ds offset address count : ℕ) → HoldsRange heap store regions ds offset address count → offset + count ≤ 2 ^ 40
+range_low heap store regions sound ds offset address count held =
+    let same : HoldsRange heap store regions ds offset address (length (zeros count)) = subst (HoldsRange heap store regions ds offset address) (sym (length-zeros count)) held in
+    let long = whole heap store regions sound ds offset address (zeros count) same in
+    let in_map = there heap store regions sound ds offset address (zeros count) same in
+    let window = sound.window in
+    let within = window.lie.within same.start (record { of = ds; pages = same.pages }) in_map in
+    omega (arith, within.to_high, window_low regions.pages window.few, same.into, same.low, same.high, same.within, long, length-zeros count)

@@ -20,7 +20,7 @@ use Rattle.file_service.proofs.SearchLemmas.{files_around, in_blocks}
 module _ (first last : ℕ) (nodes later : OwnHeap) (contents after : NatMap (List ℕ)) (name : List ℕ) (previous address : ℕ) (node : FileNode)
     (found : IsFound first last nodes contents name previous address node)
     (payload : List ℕ) (stored : later ≡ record nodes { payloads = insert nodes.payloads address payload })
-    (content size : ℕ) (back : node_at later address ≡ record node { content = content; size = size }) (there : HasBytes later.payloads address 0 64)
+    (content size : ℕ) (back : node_at later address ≡ record node { content = content; size = size }) (there : HasBytes later.payloads address 0 96)
     (has : 0 < size → HasContent after (record node { content = content; size = size })) (own : 0 < size → (b : ℕ) → is_listed (nodes_from first nodes) b ≡ true → b ≢ address → 0 < (node_at nodes b).size → (node_at nodes b).content ≢ content)
     (gone : (a : ℕ) → (0 < node.size → a ≢ node.content) → get after a ≡ get contents a) where
   abbrev all : List ℕ

@@ -1,5 +1,5 @@
 -- WRITE: why it is refused, and what it does.
-use Rattle.std.proofs.Common.{rules, ◌≡◌, ◌≢◌, ℕ, ◌+◌, ◌<◌, ◌≤◌, ◌^◌, true, false, cond, Bool, List, [], ◌∷◌, ◌++◌, length, take, Option, Some, None, sym, ap, subst, ◌∙◌, arith}
+use Rattle.std.proofs.Common.{rules, ◌≡◌, ◌≢◌, ℕ, ◌+◌, ◌<◌, ◌≤◌, ◌^◌, true, false, cond, Bool, List, [], ◌∷◌, ◌++◌, length, take, Option, Some, None, refl, sym, ap, subst, ◌∙◌, arith}
 use Rattle.std.proofs.lemmas.Bool.{cases_lt}
 use Rattle.std.proofs.lemmas.Bool.Decides.{nat_tests}
 use Rattle.std.proofs.lemmas.Option.{same_Some, none-some}
@@ -25,6 +25,7 @@ use Rattle.sliced_heap.specs.Chain.{is_listed}
 use Rattle.file_service.specs.Calls.{payload_in, content_written}
 use Rattle.file_service.specs.Files.{node_at, file_at, files_of, nodes_from, HasContent, StandAt}
 use Rattle.file_service.specs.Furnished.{Stock}
+use Rattle.file_service.specs.Index.{IsIndexed}
 use Rattle.file_service.specs.Node.{FileNode}
 use Rattle.file_service.specs.Session.{files_in, served_in, HasFiles, IsFound, IsTold, KeepsOwn, Serves}
 use Rattle.file_service.specs.declared.session.FileSession.{FileSession}
@@ -153,8 +154,13 @@ module _ (session : FileSession) (was : Stock) (name : List ℕ) (previous addre
       front : take node.size (payload_in after node.content) ≡ with_bytes file.bytes offset bytes
       front = grind (arith, nat_tests, has, there, long, content_long, get-insert_same, front_written, found_bytes)
 
-      pub over_served : (now : Stock) → now ≡ content_written node.content offset bytes was → Serves (served_in (Write name offset bytes) session was) (Count (length bytes)) session session now
-      over_served now is = search (rules, serves_done, served, files, front, stand)
+      pub over_served : IsIndexed session.first session.root was.nodes → (now : Stock) → now ≡ content_written node.content offset bytes was →
+          Serves (served_in (Write name offset bytes) session was) (Count (length bytes)) session session now
+      over_served indexed now is =
+          subst (Serves (served_in (Write name offset bytes) session was) (Count (length bytes)) session session) (sym is)
+          (serves_done (served_in (Write name offset bytes) session was) (Count (length bytes)) _ _ session session (content_written node.content offset bytes was) served refl
+          (files ∙ ap (λ b. record (files_in session was) { files = rewritten name b (files_in session was).files }) front)
+          (record { blocks = found.before ++ address ∷ found.behind; stand = stand; indexed = indexed }) (record { label = refl; buffer = refl }))
 
   -- ---- the file gets longer
 
@@ -171,4 +177,8 @@ module _ (session : FileSession) (was : Stock) (name : List ℕ) (previous addre
         files_in later now ≡ record (files_in session made) { files = rewritten name front (files_in session made).files } → HasFiles later now →
         now.account ≡ content_credited (file_at made.nodes made.contents address) made.account → KeepsOwn session later →
         Serves (served_in (Write name offset bytes) session was) (Count (length bytes)) session later now
-    longer_served later made now front covered charge same file_is front_is files kept account own = search (rules, serves_done, write_longer, there, long, named, files)
+    longer_served later made now front covered charge same file_is front_is files kept account own =
+        serves_done (served_in (Write name offset bytes) session was) (Count (length bytes)) _ _ session later now
+        (write_longer name session was offset bytes file there (omega (arith, long, low)) (omega (arith, long, longer)) covered named)
+        (account ∙ (λ i. content_credited (file_is i) (charge i)))
+        (files ∙ (λ i. record (same i) { files = rewritten name (front_is i) (same i).files })) kept own

@@ -22,8 +22,9 @@ use Rattle.heap_window.proofs.ShareLemmas.{in_numbered, told_region}
 use Rattle.sliced_heap.specs.Heap.{IsNoBlock}
 use Rattle.sliced_heap.specs.Sliced.{sliced_of, sliced_tag, is_sliced_tag, block_regions, payload_of}
 use Rattle.server_frame.specs.Lent.{LendsAside, AllLendAside, share_with}
-use Rattle.file_service.specs.Files.{AreFiles, files_of}
+use Rattle.file_service.specs.Files.{files_of}
 use Rattle.file_service.specs.Furnished.{IsShare, HoldsNodes, is_lent_tag}
+use Rattle.file_service.specs.Index.{AreFiles}
 use Rattle.file_service.specs.Lent.{StandsLent, KeepsBuffer, buffer_key}
 use Rattle.own_model.specs.Session.{Labelled}
 use Rattle.own_model.specs.Session.ServiceState.{Filing}
@@ -114,7 +115,7 @@ module _ (session : FileSession) (lent : Lent) (share : Share) (is : IsSession s
             let all = holds.all in
             omega (arith, few, chunks, contents, all);
       };
-      files = subst (λ (h : OwnHeap). AreFiles session.first session.last h (sliced_of T)) (sym nodes_same) (subst (λ m. AreFiles session.first session.last (heap_in session.heap share) m) (sym contents_same) is.files);
+      files = subst (λ (h : OwnHeap). AreFiles session.first session.last session.root h (sliced_of T)) (sym nodes_same) (subst (λ m. AreFiles session.first session.last session.root (heap_in session.heap share) m) (sym contents_same) is.files);
       buffer = subst (λ b. KeepsBuffer b T) (sym same) buffer_still;
     }
 

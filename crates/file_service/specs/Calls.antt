@@ -46,9 +46,9 @@ pub record GivesNode (address : ℕ) (old new : Stock) : Type 0 where
   pub place : (chunk offset size : ℕ) → used_at offset (chunk_of old.nodes.shape.chunks chunk) ≡ Some size →
       address ≡ start_of old.nodes chunk + offset + 16 → new.nodes.shape ≡ shape_given chunk offset old.nodes.shape
 
--- bytes are put over the front of a node's payload
-abbrev pub node_stored : ℕ → List ℕ → Stock → Stock
-node_stored address bytes old = record old { nodes = with_poked address (payload_in old.nodes.payloads address) 0 bytes old.nodes }
+-- bytes are put over a node's payload from an offset on
+abbrev pub node_stored : ℕ → ℕ → List ℕ → Stock → Stock
+node_stored address offset bytes old = record old { nodes = with_poked address (payload_in old.nodes.payloads address) offset bytes old.nodes }
 
 -- ---- contents
 

@@ -50,7 +50,7 @@ pub record HasContent (contents : NatMap (List ℕ)) (node : FileNode) : Type 0 
 
 -- a block holds a file's node
 pub record IsFile (nodes : OwnHeap) (contents : NatMap (List ℕ)) (block : ℕ) : Type 0 where
-  pub there : HasBytes nodes.payloads block 0 64
+  pub there : HasBytes nodes.payloads block 0 96
   pub place : chunk_with nodes (block - header) < length nodes.shape.chunks
   pub content : 0 < (node_at nodes block).size → HasContent contents (node_at nodes block)
 
@@ -61,8 +61,3 @@ pub record StandAt (first last : ℕ) (nodes : OwnHeap) (contents : NatMap (List
   pub each : (b : ℕ) → is_listed blocks b ≡ true → IsFile nodes contents b
   pub apart : (a b : ℕ) → is_listed blocks a ≡ true → is_listed blocks b ≡ true → 0 < (node_at nodes a).size → 0 < (node_at nodes b).size →
       (node_at nodes a).content ≡ (node_at nodes b).content → a ≡ b
-
--- so they do along some
-pub record AreFiles (first last : ℕ) (nodes : OwnHeap) (contents : NatMap (List ℕ)) : Type 0 where
-  pub blocks : List ℕ
-  pub stand : StandAt first last nodes contents blocks

@@ -16,9 +16,9 @@ pub record IsThere (store : Store) (ds offset count : ℕ) : Type 0 where
   pub exists : Exists store ds
   pub within : offset + count ≤ length (space_at store ds).bytes
 
--- so many bytes of the node whose block's payload starts at an address
-pub record FindsNode (heap : Heap) (store : Store) (regions : Regions) (ds offset address count : ℕ) : Type 0 where
-  pub held : HoldsInHeap heap store regions ds offset address count
+-- so many bytes of the node whose block's payload starts at an address, so far into it
+pub record FindsNode (heap : Heap) (store : Store) (regions : Regions) (ds offset address into count : ℕ) : Type 0 where
+  pub held : HoldsInHeap heap store regions ds offset (address + into) count
   pub at : held.at ≡ address
   pub there : IsThere store ds offset count
 

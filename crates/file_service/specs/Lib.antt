@@ -6,5 +6,7 @@ pub mod Node
 pub mod Calls
 pub mod Found
 pub mod Files
+pub mod Index
+pub mod NameLaws
 pub mod Session
 pub mod Aside

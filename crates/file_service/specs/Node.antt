@@ -1,6 +1,7 @@
 -- The node of a file, and the bytes that stand for it at the front of its block.
-use Rattle.std.specs.Prelude.{ℕ, ◌+◌, ◌^◌, ◌<◌, ◌≤◌, List, ◌++◌, length, min, slice_range}
+use Rattle.std.specs.Prelude.{ℕ, ◌+◌, ◌-◌, ◌*◌, ◌^◌, ◌<◌, ◌≤◌, List, ◌++◌, length, min, slice_range}
 use Rattle.trade_base.specs.Word.{word_of, word_bytes}
+use Rattle.own_model.specs.OwnState.{zeros}
 use Rattle.file_service.specs.declared.node.Node.{Node}
 
 -- the address of the next file's node, that of the content, the content's bytes, and the name
@@ -18,13 +19,24 @@ value_of node = record { next = node.next; content = node.content; size = node.s
 abbrev pub longest_name : ℕ
 longest_name = 32
 
--- the most bytes that stand for a node
+-- the bytes that stand for a node, at the front of its block
 abbrev pub node_bytes : ℕ
 node_bytes = 64
 
 -- the word at an offset of these bytes
 abbrev pub word_from : List ℕ → ℕ → ℕ
 word_from bytes offset = word_of (slice_range bytes offset (offset + 8))
+
+-- what stands for a name: its length, and its bytes with zeros behind them
+abbrev pub name_bytes : List ℕ → List ℕ
+name_bytes name = word_bytes (length name) ++ (name ++ zeros (longest_name - length name))
+
+-- names come in the order of a number: that of their five words, the first of which counts most
+abbrev pub rank_by : (ℕ → ℕ) → ℕ
+rank_by word = (((word 0 * 2 ^ 64 + word 1) * 2 ^ 64 + word 2) * 2 ^ 64 + word 3) * 2 ^ 64 + word 4
+
+unfoldable pub rank_of : List ℕ → ℕ
+rank_of name = rank_by (λ i. word_from (name_bytes name) (8 * i))
 
 -- four words, the last of them the length of the name, and the name
 unfoldable pub node_of : List ℕ → FileNode
@@ -36,7 +48,7 @@ node_of bytes = record {
 }
 
 unfoldable pub bytes_of : FileNode → List ℕ
-bytes_of node = word_bytes node.next ++ word_bytes node.content ++ word_bytes node.size ++ word_bytes (length node.name) ++ node.name
+bytes_of node = word_bytes node.next ++ (word_bytes node.content ++ (word_bytes node.size ++ name_bytes node.name))
 
 -- words hold its numbers, and there is room for its name
 pub record IsNode (node : FileNode) : Type 0 where

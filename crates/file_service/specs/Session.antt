@@ -1,5 +1,5 @@
 -- What a session of the file service is to its client, and what its requests do.
-use Rattle.std.specs.Prelude.{◌≡◌, ◌≢◌, ℕ, ◌-◌, ◌<◌, true, false, length, List, ◌∷◌, ◌++◌, map, take, find, Option, Some, None, Result, Ok, Err}
+use Rattle.std.specs.Prelude.{◌≡◌, ◌≢◌, ℕ, ◌-◌, ◌^◌, ◌<◌, true, false, length, List, ◌∷◌, ◌++◌, map, take, find, Option, Some, None, Result, Ok, Err}
 use Rattle.own_model.specs.FileService.{Files, FileServed, is_named, request_served, told}
 use Rattle.own_model.specs.FileText as model
 use Rattle.own_model.specs.FileText.FileReply.{Done, Count, Bytes, Lent, Refused}
@@ -15,7 +15,8 @@ use Rattle.own_model.specs.Session.{Labelled}
 use Rattle.own_model.specs.Session.ServiceState.{Filing}
 use Rattle.sliced_heap.specs.Chain.{is_listed}
 use Rattle.file_service.specs.Calls.{HasBytes}
-use Rattle.file_service.specs.Files.{file_at, files_of, link_in, node_at, nodes_from, StandAt, AreFiles}
+use Rattle.file_service.specs.Files.{file_at, files_of, link_in, node_at, nodes_from, StandAt}
+use Rattle.file_service.specs.Index.{AreFiles, IsNamed, KeepsPlace, LeadsBack, previous_at}
 use Rattle.file_service.specs.Links.{last_of}
 use Rattle.file_service.specs.Node.{FileNode}
 use Rattle.file_service.specs.Node.{value_of as node_value}
@@ -43,7 +44,7 @@ value_of session share = record {
 -- what is true of a session between its requests
 pub record IsSession (session : FileSession) (share : Share) : Type 0 where
   pub nodes : KeepsNodes session.heap share
-  pub files : AreFiles session.first session.last (heap_in session.heap share) (sliced_of share)
+  pub files : AreFiles session.first session.last session.root (heap_in session.heap share) (sliced_of share)
   pub buffer : KeepsBuffer session.buffer share
 
 -- ---- while a request is served
@@ -54,7 +55,7 @@ files_in session stock = files_of session.first stock.nodes stock.contents
 
 -- it has files
 abbrev pub HasFiles : FileSession → Stock → Type 0
-HasFiles session stock = AreFiles session.first session.last stock.nodes stock.contents
+HasFiles session stock = AreFiles session.first session.last session.root stock.nodes stock.contents
 
 -- a session has the label that it had, and lends what it lent
 pub record KeepsOwn (old later : FileSession) : Type 0 where
@@ -120,25 +121,38 @@ pub record IsFound (first last : ℕ) (nodes : OwnHeap) (contents : NatMap (List
 -- a search for a name ends there
 abbrev pub Finds : FileSession → Stock → List ℕ → Found → Type 0
 Finds session stock name found =
-    IsFound session.first session.last stock.nodes stock.contents name found.previous found.address (node_value found.node)
+    IsFound session.first session.last stock.nodes stock.contents name (previous_at stock.nodes found.address) found.address (node_value found.node)
 
 -- a node is as it was, but for its link
 pub record KeepsFile (nodes later : OwnHeap) (block : ℕ) : Type 0 where
   pub name : (node_at later block).name ≡ (node_at nodes block).name
   pub size : (node_at later block).size ≡ (node_at nodes block).size
   pub content : (node_at later block).content ≡ (node_at nodes block).content
-  pub there : HasBytes later.payloads block 0 64
+  pub there : HasBytes later.payloads block 0 96
+  pub place : KeepsPlace nodes later block
 
 -- a holder is linked to another block, and else all nodes are as they were
 pub record LinksTo (first holder block later_first : ℕ) (nodes later : OwnHeap) : Type 0 where
   pub linked : link_in later_first later holder ≡ block
   pub links : (b : ℕ) → b ≢ holder → link_in later_first later b ≡ link_in first nodes b
   pub rest : later ≡ record nodes { payloads = later.payloads }
-  pub files : (b : ℕ) → HasBytes nodes.payloads b 0 64 → KeepsFile nodes later b
+  pub files : (b : ℕ) → HasBytes nodes.payloads b 0 96 → KeepsFile nodes later b
+
+-- a block holds this node of a file
+pub record IsListed (session : FileSession) (stock : Stock) (block : ℕ) (node : FileNode) : Type 0 where
+  pub there : is_listed (nodes_from session.first stock.nodes) block ≡ true
+  pub node_is : node ≡ node_at stock.nodes block
+
+-- the tree and the links back are those of the files without a block's
+abbrev pub Unlists : FileSession → FileSession → ℕ → Stock → Stock → Type 0
+Unlists session later block old new =
+    (before behind : List ℕ) → StandAt session.first session.last old.nodes old.contents (before ++ block ∷ behind) →
+    IsNamed later.root new.nodes (before ++ behind) × LeadsBack (previous_at new.nodes) 0 (before ++ behind)
 
 -- a block that is taken for a node is none of a file yet
 pub record IsFresh (first : ℕ) (nodes : OwnHeap) (block : ℕ) : Type 0 where
-  pub there : HasBytes nodes.payloads block 0 64
+  pub there : HasBytes nodes.payloads block 0 96
+  pub small : block < 2 ^ 64
   pub place : chunk_with nodes (block - header) < length nodes.shape.chunks
   pub free : is_listed (0 ∷ nodes_from first nodes) block ≡ false
 

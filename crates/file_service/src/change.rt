@@ -1,5 +1,5 @@
 //! What requests do to files.
-ghost use Rattle.std.specs.Prelude.{◌≡◌, ◌≢◌, ◌+◌, ◌-◌, ◌<◌, ◌≤◌, ◌==◌, if◌then◌else◌, ◌++◌, ◌^◌, ◌∷◌, [], length, take};
+ghost use Rattle.std.specs.Prelude.{◌≡◌, ◌≢◌, ℕ, true, ◌+◌, ◌-◌, ◌<◌, ◌≤◌, ◌==◌, if◌then◌else◌, ◌++◌, ◌^◌, ◌∷◌, [], length, take};
 ghost use Rattle.own_model.specs.FileService as model;
 ghost use Rattle.own_model.specs.FileService.{content_credited, rewritten};
 ghost use Rattle.own_model.specs.Heap.{header};
@@ -9,15 +9,18 @@ ghost use Rattle.dataspace_core.specs.Store.{account_in, IsOpenIn};
 ghost use Rattle.sliced_heap.specs.Heap.{payer_of};
 ghost use Rattle.session_proto.specs.FileReply.{model_error};
 ghost use Rattle.file_service.specs.Calls.{payload_in, content_copied, HasBytes};
-ghost use Rattle.file_service.specs.Files.{file_at, HasContent};
-ghost use Rattle.file_service.specs.Node.{value_of as node_value};
+ghost use Rattle.sliced_heap.specs.Chain.{is_listed};
+ghost use Rattle.file_service.specs.Files.{file_at, node_at, nodes_from, HasContent};
+ghost use Rattle.file_service.specs.Index.{ChangesTails, IsIndexed, LinksBack, previous_at};
+ghost use Rattle.file_service.specs.Node.{value_of as node_value, rank_of};
 ghost use Rattle.file_service.specs.Source.{bytes_from, HasSource};
 ghost use Rattle.file_service.specs.Furnished.{stock, IsFurnished, KeepsSession};
-ghost use Rattle.file_service.specs.Session.{files_in, HasFiles, Finds, LinksTo, IsFresh, IsOwn, KeepsOwn, Serves, done_reply, counted_reply, served_in};
+ghost use Rattle.file_service.specs.Session.{files_in, HasFiles, Finds, LinksTo, IsListed, Unlists, IsFresh, IsOwn, KeepsOwn, Serves, done_reply, counted_reply, served_in};
 
 use crate::contents::{copy_content, give_content, take_content};
+use crate::names::{PREVIOUS, enter, leave};
 use crate::node::{Node, copied};
-use crate::nodes::{give_node, load_node, store_node, take_node};
+use crate::nodes::{give_node, load_node, load_word, put_bytes, store_new, store_node, take_node};
 use crate::session::{FileSession, Found};
 use crate::source::{Source, put_content};
 use dataspace_core::Memory;
@@ -25,6 +28,8 @@ use heap_core::Heap;
 use region_map::RegionMap;
 use session_proto::FileError;
 use sliced_heap::SlicedHeap;
+use std::marker::Brand;
+use std::sync::ledger::Blank;
 use text_read::is_name;
 use trade_base::Refusal;
 
@@ -109,8 +114,7 @@ impl FileSession {
         requires low { offset ≤ found.node.size }
         requires source { HasSource source sliced.old memory.old map.old }
         ensures serves { Serves
-            (served_in
-            (Write found.node.name.items offset (bytes_from source.entry memory.old)) self.old
+            (served_in (Write found.node.name.items offset (bytes_from source.entry memory.old)) self.old
             (stock self.old.heap sliced.old memory.old map.old)) (counted_reply result)
             self.old self.new (stock self.new.heap sliced.new memory.new map.new) }
         ensures keeps { KeepsSession sliced.old self.new.heap sliced.new
@@ -171,11 +175,8 @@ impl FileSession {
         let found = self
             .find(sliced, memory, map, name)
             .ok_or(FileError::NotFound)?;
-        let Found {
-            previous,
-            address,
-            node,
-        } = found;
+        let Found { address, node } = found;
+        let previous = self.unlist(sliced, memory, map, address, &node);
         self.link(sliced, memory, map, previous, node.next);
         self.last = last_without(self.last, address, previous);
         give_node(&mut self.heap, sliced, memory, map, address);
@@ -199,6 +200,11 @@ impl FileSession {
         requires fresh { IsFresh self.old.first
             (stock self.old.heap sliced.now memory.old map.now).nodes address }
         requires name { length name.now ≤ 32 }
+        requires new { (b : ℕ)
+            → is_listed (nodes_from self.old.first
+            (stock self.old.heap sliced.now memory.old map.now).nodes) b ≡ true →
+            rank_of (node_at (stock self.old.heap sliced.now memory.old map.now).nodes b).name
+            ≢ rank_of name.now }
         ensures files { let old = stock self.old.heap sliced.now memory.old map.now in
             files_in self.new (stock self.new.heap sliced.now memory.new map.now)
             ≡ record (files_in self.old old) {
@@ -222,10 +228,59 @@ impl FileSession {
             size: 0,
             name: copied(name),
         };
-        store_node(&self.heap, sliced, memory, map, address, &node);
         let last = self.last;
+        store_new(&self.heap, sliced, memory, map, address, &node, last);
         self.link(sliced, memory, map, last, address);
         self.last = address;
+        self.root = enter::<Brand>(
+            &self.heap,
+            sliced,
+            memory,
+            map,
+            self.root,
+            name,
+            address,
+            Blank::new(1),
+        );
+    }
+
+    // Takes a file's node out of the tree, links the node behind it back to the one before it, and tells that one.
+    fn unlist(
+        &mut self,
+        sliced: &SlicedHeap,
+        memory: &mut Memory,
+        map: &RegionMap,
+        address: u64,
+        node: &Node,
+    ) -> u64
+        requires furnished { IsFurnished self.old.heap sliced.now memory.old map.now }
+        requires files { HasFiles self.old (stock self.old.heap sliced.now memory.old map.now) }
+        requires listed { IsListed self.old
+            (stock self.old.heap sliced.now memory.old map.now) address (node_value node.now) }
+        ensures previous { result ≡ previous_at
+            (stock self.old.heap sliced.now memory.old map.now).nodes address }
+        ensures tails { ChangesTails (stock self.old.heap sliced.now memory.old map.now)
+            (stock self.new.heap sliced.now memory.new map.now) }
+        ensures unlists { Unlists self.old self.new address
+            (stock self.old.heap sliced.now memory.old map.now)
+            (stock self.new.heap sliced.now memory.new map.now) }
+        ensures same { self.new ≡ record self.old { root = self.new.root } }
+        ensures keeps { KeepsSession sliced.now self.new.heap sliced.now
+            memory.old memory.new map.now map.now }
+    {
+        let previous = load_word(&self.heap, sliced, memory, map, address, PREVIOUS);
+        let root = self.root;
+        self.root = leave::<Brand>(
+            &self.heap,
+            sliced,
+            memory,
+            map,
+            root,
+            &node.name,
+            Blank::new(1),
+        );
+        link_back(&self.heap, sliced, memory, map, node.next, previous);
+        previous
     }
 
     // Links a file's node, or the session itself where its address is 0, to another one.
@@ -240,7 +295,7 @@ impl FileSession {
         requires furnished { IsFurnished self.old.heap sliced.now memory.old map.now }
         requires there { holder ≢ 0
             → HasBytes
-            (stock self.old.heap sliced.now memory.old map.now).nodes.payloads holder 0 64 }
+            (stock self.old.heap sliced.now memory.old map.now).nodes.payloads holder 0 96 }
         ensures links { LinksTo self.old.first holder address self.new.first
             (stock self.old.heap sliced.now memory.old map.now).nodes
             (stock self.new.heap sliced.now memory.new map.now).nodes }
@@ -277,8 +332,7 @@ impl FileSession {
         requires longer { found.node.size < offset + length (bytes_from source memory.old) }
         requires source { HasSource source sliced.old memory.old map.old }
         ensures serves { Serves
-            (served_in
-            (Write found.node.name.items offset (bytes_from source.entry memory.old)) self.old
+            (served_in (Write found.node.name.items offset (bytes_from source.entry memory.old)) self.old
             (stock self.old.heap sliced.old memory.old map.old))
             (counted_reply result) self.old self.new
             (stock self.new.heap sliced.new memory.new map.new) }
@@ -309,6 +363,8 @@ impl FileSession {
         requires furnished { IsFurnished self.old.heap sliced.old memory.old map.old }
         requires found { Finds self.old
             (stock self.old.heap sliced.old memory.old map.old) found.node.name.items found }
+        requires indexed { IsIndexed self.old.first self.old.root
+            (stock self.old.heap sliced.old memory.old map.old).nodes }
         requires content { 0 < size
             → HasContent (stock self.old.heap sliced.old memory.old map.old).contents
             (record (node_value found.node) { content = content; size = size }) }
@@ -329,7 +385,7 @@ impl FileSession {
         ensures keeps { KeepsSession sliced.old self.new.heap sliced.new
             memory.old memory.new map.old map.new }
     {
-        let Found { address, node, .. } = found;
+        let Found { address, node } = found;
         let mut node = node;
         let old = node.content;
         let was = node.size;
@@ -339,6 +395,30 @@ impl FileSession {
         if was > 0 {
             give_content(&self.heap, sliced, memory, map, old);
         }
+    }
+}
+
+/// Links a node, if there is one, back to another one.
+fn link_back(
+    heap: &Heap,
+    sliced: &SlicedHeap,
+    memory: &mut Memory,
+    map: &RegionMap,
+    address: u64,
+    previous: u64,
+)
+    requires furnished { IsFurnished heap.now sliced.now memory.old map.now }
+    requires there { address ≢ 0 → HasBytes
+        (stock heap.now sliced.now memory.old map.now).nodes.payloads address 0 96 }
+    ensures links { LinksBack address previous
+        (stock heap.now sliced.now memory.old map.now)
+        (stock heap.now sliced.now memory.new map.now) }
+    ensures keeps { KeepsSession sliced.now heap.now sliced.now
+        memory.old memory.new map.now map.now }
+{
+    if address != 0 {
+        let word = previous.to_le_bytes();
+        put_bytes(heap, sliced, memory, map, address, PREVIOUS, &word);
     }
 }
 

@@ -6,12 +6,15 @@ ghost use Rattle.own_model.specs.FileService.{File, file_named};
 ghost use Rattle.file_service.specs.Furnished.{stock, IsFurnished};
 ghost use Rattle.file_service.specs.Session.{files_in, HasFiles, Finds};
 
-use crate::node::Node;
+use crate::names::seek;
+use crate::node::{LONGEST_NAME, Node};
 use crate::nodes::load_node;
 use crate::session::{FileSession, Found};
 use dataspace_core::Memory;
 use region_map::RegionMap;
 use sliced_heap::SlicedHeap;
+use std::marker::Brand;
+use std::sync::ledger::Blank;
 
 impl FileSession {
     /// The file of a name, if there is one. The memory is as it was.
@@ -31,21 +34,26 @@ impl FileSession {
             (files_in self.now (stock self.now.heap sliced.now memory.old map.now)) ≡ None) }
         ensures memory { memory.new ≡ memory.old }
     {
-        let mut previous = 0;
-        let mut address = self.first;
-        while address != 0 {
-            let node = load_node(&self.heap, sliced, memory, map, address);
-            if node.name.as_slice() == name {
-                return Some(Found {
-                    previous,
-                    address,
-                    node,
-                });
-            }
-            previous = address;
-            address = node.next;
+        if name.len() > LONGEST_NAME {
+            return None;
         }
-        None
+        let address = seek::<Brand>(
+            &self.heap,
+            sliced,
+            memory,
+            map,
+            self.root,
+            name,
+            Blank::new(1),
+        );
+        if address == 0 {
+            return None;
+        }
+        let node = load_node(&self.heap, sliced, memory, map, address);
+        if node.name.as_slice() != name {
+            return None;
+        }
+        Some(Found { address, node })
     }
 
     /// The node of the file at a place in the order of creation, if there are so many. The memory is as it was.

@@ -8,6 +8,7 @@ mod furnished;
 mod lend;
 mod lent;
 mod look;
+mod names;
 mod node;
 mod nodes;
 mod service;

@@ -1,18 +1,22 @@
 //! The node of a file.
-ghost use Rattle.std.specs.Prelude.{◌≡◌, ◌+◌, ◌++◌, ◌≤◌, length};
+ghost use Rattle.std.specs.Prelude.{◌≡◌, ℕ, ◌+◌, ◌-◌, ◌*◌, ◌<◌, ◌++◌, ◌≤◌, length, slice_index};
 ghost use Rattle.trade_base.specs.Word.{word_bytes};
-ghost use Rattle.file_service.specs.Node.{value_of, node_of, bytes_of, word_from, IsNode};
+ghost use Rattle.own_model.specs.OwnState.{zeros};
+ghost use Rattle.file_service.specs.Node.{value_of, node_of, bytes_of, name_bytes, rank_by, rank_of, word_from, IsNode};
 
 use arrayvec::ArrayVec;
 
 /// The most bytes of a file's name.
 pub const LONGEST_NAME: usize = 32;
 
-/// How many bytes stand for a node.
+/// How many bytes stand for a node. Behind them its block holds the links of the tree, and the link to the node before.
 pub(crate) const NODE_BYTES: usize = 64;
 
+/// How many bytes of its block a node takes.
+pub(crate) const NODE_SIZE: usize = 96;
+
 /// Where the length of the name stands, and the name.
-const NAME_LENGTH: usize = 24;
+pub(crate) const NAME_LENGTH: usize = 24;
 
 const NAME: usize = 32;
 
@@ -34,20 +38,20 @@ impl Node {
         ensures value { value_of result ≡ node_of bytes.now }
         ensures node { IsNode (value_of result) }
     {
-        let length = word_at(bytes, NAME_LENGTH).min(LONGEST_NAME as u64) as usize;
+        let length = word_in(bytes, NAME_LENGTH).min(LONGEST_NAME as u64) as usize;
         let name = copied(&bytes[NAME..NAME + length]);
         Node {
-            next: word_at(bytes, 0),
-            content: word_at(bytes, 8),
-            size: word_at(bytes, 16),
+            next: word_in(bytes, 0),
+            content: word_in(bytes, 8),
+            size: word_in(bytes, 16),
             name,
         }
     }
 
-    /// The bytes that stand for the node: all up to the end of its name.
-    pub(crate) fn to_bytes(&self) -> ArrayVec<u8, NODE_BYTES>
+    /// The bytes that stand for the node, with room for the links behind them.
+    pub(crate) fn to_bytes(&self) -> ArrayVec<u8, NODE_SIZE>
         ensures bytes { result.items ≡ bytes_of (value_of self.now) }
-        ensures len { length result.items ≡ 32 + length self.now.name.items }
+        ensures len { length result.items ≡ 64 }
         ensures node { IsNode (value_of self.now) }
     {
         let mut bytes = ArrayVec::new();
@@ -56,7 +60,48 @@ impl Node {
         append_word(&mut bytes, self.size);
         append_word(&mut bytes, self.name.len() as u64);
         append(&mut bytes, &self.name);
+        append_zeros(&mut bytes, LONGEST_NAME - self.name.len());
         bytes
+    }
+
+    /// The bytes of the block of a new node, which is linked back to another one and has no links of the tree yet.
+    pub(crate) fn to_block(&self, previous: u64) -> ArrayVec<u8, NODE_SIZE>
+        ensures bytes { result.items
+            ≡ bytes_of (value_of self.now) ++ (zeros 24 ++ word_bytes previous) }
+        ensures len { length result.items ≡ 96 }
+        ensures node { IsNode (value_of self.now) }
+    {
+        let mut bytes = self.to_bytes();
+        append_zeros(&mut bytes, 24);
+        append_word(&mut bytes, previous);
+        bytes
+    }
+}
+
+/// By what files are ordered in the tree: the length of the name, and the words of its bytes.
+#[derive(Clone, Copy)]
+pub(crate) struct NameKey {
+    pub(crate) words: [u64; 5],
+}
+
+impl NameKey {
+    /// The key of a name.
+    pub(crate) fn of(name: &[u8]) -> NameKey
+        requires { length name.now ≤ LONGEST_NAME }
+        ensures { rank_by (slice_index result.words) ≡ rank_of name.now }
+    {
+        let mut bytes = ArrayVec::new();
+        append_word(&mut bytes, name.len() as u64);
+        append(&mut bytes, name);
+        append_zeros(&mut bytes, LONGEST_NAME - name.len());
+        let words = [
+            word_in(&bytes, 0),
+            word_in(&bytes, 8),
+            word_in(&bytes, 16),
+            word_in(&bytes, 24),
+            word_in(&bytes, 32),
+        ];
+        NameKey { words }
     }
 }
 
@@ -72,8 +117,8 @@ pub(crate) fn copied(bytes: &[u8]) -> ArrayVec<u8, LONGEST_NAME>
 
 /// The word at an offset, its lowest byte first.
 #[tactic(auto, unfolding(trade_base::specs::Word::word_of))]
-fn word_at(bytes: &[u8; NODE_BYTES], offset: usize) -> u64
-    requires { offset + 8 ≤ 64 }
+fn word_in(bytes: &[u8], offset: usize) -> u64
+    requires { offset + 8 ≤ length bytes.now }
     ensures { result ≡ word_from bytes.now offset }
 {
     let mut word = [0; 8];
@@ -83,17 +128,28 @@ fn word_at(bytes: &[u8; NODE_BYTES], offset: usize) -> u64
 
 /// Puts a word behind other bytes, its lowest byte first.
 #[tactic(auto, unfolding(trade_base::specs::Word::word_bytes))]
-fn append_word(bytes: &mut ArrayVec<u8, NODE_BYTES>, word: u64)
-    requires { length bytes.old.items + 8 ≤ 64 }
+pub(crate) fn append_word(bytes: &mut ArrayVec<u8, NODE_SIZE>, word: u64)
+    requires { length bytes.old.items + 8 ≤ 96 }
     ensures items { bytes.new.items ≡ bytes.old.items ++ word_bytes word }
     ensures len { length bytes.new.items ≡ length bytes.old.items + 8 }
 {
     append(bytes, &word.to_le_bytes());
 }
 
+/// Puts so many zeros behind other bytes.
+fn append_zeros(bytes: &mut ArrayVec<u8, NODE_SIZE>, count: usize)
+    requires few { count ≤ 32 }
+    requires room { length bytes.old.items + count ≤ 96 }
+    ensures items { bytes.new.items ≡ bytes.old.items ++ zeros count }
+    ensures len { length bytes.new.items ≡ length bytes.old.items + count }
+{
+    let zeros = [0; 32];
+    append(bytes, &zeros[..count]);
+}
+
 /// Puts bytes behind others.
-fn append(bytes: &mut ArrayVec<u8, NODE_BYTES>, part: &[u8])
-    requires { length bytes.old.items + length part.now ≤ 64 }
+fn append(bytes: &mut ArrayVec<u8, NODE_SIZE>, part: &[u8])
+    requires { length bytes.old.items + length part.now ≤ 96 }
     ensures items { bytes.new.items ≡ bytes.old.items ++ part.now }
     ensures len { length bytes.new.items ≡ length bytes.old.items + length part.now }
 {

@@ -1,23 +1,25 @@
 //! Blocks of nodes in a session's heap.
-ghost use Rattle.std.specs.Prelude.{◌≡◌, ◌≤◌, length, IsSome, IfOk, OnErr};
+ghost use Rattle.std.specs.Prelude.{◌≡◌, ℕ, true, ◌+◌, ◌%◌, ◌^◌, ◌<◌, ◌≤◌, ◌++◌, length, IsSome, IfOk, OnErr};
 ghost use Rattle.std.specs.FinMap.{get};
 ghost use Rattle.std.specs.Result.{result_err};
 ghost use Rattle.own_model.specs.FileService.{node_size};
 ghost use Rattle.own_model.specs.Growth.{heap_refusal};
 ghost use Rattle.file_service.specs.Calls.{payload_in, node_stored, TakesNode, GivesNode, HasBytes};
 ghost use Rattle.file_service.specs.Found.{FindsNode};
+ghost use Rattle.heap_core.specs.Words.{are_bytes};
+ghost use Rattle.file_service.specs.Files.{node_at};
 ghost use Rattle.file_service.specs.Furnished.{stock, IsFurnished, KeepsSession};
-ghost use Rattle.file_service.specs.Node.{FileNode, value_of, node_of, bytes_of, IsNode};
+ghost use Rattle.file_service.specs.Index.{IsPadded, KeepsPlace, previous_at};
+ghost use Rattle.own_model.specs.OwnState.{zeros};
+ghost use Rattle.trade_base.specs.Word.{word_bytes};
+ghost use Rattle.file_service.specs.Node.{value_of, node_of, bytes_of, word_from, IsNode};
 
-use crate::node::{NODE_BYTES, Node};
+use crate::node::{NODE_BYTES, NODE_SIZE, Node};
 use dataspace_core::Memory;
 use heap_core::Heap;
 use region_map::RegionMap;
 use sliced_heap::SlicedHeap;
 use trade_base::{DsId, Refusal};
-
-/// The bytes for which a node's block is asked. What no node stands for is left.
-const NODE_SIZE: u64 = 96;
 
 /// Takes a block for a node, all zero, and tells its address. Where no hole is large enough the heap grows by a chunk, which
 /// the account pays.
@@ -43,7 +45,7 @@ pub(crate) fn take_node(
     ensures err { OnErr result (heap.new ≡ heap.old) }
 {
     let _ = sliced;
-    heap.alloc(memory, map, NODE_SIZE)
+    heap.alloc(memory, map, NODE_SIZE as u64)
 }
 
 /// Gives back the block of a node.
@@ -76,20 +78,41 @@ pub(crate) fn load_node(
 ) -> Node
     requires furnished { IsFurnished heap.now sliced.now memory.old map.now }
     requires there { HasBytes
-        (stock heap.now sliced.now memory.old map.now).nodes.payloads address 0 64 }
+        (stock heap.now sliced.now memory.old map.now).nodes.payloads address 0 96 }
     ensures value { value_of result
         ≡ node_of
         (payload_in (stock heap.now sliced.now memory.old map.now).nodes.payloads address) }
     ensures node { IsNode (value_of result) }
     ensures memory { memory.new ≡ memory.old }
 {
-    let (ds, offset) = find_node(heap, sliced, memory, map, address, NODE_BYTES as u64);
+    let (ds, offset) = find_node(heap, sliced, memory, map, address);
     let mut bytes = [0; NODE_BYTES];
     memory.read(ds, offset, &mut bytes);
     Node::from_bytes(&bytes)
 }
 
-/// Puts a node at an address.
+/// A word of a node's block. The memory is as it was.
+pub(crate) fn load_word(
+    heap: &Heap,
+    sliced: &SlicedHeap,
+    memory: &Memory,
+    map: &RegionMap,
+    address: u64,
+    offset: u64,
+) -> u64
+    requires furnished { IsFurnished heap.now sliced.now memory.now map.now }
+    requires there { HasBytes
+        (stock heap.now sliced.now memory.now map.now).nodes.payloads address 0 96 }
+    requires aligned { offset % 8 ≡ 0 }
+    requires within { offset + 8 ≤ 96 }
+    ensures { result ≡ word_from (payload_in
+        (stock heap.now sliced.now memory.now map.now).nodes.payloads address) offset }
+{
+    let (ds, at) = find_node(heap, sliced, memory, map, address);
+    memory.load_word(ds, at + offset)
+}
+
+/// Puts a node at an address. What stands behind the bytes that stand for it stays.
 pub(crate) fn store_node(
     heap: &Heap,
     sliced: &SlicedHeap,
@@ -100,67 +123,103 @@ pub(crate) fn store_node(
 )
     requires furnished { IsFurnished heap.now sliced.now memory.old map.now }
     requires there { HasBytes
-        (stock heap.now sliced.now memory.old map.now).nodes.payloads address 0 64 }
+        (stock heap.now sliced.now memory.old map.now).nodes.payloads address 0 96 }
     ensures stored { stock heap.now sliced.now memory.new map.now
-        ≡ node_stored address (bytes_of (value_of node.now))
+        ≡ node_stored address 0 (bytes_of (value_of node.now))
         (stock heap.now sliced.now memory.old map.now) }
-    ensures back { node_of
-        (payload_in (stock heap.now sliced.now memory.new map.now).nodes.payloads address)
+    ensures back { node_at (stock heap.now sliced.now memory.new map.now).nodes address
         ≡ value_of node.now }
+    ensures place { node.now.name.items
+        ≡ (node_at (stock heap.now sliced.now memory.old map.now).nodes address).name →
+        KeepsPlace (stock heap.now sliced.now memory.old map.now).nodes
+        (stock heap.now sliced.now memory.new map.now).nodes address }
     ensures there { HasBytes
-        (stock heap.now sliced.now memory.new map.now).nodes.payloads address 0 64 }
+        (stock heap.now sliced.now memory.new map.now).nodes.payloads address 0 96 }
     ensures keeps { KeepsSession sliced.now heap.now sliced.now
         memory.old memory.new map.now map.now }
 {
-    put_bytes(heap, sliced, memory, map, address, &node.to_bytes());
+    put_bytes(heap, sliced, memory, map, address, 0, &node.to_bytes());
 }
 
-/// Puts bytes over the front of a node's payload.
-fn put_bytes(
+/// Puts a new node at an address, linked back to another one.
+pub(crate) fn store_new(
     heap: &Heap,
     sliced: &SlicedHeap,
     memory: &mut Memory,
     map: &RegionMap,
     address: u64,
+    node: &Node,
+    previous: u64,
+)
+    requires furnished { IsFurnished heap.now sliced.now memory.old map.now }
+    requires there { HasBytes
+        (stock heap.now sliced.now memory.old map.now).nodes.payloads address 0 96 }
+    ensures stored { stock heap.now sliced.now memory.new map.now
+        ≡ node_stored address 0
+        (bytes_of (value_of node.now) ++ (zeros 24 ++ word_bytes previous))
+        (stock heap.now sliced.now memory.old map.now) }
+    ensures back { node_at (stock heap.now sliced.now memory.new map.now).nodes address
+        ≡ value_of node.now }
+    ensures padded { are_bytes node.now.name.items ≡ true →
+        IsPadded (stock heap.now sliced.now memory.new map.now).nodes address }
+    ensures previous { previous_at (stock heap.now sliced.now memory.new map.now).nodes address
+        ≡ previous }
+    ensures keeps { KeepsSession sliced.now heap.now sliced.now
+        memory.old memory.new map.now map.now }
+{
+    put_bytes(
+        heap,
+        sliced,
+        memory,
+        map,
+        address,
+        0,
+        &node.to_block(previous),
+    );
+}
+
+/// Puts bytes over a node's payload from an offset on.
+pub(crate) fn put_bytes(
+    heap: &Heap,
+    sliced: &SlicedHeap,
+    memory: &mut Memory,
+    map: &RegionMap,
+    address: u64,
+    offset: u64,
     bytes: &[u8],
 )
     requires furnished { IsFurnished heap.now sliced.now memory.old map.now }
     requires there { HasBytes
-        (stock heap.now sliced.now memory.old map.now).nodes.payloads address 0 64 }
+        (stock heap.now sliced.now memory.old map.now).nodes.payloads address 0 96 }
     requires some { 1 ≤ length bytes.now }
-    requires few { length bytes.now ≤ 64 }
+    requires few { offset + length bytes.now ≤ 96 }
     ensures stored { stock heap.now sliced.now memory.new map.now
-        ≡ node_stored address bytes.now (stock heap.now sliced.now memory.old map.now) }
-    ensures back { (node : FileNode) → IsNode node → bytes.now ≡ bytes_of node →
-        node_of (payload_in (stock heap.now sliced.now memory.new map.now).nodes.payloads address)
-        ≡ node }
+        ≡ node_stored address offset bytes.now (stock heap.now sliced.now memory.old map.now) }
     ensures there { HasBytes
-        (stock heap.now sliced.now memory.new map.now).nodes.payloads address 0 64 }
+        (stock heap.now sliced.now memory.new map.now).nodes.payloads address 0 96 }
     ensures keeps { KeepsSession sliced.now heap.now sliced.now
         memory.old memory.new map.now map.now }
 {
-    let (ds, offset) = find_node(heap, sliced, memory, map, address, bytes.len() as u64);
-    memory.write(ds, offset, bytes);
+    let (ds, at) = find_node(heap, sliced, memory, map, address);
+    memory.write(ds, at + offset, bytes);
 }
 
-/// The dataspace in which so many bytes of a node stand, and the offset in it. The memory is as it was.
-fn find_node(
+/// The dataspace in which a node's block stands, and the offset of its payload.
+pub(crate) fn find_node(
     heap: &Heap,
     sliced: &SlicedHeap,
-    memory: &mut Memory,
+    memory: &Memory,
     map: &RegionMap,
     address: u64,
-    count: u64,
 ) -> (DsId, u64)
-    requires furnished { IsFurnished heap.now sliced.now memory.old map.now }
+    requires furnished { IsFurnished heap.now sliced.now memory.now map.now }
     requires there { HasBytes
-        (stock heap.now sliced.now memory.old map.now).nodes.payloads address 0 64 }
-    requires some { 1 ≤ count }
-    requires few { count ≤ 64 }
-    ensures found { FindsNode heap.now memory.old map.now result.0.0 result.1 address count }
-    ensures memory { memory.new ≡ memory.old }
+        (stock heap.now sliced.now memory.now map.now).nodes.payloads address 0 96 }
+    ensures found { (into count : ℕ) → 1 ≤ count → into + count ≤ 96 →
+        FindsNode heap.now memory.now map.now result.0.0 (result.1 + into) address into count }
+    ensures even { result.1 % 16 ≡ 0 }
+    ensures low { result.1 + 96 < 2 ^ 64 }
 {
     let _ = sliced;
-    let _ = count;
     heap.payload_at(memory, map, address)
 }

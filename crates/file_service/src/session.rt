@@ -7,8 +7,8 @@ use heap_core::Heap;
 use server_frame::LONGEST_LABEL;
 use trade_base::{AccountId, DsId};
 
-/// What the file service keeps for a session. Each file has a node, a block of the heap, and the nodes are linked in the
-/// order of creation.
+/// What the file service keeps for a session. Each file has a node, a block of the heap. The nodes are linked both ways in
+/// the order of creation, and have links of a tree by name.
 #[derive(Drop)]
 pub struct FileSession {
     pub(crate) label: ArrayVec<u8, LONGEST_LABEL>,
@@ -18,6 +18,8 @@ pub struct FileSession {
     pub(crate) first: u64,
     /// The address of the last file's node, or 0.
     pub(crate) last: u64,
+    /// The address of the node at the root of the tree by name, or 0.
+    pub(crate) root: u64,
     /// What it lends its client, if it lends anything.
     pub(crate) buffer: Option<Lent>,
 }
@@ -31,10 +33,9 @@ pub(crate) struct Lent {
     pub(crate) start: u64,
 }
 
-/// A file that is found: where its node is, and that of the file before it, or 0.
+/// A file that is found, and where its node is.
 #[derive(Drop)]
 pub(crate) struct Found {
-    pub(crate) previous: u64,
     pub(crate) address: u64,
     pub(crate) node: Node,
 }
@@ -62,6 +63,7 @@ impl FileSession {
             heap: new_nodes(account),
             first: 0,
             last: 0,
+            root: 0,
             buffer: None,
         }
     }

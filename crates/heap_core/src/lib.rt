@@ -15,3 +15,4 @@ mod words;
 
 pub use heap::Heap;
 pub use laws::{blocks_are_regions, heaps_stay, maps_stay, payloads_are_memory};
+pub use loads::Loads;

@@ -1,5 +1,5 @@
 //! Which block of a heap an address lies in.
-ghost use Rattle.std.specs.Prelude.{◌≡◌, ℕ, ◌+◌, ◌-◌, ◌<◌, ◌≤◌, ◌==◌, List, length, IfSome, IfNone, IsSome, Some, None};
+ghost use Rattle.std.specs.Prelude.{◌≡◌, ℕ, ◌+◌, ◌-◌, ◌%◌, ◌<◌, ◌≤◌, ◌==◌, List, length, IfSome, IfNone, IsSome, Some, None};
 ghost use Rattle.std.specs.FinMap.{get};
 ghost use Rattle.own_model.specs.Sliced.{block_found};
 ghost use Rattle.dataspace_core.specs.Store.{Exists, space_at};
@@ -51,14 +51,17 @@ impl Heap {
         }
     }
 
-    /// The dataspace that holds the payload which starts at an address, and its offset there. It reads no byte of the memory.
+    /// The dataspace that holds the payload which starts at an address, and its offset there, a multiple of 16. It reads no byte
+    /// of the memory.
     pub fn payload_at(&self, memory: &Memory, map: &RegionMap, address: u64) -> (DsId, u64)
         requires sound { IsSound self.now memory.now map.now }
         requires there { IsSome (get (heap_at self.now memory.now map.now).payloads address) }
-        ensures { (payload : List ℕ) (count : ℕ)
+        ensures held { (payload : List ℕ) (into count : ℕ)
             → get (heap_at self.now memory.now map.now).payloads address ≡ Some payload →
-            1 ≤ count → count ≤ length payload
-            → HoldsRange self.now memory.now map.now result.0.0 result.1 address count }
+            1 ≤ count → into + count ≤ length payload
+            → HoldsRange self.now memory.now map.now result.0.0 (result.1 + into)
+            (address + into) count }
+        ensures even { result.1 % 16 ≡ 0 }
     {
         let _ = memory;
         let (start, ds, _) = map.heap_region(address).unwrap();

@@ -1,4 +1,4 @@
-use Rattle.std.proofs.Common.{◌≡◌, ◌<◌, refl, sym, ◌∙◌, subst, arith}
+use Rattle.std.proofs.Common.{◌≡◌, ℕ, ◌<◌, refl, sym, ◌∙◌, subst, arith}
 use Rattle.avl_tree.specs.Tree.{Leaf}
 use Rattle.avl_tree.specs.View.{height_at}
 use Rattle.avl_tree.proofs.ViewLemmas.{fork_forms}
@@ -18,6 +18,7 @@ returns-then-root-eq0-clause-made g t c =
 pub grow-left-requires : goal.grow-left-requires
 grow-left-requires g t c κs within =
     let q = c.requires in
+    let keep : (a : ℕ) → g.N.Nodes.IsNode c.args.nodes.now c.args.memory.now a → g.N.Nodes.IsNode c.args.nodes.now c.step.new.memory a = λ a is. g.met.N.Nodes.keeps_node _ _ _ a c.step.ensures.keeps is in
     let below = lower_to_left _ _ _ c.args.root c.if-root-eq0.false _ c.in-Left.ensures.step q.0 q.1 in
     let less : height_at (g.N.Nodes.view c.args.nodes.now c.step.new.memory) c.in-Left.child < height_at (g.N.Nodes.view c.args.nodes.now c.args.memory.now) c.args.root = rw c.step.ensures.view below in (
       omega (arith, less),
@@ -27,8 +28,8 @@ grow-left-requires g t c κs within =
           within.1.0,
           (
             within.1.1,
-            rw (c.step.ensures.view, c.step.ensures.around)
-                (grow-left_asks _ _ c.args.node _ c.args.root c.if-root-eq0.false _ _ c.in-Left.ensures.step q.0 q.1 q.2 q.3 q.4),
+            rw c.step.ensures.view
+                (grow-left_asks _ _ c.args.node _ c.args.root c.if-root-eq0.false _ _ c.in-Left.ensures.step q.0 q.1 q.2 (λ a there. keep a (q.3 a there)) (keep _ q.4)),
           ),
         ),
       ),
@@ -37,9 +38,9 @@ grow-left-requires g t c κs within =
 pub with_left-requires : goal.with_left-requires
 with_left-requires g t c =
     let q = c.requires in
+    let keep : (a : ℕ) → g.N.Nodes.IsNode c.args.nodes.now c.args.memory.now a → g.N.Nodes.IsNode c.args.nodes.now c.grow-left.new.memory a = λ a is. g.met.N.Nodes.keeps_node _ _ _ a c.grow-left.ensures.keeps (g.met.N.Nodes.keeps_node _ _ _ a c.step.ensures.keeps is) in
     let grows = subst (λ w. Grows g.N.Nodes.plan w c.args.node (g.N.Nodes.rank c.args.key) c.args.root c.if-root-eq0.false c.in-Left.child (g.N.Nodes.view c.args.nodes.now c.grow-left.new.memory) c.in-Left.child c.grow-left.result) c.step.ensures.view c.grow-left.ensures.made in
-    rw (c.grow-left.ensures.around, c.step.ensures.around)
-    (grow-left_new_asks _ _ c.args.node _ c.args.root c.if-root-eq0.false _ _ _ grows _ c.in-Left.ensures.step q.0 q.1 q.2 q.3 q.4)
+    grow-left_new_asks _ _ c.args.node _ c.args.root c.if-root-eq0.false _ _ _ grows _ c.in-Left.ensures.step q.0 q.1 q.2 (λ a there. keep a (q.3 a there)) (keep _ q.4)
 
 pub returns-in-Left-clause-made : goal.returns-in-Left-clause-made
 returns-in-Left-clause-made g t c =
@@ -55,6 +56,7 @@ returns-in-Left-clause-loads g t c =
 pub grow-right-requires : goal.grow-right-requires
 grow-right-requires g t c κs within =
     let q = c.requires in
+    let keep : (a : ℕ) → g.N.Nodes.IsNode c.args.nodes.now c.args.memory.now a → g.N.Nodes.IsNode c.args.nodes.now c.step.new.memory a = λ a is. g.met.N.Nodes.keeps_node _ _ _ a c.step.ensures.keeps is in
     let below = lower_to_right _ _ _ c.args.root c.if-root-eq0.false _ c.in-Right.ensures.step q.0 q.1 in
     let less : height_at (g.N.Nodes.view c.args.nodes.now c.step.new.memory) c.in-Right.child < height_at (g.N.Nodes.view c.args.nodes.now c.args.memory.now) c.args.root = rw c.step.ensures.view below in (
       omega (arith, less),
@@ -64,8 +66,8 @@ grow-right-requires g t c κs within =
           within.1.0,
           (
             within.1.1,
-            rw (c.step.ensures.view, c.step.ensures.around)
-                (grow-right_asks _ _ c.args.node _ c.args.root c.if-root-eq0.false _ _ c.in-Right.ensures.step q.0 q.1 q.2 q.3 q.4),
+            rw c.step.ensures.view
+                (grow-right_asks _ _ c.args.node _ c.args.root c.if-root-eq0.false _ _ c.in-Right.ensures.step q.0 q.1 q.2 (λ a there. keep a (q.3 a there)) (keep _ q.4)),
           ),
         ),
       ),
@@ -74,9 +76,9 @@ grow-right-requires g t c κs within =
 pub with_right-requires : goal.with_right-requires
 with_right-requires g t c =
     let q = c.requires in
+    let keep : (a : ℕ) → g.N.Nodes.IsNode c.args.nodes.now c.args.memory.now a → g.N.Nodes.IsNode c.args.nodes.now c.grow-right.new.memory a = λ a is. g.met.N.Nodes.keeps_node _ _ _ a c.grow-right.ensures.keeps (g.met.N.Nodes.keeps_node _ _ _ a c.step.ensures.keeps is) in
     let grows = subst (λ w. Grows g.N.Nodes.plan w c.args.node (g.N.Nodes.rank c.args.key) c.args.root c.if-root-eq0.false c.in-Right.child (g.N.Nodes.view c.args.nodes.now c.grow-right.new.memory) c.in-Right.child c.grow-right.result) c.step.ensures.view c.grow-right.ensures.made in
-    rw (c.grow-right.ensures.around, c.step.ensures.around)
-    (grow-right_new_asks _ _ c.args.node _ c.args.root c.if-root-eq0.false _ _ _ grows _ c.in-Right.ensures.step q.0 q.1 q.2 q.3 q.4)
+    grow-right_new_asks _ _ c.args.node _ c.args.root c.if-root-eq0.false _ _ _ grows _ c.in-Right.ensures.step q.0 q.1 q.2 (λ a there. keep a (q.3 a there)) (keep _ q.4)
 
 pub returns-in-Right-clause-made : goal.returns-in-Right-clause-made
 returns-in-Right-clause-made g t c =

@@ -1,4 +1,4 @@
-use Rattle.std.proofs.Common.{◌<◌, refl, sym, ◌∙◌, subst, arith}
+use Rattle.std.proofs.Common.{ℕ, ◌<◌, refl, sym, ◌∙◌, subst, arith}
 use Rattle.avl_tree.specs.View.{height_at}
 use Rattle.avl_tree.proofs.PartLemmas.{Parts, part-here_first, part-here_made, part_lower, part-left_asks, part-left_first, part-left_new_asks, part-left_made, part-left_loads}
 use Rattle.avl_tree.proofs.tree.+part_first.Goals as goal
@@ -20,6 +20,7 @@ returns-then-links-eq0-clause-made g t c =
 pub part_first-parted-requires : goal.part_first-parted-requires
 part_first-parted-requires g t c κs within =
     let q = c.requires in
+    let keep : (a : ℕ) → g.N.Nodes.IsNode c.args.nodes.now c.args.memory.now a → g.N.Nodes.IsNode c.args.nodes.now c.links-links.new.memory a = λ a is. g.met.N.Nodes.keeps_node _ _ _ a c.links-links.ensures.keeps is in
     let below = part_lower _ _ c.args.root c.links-links.result q.3 c.links-links.ensures.links q.0 q.1 in
     let less : height_at (g.N.Nodes.view c.args.nodes.now c.links-links.new.memory) c.links-links.result.left < height_at (g.N.Nodes.view c.args.nodes.now c.args.memory.now) c.args.root = rw c.links-links.ensures.view below in (
       omega (arith, less),
@@ -29,8 +30,8 @@ part_first-parted-requires g t c κs within =
           within.1.0,
           (
             within.1.1,
-            rw (c.links-links.ensures.view, c.links-links.ensures.around)
-                (part-left_asks _ _ c.args.root c.links-links.result q.3 c.links-links.ensures.links _ c.if-links-eq0.false q.0 q.1 q.2),
+            rw c.links-links.ensures.view
+                (part-left_asks _ _ c.args.root c.links-links.result q.3 c.links-links.ensures.links _ c.if-links-eq0.false q.0 q.1 (λ a there. keep a (q.2 a there))),
           ),
         ),
       ),
@@ -39,9 +40,9 @@ part_first-parted-requires g t c κs within =
 pub with_left-rest-requires : goal.with_left-rest-requires
 with_left-rest-requires g t c =
     let q = c.requires in
+    let keep : (a : ℕ) → g.N.Nodes.IsNode c.args.nodes.now c.args.memory.now a → g.N.Nodes.IsNode c.args.nodes.now c.part_first-parted.new.memory a = λ a is. g.met.N.Nodes.keeps_node _ _ _ a c.part_first-parted.ensures.keeps (g.met.N.Nodes.keeps_node _ _ _ a c.links-links.ensures.keeps is) in
     let parts = subst (λ w. Parts g.N.Nodes.plan w (g.N.Nodes.view c.args.nodes.now c.part_first-parted.new.memory) c.links-links.result.left c.part_first-parted.result.rest) c.links-links.ensures.view c.part_first-parted.ensures.made in
-    rw (c.part_first-parted.ensures.around, c.links-links.ensures.around)
-    (part-left_new_asks _ _ c.args.root c.links-links.result q.3 c.links-links.ensures.links _ _ c.if-links-eq0.false parts _ q.0 q.1 q.2)
+    part-left_new_asks _ _ c.args.root c.links-links.result q.3 c.links-links.ensures.links _ _ c.if-links-eq0.false parts _ q.0 q.1 (λ a there. keep a (q.2 a there))
 
 pub returns-clause-first : goal.returns-clause-first
 returns-clause-first g t c =

@@ -1,4 +1,4 @@
-use Rattle.std.proofs.Common.{◌≡◌, ◌<◌, refl, sym, ◌∙◌, subst, arith}
+use Rattle.std.proofs.Common.{◌≡◌, ℕ, ◌<◌, refl, sym, ◌∙◌, subst, arith}
 use Rattle.avl_tree.specs.Tree.{removed}
 use Rattle.avl_tree.specs.View.{height_at}
 use Rattle.avl_tree.specs.Made.{Reforms}
@@ -14,6 +14,7 @@ returns-then-root-eq0-clause-made g t c = prune-leaf_made _ _ _ c.args.root c.if
 pub prune-left-requires : goal.prune-left-requires
 prune-left-requires g t c κs within =
     let q = c.requires in
+    let keep : (a : ℕ) → g.N.Nodes.IsNode c.args.nodes.now c.args.memory.now a → g.N.Nodes.IsNode c.args.nodes.now c.step.new.memory a = λ a is. g.met.N.Nodes.keeps_node _ _ _ a c.step.ensures.keeps is in
     let below = lower_to_left _ _ _ c.args.root c.if-root-eq0.false _ c.in-Left.ensures.step q.0 q.1 in
     let less : height_at (g.N.Nodes.view c.args.nodes.now c.step.new.memory) c.in-Left.child < height_at (g.N.Nodes.view c.args.nodes.now c.args.memory.now) c.args.root = rw c.step.ensures.view below in (
       omega (arith, less),
@@ -23,8 +24,8 @@ prune-left-requires g t c κs within =
           within.1.0,
           (
             within.1.1,
-            rw (c.step.ensures.view, c.step.ensures.around)
-                (prune-left_asks _ _ _ c.args.root c.if-root-eq0.false _ _ c.in-Left.ensures.step q.0 q.1 q.2),
+            rw c.step.ensures.view
+                (prune-left_asks _ _ _ c.args.root c.if-root-eq0.false _ _ c.in-Left.ensures.step q.0 q.1 (λ a there. keep a (q.2 a there))),
           ),
         ),
       ),
@@ -33,9 +34,9 @@ prune-left-requires g t c κs within =
 pub with_left-requires : goal.with_left-requires
 with_left-requires g t c =
     let q = c.requires in
+    let keep : (a : ℕ) → g.N.Nodes.IsNode c.args.nodes.now c.args.memory.now a → g.N.Nodes.IsNode c.args.nodes.now c.prune-left.new.memory a = λ a is. g.met.N.Nodes.keeps_node _ _ _ a c.prune-left.ensures.keeps (g.met.N.Nodes.keeps_node _ _ _ a c.step.ensures.keeps is) in
     let prunes = subst (λ w. Prunes g.N.Nodes.plan w (g.N.Nodes.rank c.args.key) c.args.root c.if-root-eq0.false (g.N.Nodes.view c.args.nodes.now c.prune-left.new.memory) c.in-Left.child c.prune-left.result) c.step.ensures.view c.prune-left.ensures.made in
-    rw (c.prune-left.ensures.around, c.step.ensures.around)
-    (prune-left_new_asks _ _ _ c.args.root c.if-root-eq0.false _ _ _ prunes _ c.in-Left.ensures.step q.0 q.1 q.2)
+    prune-left_new_asks _ _ _ c.args.root c.if-root-eq0.false _ _ _ prunes _ c.in-Left.ensures.step q.0 q.1 (λ a there. keep a (q.2 a there))
 
 pub returns-in-Left-clause-made : goal.returns-in-Left-clause-made
 returns-in-Left-clause-made g t c =
@@ -51,6 +52,7 @@ returns-in-Left-clause-loads g t c =
 pub prune-right-requires : goal.prune-right-requires
 prune-right-requires g t c κs within =
     let q = c.requires in
+    let keep : (a : ℕ) → g.N.Nodes.IsNode c.args.nodes.now c.args.memory.now a → g.N.Nodes.IsNode c.args.nodes.now c.step.new.memory a = λ a is. g.met.N.Nodes.keeps_node _ _ _ a c.step.ensures.keeps is in
     let below = lower_to_right _ _ _ c.args.root c.if-root-eq0.false _ c.in-Right.ensures.step q.0 q.1 in
     let less : height_at (g.N.Nodes.view c.args.nodes.now c.step.new.memory) c.in-Right.child < height_at (g.N.Nodes.view c.args.nodes.now c.args.memory.now) c.args.root = rw c.step.ensures.view below in (
       omega (arith, less),
@@ -60,8 +62,8 @@ prune-right-requires g t c κs within =
           within.1.0,
           (
             within.1.1,
-            rw (c.step.ensures.view, c.step.ensures.around)
-                (prune-right_asks _ _ _ c.args.root c.if-root-eq0.false _ _ c.in-Right.ensures.step q.0 q.1 q.2),
+            rw c.step.ensures.view
+                (prune-right_asks _ _ _ c.args.root c.if-root-eq0.false _ _ c.in-Right.ensures.step q.0 q.1 (λ a there. keep a (q.2 a there))),
           ),
         ),
       ),
@@ -70,9 +72,9 @@ prune-right-requires g t c κs within =
 pub with_right-requires : goal.with_right-requires
 with_right-requires g t c =
     let q = c.requires in
+    let keep : (a : ℕ) → g.N.Nodes.IsNode c.args.nodes.now c.args.memory.now a → g.N.Nodes.IsNode c.args.nodes.now c.prune-right.new.memory a = λ a is. g.met.N.Nodes.keeps_node _ _ _ a c.prune-right.ensures.keeps (g.met.N.Nodes.keeps_node _ _ _ a c.step.ensures.keeps is) in
     let prunes = subst (λ w. Prunes g.N.Nodes.plan w (g.N.Nodes.rank c.args.key) c.args.root c.if-root-eq0.false (g.N.Nodes.view c.args.nodes.now c.prune-right.new.memory) c.in-Right.child c.prune-right.result) c.step.ensures.view c.prune-right.ensures.made in
-    rw (c.prune-right.ensures.around, c.step.ensures.around)
-    (prune-right_new_asks _ _ _ c.args.root c.if-root-eq0.false _ _ _ prunes _ c.in-Right.ensures.step q.0 q.1 q.2)
+    prune-right_new_asks _ _ _ c.args.root c.if-root-eq0.false _ _ _ prunes _ c.in-Right.ensures.step q.0 q.1 (λ a there. keep a (q.2 a there))
 
 pub returns-in-Right-clause-made : goal.returns-in-Right-clause-made
 returns-in-Right-clause-made g t c =

@@ -1,4 +1,4 @@
-use Rattle.std.proofs.Common.{◌∙◌, sym, subst, arith}
+use Rattle.std.proofs.Common.{◌∙◌, sym, arith}
 use Rattle.avl_tree.proofs.StepLemmas.{Finding, find-left, find-right, find-here, find-end, find-node}
 use Rattle.avl_tree.proofs.tree.find.Goals as goal
 
@@ -6,13 +6,13 @@ pub step-requires : goal.step-requires
 step-requires g c =
     let q = c.requires in
     let inv = c.loop-node.invariant in
-    subst (λ a. g.N.Nodes.IsNode a c.loop-node.node) (sym inv.1) (find-node _ _ _ c.args.root c.loop-node.node c.loop-node.best _ _ _ c.loop-node-test.true inv.2 _ q.0 q.1 q.2)
+    g.met.N.Nodes.keeps_node _ _ _ _ inv.1 (find-node _ _ _ c.args.root c.loop-node.node c.loop-node.best _ _ _ c.loop-node-test.true inv.2 _ q.0 q.1 q.2)
 
 pub loop-node-preserved-in-Left : goal.loop-node-preserved-in-Left
 loop-node-preserved-in-Left g c =
     let inv = c.loop-node.invariant in (
       c.step.ensures.view ∙ inv.0,
-      c.step.ensures.around ∙ inv.1,
+      g.met.N.Nodes.keeps_then _ _ _ _ inv.1 c.step.ensures.keeps,
       find-left _ _ _ c.args.root c.loop-node.node c.loop-node.best _ _ _ c.loop-node-test.true inv.2 _ _ c.step.ensures.loads (rw inv.0 at c.in-Left.ensures.step),
     )
 
@@ -30,7 +30,7 @@ pub loop-node-preserved : goal.loop-node-preserved
 loop-node-preserved g c =
     let inv = c.loop-node.invariant in (
       c.step.ensures.view ∙ inv.0,
-      c.step.ensures.around ∙ inv.1,
+      g.met.N.Nodes.keeps_then _ _ _ _ inv.1 c.step.ensures.keeps,
       find-right _ _ _ c.args.root c.loop-node.node c.loop-node.best _ _ _ c.loop-node-test.true inv.2 _ _ c.step.ensures.loads (rw inv.0 at c.in-Right.ensures.step),
     )
 

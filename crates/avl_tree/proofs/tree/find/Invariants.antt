@@ -6,7 +6,7 @@ use Rattle.avl_tree.proofs.tree.find.Given as goal
 abbrev pub invariant-loop-node : goal.invariant-loop-node
 invariant-loop-node g l =
     (g.N.Nodes.view l.fn.nodes l.memory ≡ g.N.Nodes.view l.fn.nodes l.initial.memory)
-    × (g.N.Nodes.around l.fn.nodes l.memory ≡ g.N.Nodes.around l.fn.nodes l.initial.memory)
+    × g.N.Nodes.Keeps l.fn.nodes l.initial.memory l.memory
     × Finding g.N.Nodes.plan (g.N.Nodes.view l.fn.nodes l.initial.memory) (g.N.Nodes.rank l.fn.key) l.fn.root l.node l.best g.N.Nodes.cost (g.N.Nodes.loads l.memory) (g.N.Nodes.loads l.initial.memory)
 
 abbrev pub decreases-loop-node : goal.decreases-loop-node

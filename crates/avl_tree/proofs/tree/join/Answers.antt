@@ -1,5 +1,6 @@
 use Rattle.std.proofs.Common.{◌≡◌, ◌≢◌, refl, sym, ◌∙◌, subst, arith}
 use Rattle.avl_tree.specs.Tree.{Node, root_of}
+use Rattle.avl_tree.specs.View.{AreNodes}
 use Rattle.avl_tree.proofs.ViewLemmas.{root_node, nodes_in}
 use Rattle.avl_tree.proofs.PartLemmas.{Parts, join_left, join_right, join-left_none, join-right_none, join_rest_asks, join_rest_made}
 use Rattle.avl_tree.proofs.tree.join.Goals as goal
@@ -21,18 +22,22 @@ returns-then-links-eq0-2-clause-made g c l s h r stands =
 pub limb_now-right-requires : goal.limb_now-right-requires
 limb_now-right-requires g c some =
     let q = c.requires in
-    rw (c.limb_of-left.ensures.around, c.part_first-parted.ensures.around, c.links-links.ensures.around)
+    let keep = g.met.N.Nodes.keeps_node in
+    keep _ _ _ _ c.limb_of-left.ensures.keeps (keep _ _ _ _ c.part_first-parted.ensures.keeps (keep _ _ _ _ c.links-links.ensures.keeps
     (root_node _ q.3 _ (nodes_in _ q.3 (Node q.0 c.args.node q.1 q.2 q.3) (λ a. omega arith) q.5)
-    (join_right _ _ q.0 c.args.node q.1 q.2 q.3 c.links-links.result q.4 c.links-links.ensures.links) some)
+    (join_right _ _ q.0 c.args.node q.1 q.2 q.3 c.links-links.result q.4 c.links-links.ensures.links) some)))
 
 pub balance-requires : goal.balance-requires
 balance-requires g c =
     let q = c.requires in
     let parts = subst (λ w. Parts g.N.Nodes.plan w (g.N.Nodes.view c.args.nodes.now c.part_first-parted.new.memory) c.links-links.result.right c.part_first-parted.result.rest) c.links-links.ensures.view c.part_first-parted.ensures.made in
-    rw (c.limb_now-right.ensures.view, c.limb_of-left.ensures.view, c.limb_now-right.ensures.around, c.limb_of-left.ensures.around, c.part_first-parted.ensures.around, c.links-links.ensures.around)
+    let keep = g.met.N.Nodes.keeps_node in
+    let nodes : AreNodes (g.N.Nodes.IsNode c.args.nodes.now c.limb_now-right.new.memory) (Node q.0 c.args.node q.1 q.2 q.3) = λ a there.
+    keep _ _ _ a c.limb_now-right.ensures.keeps (keep _ _ _ a c.limb_of-left.ensures.keeps (keep _ _ _ a c.part_first-parted.ensures.keeps (keep _ _ _ a c.links-links.ensures.keeps (q.5 a there)))) in
+    rw (c.limb_now-right.ensures.view, c.limb_of-left.ensures.view)
     (join_rest_asks _ _ c.args.node c.links-links.result c.links-links.ensures.links c.if-links-eq0-2.false _ (g.N.Nodes.view c.args.nodes.now c.part_first-parted.new.memory) _ _ _ _
     (λ t stands. c.part_first-parted.ensures.first t (rw c.links-links.ensures.view stands)) parts c.limb_of-left.ensures.is
-    (λ old new told held at. c.limb_now-right.ensures.is old new told (rw c.limb_of-left.ensures.view held) at) q.0 q.1 q.2 q.3 q.4 q.5)
+    (λ old new told held at. c.limb_now-right.ensures.is old new told (rw c.limb_of-left.ensures.view held) at) q.0 q.1 q.2 q.3 q.4 nodes)
 
 pub returns-clause-made : goal.returns-clause-made
 returns-clause-made g c =

@@ -1,5 +1,6 @@
 use Rattle.std.proofs.Common.{◌∙◌, sym, subst, arith}
 use Rattle.avl_tree.specs.Tree.{Node}
+use Rattle.avl_tree.specs.View.{AreNodes}
 use Rattle.avl_tree.proofs.ViewLemmas.{nodes_in}
 use Rattle.avl_tree.proofs.TurnLemmas.{TellsArms, reads, reads_inner, turn_right-single, turn_right-double}
 use Rattle.avl_tree.proofs.turns.turn_right.Goals as goal
@@ -16,8 +17,9 @@ pub arms_of-inner-requires : goal.arms_of-inner-requires
 arms_of-inner-requires g c =
     let q = c.requires in
     let slope = q.3 in
-    let under = reads _ _ q.0 c.args.left.root slope.plot.left (nodes_in _ q.0 (Node q.0 c.args.node q.1 0 q.2) (λ a. omega arith) q.5) slope.left_balanced slope.left.root (omega (arith, q.4)) (omega (arith, slope.low)) in
-    rw (c.arms_of-under.ensures.around, c.arms_of-under.ensures.view)
+    let nodes : AreNodes (g.N.Nodes.IsNode c.args.nodes.now c.arms_of-under.new.memory) (Node q.0 c.args.node q.1 0 q.2) = λ a there. g.met.N.Nodes.keeps_node _ _ _ a c.arms_of-under.ensures.keeps (q.5 a there) in
+    let under = reads _ _ q.0 c.args.left.root slope.plot.left (nodes_in _ q.0 (Node q.0 c.args.node q.1 0 q.2) (λ a. omega arith) nodes) slope.left_balanced slope.left.root (omega (arith, q.4)) (omega (arith, slope.low)) in
+    rw c.arms_of-under.ensures.view
     ((reads_inner _ _ c.args.left.root c.arms_of-under.result under c.arms_of-under.ensures.arms).1 (omega (arith, c.if-under.false)))
 
 pub returns-then-under-clause-made : goal.returns-then-under-clause-made

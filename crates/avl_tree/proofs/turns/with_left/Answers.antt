@@ -16,7 +16,7 @@ pub limb_of-right-requires : goal.limb_of-right-requires
 limb_of-right-requires g c some =
     let q = c.requires in
     let at : root_of q.4 ≡ c.links-links.result.right = λ i. (sym (c.links-links.ensures.links ∙ q.5.here.links) i).right in
-    rw c.links-links.ensures.around
+    g.met.N.Nodes.keeps_node _ _ _ _ c.links-links.ensures.keeps
     (root_node _ q.4 _ (nodes_in _ q.4 (Node q.1 c.args.node q.2 q.3 q.4) (λ a. omega arith) q.6) at some)
 
 pub balance-tree-requires : goal.balance-tree-requires
@@ -25,7 +25,9 @@ balance-tree-requires g c =
     let at : root_of q.4 ≡ c.links-links.result.right = λ i. (sym (c.links-links.ensures.links ∙ q.5.here.links) i).right in
     let right = c.limb_of-right.ensures.is q.4 (rw c.links-links.ensures.view q.5.right) at in
     let slope = left-slope _ _ q.0 q.1 c.args.node q.2 q.3 q.4 c.in_ok-left.left _ (subst (IsLeftNew _ _ q.0 q.1 c.args.node q.2 q.3 q.4) (c.in_ok-left.was) q.5) right in
-    rw (c.limb_of-right.ensures.view, c.links-links.ensures.view, c.limb_of-right.ensures.around, c.links-links.ensures.around) (q.1, q.2, q.4, slope, q.6)
+    let keep = g.met.N.Nodes.keeps_node in
+    rw (c.limb_of-right.ensures.view, c.links-links.ensures.view)
+    (q.1, q.2, q.4, slope, λ a there. keep _ _ _ a c.limb_of-right.ensures.keeps (keep _ _ _ a c.links-links.ensures.keeps (q.6 a there)))
 
 pub returns-clause-made : goal.returns-clause-made
 returns-clause-made g c l l' s h r new =

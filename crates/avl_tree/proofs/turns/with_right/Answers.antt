@@ -16,7 +16,7 @@ pub limb_of-left-requires : goal.limb_of-left-requires
 limb_of-left-requires g c some =
     let q = c.requires in
     let at : root_of q.0 ≡ c.links-links.result.left = λ i. (sym (c.links-links.ensures.links ∙ q.5.here.links) i).left in
-    rw c.links-links.ensures.around
+    g.met.N.Nodes.keeps_node _ _ _ _ c.links-links.ensures.keeps
     (root_node _ q.0 _ (nodes_in _ q.0 (Node q.0 c.args.node q.1 q.2 q.4) (λ a. omega arith) q.6) at some)
 
 pub balance-tree-requires : goal.balance-tree-requires
@@ -25,7 +25,9 @@ balance-tree-requires g c =
     let at : root_of q.0 ≡ c.links-links.result.left = λ i. (sym (c.links-links.ensures.links ∙ q.5.here.links) i).left in
     let left = c.limb_of-left.ensures.is q.0 (rw c.links-links.ensures.view q.5.left) at in
     let slope = right-slope _ _ q.0 c.args.node q.1 q.2 q.3 q.4 _ c.in_ok-right.right (subst (IsRightNew _ _ q.0 c.args.node q.1 q.2 q.3 q.4) (c.in_ok-right.was) q.5) left in
-    rw (c.limb_of-left.ensures.view, c.links-links.ensures.view, c.limb_of-left.ensures.around, c.links-links.ensures.around) (q.0, q.1, q.4, slope, q.6)
+    let keep = g.met.N.Nodes.keeps_node in
+    rw (c.limb_of-left.ensures.view, c.links-links.ensures.view)
+    (q.0, q.1, q.4, slope, λ a there. keep _ _ _ a c.limb_of-left.ensures.keeps (keep _ _ _ a c.links-links.ensures.keeps (q.6 a there)))
 
 pub returns-clause-made : goal.returns-clause-made
 returns-clause-made g c l s h r r' new =

@@ -1,14 +1,22 @@
 -- What is put there is the node's bytes.
-use Rattle.std.proofs.Common.{ap, ◌∙◌}
+use Rattle.std.proofs.Common.{◌≡◌, ap, ◌∙◌}
 use Rattle.file_service.specs.Calls.{node_stored}
-use Rattle.file_service.specs.Furnished.{stock}
-use Rattle.file_service.specs.Node.{value_of}
+use Rattle.file_service.specs.Furnished.{Stock, stock}
+use Rattle.file_service.specs.Node.{value_of, bytes_of}
+use Rattle.file_service.proofs.NodeKeptLemmas.{node_now, place_stored}
 use Rattle.file_service.proofs.nodes.store_node.Goals as goal
 
-pub returns-clause-stored : goal.returns-clause-stored
-returns-clause-stored c =
+stored : (c : goal.After-put_bytes) → stock c.args.heap.now c.args.sliced.now c.put_bytes.new.memory c.args.map.now
+    ≡ node_stored c.args.address 0 (bytes_of (value_of c.args.node.now)) (stock c.args.heap.now c.args.sliced.now c.args.memory.now c.args.map.now)
+stored c =
     c.put_bytes.ensures.stored
-    ∙ ap (λ b. node_stored c.args.address b (stock c.args.heap.now c.args.sliced.now c.args.memory.now c.args.map.now)) (c.deref.ensures.0 ∙ c.to_bytes.ensures.bytes)
+    ∙ ap (λ b. node_stored c.args.address 0 b (stock c.args.heap.now c.args.sliced.now c.args.memory.now c.args.map.now)) (c.deref.ensures.0 ∙ c.to_bytes.ensures.bytes)
+
+pub returns-clause-stored : goal.returns-clause-stored
+returns-clause-stored c = stored c
 
 pub returns-clause-back : goal.returns-clause-back
-returns-clause-back c = c.put_bytes.ensures.back (value_of c.args.node.now) c.to_bytes.ensures.node (c.deref.ensures.0 ∙ c.to_bytes.ensures.bytes)
+returns-clause-back c = node_now (stock c.args.heap.now c.args.sliced.now c.args.memory.now c.args.map.now).nodes (stock c.args.heap.now c.args.sliced.now c.put_bytes.new.memory c.args.map.now).nodes c.args.address (value_of c.args.node.now) c.requires.there c.to_bytes.ensures.node (ap (λ (s : Stock). s.nodes.payloads) (stored c))
+
+pub returns-clause-place : goal.returns-clause-place
+returns-clause-place c = place_stored (stock c.args.heap.now c.args.sliced.now c.args.memory.now c.args.map.now).nodes (stock c.args.heap.now c.args.sliced.now c.put_bytes.new.memory c.args.map.now).nodes c.args.address (value_of c.args.node.now) c.requires.there c.to_bytes.ensures.node (ap (λ (s : Stock). s.nodes.payloads) (stored c))

@@ -13,7 +13,7 @@ pub set_state-requires : goal.set_state-requires
 set_state-requires g c =
     let q = c.requires.stand in
     let laid = stand_laid _ _ q.0 c.args.place _ q.1 in
-    rw c.remove-self.ensures.around (stand_node _ _ q.0 c.args.place _ _ 0 c.args.place q.1 c.requires.fits (omega arith) (omega (arith, laid.0.sized.least)) (omega arith))
+    rw c.remove-self.ensures.keeps (stand_node _ _ q.0 c.args.place _ _ 0 c.args.place q.1 c.requires.fits (omega arith) (omega (arith, laid.0.sized.least)) (omega arith))
 
 pub returns-clause-turn : goal.returns-clause-turn
 returns-clause-turn g c at stand =

@@ -6,4 +6,4 @@ use Rattle.file_service.proofs.node.Node.from_bytes.Goals as goal
 pub returns-clause-value : goal.returns-clause-value
 unfolding node_of
 returns-clause-value c =
-    rw (c.word_at-2.ensures, c.word_at-3.ensures, c.word_at-4.ensures, c.copied-name.ensures, c.min-length.ensures, c.word_at.ensures) refl
+    rw (c.word_in-2.ensures, c.word_in-3.ensures, c.word_in-4.ensures, c.copied-name.ensures, c.min-length.ensures, c.word_in.ensures) refl

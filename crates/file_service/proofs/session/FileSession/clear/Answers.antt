@@ -6,6 +6,7 @@ use Rattle.own_model.specs.FileService.{content_credited, rewritten}
 use Rattle.own_model.specs.FileText.FileReply.{Done}
 use Rattle.own_model.specs.FileText.FileRequest.{Clear}
 use Rattle.file_service.specs.Files.{file_at}
+use Rattle.file_service.specs.Index.{previous_at}
 use Rattle.file_service.specs.Furnished.{Stock, stock}
 use Rattle.file_service.specs.Node.{value_of}
 use Rattle.file_service.specs.Session.{files_in, served_in, Finds}
@@ -19,7 +20,7 @@ returns-clause-serves c =
     let now : Stock = stock c.replace.new.self.heap c.replace.new.sliced c.replace.new.memory c.replace.new.map in
     let some : c.find.result ≡ Some c.in_ok-found.found = c.ok_or.ensures.ok_part ∙ ap result_ok c.in_ok-found.was in
     let found : Finds c.args.self.now was c.args.name.now c.in_ok-found.found = subst (λ o. IfSome o (Finds c.args.self.now was c.args.name.now)) some c.find.ensures.some in
-    let previous = c.in_ok-found.found.previous in
+    let previous = (previous_at was.nodes c.in_ok-found.found.address) in
     let address = c.in_ok-found.found.address in
     let node = value_of c.in_ok-found.found.node in
     let file = file_at was.nodes was.contents address in

@@ -1,5 +1,5 @@
 -- The name and the files are looked at first, then the heap.
-use Rattle.std.proofs.Common.{◌≡◌, ◌∙◌, ◌-◌, ◌++◌, ◌∷◌, [], true, None, is_some, sym, ap, subst}
+use Rattle.std.proofs.Common.{◌≡◌, ◌∙◌, ◌-◌, ◌++◌, ◌∷◌, [], true, None, is_some, sym, ap, subst, arith}
 use Rattle.std.specs.Prelude.{IfSome, IfNone, IfOk}
 use Rattle.std.specs.Result.{result_err}
 use Rattle.own_model.specs.FileService.{File, FileServed, node_size, file_named}
@@ -10,11 +10,16 @@ use Rattle.own_model.specs.Growth.{heap_refusal}
 use Rattle.own_model.specs.OwnHeap.{chunk_with, offset_of}
 use Rattle.own_model.proofs.NatMapLemmas.{some_of, none_of}
 use Rattle.file_service.specs.Calls.{TakesNode}
+use Rattle.file_service.specs.Index.{previous_at}
 use Rattle.file_service.specs.Furnished.{Stock, stock}
-use Rattle.file_service.specs.Node.{value_of}
+use Rattle.file_service.specs.Node.{value_of, rank_of}
+use Rattle.sliced_heap.specs.Chain.{is_listed}
 use Rattle.file_service.specs.Session.{files_in, Finds, served_in}
 use Rattle.file_service.proofs.CreateLemmas.{Takes, takes_node}
-use Rattle.file_service.proofs.KeptLemmas.{files_are}
+use Rattle.file_service.proofs.KeptLemmas.{blocks_are, files_are}
+use Rattle.file_service.proofs.NodeKeptLemmas.{indexed_kept, place_same}
+use Rattle.file_service.proofs.NodeStoreLemmas.{small_bytes}
+use Rattle.file_service.proofs.SeekLemmas.{name_fits, none_ranked}
 use Rattle.file_service.proofs.PlaceLemmas.{furnished_has_places}
 use Rattle.file_service.proofs.SearchLemmas.{found_named}
 use Rattle.file_service.proofs.ServeLemmas.{serves_same, create_exists, create_done, was_ok}
@@ -26,7 +31,7 @@ returns-then-is_some-clause-serves c =
     let got = some_of c.find.result (sym c.if-is_some.ensures) in
     let found : Finds c.args.self.now was c.args.name.now got.0 = subst (λ o. IfSome o (Finds c.args.self.now was c.args.name.now)) got.1 c.find.ensures.some in
     let there : is_some (file_named c.args.name.now (files_in c.args.self.now was)) ≡ true =
-    ap is_some (found_named c.args.self.now.first c.args.self.now.last was.nodes was.contents c.args.name.now got.0.previous got.0.address (value_of got.0.node) found) in
+    ap is_some (found_named c.args.self.now.first c.args.self.now.last was.nodes was.contents c.args.name.now (previous_at was.nodes got.0.address) got.0.address (value_of got.0.node) found) in
     serves_same (served_in (Create c.args.name.now) c.args.self.now was) (Refused Exists) c.args.self.now c.args.sliced.now c.args.memory.now c.find.new.memory c.args.map.now
     c.requires.files c.find.ensures.memory (create_exists c.args.name.now c.args.self.now was (sym c.if-not-is_name.ensures) there)
 
@@ -38,7 +43,7 @@ append-requires-clause-fresh c =
     let old : TakesNode c.in_ok-address.address (stock c.args.self.now.heap c.args.sliced.now c.find.new.memory c.args.map.now) taken =
     subst (λ r. IfOk r (λ address. TakesNode address (stock c.args.self.now.heap c.args.sliced.now c.find.new.memory c.args.map.now) taken)) ok c.take_node.ensures.taken in
     let t : TakesNode c.in_ok-address.address was taken = subst (λ m. TakesNode c.in_ok-address.address (stock c.args.self.now.heap c.args.sliced.now m c.args.map.now) taken) c.find.ensures.memory old in
-    (takes_node c.args.self.now.first c.args.self.now.last c.requires.files.blocks c.in_ok-address.address was c.requires.files.stand
+    (takes_node c.args.self.now.first c.args.self.now.last c.requires.files.blocks c.in_ok-address.address (omega arith) was c.requires.files.stand
     (furnished_has_places c.args.self.now.heap c.args.sliced.now c.args.memory.now c.args.map.now c.requires.furnished) t.free taken
     (furnished_has_places c.take_node.new.heap c.args.sliced.now c.take_node.new.memory c.take_node.new.map c.take_node.ensures.keeps.stays.furnished) t).fresh
 
@@ -50,12 +55,36 @@ append-requires-clause-files c =
     let old : TakesNode c.in_ok-address.address (stock c.args.self.now.heap c.args.sliced.now c.find.new.memory c.args.map.now) taken =
     subst (λ r. IfOk r (λ address. TakesNode address (stock c.args.self.now.heap c.args.sliced.now c.find.new.memory c.args.map.now) taken)) ok c.take_node.ensures.taken in
     let t : TakesNode c.in_ok-address.address was taken = subst (λ m. TakesNode c.in_ok-address.address (stock c.args.self.now.heap c.args.sliced.now m c.args.map.now) taken) c.find.ensures.memory old in
+    let takes = takes_node c.args.self.now.first c.args.self.now.last c.requires.files.blocks c.in_ok-address.address (omega arith) was c.requires.files.stand
+    (furnished_has_places c.args.self.now.heap c.args.sliced.now c.args.memory.now c.args.map.now c.requires.furnished) t.free taken
+    (furnished_has_places c.take_node.new.heap c.args.sliced.now c.take_node.new.memory c.take_node.new.map c.take_node.ensures.keeps.stays.furnished) t in
     record {
       blocks = c.requires.files.blocks;
-      stand = (takes_node c.args.self.now.first c.args.self.now.last c.requires.files.blocks c.in_ok-address.address was c.requires.files.stand
-          (furnished_has_places c.args.self.now.heap c.args.sliced.now c.args.memory.now c.args.map.now c.requires.furnished) t.free taken
-          (furnished_has_places c.take_node.new.heap c.args.sliced.now c.take_node.new.memory c.take_node.new.map c.take_node.ensures.keeps.stays.furnished) t).stand;
+      stand = takes.stand;
+      indexed = indexed_kept c.args.self.now.first c.args.self.now.last c.args.self.now.root c.args.self.now.first c.args.self.now.last was.nodes taken.nodes was.contents taken.contents c.requires.files.blocks c.requires.files.stand
+          takes.stand (λ b l. place_same was.nodes taken.nodes b (takes.same b l)) c.requires.files.indexed;
     }
+
+pub append-requires-clause-new : goal.append-requires-clause-new
+append-requires-clause-new c b listed =
+    let was : Stock = stock c.args.self.now.heap c.args.sliced.now c.args.memory.now c.args.map.now in
+    let taken : Stock = stock c.take_node.new.heap c.args.sliced.now c.take_node.new.memory c.take_node.new.map in
+    let ok = was_ok c.take_node.result c.map_err.result c.in_ok-address.address _ c.map_err.ensures.cases c.map_err.ensures.variant c.in_ok-address.was in
+    let old : TakesNode c.in_ok-address.address (stock c.args.self.now.heap c.args.sliced.now c.find.new.memory c.args.map.now) taken =
+    subst (λ r. IfOk r (λ address. TakesNode address (stock c.args.self.now.heap c.args.sliced.now c.find.new.memory c.args.map.now) taken)) ok c.take_node.ensures.taken in
+    let t : TakesNode c.in_ok-address.address was taken = subst (λ m. TakesNode c.in_ok-address.address (stock c.args.self.now.heap c.args.sliced.now m c.args.map.now) taken) c.find.ensures.memory old in
+    let takes = takes_node c.args.self.now.first c.args.self.now.last c.requires.files.blocks c.in_ok-address.address (omega arith) was c.requires.files.stand
+    (furnished_has_places c.args.self.now.heap c.args.sliced.now c.args.memory.now c.args.map.now c.requires.furnished) t.free taken
+    (furnished_has_places c.take_node.new.heap c.args.sliced.now c.take_node.new.memory c.take_node.new.map c.take_node.ensures.keeps.stays.furnished) t in
+    let none_found = none_of c.find.result (sym c.is_some.ensures ∙ c.if-is_some.false) in
+    let none : file_named c.args.name.now (files_in c.args.self.now was) ≡ None =
+    subst (λ o. IfNone o (file_named c.args.name.now (files_in c.args.self.now was) ≡ None)) none_found c.find.ensures.none in
+    let now = blocks_are c.args.self.now.first c.args.self.now.last taken.nodes taken.contents c.requires.files.blocks takes.stand in
+    let before = blocks_are c.args.self.now.first c.args.self.now.last was.nodes was.contents c.requires.files.blocks c.requires.files.stand in
+    let there = ap (λ xs. is_listed xs b) (sym now) ∙ listed in
+    let other = none_ranked c.args.self.now.first c.args.self.now.last c.args.self.now.root was.nodes was.contents c.requires.files c.args.name.now (omega (arith, name_fits c.args.name.now (sym c.if-not-is_name.ensures)))
+    (small_bytes c.args.name.now (λ i. omega (arith, c.type_inv.name i))) none b (ap (λ xs. is_listed xs b) before ∙ there) in
+    λ same. other (ap rank_of (sym (place_same was.nodes taken.nodes b (takes.same b there)).name) ∙ same)
 
 pub returns-clause-serves : goal.returns-clause-serves
 returns-clause-serves c =
@@ -66,7 +95,7 @@ returns-clause-serves c =
     subst (λ r. IfOk r (λ address. TakesNode address (stock c.args.self.now.heap c.args.sliced.now c.find.new.memory c.args.map.now) taken)) ok c.take_node.ensures.taken in
     let t : TakesNode c.in_ok-address.address was taken = subst (λ m. TakesNode c.in_ok-address.address (stock c.args.self.now.heap c.args.sliced.now m c.args.map.now) taken) c.find.ensures.memory old in
     let takes : Takes c.args.self.now.first c.args.self.now.last c.requires.files.blocks c.in_ok-address.address was taken =
-    takes_node c.args.self.now.first c.args.self.now.last c.requires.files.blocks c.in_ok-address.address was c.requires.files.stand
+    takes_node c.args.self.now.first c.args.self.now.last c.requires.files.blocks c.in_ok-address.address (omega arith) was c.requires.files.stand
     (furnished_has_places c.args.self.now.heap c.args.sliced.now c.args.memory.now c.args.map.now c.requires.furnished) t.free taken
     (furnished_has_places c.take_node.new.heap c.args.sliced.now c.take_node.new.memory c.take_node.new.map c.take_node.ensures.keeps.stays.furnished) t in
     let none_found = none_of c.find.result (sym c.is_some.ensures ∙ c.if-is_some.false) in

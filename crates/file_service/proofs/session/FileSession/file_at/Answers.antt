@@ -30,7 +30,7 @@ load_node-node-requires-clause-there c =
     let i = c.loop-address.invariant in
     let some : c.loop-address.address ≢ 0 = λ (e : c.loop-address.address ≡ 0). absurd (omega (arith, e)) in
     let has : Stock = stock c.args.self.now.heap c.args.sliced.now c.args.memory.now c.args.map.now in
-    subst (λ m. HasBytes (stock c.args.self.now.heap c.args.sliced.now m c.args.map.now).nodes.payloads c.loop-address.address 0 64) (sym i.memory)
+    subst (λ m. HasBytes (stock c.args.self.now.heap c.args.sliced.now m c.args.map.now).nodes.payloads c.loop-address.address 0 96) (sym i.memory)
     (here_behind c.args.self.now.first c.args.self.now.last has.nodes has.contents (last_of 0 i.before) c.loop-address.address i.before i.behind i.stand i.leads i.address some).there
 
 pub loop-address-preserved : goal.loop-address-preserved

@@ -44,10 +44,10 @@ abbrev file_of : (c : In_ok-found) → File
 file_of c = let s : Stock = stock c.args.self.now.heap c.args.sliced.now c.find.new.memory c.args.map.now in file_at s.nodes s.contents c.in_ok-found.found.address
 
 named_now : (c : In_ok-found) → file_named c.args.name.now (files_in c.args.self.now (stock c.args.self.now.heap c.args.sliced.now c.find.new.memory c.args.map.now)) ≡ Some (file_of c)
-named_now c = found_named c.args.self.now.first c.args.self.now.last _ _ c.args.name.now c.in_ok-found.found.previous c.in_ok-found.found.address (value_of c.in_ok-found.found.node) (found_now c).found
+named_now c = found_named c.args.self.now.first c.args.self.now.last _ _ c.args.name.now _ c.in_ok-found.found.address (value_of c.in_ok-found.found.node) (found_now c).found
 
 long_now : (c : In_ok-found) → length (file_of c).bytes ≡ c.in_ok-found.found.node.size
-long_now c = found_long c.args.self.now.first c.args.self.now.last _ _ c.args.name.now c.in_ok-found.found.previous c.in_ok-found.found.address (value_of c.in_ok-found.found.node) (found_now c).found
+long_now c = found_long c.args.self.now.first c.args.self.now.last _ _ c.args.name.now _ c.in_ok-found.found.address (value_of c.in_ok-found.found.node) (found_now c).found
 
 -- the range is in the buffer
 record IsInRange (c : In_ok-lent) : Type 0 where
@@ -101,7 +101,7 @@ fill_buffer-requires-clause-lent c =
 pub fill_buffer-requires-clause-there : goal.fill_buffer-requires-clause-there
 fill_buffer-requires-clause-there c =
     let at = (goal.at.fill_buffer-requires-clause-there c).In_ok-found in
-    found_has c.args.self.now.first c.args.self.now.last _ _ c.args.name.now c.in_ok-found.found.previous c.in_ok-found.found.address (value_of c.in_ok-found.found.node) (found_now at).found
+    found_has c.args.self.now.first c.args.self.now.last _ _ c.args.name.now _ c.in_ok-found.found.address (value_of c.in_ok-found.found.node) (found_now at).found
     c.args.offset c.min-part.result (omega arith) (omega arith)
 
 pub fill_buffer-requires-clause-room : goal.fill_buffer-requires-clause-room
@@ -120,8 +120,8 @@ returns-then-part-gt0-clause-answers c =
     let found = (found_now at).found in
     let content = payload_in s.contents node.content in
     let n = c.min-part.result in
-    let has = found_has c.args.self.now.first c.args.self.now.last s.nodes s.contents c.args.name.now c.in_ok-found.found.previous c.in_ok-found.found.address node found c.args.offset n (omega arith) (omega arith) in
-    let bytes = found_bytes c.args.self.now.first c.args.self.now.last s.nodes s.contents c.args.name.now c.in_ok-found.found.previous c.in_ok-found.found.address node found in
+    let has = found_has c.args.self.now.first c.args.self.now.last s.nodes s.contents c.args.name.now _ c.in_ok-found.found.address node found c.args.offset n (omega arith) (omega arith) in
+    let bytes = found_bytes c.args.self.now.first c.args.self.now.last s.nodes s.contents c.args.name.now _ c.in_ok-found.found.address node found in
     let part = slice_range content c.args.offset (c.args.offset + n) in
     let count : (c.args.offset + n) - c.args.offset ≡ n = omega arith in
     let same : take c.args.count (drop c.args.offset (file_of at).bytes) ≡ part =
@@ -143,7 +143,7 @@ returns-else-part-gt0-clause-answers c =
     let b = bytes_lent c.find.new.memory (buffer_key c.args.self.now.buffer) in
     let node = value_of c.in_ok-found.found.node in
     let content = payload_in s.contents node.content in
-    let bytes = found_bytes c.args.self.now.first c.args.self.now.last s.nodes s.contents c.args.name.now c.in_ok-found.found.previous c.in_ok-found.found.address node (found_now at).found in
+    let bytes = found_bytes c.args.self.now.first c.args.self.now.last s.nodes s.contents c.args.name.now _ c.in_ok-found.found.address node (found_now at).found in
     let none : c.min-part.result ≡ 0 = omega arith in
     let same : take c.args.count (drop c.args.offset (file_of at).bytes) ≡ [] =
     ap (λ l. take c.args.count (drop c.args.offset l)) bytes

@@ -12,10 +12,11 @@ use Rattle.own_model.specs.FileText.FileRequest.{Write}
 use Rattle.own_model.specs.Sliced.{sliced_size}
 use Rattle.session_proto.specs.FileReply.{model_error}
 use Rattle.session_proto.specs.declared.file_reply.FileError.TheVariants.{OutOfRam}
-use Rattle.file_service.specs.Calls.{content_taken, content_written}
+use Rattle.file_service.specs.Calls.{content_taken, content_written, HasBytes}
+use Rattle.file_service.specs.Index.{IsIndexed, previous_at}
 use Rattle.file_service.specs.Furnished.{Stock, stock}
-use Rattle.file_service.specs.Session.{files_in, served_in, counted_reply}
-use Rattle.file_service.specs.Calls.{HasBytes}
+use Rattle.file_service.specs.Node.{value_of}
+use Rattle.file_service.specs.Session.{IsFound, files_in, served_in, counted_reply}
 use Rattle.file_service.specs.Source.{bytes_from, HasSource}
 use Rattle.file_service.proofs.SourceLemmas.{source_kept, bytes_kept}
 use Rattle.file_service.proofs.LengthenLemmas.{TakesLonger, sum_is, no_sum, not_new, source, target, room, made_has, made_own, made_found, made_served}
@@ -80,7 +81,11 @@ put_content-requires-clause-there c =
 pub replace-requires-clause-found : goal.replace-requires-clause-found
 replace-requires-clause-found c =
     let at = goal.at.replace-requires-clause-found c in
-    made_found c.args.self.now _ _ _ _ _ _ c.requires.found _ _ _ _ c.requires.low (takes at.In_ok-content) _ c.copy_content.ensures.copied _ (c.put_content.ensures.written ∙ ap (λ bytes. content_written c.in_ok-content.content c.args.offset bytes (stock c.args.self.now.heap c.take_content.new.sliced c.copy_content.new.memory c.take_content.new.map)) (as_it_was at.After-copy_content).bytes)
+    let t = takes at.In_ok-content in
+    let nodes = ap (λ (s : Stock). s.nodes) c.put_content.ensures.written ∙ ap (λ (s : Stock). s.nodes) c.copy_content.ensures.copied ∙ ap (λ (s : Stock). s.nodes) t.is in
+    let made : Stock = stock c.args.self.now.heap c.take_content.new.sliced c.put_content.new.memory c.take_content.new.map in
+    subst (λ n. IsFound c.args.self.now.first c.args.self.now.last made.nodes made.contents c.args.found.node.name.items (previous_at n c.args.found.address) c.args.found.address (value_of c.args.found.node)) (sym nodes)
+    (made_found c.args.self.now _ _ _ _ _ _ c.requires.found _ _ _ _ c.requires.low t _ c.copy_content.ensures.copied _ (c.put_content.ensures.written ∙ ap (λ bytes. content_written c.in_ok-content.content c.args.offset bytes (stock c.args.self.now.heap c.take_content.new.sliced c.copy_content.new.memory c.take_content.new.map)) (as_it_was at.After-copy_content).bytes))
 
 pub replace-requires-clause-content : goal.replace-requires-clause-content
 replace-requires-clause-content c =
@@ -91,6 +96,12 @@ pub replace-requires-clause-own : goal.replace-requires-clause-own
 replace-requires-clause-own c =
     let at = goal.at.replace-requires-clause-own c in
     λ _. made_own c.args.self.now _ _ _ _ _ _ c.requires.found _ _ _ _ c.requires.low (takes at.In_ok-content) _ c.copy_content.ensures.copied _ (c.put_content.ensures.written ∙ ap (λ bytes. content_written c.in_ok-content.content c.args.offset bytes (stock c.args.self.now.heap c.take_content.new.sliced c.copy_content.new.memory c.take_content.new.map)) (as_it_was at.After-copy_content).bytes)
+
+pub replace-requires-clause-indexed : goal.replace-requires-clause-indexed
+replace-requires-clause-indexed c =
+    let t = takes (goal.at.replace-requires-clause-indexed c).In_ok-content in
+    let nodes = ap (λ (s : Stock). s.nodes) c.put_content.ensures.written ∙ ap (λ (s : Stock). s.nodes) c.copy_content.ensures.copied ∙ ap (λ (s : Stock). s.nodes) t.is in
+    subst (IsIndexed c.args.self.now.first c.args.self.now.root) (sym nodes) c.requires.files.indexed
 
 pub returns-clause-serves : goal.returns-clause-serves
 returns-clause-serves c =

@@ -17,7 +17,7 @@ pub put_content-requires-clause-there : goal.put_content-requires-clause-there
 put_content-requires-clause-there c =
     let was : Stock = stock c.args.self.now.heap c.args.sliced.now c.args.memory.now c.args.map.now in
     let count_is = c.count-count.ensures c.args.sliced.now c.args.memory.now c.args.map.now c.requires.source in
-    found_has c.args.self.now.first c.args.self.now.last was.nodes was.contents _ c.args.found.previous c.args.found.address (value_of c.args.found.node) c.requires.found
+    found_has c.args.self.now.first c.args.self.now.last was.nodes was.contents _ _ c.args.found.address (value_of c.args.found.node) c.requires.found
     c.args.offset (length (bytes_from c.args.source c.args.memory.now)) (omega (arith, count_is)) (omega (arith, count_is, c.requires.low))
 
 pub returns-then-count-gt0-clause-serves : goal.returns-then-count-gt0-clause-serves
@@ -26,7 +26,7 @@ returns-then-count-gt0-clause-serves c =
     let now : Stock = stock c.args.self.now.heap c.args.sliced.now c.put_content.new.memory c.args.map.now in
     let count_is = c.count-count.ensures c.args.sliced.now c.args.memory.now c.args.map.now c.requires.source in
     rw count_is
-    (over_served c.args.self.now was _ _ _ (value_of c.args.found.node) c.requires.found c.args.offset (bytes_from c.args.source c.args.memory.now) (omega (arith, count_is, c.requires.low)) (omega (arith, count_is)) now
+    (over_served c.args.self.now was _ _ _ (value_of c.args.found.node) c.requires.found c.args.offset (bytes_from c.args.source c.args.memory.now) (omega (arith, count_is, c.requires.low)) (omega (arith, count_is)) c.requires.files.indexed now
     c.put_content.ensures.written)
 
 pub returns-else-count-gt0-clause-serves : goal.returns-else-count-gt0-clause-serves

@@ -42,10 +42,10 @@ abbrev file_of : (c : In_ok-found) → File
 file_of c = let s : Stock = stock c.args.self.now.heap c.args.sliced.now c.find.new.memory c.args.map.now in file_at s.nodes s.contents c.in_ok-found.found.address
 
 named_now : (c : In_ok-found) → file_named c.args.name.now (files_in c.args.self.now (stock c.args.self.now.heap c.args.sliced.now c.find.new.memory c.args.map.now)) ≡ Some (file_of c)
-named_now c = found_named c.args.self.now.first c.args.self.now.last _ _ c.args.name.now c.in_ok-found.found.previous c.in_ok-found.found.address (value_of c.in_ok-found.found.node) (found_now c).found
+named_now c = found_named c.args.self.now.first c.args.self.now.last _ _ c.args.name.now _ c.in_ok-found.found.address (value_of c.in_ok-found.found.node) (found_now c).found
 
 long_now : (c : In_ok-found) → length (file_of c).bytes ≡ c.in_ok-found.found.node.size
-long_now c = found_long c.args.self.now.first c.args.self.now.last _ _ c.args.name.now c.in_ok-found.found.previous c.in_ok-found.found.address (value_of c.in_ok-found.found.node) (found_now c).found
+long_now c = found_long c.args.self.now.first c.args.self.now.last _ _ c.args.name.now _ c.in_ok-found.found.address (value_of c.in_ok-found.found.node) (found_now c).found
 
 pub returns-then-offset-found-clause-answers : goal.returns-then-offset-found-clause-answers
 returns-then-offset-found-clause-answers c =
@@ -104,7 +104,7 @@ returns-clause-answers c =
     let b = bytes_lent c.find.new.memory (buffer_key c.args.self.now.buffer) in
     let node = value_of c.in_ok-found.found.node in
     let bytes = slice_range (space_at c.find.new.memory c.in_ok-lent.lent.space.0).bytes c.args.place (c.args.place + c.args.count) in
-    let name = found_name c.args.self.now.first c.args.self.now.last c.args.self.now s c.args.name.now c.in_ok-found.found.previous c.in_ok-found.found.address node (found_now at).found in
+    let name = found_name c.args.self.now.first c.args.self.now.last c.args.self.now s c.args.name.now _ c.in_ok-found.found.address node (found_now at).found in
     let served : put c.args.offset c.args.place c.args.count b (file_named c.args.name.now (files_in c.args.self.now s)) (files_in c.args.self.now s) s.account
     ≡ beside b (written c.args.offset bytes (file_named c.in_ok-found.found.node.name.items (files_in c.args.self.now s)) (files_in c.args.self.now s) s.account) =
     ap (λ o. put c.args.offset c.args.place c.args.count b o (files_in c.args.self.now s) s.account) (named_now at)

@@ -5,6 +5,7 @@ use Rattle.std.specs.Prelude.{IfSome, slice_range}
 use Rattle.std.specs.Result.{result_ok}
 use Rattle.file_service.specs.Calls.{payload_in, HasBytes}
 use Rattle.file_service.specs.Files.{file_at}
+use Rattle.file_service.specs.Index.{previous_at}
 use Rattle.file_service.specs.Furnished.{Stock, stock}
 use Rattle.file_service.specs.Node.{value_of}
 use Rattle.file_service.specs.Session.{Finds}
@@ -18,7 +19,7 @@ returns-then-offset-size-clause-told c =
     let was : Stock = stock c.args.self.now.heap c.args.sliced.now c.args.memory.now c.args.map.now in
     let some : c.find.result ≡ Some c.in_ok-found.found = c.ok_or.ensures.ok_part ∙ ap result_ok c.in_ok-found.was in
     let found : Finds c.args.self.now was c.args.name.now c.in_ok-found.found = subst (λ o. IfSome o (Finds c.args.self.now was c.args.name.now)) some c.find.ensures.some in
-    let previous = c.in_ok-found.found.previous in
+    let previous = (previous_at was.nodes c.in_ok-found.found.address) in
     let address = c.in_ok-found.found.address in
     let node = value_of c.in_ok-found.found.node in
     let long = found_long c.args.self.now.first c.args.self.now.last was.nodes was.contents c.args.name.now previous address node found in
@@ -30,7 +31,7 @@ returns-then-len-gt-MOST_READ-clause-told c =
     let was : Stock = stock c.args.self.now.heap c.args.sliced.now c.args.memory.now c.args.map.now in
     let some : c.find.result ≡ Some c.in_ok-found.found = c.ok_or.ensures.ok_part ∙ ap result_ok c.in_ok-found.was in
     let found : Finds c.args.self.now was c.args.name.now c.in_ok-found.found = subst (λ o. IfSome o (Finds c.args.self.now was c.args.name.now)) some c.find.ensures.some in
-    let previous = c.in_ok-found.found.previous in
+    let previous = (previous_at was.nodes c.in_ok-found.found.address) in
     let address = c.in_ok-found.found.address in
     let node = value_of c.in_ok-found.found.node in
     let long = found_long c.args.self.now.first c.args.self.now.last was.nodes was.contents c.args.name.now previous address node found in
@@ -45,7 +46,7 @@ read_content-requires-clause-there c =
     let node = value_of c.in_ok-found.found.node in
     let count : length (take c.min-count.result c.args.buffer.now) ≡ c.min-count.result = length-take-le c.min-count.result c.args.buffer.now (omega arith) in
     subst (λ m. HasBytes (stock c.args.self.now.heap c.args.sliced.now m c.args.map.now).contents node.content c.args.offset (length (take c.min-count.result c.args.buffer.now))) (sym c.find.ensures.memory)
-    (found_has c.args.self.now.first c.args.self.now.last was.nodes was.contents c.args.name.now c.in_ok-found.found.previous c.in_ok-found.found.address node found
+    (found_has c.args.self.now.first c.args.self.now.last was.nodes was.contents c.args.name.now (previous_at was.nodes c.in_ok-found.found.address) c.in_ok-found.found.address node found
     c.args.offset (length (take c.min-count.result c.args.buffer.now)) (omega (arith, count)) (omega (arith, count)))
 
 pub returns-then-count-gt0-clause-told : goal.returns-then-count-gt0-clause-told
@@ -53,7 +54,7 @@ returns-then-count-gt0-clause-told c =
     let was : Stock = stock c.args.self.now.heap c.args.sliced.now c.args.memory.now c.args.map.now in
     let some : c.find.result ≡ Some c.in_ok-found.found = c.ok_or.ensures.ok_part ∙ ap result_ok c.in_ok-found.was in
     let found : Finds c.args.self.now was c.args.name.now c.in_ok-found.found = subst (λ o. IfSome o (Finds c.args.self.now was c.args.name.now)) some c.find.ensures.some in
-    let previous = c.in_ok-found.found.previous in
+    let previous = (previous_at was.nodes c.in_ok-found.found.address) in
     let address = c.in_ok-found.found.address in
     let node = value_of c.in_ok-found.found.node in
     let long = found_long c.args.self.now.first c.args.self.now.last was.nodes was.contents c.args.name.now previous address node found in
@@ -75,7 +76,7 @@ returns-else-count-gt0-clause-told c =
     let was : Stock = stock c.args.self.now.heap c.args.sliced.now c.args.memory.now c.args.map.now in
     let some : c.find.result ≡ Some c.in_ok-found.found = c.ok_or.ensures.ok_part ∙ ap result_ok c.in_ok-found.was in
     let found : Finds c.args.self.now was c.args.name.now c.in_ok-found.found = subst (λ o. IfSome o (Finds c.args.self.now was c.args.name.now)) some c.find.ensures.some in
-    let previous = c.in_ok-found.found.previous in
+    let previous = (previous_at was.nodes c.in_ok-found.found.address) in
     let address = c.in_ok-found.found.address in
     let node = value_of c.in_ok-found.found.node in
     let long = found_long c.args.self.now.first c.args.self.now.last was.nodes was.contents c.args.name.now previous address node found in

@@ -1,90 +1,154 @@
--- The links lead past the file, and then its node and its content go.
-use Rattle.std.proofs.Common.{◌≡◌, ◌∙◌, Some, sym, ap, subst, arith}
+-- The node leaves the tree, the links lead past it, and then it and its content go.
+use Rattle.std.proofs.Common.{◌≡◌, ◌∙◌, ◌++◌, Some, sym, ap, subst, arith}
 use Rattle.std.specs.Prelude.{IfSome, ◌==◌, if◌then◌else◌}
 use Rattle.std.specs.Result.{result_ok}
-use Rattle.file_service.specs.Calls.{HasBytes}
-use Rattle.file_service.specs.Furnished.{Stock, stock}
+use Rattle.own_model.specs.FileText.FileReply.{Done}
+use Rattle.own_model.specs.FileText.FileRequest.{Drop}
+use Rattle.sliced_heap.specs.Chain.{is_listed}
+use Rattle.file_service.specs.Furnished.{Stock, stock, KeepsSession}
+use Rattle.file_service.specs.Index.{IsNamed}
 use Rattle.file_service.specs.Node.{value_of}
-use Rattle.file_service.specs.Session.{Finds, KeepsOwn, LinksTo}
+use Rattle.file_service.specs.Session.{Finds, IsListed, KeepsOwn, LinksTo, Serves, served_in}
 use Rattle.file_service.specs.declared.session.FileSession.{FileSession}
-use Rattle.file_service.proofs.DropLemmas.{previous_there, linked_there, given_there, serves_empty, serves_full}
+use Rattle.file_service.proofs.DropLemmas.{is_unlisted, previous_there, linked_there, given_there, serves_empty, serves_full}
+use Rattle.file_service.proofs.KeptLemmas.{blocks_are}
+use Rattle.file_service.proofs.SearchLemmas.{in_blocks}
+use Rattle.file_service.proofs.ServeLemmas.{keeps_both}
 use Rattle.file_service.proofs.session.FileSession.remove.Goals as goal
 
-pub link-requires-clause-there : goal.link-requires-clause-there
-link-requires-clause-there c =
+pub unlist-previous-requires-clause-listed : goal.unlist-previous-requires-clause-listed
+unlist-previous-requires-clause-listed c =
     let was : Stock = stock c.args.self.now.heap c.args.sliced.now c.args.memory.now c.args.map.now in
     let some : c.find.result ≡ Some c.in_ok-found.found = c.ok_or.ensures.ok_part ∙ ap result_ok c.in_ok-found.was in
     let found : Finds c.args.self.now was c.args.name.now c.in_ok-found.found = subst (λ o. IfSome o (Finds c.args.self.now was c.args.name.now)) some c.find.ensures.some in
-    λ holder. subst (λ m. HasBytes (stock c.args.self.now.heap c.args.sliced.now m c.args.map.now).nodes.payloads c.in_ok-found.found.previous 0 64) (sym c.find.ensures.memory)
-    (previous_there c.args.self.now.first c.args.self.now.last was.nodes was.contents c.args.name.now c.in_ok-found.found.previous c.in_ok-found.found.address (value_of c.in_ok-found.found.node) found holder)
+    let blocks = blocks_are c.args.self.now.first c.args.self.now.last was.nodes was.contents _ found.stand in
+    subst (λ m. IsListed c.args.self.now (stock c.args.self.now.heap c.args.sliced.now m c.args.map.now) c.in_ok-found.found.address (value_of c.in_ok-found.found.node)) (sym c.find.ensures.memory)
+    (record { there = ap (λ xs. is_listed xs c.in_ok-found.found.address) blocks ∙ in_blocks c.args.self.now.first c.args.self.now.last was.nodes was.contents c.args.name.now _ c.in_ok-found.found.address _ found; node_is = found.node_is })
+
+pub link-requires-clause-there : goal.link-requires-clause-there
+link-requires-clause-there c holder =
+    let old : Stock = stock c.args.self.now.heap c.args.sliced.now c.find.new.memory c.args.map.now in
+    let was : Stock = stock c.unlist-previous.new.self.heap c.args.sliced.now c.unlist-previous.new.memory c.args.map.now in
+    let some : c.find.result ≡ Some c.in_ok-found.found = c.ok_or.ensures.ok_part ∙ ap result_ok c.in_ok-found.was in
+    let address = c.in_ok-found.found.address in
+    let node = value_of c.in_ok-found.found.node in
+    let previous = c.unlist-previous.result in
+    let finds : Finds c.args.self.now (stock c.args.self.now.heap c.args.sliced.now c.args.memory.now c.args.map.now) c.args.name.now c.in_ok-found.found =
+    subst (λ o. IfSome o (Finds c.args.self.now (stock c.args.self.now.heap c.args.sliced.now c.args.memory.now c.args.map.now) c.args.name.now)) some c.find.ensures.some in
+    let from : Finds c.args.self.now old c.args.name.now c.in_ok-found.found =
+    subst (λ m. Finds c.args.self.now (stock c.args.self.now.heap c.args.sliced.now m c.args.map.now) c.args.name.now c.in_ok-found.found) (sym c.find.ensures.memory) finds in
+    let is = is_unlisted c.args.self.now c.unlist-previous.new.self old was c.args.name.now previous address node from c.unlist-previous.ensures.previous c.unlist-previous.ensures.tails c.unlist-previous.ensures.unlists in
+    previous_there c.args.self.now.first c.args.self.now.last was.nodes was.contents c.args.name.now previous address node is.found holder
 
 pub give_node-requires-clause-there : goal.give_node-requires-clause-there
 give_node-requires-clause-there c =
-    let was : Stock = stock c.args.self.now.heap c.args.sliced.now c.args.memory.now c.args.map.now in
-    let linked : Stock = stock c.link.new.self.heap c.args.sliced.now c.link.new.memory c.args.map.now in
+    let old : Stock = stock c.args.self.now.heap c.args.sliced.now c.find.new.memory c.args.map.now in
+    let was : Stock = stock c.unlist-previous.new.self.heap c.args.sliced.now c.unlist-previous.new.memory c.args.map.now in
     let some : c.find.result ≡ Some c.in_ok-found.found = c.ok_or.ensures.ok_part ∙ ap result_ok c.in_ok-found.was in
-    let found : Finds c.args.self.now was c.args.name.now c.in_ok-found.found = subst (λ o. IfSome o (Finds c.args.self.now was c.args.name.now)) some c.find.ensures.some in
-    let previous = c.in_ok-found.found.previous in
     let address = c.in_ok-found.found.address in
     let node = value_of c.in_ok-found.found.node in
+    let previous = c.unlist-previous.result in
+    let finds : Finds c.args.self.now (stock c.args.self.now.heap c.args.sliced.now c.args.memory.now c.args.map.now) c.args.name.now c.in_ok-found.found =
+    subst (λ o. IfSome o (Finds c.args.self.now (stock c.args.self.now.heap c.args.sliced.now c.args.memory.now c.args.map.now) c.args.name.now)) some c.find.ensures.some in
+    let from : Finds c.args.self.now old c.args.name.now c.in_ok-found.found =
+    subst (λ m. Finds c.args.self.now (stock c.args.self.now.heap c.args.sliced.now m c.args.map.now) c.args.name.now c.in_ok-found.found) (sym c.find.ensures.memory) finds in
+    let is = is_unlisted c.args.self.now c.unlist-previous.new.self old was c.args.name.now previous address node from c.unlist-previous.ensures.previous c.unlist-previous.ensures.tails c.unlist-previous.ensures.unlists in
+    let linked : Stock = stock c.link.new.self.heap c.args.sliced.now c.link.new.memory c.args.map.now in
+    let start : c.unlist-previous.new.self.first ≡ c.args.self.now.first = ap (λ (s : FileSession). s.first) c.unlist-previous.ensures.same in
     let links : LinksTo c.args.self.now.first previous node.next c.link.new.self.first was.nodes linked.nodes =
-    subst (λ m. LinksTo c.args.self.now.first previous node.next c.link.new.self.first (stock c.args.self.now.heap c.args.sliced.now m c.args.map.now).nodes linked.nodes) c.find.ensures.memory c.link.ensures.links in
-    let rest : linked ≡ record was { nodes = linked.nodes } =
-    subst (λ m. linked ≡ record (stock c.args.self.now.heap c.args.sliced.now m c.args.map.now) { nodes = linked.nodes }) c.find.ensures.memory c.link.ensures.rest in
-    linked_there c.args.self.now c.link.new.self was linked linked c.args.name.now previous address node found links rest
+    subst (λ f. LinksTo f previous node.next c.link.new.self.first was.nodes linked.nodes) start c.link.ensures.links in
+    let root : c.link.new.self.root ≡ c.unlist-previous.new.self.root = ap (λ (s : FileSession). s.root) c.link.ensures.same in
+    let named = subst (λ r. IsNamed r was.nodes (is.found.before ++ is.found.behind)) (sym root) is.named in
+    linked_there c.args.self.now c.link.new.self was linked linked c.args.name.now previous address node is.found links c.link.ensures.rest named is.back
 
 pub give_content-requires-clause-there : goal.give_content-requires-clause-there
 give_content-requires-clause-there c =
-    let was : Stock = stock c.args.self.now.heap c.args.sliced.now c.args.memory.now c.args.map.now in
-    let linked : Stock = stock c.link.new.self.heap c.args.sliced.now c.link.new.memory c.args.map.now in
+    let old : Stock = stock c.args.self.now.heap c.args.sliced.now c.find.new.memory c.args.map.now in
+    let was : Stock = stock c.unlist-previous.new.self.heap c.args.sliced.now c.unlist-previous.new.memory c.args.map.now in
     let some : c.find.result ≡ Some c.in_ok-found.found = c.ok_or.ensures.ok_part ∙ ap result_ok c.in_ok-found.was in
-    let found : Finds c.args.self.now was c.args.name.now c.in_ok-found.found = subst (λ o. IfSome o (Finds c.args.self.now was c.args.name.now)) some c.find.ensures.some in
-    let previous = c.in_ok-found.found.previous in
     let address = c.in_ok-found.found.address in
     let node = value_of c.in_ok-found.found.node in
+    let previous = c.unlist-previous.result in
+    let finds : Finds c.args.self.now (stock c.args.self.now.heap c.args.sliced.now c.args.memory.now c.args.map.now) c.args.name.now c.in_ok-found.found =
+    subst (λ o. IfSome o (Finds c.args.self.now (stock c.args.self.now.heap c.args.sliced.now c.args.memory.now c.args.map.now) c.args.name.now)) some c.find.ensures.some in
+    let from : Finds c.args.self.now old c.args.name.now c.in_ok-found.found =
+    subst (λ m. Finds c.args.self.now (stock c.args.self.now.heap c.args.sliced.now m c.args.map.now) c.args.name.now c.in_ok-found.found) (sym c.find.ensures.memory) finds in
+    let is = is_unlisted c.args.self.now c.unlist-previous.new.self old was c.args.name.now previous address node from c.unlist-previous.ensures.previous c.unlist-previous.ensures.tails c.unlist-previous.ensures.unlists in
+    let linked : Stock = stock c.link.new.self.heap c.args.sliced.now c.link.new.memory c.args.map.now in
+    let start : c.unlist-previous.new.self.first ≡ c.args.self.now.first = ap (λ (s : FileSession). s.first) c.unlist-previous.ensures.same in
     let links : LinksTo c.args.self.now.first previous node.next c.link.new.self.first was.nodes linked.nodes =
-    subst (λ m. LinksTo c.args.self.now.first previous node.next c.link.new.self.first (stock c.args.self.now.heap c.args.sliced.now m c.args.map.now).nodes linked.nodes) c.find.ensures.memory c.link.ensures.links in
-    let rest : linked ≡ record was { nodes = linked.nodes } =
-    subst (λ m. linked ≡ record (stock c.args.self.now.heap c.args.sliced.now m c.args.map.now) { nodes = linked.nodes }) c.find.ensures.memory c.link.ensures.rest in
+    subst (λ f. LinksTo f previous node.next c.link.new.self.first was.nodes linked.nodes) start c.link.ensures.links in
+    let root : c.link.new.self.root ≡ c.unlist-previous.new.self.root = ap (λ (s : FileSession). s.root) c.link.ensures.same in
+    let named = subst (λ r. IsNamed r was.nodes (is.found.before ++ is.found.behind)) (sym root) is.named in
     let given : Stock = stock c.give_node.new.heap c.args.sliced.now c.give_node.new.memory c.give_node.new.map in
-    given_there c.args.self.now c.link.new.self was linked given c.args.name.now previous address node found links rest c.give_node.ensures.given.is (omega arith)
+    given_there c.args.self.now c.link.new.self was linked given c.args.name.now previous address node is.found links c.link.ensures.rest named is.back c.give_node.ensures.given.is (omega arith)
 
 pub returns-then-node-gt0-clause-serves : goal.returns-then-node-gt0-clause-serves
 returns-then-node-gt0-clause-serves c =
-    let was : Stock = stock c.args.self.now.heap c.args.sliced.now c.args.memory.now c.args.map.now in
-    let linked : Stock = stock c.link.new.self.heap c.args.sliced.now c.link.new.memory c.args.map.now in
+    let old : Stock = stock c.args.self.now.heap c.args.sliced.now c.find.new.memory c.args.map.now in
+    let was : Stock = stock c.unlist-previous.new.self.heap c.args.sliced.now c.unlist-previous.new.memory c.args.map.now in
     let some : c.find.result ≡ Some c.in_ok-found.found = c.ok_or.ensures.ok_part ∙ ap result_ok c.in_ok-found.was in
-    let found : Finds c.args.self.now was c.args.name.now c.in_ok-found.found = subst (λ o. IfSome o (Finds c.args.self.now was c.args.name.now)) some c.find.ensures.some in
-    let previous = c.in_ok-found.found.previous in
     let address = c.in_ok-found.found.address in
     let node = value_of c.in_ok-found.found.node in
+    let previous = c.unlist-previous.result in
+    let finds : Finds c.args.self.now (stock c.args.self.now.heap c.args.sliced.now c.args.memory.now c.args.map.now) c.args.name.now c.in_ok-found.found =
+    subst (λ o. IfSome o (Finds c.args.self.now (stock c.args.self.now.heap c.args.sliced.now c.args.memory.now c.args.map.now) c.args.name.now)) some c.find.ensures.some in
+    let from : Finds c.args.self.now old c.args.name.now c.in_ok-found.found =
+    subst (λ m. Finds c.args.self.now (stock c.args.self.now.heap c.args.sliced.now m c.args.map.now) c.args.name.now c.in_ok-found.found) (sym c.find.ensures.memory) finds in
+    let is = is_unlisted c.args.self.now c.unlist-previous.new.self old was c.args.name.now previous address node from c.unlist-previous.ensures.previous c.unlist-previous.ensures.tails c.unlist-previous.ensures.unlists in
+    let linked : Stock = stock c.link.new.self.heap c.args.sliced.now c.link.new.memory c.args.map.now in
+    let start : c.unlist-previous.new.self.first ≡ c.args.self.now.first = ap (λ (s : FileSession). s.first) c.unlist-previous.ensures.same in
     let links : LinksTo c.args.self.now.first previous node.next c.link.new.self.first was.nodes linked.nodes =
-    subst (λ m. LinksTo c.args.self.now.first previous node.next c.link.new.self.first (stock c.args.self.now.heap c.args.sliced.now m c.args.map.now).nodes linked.nodes) c.find.ensures.memory c.link.ensures.links in
-    let rest : linked ≡ record was { nodes = linked.nodes } =
-    subst (λ m. linked ≡ record (stock c.args.self.now.heap c.args.sliced.now m c.args.map.now) { nodes = linked.nodes }) c.find.ensures.memory c.link.ensures.rest in
+    subst (λ f. LinksTo f previous node.next c.link.new.self.first was.nodes linked.nodes) start c.link.ensures.links in
+    let root : c.link.new.self.root ≡ c.unlist-previous.new.self.root = ap (λ (s : FileSession). s.root) c.link.ensures.same in
+    let named = subst (λ r. IsNamed r was.nodes (is.found.before ++ is.found.behind)) (sym root) is.named in
     let given : Stock = stock c.give_node.new.heap c.args.sliced.now c.give_node.new.memory c.give_node.new.map in
     let later : FileSession = record c.link.new.self { heap = c.give_node.new.heap; last = c.last_without-self.result } in
-    let last_is = c.last_without-self.ensures ∙ ap (λ (s : FileSession). if s.last == address then previous else s.last) c.link.ensures.same in
-    let own : KeepsOwn c.args.self.now later = record { label = ap (λ (s : FileSession). s.label) c.link.ensures.same; buffer = ap (λ (s : FileSession). s.buffer) c.link.ensures.same } in
+    let same : c.link.new.self.last ≡ c.args.self.now.last = ap (λ (s : FileSession). s.last) c.link.ensures.same ∙ ap (λ (s : FileSession). s.last) c.unlist-previous.ensures.same in
+    let last_is = c.last_without-self.ensures ∙ ap (λ l. if l == address then previous else l) same in
+    let own : KeepsOwn c.args.self.now later = record {
+      label = ap (λ (s : FileSession). s.label) c.link.ensures.same ∙ ap (λ (s : FileSession). s.label) c.unlist-previous.ensures.same;
+      buffer = ap (λ (s : FileSession). s.buffer) c.link.ensures.same ∙ ap (λ (s : FileSession). s.buffer) c.unlist-previous.ensures.same;
+    } in
     let now : Stock = stock c.give_node.new.heap c.give_content.new.sliced c.give_content.new.memory c.give_content.new.map in
-    serves_full c.args.self.now later was linked given c.args.name.now previous address node found links rest c.give_node.ensures.given.is last_is own
-    now (omega arith) c.give_content.ensures.given
+    subst (λ m. Serves (served_in (Drop c.args.name.now) c.args.self.now (stock c.args.self.now.heap c.args.sliced.now m c.args.map.now)) Done c.args.self.now later now) c.find.ensures.memory
+    (subst (λ s. Serves s Done c.args.self.now later now) is.served
+    (serves_full c.args.self.now later was linked given c.args.name.now previous address node is.found links c.link.ensures.rest named is.back c.give_node.ensures.given.is last_is own
+    now (omega arith) c.give_content.ensures.given))
 
 pub returns-else-node-gt0-clause-serves : goal.returns-else-node-gt0-clause-serves
 returns-else-node-gt0-clause-serves c =
-    let was : Stock = stock c.args.self.now.heap c.args.sliced.now c.args.memory.now c.args.map.now in
-    let linked : Stock = stock c.link.new.self.heap c.args.sliced.now c.link.new.memory c.args.map.now in
+    let old : Stock = stock c.args.self.now.heap c.args.sliced.now c.find.new.memory c.args.map.now in
+    let was : Stock = stock c.unlist-previous.new.self.heap c.args.sliced.now c.unlist-previous.new.memory c.args.map.now in
     let some : c.find.result ≡ Some c.in_ok-found.found = c.ok_or.ensures.ok_part ∙ ap result_ok c.in_ok-found.was in
-    let found : Finds c.args.self.now was c.args.name.now c.in_ok-found.found = subst (λ o. IfSome o (Finds c.args.self.now was c.args.name.now)) some c.find.ensures.some in
-    let previous = c.in_ok-found.found.previous in
     let address = c.in_ok-found.found.address in
     let node = value_of c.in_ok-found.found.node in
+    let previous = c.unlist-previous.result in
+    let finds : Finds c.args.self.now (stock c.args.self.now.heap c.args.sliced.now c.args.memory.now c.args.map.now) c.args.name.now c.in_ok-found.found =
+    subst (λ o. IfSome o (Finds c.args.self.now (stock c.args.self.now.heap c.args.sliced.now c.args.memory.now c.args.map.now) c.args.name.now)) some c.find.ensures.some in
+    let from : Finds c.args.self.now old c.args.name.now c.in_ok-found.found =
+    subst (λ m. Finds c.args.self.now (stock c.args.self.now.heap c.args.sliced.now m c.args.map.now) c.args.name.now c.in_ok-found.found) (sym c.find.ensures.memory) finds in
+    let is = is_unlisted c.args.self.now c.unlist-previous.new.self old was c.args.name.now previous address node from c.unlist-previous.ensures.previous c.unlist-previous.ensures.tails c.unlist-previous.ensures.unlists in
+    let linked : Stock = stock c.link.new.self.heap c.args.sliced.now c.link.new.memory c.args.map.now in
+    let start : c.unlist-previous.new.self.first ≡ c.args.self.now.first = ap (λ (s : FileSession). s.first) c.unlist-previous.ensures.same in
     let links : LinksTo c.args.self.now.first previous node.next c.link.new.self.first was.nodes linked.nodes =
-    subst (λ m. LinksTo c.args.self.now.first previous node.next c.link.new.self.first (stock c.args.self.now.heap c.args.sliced.now m c.args.map.now).nodes linked.nodes) c.find.ensures.memory c.link.ensures.links in
-    let rest : linked ≡ record was { nodes = linked.nodes } =
-    subst (λ m. linked ≡ record (stock c.args.self.now.heap c.args.sliced.now m c.args.map.now) { nodes = linked.nodes }) c.find.ensures.memory c.link.ensures.rest in
+    subst (λ f. LinksTo f previous node.next c.link.new.self.first was.nodes linked.nodes) start c.link.ensures.links in
+    let root : c.link.new.self.root ≡ c.unlist-previous.new.self.root = ap (λ (s : FileSession). s.root) c.link.ensures.same in
+    let named = subst (λ r. IsNamed r was.nodes (is.found.before ++ is.found.behind)) (sym root) is.named in
     let given : Stock = stock c.give_node.new.heap c.args.sliced.now c.give_node.new.memory c.give_node.new.map in
     let later : FileSession = record c.link.new.self { heap = c.give_node.new.heap; last = c.last_without-self.result } in
-    let last_is = c.last_without-self.ensures ∙ ap (λ (s : FileSession). if s.last == address then previous else s.last) c.link.ensures.same in
-    let own : KeepsOwn c.args.self.now later = record { label = ap (λ (s : FileSession). s.label) c.link.ensures.same; buffer = ap (λ (s : FileSession). s.buffer) c.link.ensures.same } in
-    serves_empty c.args.self.now later was linked given c.args.name.now previous address node found links rest c.give_node.ensures.given.is last_is own (omega arith)
+    let same : c.link.new.self.last ≡ c.args.self.now.last = ap (λ (s : FileSession). s.last) c.link.ensures.same ∙ ap (λ (s : FileSession). s.last) c.unlist-previous.ensures.same in
+    let last_is = c.last_without-self.ensures ∙ ap (λ l. if l == address then previous else l) same in
+    let own : KeepsOwn c.args.self.now later = record {
+      label = ap (λ (s : FileSession). s.label) c.link.ensures.same ∙ ap (λ (s : FileSession). s.label) c.unlist-previous.ensures.same;
+      buffer = ap (λ (s : FileSession). s.buffer) c.link.ensures.same ∙ ap (λ (s : FileSession). s.buffer) c.unlist-previous.ensures.same;
+    } in
+    subst (λ m. Serves (served_in (Drop c.args.name.now) c.args.self.now (stock c.args.self.now.heap c.args.sliced.now m c.args.map.now)) Done c.args.self.now later given) c.find.ensures.memory
+    (subst (λ s. Serves s Done c.args.self.now later given) is.served
+    (serves_empty c.args.self.now later was linked given c.args.name.now previous address node is.found links c.link.ensures.rest named is.back c.give_node.ensures.given.is last_is own (omega arith)))
+
+pub returns-then-node-gt0-clause-keeps : goal.returns-then-node-gt0-clause-keeps
+returns-then-node-gt0-clause-keeps c =
+    let found = subst (λ m. KeepsSession c.args.sliced.now c.unlist-previous.new.self.heap c.args.sliced.now m c.unlist-previous.new.memory c.args.map.now c.args.map.now) c.find.ensures.memory c.unlist-previous.ensures.keeps in
+    keeps_both _ _ _ _ _ _ _ _ _ _ _ found
+    (keeps_both _ _ _ _ _ _ _ _ _ _ _ c.link.ensures.keeps (keeps_both _ _ _ _ _ _ _ _ _ _ _ c.give_node.ensures.keeps c.give_content.ensures.keeps))

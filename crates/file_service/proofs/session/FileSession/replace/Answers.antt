@@ -8,7 +8,8 @@ use Rattle.own_model.specs.Sliced.{block_size, sliced_size}
 use Rattle.own_model.specs.NatMap.{NatMap}
 use Rattle.own_model.specs.OwnState.{with_part}
 use Rattle.file_service.specs.Calls.{payload_in}
-use Rattle.file_service.specs.Files.{node_at, files_of, AreFiles}
+use Rattle.file_service.specs.Files.{node_at, files_of}
+use Rattle.file_service.specs.Index.{AreFiles, previous_at}
 use Rattle.file_service.specs.Furnished.{Stock, stock}
 use Rattle.file_service.specs.Node.{FileNode, value_of, bytes_of}
 use Rattle.file_service.proofs.ReplaceLemmas.{kept_alone, files_alone, kept_left, files_left, credited_is}
@@ -18,14 +19,14 @@ use Rattle.file_service.proofs.session.FileSession.replace.Goals as goal
 pub store_node-requires-clause-there : goal.store_node-requires-clause-there
 store_node-requires-clause-there c =
     let was : Stock = stock c.args.self.now.heap c.args.sliced.now c.args.memory.now c.args.map.now in
-    (found_file c.args.self.now.first c.args.self.now.last was.nodes was.contents c.args.found.node.name.items c.args.found.previous c.args.found.address (value_of c.args.found.node) c.requires.found).there
+    (found_file c.args.self.now.first c.args.self.now.last was.nodes was.contents c.args.found.node.name.items (previous_at was.nodes c.args.found.address) c.args.found.address (value_of c.args.found.node) c.requires.found).there
 
 pub give_content-requires-clause-there : goal.give_content-requires-clause-there
 give_content-requires-clause-there c =
     let was : Stock = stock c.args.self.now.heap c.args.sliced.now c.args.memory.now c.args.map.now in
     let mid : Stock = stock c.args.self.now.heap c.args.sliced.now c.store_node.new.memory c.args.map.now in
     let node_is : value_of c.args.found.node ≡ node_at was.nodes c.args.found.address = c.requires.found.node_is in
-    let file = found_file c.args.self.now.first c.args.self.now.last was.nodes was.contents c.args.found.node.name.items c.args.found.previous c.args.found.address (value_of c.args.found.node) c.requires.found in
+    let file = found_file c.args.self.now.first c.args.self.now.last was.nodes was.contents c.args.found.node.name.items (previous_at was.nodes c.args.found.address) c.args.found.address (value_of c.args.found.node) c.requires.found in
     let some : 0 < c.args.found.node.size = omega arith in
     let has = file.content (subst (λ (n : FileNode). 0 < n.size) node_is some) in
     let contents : mid.contents ≡ was.contents = ap (λ (s : Stock). s.contents) c.store_node.ensures.stored in
@@ -37,10 +38,10 @@ returns-else-was-gt0-clause-kept c =
     let mid : Stock = stock c.args.self.now.heap c.args.sliced.now c.store_node.new.memory c.args.map.now in
     let node : FileNode = record (value_of c.args.found.node) { content = c.args.content; size = c.args.size } in
     let contents : mid.contents ≡ was.contents = ap (λ (s : Stock). s.contents) c.store_node.ensures.stored in
-    subst (AreFiles c.args.self.now.first c.args.self.now.last mid.nodes) (sym contents)
-    (kept_alone c.args.self.now.first c.args.self.now.last was.nodes mid.nodes was.contents c.args.found.node.name.items c.args.found.previous c.args.found.address (value_of c.args.found.node) c.requires.found
+    subst (AreFiles c.args.self.now.first c.args.self.now.last c.args.self.now.root mid.nodes) (sym contents)
+    (kept_alone c.args.self.now.first c.args.self.now.last was.nodes mid.nodes was.contents c.args.found.node.name.items (previous_at was.nodes c.args.found.address) c.args.found.address (value_of c.args.found.node) c.requires.found
     (with_part (payload_in was.nodes.payloads c.args.found.address) 0 (bytes_of node)) (ap (λ (s : Stock). s.nodes) c.store_node.ensures.stored) c.args.content c.args.size
-    c.store_node.ensures.back c.store_node.ensures.there c.requires.content c.requires.own)
+    c.store_node.ensures.back c.store_node.ensures.there c.requires.content c.requires.own c.args.self.now.root c.requires.indexed (c.store_node.ensures.place (ap (λ (n : FileNode). n.name) c.requires.found.node_is)))
 
 pub returns-else-was-gt0-clause-files : goal.returns-else-was-gt0-clause-files
 returns-else-was-gt0-clause-files c =
@@ -49,9 +50,9 @@ returns-else-was-gt0-clause-files c =
     let node : FileNode = record (value_of c.args.found.node) { content = c.args.content; size = c.args.size } in
     let contents : mid.contents ≡ was.contents = ap (λ (s : Stock). s.contents) c.store_node.ensures.stored in
     ap (files_of c.args.self.now.first mid.nodes) contents
-    ∙ files_alone c.args.self.now.first c.args.self.now.last was.nodes mid.nodes was.contents c.args.found.node.name.items c.args.found.previous c.args.found.address (value_of c.args.found.node) c.requires.found
+    ∙ files_alone c.args.self.now.first c.args.self.now.last was.nodes mid.nodes was.contents c.args.found.node.name.items (previous_at was.nodes c.args.found.address) c.args.found.address (value_of c.args.found.node) c.requires.found
     (with_part (payload_in was.nodes.payloads c.args.found.address) 0 (bytes_of node)) (ap (λ (s : Stock). s.nodes) c.store_node.ensures.stored) c.args.content c.args.size
-    c.store_node.ensures.back c.store_node.ensures.there c.requires.content c.requires.own
+    c.store_node.ensures.back c.store_node.ensures.there c.requires.content c.requires.own c.args.self.now.root c.requires.indexed (c.store_node.ensures.place (ap (λ (n : FileNode). n.name) c.requires.found.node_is))
 
 pub returns-then-was-gt0-clause-kept : goal.returns-then-was-gt0-clause-kept
 returns-then-was-gt0-clause-kept c =
@@ -63,11 +64,11 @@ returns-then-was-gt0-clause-kept c =
     let nodes : now.nodes ≡ mid.nodes = ap (λ (s : Stock). s.nodes) c.give_content.ensures.given in
     let contents : now.contents ≡ remove was.contents c.args.found.node.content =
     ap (λ (s : Stock). s.contents) c.give_content.ensures.given ∙ ap (λ (s : Stock). remove s.contents c.args.found.node.content) c.store_node.ensures.stored in
-    subst (λ n. AreFiles c.args.self.now.first c.args.self.now.last n now.contents) (sym nodes)
-    (subst (AreFiles c.args.self.now.first c.args.self.now.last mid.nodes) (sym contents)
-    (kept_left c.args.self.now.first c.args.self.now.last was.nodes mid.nodes was.contents c.args.found.node.name.items c.args.found.previous c.args.found.address (value_of c.args.found.node) c.requires.found
+    subst (λ n. AreFiles c.args.self.now.first c.args.self.now.last c.args.self.now.root n now.contents) (sym nodes)
+    (subst (AreFiles c.args.self.now.first c.args.self.now.last c.args.self.now.root mid.nodes) (sym contents)
+    (kept_left c.args.self.now.first c.args.self.now.last was.nodes mid.nodes was.contents c.args.found.node.name.items (previous_at was.nodes c.args.found.address) c.args.found.address (value_of c.args.found.node) c.requires.found
     (with_part (payload_in was.nodes.payloads c.args.found.address) 0 (bytes_of node)) (ap (λ (s : Stock). s.nodes) c.store_node.ensures.stored) c.args.content c.args.size
-    c.store_node.ensures.back c.store_node.ensures.there c.requires.content c.requires.own some))
+    c.store_node.ensures.back c.store_node.ensures.there c.requires.content c.requires.own c.args.self.now.root c.requires.indexed (c.store_node.ensures.place (ap (λ (n : FileNode). n.name) c.requires.found.node_is)) some))
 
 pub returns-then-was-gt0-clause-files : goal.returns-then-was-gt0-clause-files
 returns-then-was-gt0-clause-files c =
@@ -81,15 +82,15 @@ returns-then-was-gt0-clause-files c =
     ap (λ (s : Stock). s.contents) c.give_content.ensures.given ∙ ap (λ (s : Stock). remove s.contents c.args.found.node.content) c.store_node.ensures.stored in
     ap (λ n. files_of c.args.self.now.first n now.contents) nodes
     ∙ ap (files_of c.args.self.now.first mid.nodes) contents
-    ∙ files_left c.args.self.now.first c.args.self.now.last was.nodes mid.nodes was.contents c.args.found.node.name.items c.args.found.previous c.args.found.address (value_of c.args.found.node) c.requires.found
+    ∙ files_left c.args.self.now.first c.args.self.now.last was.nodes mid.nodes was.contents c.args.found.node.name.items (previous_at was.nodes c.args.found.address) c.args.found.address (value_of c.args.found.node) c.requires.found
     (with_part (payload_in was.nodes.payloads c.args.found.address) 0 (bytes_of node)) (ap (λ (s : Stock). s.nodes) c.store_node.ensures.stored) c.args.content c.args.size
-    c.store_node.ensures.back c.store_node.ensures.there c.requires.content c.requires.own some
+    c.store_node.ensures.back c.store_node.ensures.there c.requires.content c.requires.own c.args.self.now.root c.requires.indexed (c.store_node.ensures.place (ap (λ (n : FileNode). n.name) c.requires.found.node_is)) some
 
 pub returns-then-was-gt0-clause-account : goal.returns-then-was-gt0-clause-account
 returns-then-was-gt0-clause-account c =
     let was : Stock = stock c.args.self.now.heap c.args.sliced.now c.args.memory.now c.args.map.now in
     let node_is : value_of c.args.found.node ≡ node_at was.nodes c.args.found.address = c.requires.found.node_is in
-    let file = found_file c.args.self.now.first c.args.self.now.last was.nodes was.contents c.args.found.node.name.items c.args.found.previous c.args.found.address (value_of c.args.found.node) c.requires.found in
+    let file = found_file c.args.self.now.first c.args.self.now.last was.nodes was.contents c.args.found.node.name.items (previous_at was.nodes c.args.found.address) c.args.found.address (value_of c.args.found.node) c.requires.found in
     let some : 0 < c.args.found.node.size = omega arith in
     let has = file.content (subst (λ (n : FileNode). 0 < n.size) node_is some) in
     let payload : payload_in was.contents c.args.found.node.content ≡ has.payload =
@@ -100,4 +101,4 @@ returns-then-was-gt0-clause-account c =
     ∙ ap (λ p. credited was.account (block_size p) 1) payload
     ∙ credited_is was.account c.args.found.node.size has.payload some long
     ∙ ap (λ n. credited was.account (content_ram n) (content_caps n))
-    (sym (found_long c.args.self.now.first c.args.self.now.last was.nodes was.contents c.args.found.node.name.items c.args.found.previous c.args.found.address (value_of c.args.found.node) c.requires.found))
+    (sym (found_long c.args.self.now.first c.args.self.now.last was.nodes was.contents c.args.found.node.name.items (previous_at was.nodes c.args.found.address) c.args.found.address (value_of c.args.found.node) c.requires.found))

@@ -3,6 +3,7 @@ use Rattle.std.proofs.Common.{◌≡◌, ◌∙◌, Some, ap, subst}
 use Rattle.std.specs.Prelude.{IfSome}
 use Rattle.std.specs.Result.{result_ok}
 use Rattle.file_service.specs.Files.{file_at}
+use Rattle.file_service.specs.Index.{previous_at}
 use Rattle.file_service.specs.Furnished.{Stock, stock}
 use Rattle.file_service.specs.Node.{value_of}
 use Rattle.file_service.specs.Session.{Finds}
@@ -15,7 +16,7 @@ returns-clause-told c =
     let was : Stock = stock c.args.self.now.heap c.args.sliced.now c.args.memory.now c.args.map.now in
     let some : c.find.result ≡ Some c.in_ok-found.found = c.ok_or.ensures.ok_part ∙ ap result_ok c.in_ok-found.was in
     let found : Finds c.args.self.now was c.args.name.now c.in_ok-found.found = subst (λ o. IfSome o (Finds c.args.self.now was c.args.name.now)) some c.find.ensures.some in
-    let previous = c.in_ok-found.found.previous in
+    let previous = (previous_at was.nodes c.in_ok-found.found.address) in
     let address = c.in_ok-found.found.address in
     let node = value_of c.in_ok-found.found.node in
     size_found c.args.name.now c.args.self.now was (file_at was.nodes was.contents address) c.in_ok-found.found.node.size

@@ -6,6 +6,7 @@ use Rattle.own_model.specs.FileText.FileError.{Gap}
 use Rattle.own_model.specs.FileText.FileReply.{Refused}
 use Rattle.own_model.specs.FileText.FileRequest.{Write}
 use Rattle.file_service.specs.Files.{file_at}
+use Rattle.file_service.specs.Index.{previous_at}
 use Rattle.file_service.specs.Furnished.{Stock, stock}
 use Rattle.file_service.specs.Node.{value_of}
 use Rattle.file_service.specs.Session.{served_in, Finds}
@@ -24,7 +25,7 @@ pub returns-then-offset-found-clause-serves : goal.returns-then-offset-found-cla
 returns-then-offset-found-clause-serves c =
     let was : Stock = stock c.args.self.now.heap c.args.sliced.now c.args.memory.now c.args.map.now in
     let found = finds (goal.at.returns-then-offset-found-clause-serves c).In_ok-found in
-    let previous = c.in_ok-found.found.previous in
+    let previous = previous_at was.nodes c.in_ok-found.found.address in
     let address = c.in_ok-found.found.address in
     let node = value_of c.in_ok-found.found.node in
     let long = found_long c.args.self.now.first c.args.self.now.last was.nodes was.contents c.args.name.now previous address node found in

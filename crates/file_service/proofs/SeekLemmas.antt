@@ -1,0 +1,145 @@
+-- A file is found by its name: the tree leads to its node, and no other has the name.
+use Rattle.std.proofs.Common.{◌≡◌, ◌≢◌, ℕ, ◌<◌, ◌≤◌, true, false, true≢false, Bool, not, List, [], ◌∷◌, ◌++◌, length, map, None, refl, sym, ap, subst, ◌∙◌, inl, inr, arith}
+use Rattle.std.proofs.lemmas.Bool.{cases_eq, false_from_ne_true}
+use Rattle.std.proofs.lemmas.Option.{none-some}
+use Rattle.std.proofs.lemmas.Bool.Decides.{nat_tests}
+use Rattle.std.proofs.lemmas.List.{length-take}
+use Rattle.std.specs.Prelude.{find}
+use Rattle.std.specs.Str.{bytes_eq}
+use Rattle.std.proofs.lemmas.Slice.Eq.{bytes_eq-Decides}
+use Rattle.own_model.specs.FileService.{is_named}
+use Rattle.own_model.specs.NatMap.{NatMap}
+use Rattle.own_model.specs.Text.{is_name}
+use Rattle.own_model.specs.OwnHeap.{OwnHeap}
+use Rattle.sliced_heap.specs.Chain.{is_listed}
+use Rattle.file_service.specs.Calls.{payload_in}
+use Rattle.file_service.specs.Files.{node_at, file_at, files_of, nodes_from, StandAt}
+use Rattle.file_service.specs.Index.{AreFiles, IsNamed, LeadsBack, Seeks, previous_at}
+use Rattle.file_service.specs.Node.{FileNode, node_of, rank_of}
+use Rattle.file_service.specs.Session.{IsFound}
+use Rattle.file_service.proofs.BackLemmas.{back_at}
+use Rattle.file_service.proofs.KeptLemmas.{blocks_are, files_are, listed_nonzero}
+use Rattle.file_service.proofs.LinkLemmas.{listed_append, listed_first, listed_later, once_apart, once_later, unlisted}
+use Rattle.heap_core.specs.Words.{are_bytes}
+use Rattle.file_service.proofs.NodeKeptLemmas.{named_of, back_of}
+use Rattle.file_service.proofs.RankLemmas.{rank_name}
+
+-- a name is no longer than names are
+pub name_short : (bytes : List ℕ) → length (node_of bytes).name ≤ 32
+unfolding node_of
+name_short bytes = grind (arith, nat_tests, length-take)
+
+-- what a test on bytes says of names
+pub ne_name : (xs slice name : List ℕ) (test : Bool) → slice ≡ xs → test ≡ not (bytes_eq slice name) → test ≡ true → xs ≢ name
+ne_name xs slice name test at is so same =
+    let e = (bytes_eq-Decides slice name).1 (at ∙ same) in true≢false (sym so ∙ is ∙ ap not e)
+
+pub eq_name : (xs slice name : List ℕ) (test : Bool) → slice ≡ xs → test ≡ not (bytes_eq slice name) → test ≡ false → xs ≡ name
+eq_name xs slice name test at is so = sym at ∙ (bytes_eq-Decides slice name).0 (not_false (bytes_eq slice name) (sym is ∙ so))
+  where
+    not_false : (b : Bool) → not b ≡ false → b ≡ true
+    not_false true e = refl
+    not_false false e = absurd (true≢false e)
+
+-- a name that is one is short
+pub name_fits : (name : List ℕ) → is_name name ≡ true → length name ≤ 32
+name_fits name is = grind (arith, nat_tests)
+
+-- where no block of these has the name there is no file of it
+pub none_named : (nodes : OwnHeap) (contents : NatMap (List ℕ)) (name : List ℕ) (xs : List ℕ) → ((b : ℕ) → is_listed xs b ≡ true → (node_at nodes b).name ≢ name) →
+    find (is_named name) (map (file_at nodes contents) xs) ≡ None
+none_named nodes contents name [] none = refl
+none_named nodes contents name (x ∷ xs) none =
+    let other : bytes_eq (node_at nodes x).name name ≡ false = false_from_ne_true _ (λ is. none x (listed_first x xs) ((bytes_eq-Decides (node_at nodes x).name name).0 is)) in
+    rw other (none_named nodes contents name xs (λ b t. none b (listed_later x b xs t)))
+
+-- and where there is no file of it no block has the name
+pub none_has : (nodes : OwnHeap) (contents : NatMap (List ℕ)) (name : List ℕ) (xs : List ℕ) → find (is_named name) (map (file_at nodes contents) xs) ≡ None →
+    (b : ℕ) → is_listed xs b ≡ true → (node_at nodes b).name ≢ name
+none_has nodes contents name [] none b t is = true≢false (sym t)
+none_has nodes contents name (x ∷ xs) none b t is = elim (bytes_eq (node_at nodes x).name name) as (λ v. bytes_eq (node_at nodes x).name name ≡ v → ⊥) [
+  | true ↦ λ e. none-some (file_at nodes contents x) (sym none ∙ rw e refl)
+  | false ↦ λ e. elim (cases_eq b x) [
+    | inl here ↦ true≢false (sym ((bytes_eq-Decides (node_at nodes x).name name).1 (ap (λ y. (node_at nodes y).name) (sym here) ∙ is)) ∙ e)
+    | inr other ↦ none_has nodes contents name xs (sym (rw e refl) ∙ none) b (grind (arith, nat_tests)) is
+  ]
+] refl
+
+-- a listed block stands between others
+pub record IsBetween (xs : List ℕ) (a : ℕ) : Type 0 where
+  pub before : List ℕ
+  pub behind : List ℕ
+  pub is : xs ≡ before ++ a ∷ behind
+
+pub between : (xs : List ℕ) (a : ℕ) → is_listed xs a ≡ true → IsBetween xs a
+between [] a t = absurd (true≢false (sym t))
+between (x ∷ xs) a t = elim (cases_eq a x) [
+  | inl here ↦ record { before = []; behind = xs; is = ap (λ y. y ∷ xs) (sym here) }
+  | inr other ↦
+      let rest = between xs a (grind (arith, nat_tests)) in
+      record { before = x ∷ rest.before; behind = rest.behind; is = ap (λ ys. x ∷ ys) rest.is }
+]
+
+module _ (first last root : ℕ) (nodes : OwnHeap) (contents : NatMap (List ℕ)) (files : AreFiles first last root nodes contents) (name : List ℕ) where
+  named : IsNamed root nodes files.blocks
+  named = named_of first last root nodes contents files.blocks files.stand files.indexed
+
+  -- no file has a name that is too long
+  pub none_long : 32 < length name → find (is_named name) (files_of first nodes contents).files ≡ None
+  none_long long =
+      ap (find (is_named name)) (files_are first last nodes contents files.blocks files.stand)
+      ∙ none_named nodes contents name files.blocks (λ b t is. omega (arith, long, ap length is, name_short (payload_in nodes.payloads b)))
+
+  module _ (address : ℕ) (seeks : Seeks root (rank_of name) nodes address) where
+    -- whoever has the name is found
+    has_name : (b : ℕ) → is_listed files.blocks b ≡ true → (node_at nodes b).name ≡ name → address ≡ b
+    has_name b t is =
+        let some = listed_nonzero first last nodes contents files.blocks files.stand b t in
+        seeks.there files.blocks b named t (omega (arith, some)) (ap rank_of is)
+
+    -- nothing is found
+    pub none_found : address ≡ 0 → find (is_named name) (files_of first nodes contents).files ≡ None
+    none_found zero_is =
+        ap (find (is_named name)) (files_are first last nodes contents files.blocks files.stand)
+        ∙ none_named nodes contents name files.blocks (λ b t is. listed_nonzero first last nodes contents files.blocks files.stand b t (sym (has_name b t is) ∙ zero_is))
+
+    -- what is found has another name
+    pub none_other : (node_at nodes address).name ≢ name → find (is_named name) (files_of first nodes contents).files ≡ None
+    none_other other =
+        ap (find (is_named name)) (files_are first last nodes contents files.blocks files.stand)
+        ∙ none_named nodes contents name files.blocks (λ b t is. other (ap (λ x. (node_at nodes x).name) (has_name b t is) ∙ is))
+
+    pub found_listed : 0 < address → is_listed files.blocks address ≡ true
+    found_listed some = seeks.listed files.blocks named some
+
+    -- what is found has the name
+    pub found_is : 0 < address → (node : FileNode) → node ≡ node_at nodes address → node.name ≡ name → IsFound first last nodes contents name (previous_at nodes address) address node
+    found_is some node node_is is =
+        let at = between files.blocks address (found_listed some) in
+        let stand = subst (StandAt first last nodes contents) at.is files.stand in
+        let back = back_of first last root nodes contents files.blocks files.stand files.indexed in
+        let here : (node_at nodes address).name ≡ name = ap (λ (n : FileNode). n.name) (sym node_is) ∙ is in
+        record {
+          before = at.before;
+          behind = at.behind;
+          stand = stand;
+          previous_is = back_at (previous_at nodes) 0 at.before at.behind address (subst (LeadsBack (previous_at nodes) 0) at.is back);
+          others = none_named nodes contents name at.before (λ b t same.
+              let l = listed_append at.before (address ∷ at.behind) b in
+              let w = listed_append at.before at.behind b in
+              let listed : is_listed files.blocks b ≡ true = ap (λ xs. is_listed xs b) at.is ∙ grind (arith, nat_tests) in
+              let fresh = once_apart at.before at.behind address (once_later 0 (at.before ++ address ∷ at.behind) stand.line.once) in
+              unlisted (at.before ++ at.behind) address b fresh (grind (arith, nat_tests)) (sym (has_name b listed same)));
+          named = (bytes_eq-Decides (node_at nodes address).name name).1 here;
+          node_is = node_is;
+        }
+
+  -- no node has the rank of a name that no file has
+  pub none_ranked : length name ≤ 32 → are_bytes name ≡ true → find (is_named name) (files_of first nodes contents).files ≡ None →
+      (b : ℕ) → is_listed (nodes_from first nodes) b ≡ true → rank_of (node_at nodes b).name ≢ rank_of name
+  none_ranked short are none b t same =
+      let blocks = blocks_are first last nodes contents files.blocks files.stand in
+      let listed : is_listed files.blocks b ≡ true = ap (λ xs. is_listed xs b) (sym blocks) ∙ t in
+      let padded = files.indexed.named.padded b t in
+      none_has nodes contents name files.blocks (ap (find (is_named name)) (sym (files_are first last nodes contents files.blocks files.stand)) ∙ none) b listed
+      (rank_name (node_at nodes b).name name (name_short _) short padded.name are same)

@@ -1,0 +1,149 @@
+-- The tree by name inside the nodes, and the links back.
+use Rattle.std.specs.Prelude.{◌≡◌, ◌≢◌, ℕ, ◌+◌, ◌*◌, ◌^◌, ◌<◌, ◌≤◌, true, false, if◌then◌else◌, List, [], ◌∷◌, ◌++◌, length, take, is_some}
+use Rattle.std.specs.FinMap.{get}
+use Rattle.avl_tree.specs.declared.node.Links.{Links}
+use Rattle.avl_tree.specs.Tree.{Tree, tally, is_at, IsOrdered}
+use Rattle.avl_tree.specs.View.{View, Plan, Stands}
+use Rattle.own_model.specs.OwnHeap.{OwnHeap}
+use Rattle.heap_core.specs.Words.{are_bytes}
+use Rattle.sliced_heap.specs.Chain.{is_listed, has_no_repeat}
+use Rattle.file_service.specs.Calls.{payload_in, HasBytes}
+use Rattle.file_service.specs.Files.{node_at, nodes_from, StandAt}
+use Rattle.file_service.specs.Furnished.{Stock, stock, IsFurnished, KeepsSession}
+use Rattle.dataspace_core.specs.Store.{Store}
+use Rattle.region_map.specs.Regions.{Regions}
+use Rattle.heap_core.specs.declared.heap.Heap.{Heap}
+use Rattle.sliced_heap.specs.declared.heap.SlicedHeap.{SlicedHeap}
+use Rattle.own_model.specs.NatMap.{NatMap}
+use Rattle.file_service.specs.Node.{bytes_of, rank_of, word_from}
+
+-- the links of a node in the tree stand behind the bytes that stand for the node, and the link to the node before it behind these
+abbrev pub links_at : OwnHeap → ℕ → Links
+links_at nodes address = record {
+  left = word_from (payload_in nodes.payloads address) 64;
+  right = word_from (payload_in nodes.payloads address) 72;
+  high = word_from (payload_in nodes.payloads address) 80;
+}
+
+abbrev pub previous_at : OwnHeap → ℕ → ℕ
+previous_at nodes address = word_from (payload_in nodes.payloads address) 88
+
+-- nodes as those of a tree, by their names, in a memory that is told whole at each place
+abbrev pub names_in : {Rest : Type 0} → Rest → OwnHeap → View Rest
+names_in rest nodes = record { links = links_at nodes; rank = λ a. rank_of (node_at nodes a).name; rest = λ q. rest }
+
+-- and in no memory
+abbrev pub names_of : OwnHeap → View ℕ
+names_of nodes = names_in 0 nodes
+
+-- a node takes its own number alone, and its links are a part of the memory
+abbrev pub name_plan : Plan
+name_plan = record { cover = λ q a. is_at q a 0; feet = λ q a. 1 }
+
+-- the bytes that stand for a node are the front of its block, with zeros behind the name
+pub record IsPadded (nodes : OwnHeap) (block : ℕ) : Type 0 where
+  pub there : HasBytes nodes.payloads block 0 96
+  pub front : take 64 (payload_in nodes.payloads block) ≡ bytes_of (node_at nodes block)
+  pub name : are_bytes (node_at nodes block).name ≡ true
+
+-- each of these blocks holds the number of the one before it, and the first one that of their holder
+abbrev pub LeadsBack : (ℕ → ℕ) → ℕ → List ℕ → Type 0
+LeadsBack previous holder [] = Unit {0}
+LeadsBack previous holder (block ∷ rest) = (previous block ≡ holder) × LeadsBack previous block rest
+
+-- a balanced tree by name has these blocks and no other
+pub record IsNamed (root : ℕ) (nodes : OwnHeap) (blocks : List ℕ) : Type 0 where
+  pub tree : Tree
+  pub most : ℕ
+  pub stands : Stands name_plan (names_of nodes) tree root
+  pub ordered : IsOrdered 0 tree most
+  pub count : tally (λ a s. 1) tree ≡ length blocks
+  pub all : (b : ℕ) → tally (is_at b) tree ≡ (if is_listed blocks b then 1 else 0)
+  pub padded : (b : ℕ) → is_listed blocks b ≡ true → IsPadded nodes b
+  pub small : (b : ℕ) → is_listed blocks b ≡ true → b < 2 ^ 64
+
+-- the node of a block can be entered by a rank: the block is none of these, and none of these has the rank
+pub record CanEnter (root : ℕ) (blocks : List ℕ) (block rank : ℕ) (nodes : OwnHeap) : Type 0 where
+  pub named : IsNamed root nodes blocks
+  pub some : 0 < block
+  pub small : block < 2 ^ 64
+  pub free : is_listed blocks block ≡ false
+  pub padded : IsPadded nodes block
+  pub ranked : rank_of (node_at nodes block).name ≡ rank
+  pub fresh : (b : ℕ) → is_listed blocks b ≡ true → rank_of (node_at nodes b).name ≢ rank
+  pub few : length blocks ≤ 2 ^ 64
+
+-- a search of the tree tells the node of a rank, where one has it, and else some node or 0
+pub record Seeks (root rank : ℕ) (nodes : OwnHeap) (found : ℕ) : Type 0 where
+  pub there : (blocks : List ℕ) (b : ℕ) → IsNamed root nodes blocks → is_listed blocks b ≡ true → 0 < b → rank_of (node_at nodes b).name ≡ rank → found ≡ b
+  pub listed : (blocks : List ℕ) → IsNamed root nodes blocks → 0 < found → is_listed blocks found ≡ true
+
+-- a block's node has been entered, as that of the last one
+abbrev pub Enters : ℕ → ℕ → ℕ → ℕ → OwnHeap → OwnHeap → Type 0
+Enters root block rank later_root nodes later =
+    (blocks : List ℕ) → CanEnter root blocks block rank nodes → IsNamed later_root later (blocks ++ block ∷ [])
+
+-- the block of a rank has been taken out
+abbrev pub Leaves : ℕ → ℕ → ℕ → OwnHeap → OwnHeap → Type 0
+Leaves root rank later_root nodes later =
+    (before behind : List ℕ) (block : ℕ) → IsNamed root nodes (before ++ block ∷ behind) → has_no_repeat (before ++ block ∷ behind) ≡ true →
+    rank_of (node_at nodes block).name ≡ rank → IsNamed later_root later (before ++ behind)
+
+-- words have been loaded: so many times the bits of the number of nodes, twice
+abbrev pub LoadsFew : ℕ → OwnHeap → ℕ → ℕ → ℕ → Type 0
+LoadsFew root nodes most old new =
+    (blocks : List ℕ) → IsNamed root nodes blocks → (n : ℕ) → length blocks < 2 ^ n → new ≤ old + most * (2 * n + 1)
+
+-- what a block's node has of the tree and of the link back is as it was
+pub record KeepsPlace (nodes later : OwnHeap) (block : ℕ) : Type 0 where
+  pub name : (node_at later block).name ≡ (node_at nodes block).name
+  pub links : links_at later block ≡ links_at nodes block
+  pub previous : previous_at later block ≡ previous_at nodes block
+  pub padded : IsPadded nodes block → IsPadded later block
+
+-- of a block's payload nothing has changed but its tail: the links of the tree, or the link back
+pub record KeepsFront (nodes later : OwnHeap) (block : ℕ) : Type 0 where
+  pub there : is_some (get later.payloads block) ≡ is_some (get nodes.payloads block)
+  pub long : length (payload_in later.payloads block) ≡ length (payload_in nodes.payloads block)
+  pub front : take 64 (payload_in later.payloads block) ≡ take 64 (payload_in nodes.payloads block)
+
+-- nothing of a session has changed but tails of its nodes' payloads
+pub record ChangesTails (old new : Stock) : Type 0 where
+  pub rest : new ≡ record old { nodes = record old.nodes { payloads = new.nodes.payloads } }
+  pub fronts : (b : ℕ) → KeepsFront old.nodes new.nodes b
+
+-- a node, if there is one, has been linked back to another one
+pub record LinksBack (block previous : ℕ) (old new : Stock) : Type 0 where
+  pub tails : ChangesTails old new
+  pub links : (b : ℕ) → links_at new.nodes b ≡ links_at old.nodes b
+  pub linked : block ≢ 0 → previous_at new.nodes block ≡ previous
+  pub others : (b : ℕ) → b ≢ block → previous_at new.nodes b ≡ previous_at old.nodes b
+
+-- nothing but links of the tree
+pub record ChangesTree (old new : Stock) : Type 0 where
+  pub tails : ChangesTails old new
+  pub previous : (b : ℕ) → previous_at new.nodes b ≡ previous_at old.nodes b
+
+-- the tree has the nodes' names, and the nodes are linked back
+pub record IsIndexed (first root : ℕ) (nodes : OwnHeap) : Type 0 where
+  pub named : IsNamed root nodes (nodes_from first nodes)
+  pub back : LeadsBack (previous_at nodes) 0 (nodes_from first nodes)
+
+-- files stand along some blocks, and the tree has their names
+pub record AreFiles (first last root : ℕ) (nodes : OwnHeap) (contents : NatMap (List ℕ)) : Type 0 where
+  pub blocks : List ℕ
+  pub stand : StandAt first last nodes contents blocks
+  pub indexed : IsIndexed first root nodes
+
+-- ---- as a tree's functions see nodes
+
+-- a block holds a node of a furnished session
+pub record IsNameNode (heap : Heap) (sliced : SlicedHeap) (store : Store) (regions : Regions) (block : ℕ) : Type 0 where
+  pub furnished : IsFurnished heap sliced store regions
+  pub padded : IsPadded (stock heap sliced store regions).nodes block
+
+-- nothing has changed but links of the tree
+pub record KeepsNames (heap : Heap) (sliced : SlicedHeap) (regions : Regions) (old new : Store) : Type 0 where
+  pub keeps : IsFurnished heap sliced old regions → KeepsSession sliced heap sliced old new regions regions
+  pub tree : ChangesTree (stock heap sliced old regions) (stock heap sliced new regions)
+  pub nodes : (b : ℕ) → IsNameNode heap sliced old regions b → IsNameNode heap sliced new regions b

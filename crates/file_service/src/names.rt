@@ -1,0 +1,371 @@
+//! Files by their names: a balanced tree inside their nodes.
+ghost use Rattle.std.specs.Prelude.{◌≡◌, ℕ, ◌+◌, ◌*◌, ◌%◌, ◌^◌, ◌<◌, ◌≤◌, ◌++◌, ◌∷◌, [], List, length, slice_index, slice_range};
+ghost use Rattle.std.specs.Ordering.{nat_cmp};
+ghost use Rattle.trade_base.specs.Word.{word_of, word_bytes};
+ghost use Rattle.dataspace_core.specs.Store.{Exists, space_at};
+ghost use Rattle.file_service.specs.Furnished.{stock, IsFurnished, KeepsSession};
+ghost use Rattle.file_service.specs.Index.{IsNamed, CanEnter, ChangesTree, Enters, Leaves, Seeks, LoadsFew, KeepsNames};
+ghost use Rattle.file_service.specs.Node.{rank_by, rank_of, word_from};
+
+use crate::node::{NAME_LENGTH, NODE_SIZE, NameKey, append_word};
+use crate::nodes::{find_node, put_bytes};
+use arrayvec::ArrayVec;
+use avl_tree::{Links, Nodes, Step, find, insert, remove};
+use dataspace_core::Memory;
+use heap_core::{Heap, Loads};
+use region_map::RegionMap;
+use sliced_heap::SlicedHeap;
+use std::cmp::Ordering;
+use std::marker::PhantomData;
+use std::sync::ledger::{Blank, Ledger};
+use trade_base::DsId;
+
+/// Where the links of the tree stand in a node's block.
+const LEFT: u64 = 64;
+
+const RIGHT: u64 = 72;
+
+const HIGH: u64 = 80;
+
+/// Where the address of the node before stands in a node's block, in the order of creation.
+pub(crate) const PREVIOUS: u64 = 88;
+
+/// A memory of which loaded words are counted.
+pub(crate) struct Counted<'a, L: Ledger> {
+    pub(crate) memory: &'a mut Memory,
+    pub(crate) loads: Loads<L>,
+}
+
+impl<L: Ledger> Counted<'_, L> {
+    // The word of a dataspace at an offset.
+    fn load(&mut self, ds: DsId, offset: u64) -> u64
+        requires exists { Exists self.old.memory.now ds.0 }
+        requires aligned { offset % 8 ≡ 0 }
+        requires range { offset + 8 ≤ length (space_at self.old.memory.now ds.0).bytes }
+        ensures value { result ≡ word_from (space_at self.old.memory.now ds.0).bytes offset }
+        ensures memory { self.new.memory.now ≡ self.old.memory.now }
+        ensures same_reference { self.new.memory.ghost_name ≡ self.old.memory.ghost_name }
+        ensures loads { self.new.loads ≡ self.old.loads + 1 }
+    {
+        let word = self.memory.load_word(ds, offset);
+        self.loads.tick();
+        word
+    }
+
+    // How the words of a key are to those that stand at an offset of a dataspace.
+    fn order(&mut self, words: &[u64], ds: DsId, offset: u64) -> Ordering
+        requires five { length words.now ≡ 5 }
+        requires exists { Exists self.old.memory.now ds.0 }
+        requires aligned { offset % 8 ≡ 0 }
+        requires range { offset + 40 ≤ length (space_at self.old.memory.now ds.0).bytes }
+        requires low { offset + 40 < 2 ^ 64 }
+        requires words { (i : ℕ) → i < 5 →
+            word_from (space_at self.old.memory.now ds.0).bytes (offset + 8 * i) < 2 ^ 64 }
+        ensures order { result ≡ nat_cmp (rank_by (slice_index words.now))
+            (rank_by (λ i. word_from (space_at self.old.memory.now ds.0).bytes (offset + 8 * i))) }
+        ensures memory { self.new.memory.now ≡ self.old.memory.now }
+        ensures same_reference { self.new.memory.ghost_name ≡ self.old.memory.ghost_name }
+        ensures loads { self.new.loads ≤ self.old.loads + 5 }
+    {
+        for i in 0..5 {
+            let word = self.load(ds, offset + 8 * i as u64);
+            let other = words[i];
+            if other != word {
+                return other.cmp(&word);
+            }
+        }
+        Ordering::Equal
+    }
+}
+
+/// The nodes of a session's files.
+#[derive(Drop)]
+pub(crate) struct FileNodes<'a, M> {
+    pub(crate) heap: &'a Heap,
+    pub(crate) sliced: &'a SlicedHeap,
+    pub(crate) map: &'a RegionMap,
+    pub(crate) memory: PhantomData<M>,
+}
+
+/// The bytes of a node's links.
+fn link_bytes(links: Links) -> ArrayVec<u8, NODE_SIZE>
+    ensures bytes { result.items
+        ≡ word_bytes links.left ++ (word_bytes links.right ++ word_bytes links.high) }
+    ensures len { length result.items ≡ 24 }
+    ensures left { links.left < 2 ^ 64 }
+    ensures right { links.right < 2 ^ 64 }
+    ensures high { links.high < 2 ^ 64 }
+{
+    let mut bytes = ArrayVec::new();
+    append_word(&mut bytes, links.left);
+    append_word(&mut bytes, links.right);
+    append_word(&mut bytes, links.high);
+    bytes
+}
+
+impl<'m, L: Ledger> Nodes for FileNodes<'_, Counted<'m, L>> {
+    ghost use Rattle.std.proofs.Common.{◌≡◌, ◌∙◌, refl};
+    ghost use Rattle.dataspace_core.specs.Store.{Store};
+    ghost use Rattle.file_service.specs.Index.{names_in, name_plan, IsNameNode, KeepsNames};
+    ghost use Rattle.file_service.specs.NameLaws.{names_same, names_then};
+
+    type Memory = Counted<'m, L>;
+
+    type Key = NameKey;
+
+    ghost Rest = { Store };
+
+    ghost IsNode = { λ nodes memory. IsNameNode
+        nodes.heap.now nodes.sliced.now memory.memory.now nodes.map.now };
+
+    ghost Keeps = { λ nodes old new.
+        (new.memory.ghost_name ≡ old.memory.ghost_name)
+        × KeepsNames nodes.heap.now nodes.sliced.now nodes.map.now old.memory.now new.memory.now };
+
+    ghost rank = { λ key. rank_by (slice_index key.words) };
+
+    ghost view = { λ nodes memory. names_in memory.memory.now
+        (stock nodes.heap.now nodes.sliced.now memory.memory.now nodes.map.now).nodes };
+
+    ghost plan = { name_plan };
+
+    ghost loads = { λ memory. memory.loads };
+
+    ghost cost = { 6 };
+
+    fn step(&self, memory: &mut Counted<'m, L>, key: NameKey, node: u64) -> Step {
+        let (ds, at) = find_node(self.heap, self.sliced, memory.memory, self.map, node);
+        match memory.order(&key.words, ds, at + NAME_LENGTH as u64) {
+            Ordering::Less => Step::Left(memory.load(ds, at + LEFT)),
+            Ordering::Equal => Step::Here,
+            Ordering::Greater => Step::Right(memory.load(ds, at + RIGHT)),
+        }
+    }
+
+    fn links(&self, memory: &mut Counted<'m, L>, node: u64) -> Links {
+        let (ds, at) = find_node(self.heap, self.sliced, memory.memory, self.map, node);
+        let left = memory.load(ds, at + LEFT);
+        let right = memory.load(ds, at + RIGHT);
+        let high = memory.load(ds, at + HIGH);
+        Links { left, right, high }
+    }
+
+    fn high(&self, memory: &mut Counted<'m, L>, node: u64) -> u64 {
+        let (ds, at) = find_node(self.heap, self.sliced, memory.memory, self.map, node);
+        memory.load(ds, at + HIGH)
+    }
+
+    fn set_links(&self, memory: &mut Counted<'m, L>, node: u64, links: Links) {
+        let bytes = link_bytes(links);
+        put_bytes(
+            self.heap,
+            self.sliced,
+            memory.memory,
+            self.map,
+            node,
+            LEFT,
+            &bytes,
+        );
+    }
+
+    ghost keeps_same = { λ nodes memory. (refl, names_same _ _ _ _) };
+
+    ghost keeps_then = { λ nodes old between new first second.
+        (second.0 ∙ first.0, names_then _ _ _ _ _ _ first.1 second.1) };
+
+    ghost keeps_node = { λ nodes old new node kept is. kept.1.nodes node is };
+}
+
+impl<'m, L: Ledger> FileNodes<'_, Counted<'m, L>> {
+    // The node of a key, where there is one.
+    fn seek(&self, memory: &mut Counted<'m, L>, root: u64, key: NameKey) -> u64
+        requires furnished { IsFurnished self.now.heap.now self.now.sliced.now
+            memory.old.memory.now self.now.map.now }
+        requires named { (blocks : List ℕ) × IsNamed root
+            (stock self.now.heap.now self.now.sliced.now
+            memory.old.memory.now self.now.map.now).nodes blocks }
+        ensures found { Seeks root (rank_by (slice_index key.words))
+            (stock self.now.heap.now self.now.sliced.now
+            memory.old.memory.now self.now.map.now).nodes result }
+        ensures memory { memory.new.memory.now ≡ memory.old.memory.now }
+        ensures same_reference { memory.new.memory.ghost_name ≡ memory.old.memory.ghost_name }
+        ensures loads { LoadsFew root (stock self.now.heap.now self.now.sliced.now
+            memory.old.memory.now self.now.map.now).nodes 6 memory.old.loads memory.new.loads }
+    {
+        find(self, memory, root, key)
+    }
+
+    // Enters the node of a new file in the tree, and tells the tree's root.
+    fn enter(&self, memory: &mut Counted<'m, L>, root: u64, key: NameKey, address: u64) -> u64
+        requires furnished { IsFurnished self.now.heap.now self.now.sliced.now
+            memory.old.memory.now self.now.map.now }
+        requires unnamed { (blocks : List ℕ) × CanEnter root blocks address
+            (rank_by (slice_index key.words)) (stock self.now.heap.now self.now.sliced.now
+            memory.old.memory.now self.now.map.now).nodes }
+        ensures enters { Enters root address (rank_by (slice_index key.words)) result
+            (stock self.now.heap.now self.now.sliced.now
+            memory.old.memory.now self.now.map.now).nodes
+            (stock self.now.heap.now self.now.sliced.now
+            memory.new.memory.now self.now.map.now).nodes }
+        ensures keeps { KeepsNames self.now.heap.now self.now.sliced.now self.now.map.now
+            memory.old.memory.now memory.new.memory.now }
+        ensures same_reference { memory.new.memory.ghost_name ≡ memory.old.memory.ghost_name }
+        ensures loads { (blocks : List ℕ) → CanEnter root blocks address
+            (rank_by (slice_index key.words)) (stock self.now.heap.now self.now.sliced.now
+            memory.old.memory.now self.now.map.now).nodes →
+            (n : ℕ) → length blocks < 2 ^ n →
+            memory.new.loads ≤ memory.old.loads + 60 * (2 * n + 1) }
+    {
+        insert(self, memory, root, key, address)
+    }
+
+    // Takes the node of a key out of the tree, and tells the tree's root.
+    fn leave(&self, memory: &mut Counted<'m, L>, root: u64, key: NameKey) -> u64
+        requires furnished { IsFurnished self.now.heap.now self.now.sliced.now
+            memory.old.memory.now self.now.map.now }
+        requires named { (blocks : List ℕ) × IsNamed root
+            (stock self.now.heap.now self.now.sliced.now
+            memory.old.memory.now self.now.map.now).nodes blocks }
+        ensures gone { Leaves root (rank_by (slice_index key.words)) result
+            (stock self.now.heap.now self.now.sliced.now
+            memory.old.memory.now self.now.map.now).nodes
+            (stock self.now.heap.now self.now.sliced.now
+            memory.new.memory.now self.now.map.now).nodes }
+        ensures keeps { KeepsNames self.now.heap.now self.now.sliced.now self.now.map.now
+            memory.old.memory.now memory.new.memory.now }
+        ensures same_reference { memory.new.memory.ghost_name ≡ memory.old.memory.ghost_name }
+        ensures loads { LoadsFew root (stock self.now.heap.now self.now.sliced.now
+            memory.old.memory.now self.now.map.now).nodes 60 memory.old.loads memory.new.loads }
+    {
+        remove(self, memory, root, key)
+    }
+}
+
+/// The address of the node that has a name where any has it, by the root of the tree. The memory is as it was.
+pub(crate) fn seek<L: Ledger>(
+    heap: &Heap,
+    sliced: &SlicedHeap,
+    memory: &mut Memory,
+    map: &RegionMap,
+    root: u64,
+    name: &[u8],
+    blank: Blank,
+) -> u64
+    requires name { blank.name ≡ L.name }
+    requires parts { blank.parts ≡ L.parts }
+    requires some { 0 < blank.parts }
+    requires few { length name.now ≤ 32 }
+    requires furnished { IsFurnished heap.now sliced.now memory.old map.now }
+    requires named { (blocks : List ℕ) × IsNamed root
+        (stock heap.now sliced.now memory.old map.now).nodes blocks }
+    ensures found { Seeks root (rank_of name.now)
+        (stock heap.now sliced.now memory.old map.now).nodes result }
+    ensures memory { memory.new ≡ memory.old }
+{
+    let mut counted = Counted {
+        memory,
+        loads: Loads::<L>::new(blank),
+    };
+    let nodes = FileNodes {
+        heap,
+        sliced,
+        map,
+        memory: PhantomData,
+    };
+    let found = nodes.seek(&mut counted, root, NameKey::of(name));
+    let Counted {
+        memory: lent,
+        loads: _loads,
+    } = counted;
+    let _ = lent;
+    found
+}
+
+/// Enters a new file's node in the tree by its name, and tells the tree's root.
+pub(crate) fn enter<L: Ledger>(
+    heap: &Heap,
+    sliced: &SlicedHeap,
+    memory: &mut Memory,
+    map: &RegionMap,
+    root: u64,
+    name: &[u8],
+    address: u64,
+    blank: Blank,
+) -> u64
+    requires name { blank.name ≡ L.name }
+    requires parts { blank.parts ≡ L.parts }
+    requires some { 0 < blank.parts }
+    requires few { length name.now ≤ 32 }
+    requires furnished { IsFurnished heap.now sliced.now memory.old map.now }
+    requires unnamed { (blocks : List ℕ) × CanEnter root blocks address (rank_of name.now)
+        (stock heap.now sliced.now memory.old map.now).nodes }
+    ensures enters { Enters root address (rank_of name.now) result
+        (stock heap.now sliced.now memory.old map.now).nodes
+        (stock heap.now sliced.now memory.new map.now).nodes }
+    ensures tree { ChangesTree (stock heap.now sliced.now memory.old map.now)
+        (stock heap.now sliced.now memory.new map.now) }
+    ensures keeps { KeepsSession sliced.now heap.now sliced.now
+        memory.old memory.new map.now map.now }
+{
+    let mut counted = Counted {
+        memory,
+        loads: Loads::<L>::new(blank),
+    };
+    let nodes = FileNodes {
+        heap,
+        sliced,
+        map,
+        memory: PhantomData,
+    };
+    let root = nodes.enter(&mut counted, root, NameKey::of(name), address);
+    let Counted {
+        memory: lent,
+        loads: _loads,
+    } = counted;
+    let _ = lent;
+    root
+}
+
+/// Takes the node of a name out of the tree, and tells the tree's root.
+pub(crate) fn leave<L: Ledger>(
+    heap: &Heap,
+    sliced: &SlicedHeap,
+    memory: &mut Memory,
+    map: &RegionMap,
+    root: u64,
+    name: &[u8],
+    blank: Blank,
+) -> u64
+    requires name { blank.name ≡ L.name }
+    requires parts { blank.parts ≡ L.parts }
+    requires some { 0 < blank.parts }
+    requires few { length name.now ≤ 32 }
+    requires furnished { IsFurnished heap.now sliced.now memory.old map.now }
+    requires named { (blocks : List ℕ) × IsNamed root
+        (stock heap.now sliced.now memory.old map.now).nodes blocks }
+    ensures gone { Leaves root (rank_of name.now) result
+        (stock heap.now sliced.now memory.old map.now).nodes
+        (stock heap.now sliced.now memory.new map.now).nodes }
+    ensures tree { ChangesTree (stock heap.now sliced.now memory.old map.now)
+        (stock heap.now sliced.now memory.new map.now) }
+    ensures keeps { KeepsSession sliced.now heap.now sliced.now
+        memory.old memory.new map.now map.now }
+{
+    let mut counted = Counted {
+        memory,
+        loads: Loads::<L>::new(blank),
+    };
+    let nodes = FileNodes {
+        heap,
+        sliced,
+        map,
+        memory: PhantomData,
+    };
+    let root = nodes.leave(&mut counted, root, NameKey::of(name));
+    let Counted {
+        memory: lent,
+        loads: _loads,
+    } = counted;
+    let _ = lent;
+    root
+}
