@@ -25,7 +25,7 @@ use Rattle.own_model.proofs.NatMapLemmas.{some_of}
 use Rattle.cap_space.specs.Space.{Space}
 use Rattle.region_map.specs.Regions.{Regions}
 use Rattle.dataspace_core.specs.Store.{Part, bytes_of, part_with_bytes}
-use Rattle.pd_core.specs.Own.{Sessions, selector_of, regions_of, own_of, range_refusal}
+use Rattle.pd_core.specs.Own.{Sessions, selector_of, regions_of, own_of, range_refusal, Lent}
 use Rattle.pd_core.specs.Sound.{IsScript}
 use Rattle.pd_core.proofs.NameLemmas.{Names, is_named}
 use Rattle.pd_core.proofs.OwnLemmas.{Settles, all_sessions, before, has_bytes, names_object, rewrites}
@@ -49,7 +49,7 @@ counted (Some r) other is = cc
 count_within : (count : ℕ) → count_refusal count ≡ None → count ≤ most_bytes
 count_within count h = grind (arith, nat_tests)
 
-module _ (p : Part) (space : Space) (regions : Regions) (heap : OwnHeap) (sliced : NatMap (List ℕ)) (sound : IsScript p space regions heap sliced) (address count : ℕ) where
+module _ {L : Lent} (p : Part) (space : Space) (regions : Regions) (heap : OwnHeap) (sliced : NatMap (List ℕ)) (sound : IsScript L p space regions heap sliced) (address count : ℕ) where
   -- the own state before a call
   abbrev own : Sessions → OwnState
   own = before p space regions heap sliced sound
@@ -127,7 +127,7 @@ module _ (p : Part) (space : Space) (regions : Regions) (heap : OwnHeap) (sliced
     peek_is sessions = sym (peeks (own sessions) address count selector.0 offset (bytes_of p key) some (own_found sessions) (ap named_bytes (object sessions)))
 
     -- a poke puts its bytes over those of the dataspace
-    pub poke_settles : (bytes : List ℕ) → count ≡ length bytes → Settles (Poke address bytes) p space regions heap sliced Done (part_with_bytes p key offset bytes) space regions
+    pub poke_settles : (bytes : List ℕ) → count ≡ length bytes → Settles L (Poke address bytes) p space regions heap sliced Done (part_with_bytes p key offset bytes) space regions
     poke_settles bytes size =
         let over = with_part-within (bytes_of p key) offset bytes (subst (λ n. offset + n ≤ length (bytes_of p key)) size fits) in
         rewrites p space regions heap sliced sound (Poke address bytes) key selector.0 _ names (ap length (sym over) ∙ length-with_part (bytes_of p key) offset bytes)
