@@ -1,5 +1,6 @@
 -- A script's calls on its account and its capabilities.
 use Rattle.std.proofs.Common.{◌≡◌, ◌≢◌, ℕ, ◌<◌, true, false, List, [], length, Option, Some, None, is_some, true≢false, refl, sym, ap, ◌∙◌, arith}
+use Rattle.std.proofs.lemmas.Option.{none-some, same_Some}
 use Rattle.std.specs.Option.{option_map, option_and_then}
 use Rattle.std.specs.FinMap.{get, insert, remove, len}
 use Rattle.trade_base.specs.Page.{page_of}
@@ -26,7 +27,7 @@ use Rattle.cap_space.specs.declared.cap.Cap.{Cap}
 use Rattle.cap_space.specs.declared.cap.Cap.TheVariants.{Dataspace, RpcObject, Session, Buffer}
 use Rattle.region_map.specs.Regions.{Regions, all_detached}
 use Rattle.dataspace_core.specs.Store.{Part, account_of, part_with_space, part_without_space, charged_part, credited_part, bytes_of}
-use Rattle.pd_core.specs.Own.{Sessions, object_of, selector_of, regions_of, own_of, Lent}
+use Rattle.pd_core.specs.Own.{Sessions, object_of, selector_of, regions_of, own_of, Lent, key_at}
 use Rattle.pd_core.specs.Sound.{rpc_weight, IsScript}
 use Rattle.pd_core.proofs.NameLemmas.{is_named, named_is}
 use Rattle.pd_core.proofs.OwnLemmas.{Settles, same_window, before, object_is, has_bytes, names_object, grows, shrinks}
@@ -46,10 +47,6 @@ found_rpc (Some (Dataspace d)) h = absurd (true≢false (sym h))
 found_rpc (Some RpcObject) h = refl
 found_rpc (Some (Buffer space session)) h = absurd (true≢false (sym h))
 found_rpc (Some (Session server session)) h = absurd (true≢false (sym h))
-
--- equal capabilities
-same_cap : (a b : Cap) → Some a ≡ Some b → a ≡ b
-same_cap a b e = cc
 
 -- dataspaces of one capability have one key
 same_key : (a b : DsId) → Dataspace a ≡ Dataspace b → a.0 ≡ b.0
@@ -125,12 +122,12 @@ module _ {L : Lent} (p : Part) (space : Space) (regions : Regions) (heap : OwnHe
     module _ (ds : DsId) (named : get space.caps s ≡ Some (Dataspace ds)) where
       -- what the selector names is under one key
       alone : (thing : ℕ) → selector_of space.caps thing ≡ Some s → thing ≡ ds.0
-      alone thing is = let of = is_named space.caps thing s is in sym of.same ∙ same_key of.ds ds (same_cap _ _ (sym of.there ∙ named))
+      alone thing is = same_Some thing ds.0 (sym (is_named space.caps thing s is) ∙ ap key_at named)
 
       -- no selector that is left names the dataspace
       rest_apart : (q : ℕ) (d : DsId) → get (remove space.caps s) q ≡ Some (Dataspace d) → d.0 ≢ ds.0
       rest_apart q d there e =
-          let same : q ≡ s = sound.named.one q s d ds (before_remove space.caps s q (Dataspace d) there) named e in
+          let same : q ≡ s = sound.named.one q s ds.0 (ap key_at (before_remove space.caps s q (Dataspace d) there) ∙ ap (λ k. Some k) e) (ap key_at named) in
           true≢false (sym (ap is_some there) ∙ ap is_some (get-remove_same space.caps s q same))
 
       -- a region that is left is of another dataspace
@@ -142,7 +139,7 @@ module _ {L : Lent} (p : Part) (space : Space) (regions : Regions) (heap : OwnHe
       unfolding own_of regions_of
       free_settles =
           let has = has_bytes p space regions heap sliced sound s ds named in
-          let map = renamed-without (selector_of space.caps) ds.0 s (named_is space.caps sound.named.one s ds named) alone regions.user in
+          let map = renamed-without (selector_of space.caps) ds.0 s (named_is space.caps sound.named.one s ds.0 (ap key_at named)) alone regions.user in
           shrinks p space regions heap sliced sound (Free s) (length (bytes_of p ds.0)) (remove p.spaces ds.0) (Dataspace ds) s named (all_detached regions ds.0)
           (λ q d there. get-remove_other p.spaces ds.0 d.0 (rest_apart q d there)) left
           (λ start region there. get-remove_other p.spaces ds.0 region.of (λ e. sound.blocks.unnamed start s region ds there named (sym e)))
@@ -185,7 +182,7 @@ module _ {L : Lent} (p : Part) (space : Space) (regions : Regions) (heap : OwnHe
 
       -- no region is of an RPC object
       not_attached : (thing : ℕ) → selector_of space.caps thing ≢ Some s
-      not_attached thing is = let of = is_named space.caps thing s is in let e = same_cap _ _ (sym of.there ∙ named) in cc
+      not_attached thing is = none-some thing (sym (ap key_at named) ∙ is_named space.caps thing s is)
 
       -- a capfree settles
       pub capfree_settles : Settles L (Capfree s) p space regions heap sliced Done (credited_part p 1) (without_cap space s) regions

@@ -52,6 +52,7 @@ use Rattle.pd_core.specs.Sound.{session_at, rpc_weight, session_weight, IsLawful
 use Rattle.pd_core.specs.Component.{Pays, entry_of, payer_in, payer_of, caps_in, caps_of, places_in, places_of, rows_in, tables_in, NamesItsSessions, HasPlaces, HasNewHeap, HasNewHeaps, own_in, own, IsSoundServer, IsSoundRole}
 use Rattle.pd_core.specs.Core.{Rules, Roles, roles_of, rows_at, sessions_in, world_of, Owner, Owns, IsCore}
 use Rattle.pd_core.specs.Core.Owner.{Init, Place, SessionAt}
+use Rattle.pd_core.proofs.NameLemmas.{cap_named}
 use Rattle.pd_core.proofs.ComponentLemmas.{pays_is}
 use Rattle.pd_core.proofs.WorldLemmas.{all_roles, place_of, role_at, one_of}
 use Rattle.std.proofs.lemmas.Bool.{cases_lt}
@@ -128,7 +129,7 @@ module _ (store : Store) (ram caps : ℕ) where
           own = record {
             named = record {
               there = λ q ds names. absurd (none_in_empty _ fresh.no_caps q _ names);
-              one = λ s t a b first second same. absurd (none_in_empty _ fresh.no_caps s _ first);
+              one = λ s t key first second. absurd (none_in_empty _ fresh.no_caps s _ (cap_named (get script.caps.caps s) key first).1);
               unlent = λ q of session names. absurd (none_in_empty _ fresh.no_caps q _ names);
             };
             paid = record { is_open = ap (λ (p : Part). is_some p.account) unused; named = omega (arith, few, blocks, heap); spare = omega (arith, none, weight); placed = omega (arith, limit, sessions, fresh.places) };

@@ -1,11 +1,8 @@
 -- A call of a session that a selector names: what the model tells of it, and that its caller stays sound.
 use Rattle.std.proofs.Common.{◌≡◌, ◌≢◌, ℕ, ◌≤◌, List, [], Some, is_some, unwrap_or, refl, sym, ap, subst, ◌∙◌, arith}
-use Rattle.std.proofs.lemmas.Option.{none-some}
 use Rattle.std.specs.Prelude.{Option, None, Result, Ok, Err, IsErrAnd}
 use Rattle.std.specs.Option.{option_map}
 use Rattle.std.specs.FinMap.{get}
-use Rattle.trade_base.specs.declared.id.DsId.{DsId}
-use Rattle.trade_base.specs.declared.id.Selector.{Selector}
 use Rattle.trade_base.specs.declared.id.SessionId.{SessionId}
 use Rattle.trade_base.specs.declared.refusal.Refusal.{Refusal}
 use Rattle.trade_base.specs.declared.refusal.Refusal.TheVariants.{BadArgs}
@@ -24,8 +21,7 @@ use Rattle.own_model.specs.StartList.{Entry}
 use Rattle.own_model.specs.SessionArgs.{Arguments, arguments_of}
 use Rattle.own_model.proofs.NatMapLemmas.{some_of, get-picked_at, get-remove_same, get-remove_other}
 use Rattle.own_model.proofs.Totals.{len-remove_at, total-remove, total_at_le}
-use Rattle.cap_space.specs.declared.cap.Cap.{Cap}
-use Rattle.cap_space.specs.declared.cap.Cap.TheVariants.{Dataspace, Session, Buffer}
+use Rattle.cap_space.specs.declared.cap.Cap.TheVariants.{Session}
 use Rattle.cap_space.specs.Space.{Space, without_cap}
 use Rattle.dataspace_core.specs.Store.{Store, Part, part, account_of, account_in, accounts_in, ram_limits_in, raised_part, parted_part, ClosesPart, RaisesPart}
 use Rattle.dataspace_core.proofs.PartLaws.{account_of-part}
@@ -33,7 +29,7 @@ use Rattle.dataspace_core.proofs.RoomLaws.{account_in_part}
 use Rattle.server_frame.specs.Frame.{Row}
 use Rattle.pd_core.specs.Answer.{reply_of}
 use Rattle.pd_core.specs.declared.answer.Answer.{Answer}
-use Rattle.pd_core.specs.Own.{Sessions, object_of, own_at, own_of, own_heap_at, sliced_at, part_at, lent_in}
+use Rattle.pd_core.specs.Own.{Sessions, object_of, own_at, own_of, own_heap_at, sliced_at, part_at, lent_in, key_at}
 use Rattle.pd_core.specs.Sessions.{row_session, AgreeBut, NamesSession, DoesSession}
 use Rattle.pd_core.specs.Sound.{rpc_weight, session_weight, IsSoundScript}
 use Rattle.pd_core.specs.declared.script.Script.{Script}
@@ -41,14 +37,6 @@ use Rattle.pd_core.proofs.OwnLemmas.{has_no_buffer}
 use Rattle.pd_core.proofs.SessionOwnLemmas.{AreNoSpaces, AreCounted}
 use Rattle.pd_core.proofs.SessionStepLemmas.{ChangesOne, some_sessions, some_are_open, some_same, with_session, with_session_same, with_session_other, closes_own, upgrades_own, serves_own, lawful_after}
 use Rattle.pd_core.proofs.SessionScriptLemmas.{own_still, sound_still}
-
--- a session is no dataspace
-pub no_space : (server : ℕ) (session : SessionId) (o : Option Cap) → o ≡ Some (Session server session) → (ds : DsId) → o ≢ Some (Dataspace ds)
-no_space server session o is ds names = cc
-
--- nor a buffer
-pub no_lent_space : (server : ℕ) (session : SessionId) (o : Option Cap) → o ≡ Some (Session server session) → (of : DsId) (its : Selector) → o ≢ Some (Buffer of its)
-no_lent_space server session o is of its names = cc
 
 -- an account's limit is within the machine's
 pub limit_within : (account : ℕ) (store : Store) (a : Account) → (part account store).account ≡ Some a → a.ram_limit ≤ ram_limits_in store
@@ -90,7 +78,7 @@ module _ (store store' : Store) (script : Script) (rows : NatMap (Row Labelled))
     closed_none = get-remove_same script.caps.caps selector selector refl
 
     closed_spaces : AreNoSpaces script.caps.caps closed_space.caps selector
-    closed_spaces = record { before = no_space server session _ names.named; after = λ ds is. none-some (Dataspace ds) (sym closed_none ∙ is); no_buffer = λ of its is. none-some (Buffer of its) (sym closed_none ∙ is) }
+    closed_spaces = record { before = ap key_at names.named; after = ap key_at closed_none }
 
     closed_changes : (S S' : Sessions) → AgreeBut S S' server session.0 → ChangesOne S S' p p' script.caps.caps closed_space.caps selector
     closed_changes S S' agree = record { spaces = ap (λ (q : Part). q.spaces) own; others = closed_others; agrees = others_agree S S' agree; no_spaces = closed_spaces }
@@ -134,7 +122,7 @@ module _ (store store' : Store) (script : Script) (rows : NatMap (Row Labelled))
 
   -- the selector still names it
   put_spaces : AreNoSpaces script.caps.caps script.caps.caps selector
-  put_spaces = record { before = no_space server session _ names.named; after = no_space server session _ names.named; no_buffer = no_lent_space server session _ names.named }
+  put_spaces = record { before = ap key_at names.named; after = ap key_at names.named }
 
   put_changes : (S S' : Sessions) → AgreeBut S S' server session.0 → ChangesOne S S' p p' script.caps.caps script.caps.caps selector
   put_changes S S' agree = record { spaces = ap (λ (q : Part). q.spaces) own; others = λ q apart. refl; agrees = others_agree S S' agree; no_spaces = put_spaces }

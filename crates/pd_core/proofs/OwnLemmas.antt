@@ -34,9 +34,9 @@ use Rattle.region_map.specs.Regions.{Regions}
 use Rattle.dataspace_core.specs.Store.{Store, Part, part, space_at, account_of, bytes_of, PartBecomes}
 use Rattle.dataspace_core.proofs.PartLaws.{paid_in_part}
 use Rattle.sliced_heap.specs.Laws.{KeepsHeapWindow}
-use Rattle.pd_core.specs.Own.{Sessions, HasSessions, object_of, selector_of, regions_of, own_of, Lent}
+use Rattle.pd_core.specs.Own.{Sessions, HasSessions, object_of, selector_of, regions_of, own_of, Lent, key_at}
 use Rattle.pd_core.specs.Sound.{rpc_weight, session_weight, session_at, IsOne, AreNamed, AreBlocks, IsLawful, IsScript}
-use Rattle.pd_core.proofs.NameLemmas.{Names, is_named, regions_alike, attached_alike}
+use Rattle.pd_core.proofs.NameLemmas.{Names, is_named, regions_alike, attached_alike, cap_named, key_before, space_named}
 
 -- what a call leaves to the heaps: the heap window, and what their dataspaces hold
 pub record Spares (p p' : Part) (regions regions' : Regions) : Type 0 where
@@ -244,19 +244,30 @@ module _ {L : Lent} (p : Part) (space : Space) (regions : Regions) (heap : OwnHe
         object_stays sessions q c there = object_alike L sessions p charged_part c (λ ds is. still ds.0 (is_held q ds (there ∙ ap (λ x. Some x) is)))
 
         -- no selector named the new dataspace
-        unnamed : (q : ℕ) (a b : DsId) → a.0 ≡ b.0 → cap ≡ Dataspace a → get space.caps q ≢ Some (Dataspace b)
-        unnamed q a b e is there = apart_from_free p.spaces a.0 b.0 (fresh a is) (is_held q b there) (sym e)
+        unnamed : (q key : ℕ) → key_at (Some cap) ≡ Some key → Names space.caps q key → ⊥
+        unnamed q key new old =
+            let its = space_named (get space.caps q) key old (λ of session. sound.named.unlent q of session) in
+            let mine = space_named (Some cap) key new (λ of session is. no_lending of session (same_Some cap (Buffer of session) is)) in
+            apart_from_free p.spaces mine.0.0 its.0.0 (fresh mine.0 (same_Some cap (Dataspace mine.0) mine.1)) (is_held q its.0 its.1) (its.2 ∙ sym mine.2)
+
+        -- a key is the new selector's
+        new_key : (q key : ℕ) → q ≡ s → Names (insert space.caps s cap) q key → key_at (Some cap) ≡ Some key
+        new_key q key at names = ap key_at (sym (get-insert_same space.caps s cap q at)) ∙ names
+
+        -- or another's
+        old_key : (q key : ℕ) → q ≢ s → Names (insert space.caps s cap) q key → Names space.caps q key
+        old_key q key apart names = ap key_at (sym (get-insert_other space.caps s cap q apart)) ∙ names
 
         -- a dataspace still has one selector at most
         grown_one : IsOne (insert space.caps s cap)
-        grown_one q t a b first second e = elim (after_insert space.caps s cap q (Dataspace a) first) [
-          | inl here ↦ elim (after_insert space.caps s cap t (Dataspace b) second) [
-            | inl too ↦ here.0 ∙ sym too.0
-            | inr old ↦ absurd (unnamed t a b e (sym here.1) old.1)
+        grown_one q t key first second = elim (cases_eq q s) [
+          | inl here ↦ elim (cases_eq t s) [
+            | inl too ↦ here ∙ sym too
+            | inr old ↦ absurd (unnamed t key (new_key q key here first) (old_key t key old second))
           ]
-          | inr old ↦ elim (after_insert space.caps s cap t (Dataspace b) second) [
-            | inl here ↦ absurd (unnamed q b a (sym e) (sym here.1) old.1)
-            | inr too ↦ sound.named.one q t a b old.1 too.1 e
+          | inr old ↦ elim (cases_eq t s) [
+            | inl here ↦ absurd (unnamed q key (new_key t key here second) (old_key q key old first))
+            | inr too ↦ sound.named.one q t key (old_key q key old first) (old_key t key too second)
           ]
         ]
 
@@ -284,7 +295,7 @@ module _ {L : Lent} (p : Part) (space : Space) (regions : Regions) (heap : OwnHe
         -- the selector of a region's dataspace names what it did
         named_apart : (q start : ℕ) (region : Region) → get regions.user start ≡ Some region → selector_of space.caps region.of ≡ Some q → get (insert space.caps s cap) q ≡ get space.caps q
         named_apart q start region there names =
-            get-insert_other space.caps s cap q (apart_from_free space.caps s q free_selector (ap is_some (is_named space.caps region.of q names).there))
+            get-insert_other space.caps s cap q (apart_from_free space.caps s q free_selector (ap is_some (cap_named (get space.caps q) region.of (is_named space.caps region.of q names)).1))
 
         -- the sessions stay
         grown_sessions : (q : ℕ) → session_at (get (insert space.caps s cap) q) ≡ session_at (get space.caps q)
@@ -355,7 +366,7 @@ module _ {L : Lent} (p : Part) (space : Space) (regions : Regions) (heap : OwnHe
 
       -- a dataspace still has one selector at most
       shrunk_one : IsOne (remove space.caps s)
-      shrunk_one q t a b first second e = sound.named.one q t a b (before_remove space.caps s q (Dataspace a) first) (before_remove space.caps s t (Dataspace b) second) e
+      shrunk_one q t key first second = sound.named.one q t key (key_before space.caps s q key first) (key_before space.caps s t key second)
 
       -- each region that is left had a dataspace that a selector names
       left_named : AreNamed space.caps regions'.user
@@ -442,9 +453,13 @@ module _ {L : Lent} (p : Part) (space : Space) (regions : Regions) (heap : OwnHe
     -- ---- other bytes
 
     module _ (key s : ℕ) (over : List ℕ) (names : Names space.caps s key) (size : length over ≡ length (bytes_of p key)) where
+      -- it is one of the script's own
+      abbrev its : (ds : DsId) × (get space.caps s ≡ Some (Dataspace ds)) × (ds.0 ≡ key)
+      its = space_named (get space.caps s) key names (λ of session. sound.named.unlent s of session)
+
       -- the part has the bytes that are written over
       has : get p.spaces key ≡ Some (bytes_of p key)
-      has = subst (λ k. get p.spaces k ≡ Some (bytes_of p k)) names.same (has_bytes s names.ds names.there)
+      has = subst (λ k. get p.spaces k ≡ Some (bytes_of p k)) its.2 (has_bytes s its.0 its.1)
 
       -- the part with other bytes of the dataspace
       abbrev pub written : Part
@@ -453,12 +468,12 @@ module _ {L : Lent} (p : Part) (space : Space) (regions : Regions) (heap : OwnHe
       -- other selectors keep their objects
       object_other : (sessions : Sessions) (q : ℕ) (c : Cap) → q ≢ s → get space.caps q ≡ Some c → object_of L sessions written c ≡ object_of L sessions p c
       object_other sessions q c apart there = object_alike L sessions p written c (λ d is.
-          get-insert_other p.spaces key over d.0 (λ e. apart (sound.named.one q s d names.ds (there ∙ ap (λ x. Some x) is) names.there (e ∙ sym names.same))))
+          get-insert_other p.spaces key over d.0 (λ e. apart (sound.named.one q s key (ap key_at (there ∙ ap (λ x. Some x) is) ∙ ap (λ k. Some k) e) names)))
 
       -- the dataspace's selector names the new bytes
       object_here : (sessions : Sessions) (q : ℕ) → q ≡ s → option_and_then (object_of L sessions written) (get space.caps q) ≡ Some (ADataspace over)
       object_here sessions q at =
-          ap (option_and_then (object_of L sessions written)) (ap (get space.caps) at ∙ names.there) ∙ ap (option_map ADataspace) (get-insert_same p.spaces key over names.ds.0 names.same)
+          ap (option_and_then (object_of L sessions written)) (ap (get space.caps) at ∙ its.1) ∙ ap (option_map ADataspace) (get-insert_same p.spaces key over its.0.0 its.2)
 
       -- and the others what they did
       written_at : (sessions : Sessions) (q : ℕ) → get (picked (object_of L sessions written) space.caps) q ≡ get (insert (picked (object_of L sessions p) space.caps) s (ADataspace over)) q
@@ -484,7 +499,7 @@ module _ {L : Lent} (p : Part) (space : Space) (regions : Regions) (heap : OwnHe
           let outcome : DoesOwn L call p space regions heap sliced Done written space regions heap sliced
           = λ sessions ready. (λ i. record { reply = Done; lines = []; next = record (before sessions) { selectors = same _ _ (written_at sessions) i } }) ∙ sym (is sessions) in
           let bytes : (start : ℕ) (region : Region) → get regions.heap start ≡ Some region → get written.spaces region.of ≡ get p.spaces region.of
-          = (λ start region there. get-insert_other p.spaces key over region.of (λ e. sound.blocks.unnamed start s region names.ds there names.there (names.same ∙ sym e))) in
+          = (λ start region there. get-insert_other p.spaces key over region.of (λ e. sound.blocks.unnamed start s region its.0 there its.1 (its.2 ∙ sym e))) in
           let script : IsScript L written space regions heap sliced = record {
             named = record { there = written_there; one = sound.named.one; unlent = sound.named.unlent };
             paid = record {

@@ -23,7 +23,7 @@ use Rattle.cap_space.specs.declared.cap.Cap.{Cap}
 use Rattle.cap_space.specs.declared.cap.Cap.TheVariants.{Dataspace, RpcObject as AnRpcCap, Session, Buffer}
 use Rattle.region_map.specs.Regions.{Regions, attached, detached}
 use Rattle.dataspace_core.specs.Store.{Part, bytes_of}
-use Rattle.pd_core.specs.Own.{Sessions, Lent, selector_of, regions_of, own_of, sized_at}
+use Rattle.pd_core.specs.Own.{Sessions, Lent, selector_of, regions_of, own_of, sized_at, key_at}
 use Rattle.pd_core.specs.Sound.{AreNamed, IsScript}
 use Rattle.pd_core.proofs.NameLemmas.{named_is}
 use Rattle.pd_core.proofs.OwnLemmas.{Settles, all_sessions, before, object_is, no_buffer, few_bytes, names_object, remaps}
@@ -140,7 +140,7 @@ module _ {L : Lent} (p : Part) (space : Space) (regions : Regions) (heap : OwnHe
     -- a region more is named too
     attached_more : (address : ℕ) → AreNamed space.caps (attached regions ds.0 pages address).user
     attached_more address start region there = elim (after_insert regions.user address (record { of = ds.0; pages = pages }) start region there) [
-      | inl here ↦ ap (λ (r : Region). is_some (selector_of space.caps r.of)) here.1 ∙ ap is_some (named_is space.caps sound.named.one s ds named)
+      | inl here ↦ ap (λ (r : Region). is_some (selector_of space.caps r.of)) here.1 ∙ ap is_some (named_is space.caps sound.named.one s ds.0 (ap key_at named))
       | inr old ↦ sound.attached start region old.1
     ]
 
@@ -149,7 +149,7 @@ module _ {L : Lent} (p : Part) (space : Space) (regions : Regions) (heap : OwnHe
         Settles L call p space regions heap sliced (Attached address) p space (attached regions ds.0 pages address)
     unfolding own_of regions_of
     attaches call address is =
-        let more = renamed-insert (selector_of space.caps) regions.user address ds.0 pages s (named_is space.caps sound.named.one s ds named) in
+        let more = renamed-insert (selector_of space.caps) regions.user address ds.0 pages s (named_is space.caps sound.named.one s ds.0 (ap key_at named)) in
         remaps p space regions heap sliced sound call (attached regions ds.0 pages address) (Attached address) refl (record { heap = refl; tags = refl; most = refl; pages = refl }) (attached_more address)
         (λ sessions ready. (λ i. record { reply = Attached address; lines = []; next = record (before p space regions heap sliced sound sessions) { regions = more i } }) ∙ sym (is sessions))
 

@@ -1,6 +1,5 @@
 -- A session is opened: what the model tells of it, and that its client stays sound.
 use Rattle.std.proofs.Common.{◌≡◌, ◌≢◌, ℕ, ◌≤◌, ◌<◌, List, [], Some, is_some, refl, sym, ap, subst, ◌∙◌, arith, true≢false}
-use Rattle.std.proofs.lemmas.Option.{none-some}
 use Rattle.std.specs.Prelude.{None, Ok, IsSome}
 use Rattle.std.specs.FinMap.{get, insert, len}
 use Rattle.trade_base.specs.declared.id.SessionId.{SessionId}
@@ -20,12 +19,12 @@ use Rattle.own_model.specs.StartList.{Entry}
 use Rattle.own_model.proofs.NatMapLemmas.{get-insert_same, get-insert_other}
 use Rattle.own_model.proofs.SessionLemmas.{donation_covered, large_enough}
 use Rattle.own_model.proofs.Totals.{len-insert_new, total-insert_new}
-use Rattle.cap_space.specs.declared.cap.Cap.TheVariants.{Dataspace, Session}
+use Rattle.cap_space.specs.declared.cap.Cap.TheVariants.{Session}
 use Rattle.cap_space.specs.Space.{Space, with_cap}
 use Rattle.dataspace_core.specs.Store.{Store, Part, part, account_of, account_in, ram_limits_in, parted_part}
 use Rattle.dataspace_core.proofs.PartLaws.{account_of-part}
 use Rattle.server_frame.specs.Frame.{Row}
-use Rattle.pd_core.specs.Own.{Sessions, HasSessions, own_at, own_of, own_heap_at, sliced_at, part_at, lent_in}
+use Rattle.pd_core.specs.Own.{Sessions, HasSessions, own_at, own_of, own_heap_at, sliced_at, part_at, lent_in, key_at}
 use Rattle.pd_core.specs.Sessions.{AgreeBut}
 use Rattle.pd_core.specs.Sound.{rpc_weight, session_weight, IsLawful, IsSoundScript}
 use Rattle.pd_core.specs.declared.script.Script.{Script}
@@ -33,7 +32,7 @@ use Rattle.pd_core.proofs.OwnLemmas.{same_new_selector}
 use Rattle.pd_core.proofs.SessionOwnLemmas.{AreNoSpaces, AreCounted, lawful_whichever}
 use Rattle.pd_core.proofs.SessionStepLemmas.{ChangesOne, some_sessions, some_are_open, some_same, own_put, opens_own}
 use Rattle.pd_core.proofs.SessionScriptLemmas.{own_still, sound_still}
-use Rattle.pd_core.proofs.NamedSessionLemmas.{limit_within, no_space, no_lent_space}
+use Rattle.pd_core.proofs.NamedSessionLemmas.{limit_within}
 
 -- each selector that names a session of the server under this entry names an open one
 abbrev pub NamesOpen : Script → NatMap (Row Labelled) → ℕ → Type 0
@@ -87,7 +86,7 @@ module _ (store store' : Store) (script : Script) (rows : NatMap (Row Labelled))
     opened_others q apart = get-insert_other script.caps.caps selector (Session server session) q apart
 
     opened_spaces : AreNoSpaces script.caps.caps opened_space.caps selector
-    opened_spaces = record { before = λ ds is. none-some (Dataspace ds) (sym fresh ∙ is); after = no_space server session _ names_it; no_buffer = no_lent_space server session _ names_it }
+    opened_spaces = record { before = ap key_at fresh; after = ap key_at names_it }
 
     -- no selector named it before
     others_agree : (S S' : Sessions) → AgreeBut S S' server session.0 → (q other : ℕ) (at : SessionId) → q ≢ selector → get script.caps.caps q ≡ Some (Session other at) → S' other at.0 ≡ S other at.0

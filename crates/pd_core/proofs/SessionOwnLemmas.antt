@@ -1,6 +1,7 @@
 -- What calls of sessions do to a script's own state.
 use Rattle.std.proofs.Common.{cond, ◌≡◌, ◌≢◌, ℕ, ◌+◌, ◌*◌, ◌≤◌, false, List, [], ◌∷◌, Some, IsSome, unwrap_or, refl, sym, ap, subst, ◌∙◌, arith, inl, inr}
 use Rattle.std.proofs.lemmas.Bool.{cases_eq}
+use Rattle.std.proofs.lemmas.Option.{none-some}
 use Rattle.std.specs.Prelude.{Option, None}
 use Rattle.std.specs.Option.{option_map, option_and_then}
 use Rattle.std.specs.FinMap.{get, insert, remove, len}
@@ -29,9 +30,9 @@ use Rattle.cap_space.specs.declared.cap.Cap.TheVariants.{Dataspace, RpcObject, S
 use Rattle.cap_space.specs.Space.{Space}
 use Rattle.region_map.specs.Regions.{Regions}
 use Rattle.dataspace_core.specs.Store.{Part, account_of}
-use Rattle.pd_core.specs.Own.{Sessions, object_of, selector_of, regions_of, own_of, Lent}
+use Rattle.pd_core.specs.Own.{Sessions, object_of, selector_of, regions_of, own_of, Lent, key_at}
 use Rattle.pd_core.specs.Sound.{rpc_weight, session_weight, IsOne, AreNamed, IsLawful, IsScript}
-use Rattle.pd_core.proofs.NameLemmas.{is_named, regions_alike, attached_alike}
+use Rattle.pd_core.proofs.NameLemmas.{is_named, regions_alike, attached_alike, Names}
 
 -- ---- which sessions there are makes no difference to what is lawful
 
@@ -159,33 +160,31 @@ module _ (L : Lent) (S S' : Sessions) (p p' : Part) (spaces : p'.spaces ≡ p.sp
     | inr other ↦ elsewhere q other ∙ sym (get-remove_other (picked (object_of L S p) caps) selector q other)
   ])
 
--- the selector named no dataspace, and names none, nor a buffer
+-- the selector named no dataspace, its own or lent, and names none
 pub record AreNoSpaces (caps caps' : NatMap Cap) (selector : ℕ) : Type 0 where
-  pub before : (ds : DsId) → get caps selector ≢ Some (Dataspace ds)
-  pub after : (ds : DsId) → get caps' selector ≢ Some (Dataspace ds)
-  pub no_buffer : (of : DsId) (session : Selector) → get caps' selector ≢ Some (Buffer of session)
+  pub before : key_at (get caps selector) ≡ None
+  pub after : key_at (get caps' selector) ≡ None
 
 module _ (caps caps' : NatMap Cap) (selector : ℕ) (others : (q : ℕ) → q ≢ selector → get caps' q ≡ get caps q) (no_spaces : AreNoSpaces caps caps' selector) where
   -- another selector names the dataspace
-  pub not_it : (q : ℕ) (ds : DsId) → get caps' q ≡ Some (Dataspace ds) → q ≢ selector
-  not_it q ds is here = no_spaces.after ds (ap (get caps') (sym here) ∙ is)
+  pub not_it : (q key : ℕ) → Names caps' q key → q ≢ selector
+  not_it q key is here = none-some key (sym no_spaces.after ∙ ap (λ k. key_at (get caps' k)) (sym here) ∙ is)
 
   pub was_named : (q : ℕ) (ds : DsId) → get caps' q ≡ Some (Dataspace ds) → get caps q ≡ Some (Dataspace ds)
-  was_named q ds is = sym (others q (not_it q ds is)) ∙ is
+  was_named q ds is = sym (others q (not_it q ds.0 (ap key_at is))) ∙ is
 
   -- and the buffer
   pub lent_before : (q : ℕ) (of : DsId) (session : Selector) → get caps' q ≡ Some (Buffer of session) → get caps q ≡ Some (Buffer of session)
-  lent_before q of session is = sym (others q (λ here. no_spaces.no_buffer of session (ap (get caps') (sym here) ∙ is))) ∙ is
+  lent_before q of session is = sym (others q (not_it q of.0 (ap key_at is))) ∙ is
 
   -- so each dataspace has one selector still
   pub one_still : IsOne caps → IsOne caps'
-  one_still one s t a b at bt e = one s t a b (was_named s a at) (was_named t b bt) e
+  one_still one s t key at bt = one s t key (sym (ap key_at (others s (not_it s key at))) ∙ at) (sym (ap key_at (others t (not_it t key bt))) ∙ bt)
 
   module _ (user : NatMap Region) (one : IsOne caps) (attached : AreNamed caps user) where
     same_names : (s start : ℕ) (region : Region) → get user start ≡ Some region → selector_of caps region.of ≡ Some s → get caps' s ≡ get caps s
     same_names s start region there is =
-        let its = is_named caps region.of s is in
-        others s (λ here. no_spaces.before its.ds (ap (get caps) (sym here) ∙ its.there))
+        others s (λ here. none-some region.of (sym no_spaces.before ∙ ap (λ k. key_at (get caps k)) (sym here) ∙ is_named caps region.of s is))
 
     -- and each region its name
     pub regions_still : regions_of caps' user ≡ regions_of caps user

@@ -61,12 +61,20 @@ object_of lent sessions part RpcObject = Some AnRpcObject
 object_of lent sessions part (Session server session) = option_map OpenSession (sessions server session.0)
 object_of lent sessions part (Buffer space session) = Some (ABuffer session.0 (lent space.0))
 
+-- the key of the dataspace that what a selector has is a capability of, its own or one that a session lends
+abbrev pub key_at : Option Cap → Option ℕ
+key_at (Some (Dataspace ds)) = Some ds.0
+key_at (Some RpcObject) = None
+key_at (Some (Session server session)) = None
+key_at (Some (Buffer space session)) = Some space.0
+key_at None = None
+
 -- a capability is of the dataspace under this key
 abbrev pub is_of : ℕ → Cap → Bool
 is_of key (Dataspace ds) = ds.0 == key
 is_of key RpcObject = false
 is_of key (Session server session) = false
-is_of key (Buffer space session) = false
+is_of key (Buffer space session) = space.0 == key
 
 -- the selector that names the dataspace under a key
 unfoldable pub selector_of : NatMap Cap → ℕ → Option ℕ

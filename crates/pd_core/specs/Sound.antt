@@ -23,7 +23,7 @@ use Rattle.heap_core.specs.Laws.{block_region}
 use Rattle.sliced_heap.specs.declared.heap.SlicedHeap.{SlicedHeap}
 use Rattle.sliced_heap.specs.Sliced.{block_regions}
 use Rattle.sliced_heap.specs.Heap.{payer_of as sliced_payer, share_at, MapsMemory, HasNoBlocks as HasNoSliced, IsSound as IsSoundSliced}
-use Rattle.pd_core.specs.Own.{Sessions, HasSessions, Lent, lent_in, selector_of, own_of, part_at, own_heap_at, sliced_at}
+use Rattle.pd_core.specs.Own.{Sessions, HasSessions, Lent, lent_in, key_at, selector_of, own_of, part_at, own_heap_at, sliced_at}
 use Rattle.pd_core.specs.declared.script.Script.{Script}
 
 -- what counts the RPC objects
@@ -48,10 +48,9 @@ session_at (Some (Session server session)) = Some (server, session)
 session_at (Some (Buffer space session)) = None
 session_at None = None
 
--- a dataspace has one selector at most
+-- a dataspace has one selector at most, be it its own or lent
 abbrev pub IsOne : NatMap Cap → Type 0
-IsOne caps =
-    (s t : ℕ) (a b : DsId) → get caps s ≡ Some (Dataspace a) → get caps t ≡ Some (Dataspace b) → a.0 ≡ b.0 → s ≡ t
+IsOne caps = (s t key : ℕ) → key_at (get caps s) ≡ Some key → key_at (get caps t) ≡ Some key → s ≡ t
 
 -- each dataspace that a selector names is one of its own that the account pays for; no selector names a buffer, as no text
 -- asks for one yet
