@@ -1,5 +1,6 @@
 -- A script's calls on its account and its capabilities.
 use Rattle.std.proofs.Common.{◌≡◌, ◌≢◌, ℕ, ◌<◌, true, false, List, [], length, Option, Some, None, is_some, true≢false, refl, sym, ap, ◌∙◌, arith}
+use Rattle.std.proofs.lemmas.Option.{none-some, same_Some}
 use Rattle.std.specs.Option.{option_map, option_and_then}
 use Rattle.std.specs.FinMap.{get, insert, remove, len}
 use Rattle.trade_base.specs.Page.{page_of}
@@ -26,7 +27,7 @@ use Rattle.cap_space.specs.declared.cap.Cap.{Cap}
 use Rattle.cap_space.specs.declared.cap.Cap.TheVariants.{Dataspace, RpcObject, Session, Buffer}
 use Rattle.region_map.specs.Regions.{Regions, all_detached}
 use Rattle.dataspace_core.specs.Store.{Part, account_of, part_with_space, part_without_space, charged_part, credited_part, bytes_of}
-use Rattle.pd_core.specs.Own.{Sessions, object_of, selector_of, regions_of, own_of}
+use Rattle.pd_core.specs.Own.{Sessions, object_of, selector_of, regions_of, own_of, Lent, key_at}
 use Rattle.pd_core.specs.Sound.{rpc_weight, IsScript}
 use Rattle.pd_core.proofs.NameLemmas.{is_named, named_is}
 use Rattle.pd_core.proofs.OwnLemmas.{Settles, same_window, before, object_is, has_bytes, names_object, grows, shrinks}
@@ -47,10 +48,6 @@ found_rpc (Some RpcObject) h = refl
 found_rpc (Some (Buffer space session)) h = absurd (true≢false (sym h))
 found_rpc (Some (Session server session)) h = absurd (true≢false (sym h))
 
--- equal capabilities
-same_cap : (a b : Cap) → Some a ≡ Some b → a ≡ b
-same_cap a b e = cc
-
 -- dataspaces of one capability have one key
 same_key : (a b : DsId) → Dataspace a ≡ Dataspace b → a.0 ≡ b.0
 same_key a b e = let same : a ≡ b = cc in ap (λ (d : DsId). d.0) same
@@ -62,24 +59,24 @@ no_session step b none known None = sym none
 no_session step b none known (Some session) = sym (known session)
 
 -- a call that refuses what names nothing, an RPC object, a session or a buffer refuses what names no dataspace
-pub refuses : (step : Option Object → Outcome) (b : OwnState) → step None ≡ refused b InvalidCap → step (Some AnRpcObject) ≡ refused b InvalidCap →
+pub refuses : (L : Lent) (step : Option Object → Outcome) (b : OwnState) → step None ≡ refused b InvalidCap → step (Some AnRpcObject) ≡ refused b InvalidCap →
     ((session : AnOpenSession) → step (Some (OpenSession session)) ≡ refused b InvalidCap) → (sessions : Sessions) (p : Part) (o : Option Cap) →
-    ((space : DsId) (session : Selector) → o ≡ Some (Buffer space session) → step (Some (ABuffer session.0 [])) ≡ refused b InvalidCap) → dataspace_of o ≡ None → refused b InvalidCap ≡ step (option_and_then (object_of sessions p) o)
-refuses step b none rpc known sessions p None buffer h = sym none
-refuses step b none rpc known sessions p (Some (Dataspace d)) buffer h = cc
-refuses step b none rpc known sessions p (Some RpcObject) buffer h = sym rpc
-refuses step b none rpc known sessions p (Some (Session server session)) buffer h = no_session step b none known (sessions server session.0)
-refuses step b none rpc known sessions p (Some (Buffer space session)) buffer h = sym (buffer space session refl)
+    ((space : DsId) (session : Selector) → o ≡ Some (Buffer space session) → step (Some (ABuffer session.0 (L space.0))) ≡ refused b InvalidCap) → dataspace_of o ≡ None → refused b InvalidCap ≡ step (option_and_then (object_of L sessions p) o)
+refuses L step b none rpc known sessions p None buffer h = sym none
+refuses L step b none rpc known sessions p (Some (Dataspace d)) buffer h = cc
+refuses L step b none rpc known sessions p (Some RpcObject) buffer h = sym rpc
+refuses L step b none rpc known sessions p (Some (Session server session)) buffer h = no_session step b none known (sessions server session.0)
+refuses L step b none rpc known sessions p (Some (Buffer space session)) buffer h = sym (buffer space session refl)
 
 -- what is no RPC object isn't freed as one
-no_rpc : (sessions : Sessions) (p : Part) (s : ℕ) (b : OwnState) (o : Option Cap) → is_rpc_object o ≡ false → refused b InvalidCap ≡ cap_freed s (option_and_then (object_of sessions p) o) b
-no_rpc sessions p s b None h = refl
-no_rpc sessions p s b (Some (Dataspace d)) h = elim (get p.spaces d.0) as (λ o. refused b InvalidCap ≡ cap_freed s (option_map ADataspace o) b) [ None ↦ refl | Some bytes ↦ refl ]
-no_rpc sessions p s b (Some RpcObject) h = absurd (true≢false h)
-no_rpc sessions p s b (Some (Buffer space session)) h = refl
-no_rpc sessions p s b (Some (Session server session)) h = no_session (λ o. cap_freed s o b) b refl (λ session. refl) (sessions server session.0)
+no_rpc : (L : Lent) (sessions : Sessions) (p : Part) (s : ℕ) (b : OwnState) (o : Option Cap) → is_rpc_object o ≡ false → refused b InvalidCap ≡ cap_freed s (option_and_then (object_of L sessions p) o) b
+no_rpc L sessions p s b None h = refl
+no_rpc L sessions p s b (Some (Dataspace d)) h = elim (get p.spaces d.0) as (λ o. refused b InvalidCap ≡ cap_freed s (option_map ADataspace o) b) [ None ↦ refl | Some bytes ↦ refl ]
+no_rpc L sessions p s b (Some RpcObject) h = absurd (true≢false h)
+no_rpc L sessions p s b (Some (Buffer space session)) h = refl
+no_rpc L sessions p s b (Some (Session server session)) h = no_session (λ o. cap_freed s o b) b refl (λ session. refl) (sessions server session.0)
 
-module _ (p : Part) (space : Space) (regions : Regions) (heap : OwnHeap) (sliced : NatMap (List ℕ)) (sound : IsScript p space regions heap sliced) where
+module _ {L : Lent} (p : Part) (space : Space) (regions : Regions) (heap : OwnHeap) (sliced : NatMap (List ℕ)) (sound : IsScript L p space regions heap sliced) where
   -- there is a place for one more selector where the account covers one more capability
   pub has_place : (n : ℕ) → Fits (account_of p) n 1 → len space.caps < space.places
   has_place n fits = omega (arith, fits.caps_fit, sound.paid.named, sound.paid.placed)
@@ -101,7 +98,7 @@ module _ (p : Part) (space : Space) (regions : Regions) (heap : OwnHeap) (sliced
     more = insert p.spaces ds.0 (zeros (page_of n))
 
     -- an alloc settles
-    pub alloc_settles : (s : ℕ) → s ≡ new_selector space.caps → Settles (Alloc n) p space regions heap sliced (Selected s) (part_with_space p ds.0 n) (with_cap space s (Dataspace ds)) regions
+    pub alloc_settles : (s : ℕ) → s ≡ new_selector space.caps → Settles L (Alloc n) p space regions heap sliced (Selected s) (part_with_space p ds.0 n) (with_cap space s (Dataspace ds)) regions
     unfolding own_of
     alloc_settles s least =
         let fits = get-insert_same p.spaces ds.0 (zeros (page_of n)) ds.0 refl in
@@ -109,7 +106,7 @@ module _ (p : Part) (space : Space) (regions : Regions) (heap : OwnHeap) (sliced
         (λ key there. get-insert_other p.spaces ds.0 (zeros (page_of n)) key (apart_from_free p.spaces ds.0 key free there))
         (λ d is. ap (get p.spaces) (sym (same_key ds d is)) ∙ free)
         (omega (arith, len-insert_new p.spaces ds.0 (zeros (page_of n)) free)) refl
-        (λ d is. ap (λ k. is_some (get more k)) (sym (same_key ds d is)) ∙ ap is_some fits)
+        (λ d is. ap (λ k. is_some (get more k)) (sym (same_key ds d is)) ∙ ap is_some fits) (λ of session is. cc)
         (λ sessions. ap (option_map ADataspace) fits) s least
         (λ sessions. let b = before p space regions heap sliced sound sessions in ap (λ r. unless r b (allocated n b)) (sym accepted))
 
@@ -120,17 +117,17 @@ module _ (p : Part) (space : Space) (regions : Regions) (heap : OwnHeap) (sliced
     pub free_refused : dataspace_of (get space.caps s) ≡ None → (sessions : Sessions) → refused (before p space regions heap sliced sound sessions) InvalidCap ≡ script_step (Free s) (before p space regions heap sliced sound sessions)
     free_refused h sessions =
         let b = before p space regions heap sliced sound sessions in
-        refuses (λ o. freed s o b) b refl refl (λ session. refl) sessions p (get space.caps s) (λ of session named. refl) h ∙ ap (λ o. freed s o b) (sym (object_is p space regions heap sliced sound sessions s))
+        refuses L (λ o. freed s o b) b refl refl (λ session. refl) sessions p (get space.caps s) (λ of session named. refl) h ∙ ap (λ o. freed s o b) (sym (object_is p space regions heap sliced sound sessions s))
 
     module _ (ds : DsId) (named : get space.caps s ≡ Some (Dataspace ds)) where
       -- what the selector names is under one key
       alone : (thing : ℕ) → selector_of space.caps thing ≡ Some s → thing ≡ ds.0
-      alone thing is = let of = is_named space.caps thing s is in sym of.same ∙ same_key of.ds ds (same_cap _ _ (sym of.there ∙ named))
+      alone thing is = same_Some thing ds.0 (sym (is_named space.caps thing s is) ∙ ap key_at named)
 
       -- no selector that is left names the dataspace
       rest_apart : (q : ℕ) (d : DsId) → get (remove space.caps s) q ≡ Some (Dataspace d) → d.0 ≢ ds.0
       rest_apart q d there e =
-          let same : q ≡ s = sound.named.one q s d ds (before_remove space.caps s q (Dataspace d) there) named e in
+          let same : q ≡ s = sound.named.one q s ds.0 (ap key_at (before_remove space.caps s q (Dataspace d) there) ∙ ap (λ k. Some k) e) (ap key_at named) in
           true≢false (sym (ap is_some there) ∙ ap is_some (get-remove_same space.caps s q same))
 
       -- a region that is left is of another dataspace
@@ -138,11 +135,11 @@ module _ (p : Part) (space : Space) (regions : Regions) (heap : OwnHeap) (sliced
       left start region there = let was = left_without ds.0 regions.user start region there in (was.0, λ names. was.1 (alone region.of names))
 
       -- a free settles
-      pub free_settles : Settles (Free s) p space regions heap sliced Done (part_without_space p ds.0) (without_cap space s) (all_detached regions ds.0)
+      pub free_settles : Settles L (Free s) p space regions heap sliced Done (part_without_space p ds.0) (without_cap space s) (all_detached regions ds.0)
       unfolding own_of regions_of
       free_settles =
           let has = has_bytes p space regions heap sliced sound s ds named in
-          let map = renamed-without (selector_of space.caps) ds.0 s (named_is space.caps sound.named.one s ds named) alone regions.user in
+          let map = renamed-without (selector_of space.caps) ds.0 s (named_is space.caps sound.named.one s ds.0 (ap key_at named)) alone regions.user in
           shrinks p space regions heap sliced sound (Free s) (length (bytes_of p ds.0)) (remove p.spaces ds.0) (Dataspace ds) s named (all_detached regions ds.0)
           (λ q d there. get-remove_other p.spaces ds.0 d.0 (rest_apart q d there)) left
           (λ start region there. get-remove_other p.spaces ds.0 region.of (λ e. sound.blocks.unnamed start s region ds there named (sym e)))
@@ -163,10 +160,10 @@ module _ (p : Part) (space : Space) (regions : Regions) (heap : OwnHeap) (sliced
   cap_fits accepted = covers _ _ _ (sym accepted)
 
   -- a capalloc settles
-  pub capalloc_settles : None ≡ shortage (account_of p) 0 1 → (s : ℕ) → s ≡ new_selector space.caps → Settles Capalloc p space regions heap sliced (Selected s) (charged_part p 1) (with_cap space s RpcObject) regions
+  pub capalloc_settles : None ≡ shortage (account_of p) 0 1 → (s : ℕ) → s ≡ new_selector space.caps → Settles L Capalloc p space regions heap sliced (Selected s) (charged_part p 1) (with_cap space s RpcObject) regions
   unfolding own_of
   capalloc_settles accepted s least =
-      grows p space regions heap sliced sound Capalloc 0 p.spaces RpcObject AnRpcObject (λ key there. refl) (λ ds is. cc) refl refl (λ ds is. cc) (λ sessions. refl) s least
+      grows p space regions heap sliced sound Capalloc 0 p.spaces RpcObject AnRpcObject (λ key there. refl) (λ ds is. cc) refl refl (λ ds is. cc) (λ of session is. cc) (λ sessions. refl) s least
       (λ sessions. let b = before p space regions heap sliced sound sessions in ap (λ r. unless r b (cap_allocated b)) (sym accepted))
 
   -- ---- capfree
@@ -176,7 +173,7 @@ module _ (p : Part) (space : Space) (regions : Regions) (heap : OwnHeap) (sliced
     pub capfree_refused : is_rpc_object (get space.caps s) ≡ false → (sessions : Sessions) → refused (before p space regions heap sliced sound sessions) InvalidCap ≡ script_step (Capfree s) (before p space regions heap sliced sound sessions)
     capfree_refused none sessions =
         let b = before p space regions heap sliced sound sessions in
-        no_rpc sessions p s b (get space.caps s) none ∙ ap (λ o. cap_freed s o b) (sym (object_is p space regions heap sliced sound sessions s))
+        no_rpc L sessions p s b (get space.caps s) none ∙ ap (λ o. cap_freed s o b) (sym (object_is p space regions heap sliced sound sessions s))
 
     module _ (named : get space.caps s ≡ Some RpcObject) where
       -- the account uses a capability more than it pays dataspaces
@@ -185,13 +182,13 @@ module _ (p : Part) (space : Space) (regions : Regions) (heap : OwnHeap) (sliced
 
       -- no region is of an RPC object
       not_attached : (thing : ℕ) → selector_of space.caps thing ≢ Some s
-      not_attached thing is = let of = is_named space.caps thing s is in let e = same_cap _ _ (sym of.there ∙ named) in cc
+      not_attached thing is = none-some thing (sym (ap key_at named) ∙ is_named space.caps thing s is)
 
       -- a capfree settles
-      pub capfree_settles : Settles (Capfree s) p space regions heap sliced Done (credited_part p 1) (without_cap space s) regions
+      pub capfree_settles : Settles L (Capfree s) p space regions heap sliced Done (credited_part p 1) (without_cap space s) regions
       unfolding own_of
       capfree_settles =
           shrinks p space regions heap sliced sound (Capfree s) 0 p.spaces RpcObject s named regions (λ q d there. refl) (λ start region there. (there, not_attached region.of))
           (λ start region there. refl) refl refl same_window refl
           (λ sessions. let b = before p space regions heap sliced sound sessions in
-          ap (λ o. cap_freed s o b) (object_is p space regions heap sliced sound sessions s ∙ ap (option_and_then (object_of sessions p)) named))
+          ap (λ o. cap_freed s o b) (object_is p space regions heap sliced sound sessions s ∙ ap (option_and_then (object_of L sessions p)) named))

@@ -7,6 +7,7 @@ use Rattle.std.proofs.lemmas.Bool.Decides.{nat_tests}
 use Rattle.std.specs.FinMap.{get, insert}
 use Rattle.trade_base.specs.declared.refusal.Refusal.{Refusal}
 use Rattle.trade_base.specs.declared.refusal.Refusal.TheVariants.{PageFault}
+use Rattle.trade_base.specs.declared.id.DsId.{DsId}
 use Rattle.own_model.specs.Call.Call.{Peek, Poke}
 use Rattle.own_model.specs.OwnState.Object.{Dataspace as ADataspace}
 use Rattle.own_model.specs.OwnStep.{Outcome, refused, unless, count_refusal, most_bytes, peeked, poked, script_step}
@@ -23,11 +24,12 @@ use Rattle.own_model.proofs.RegionLemmas.{resolved_renamed, resolved_facts}
 use Rattle.own_model.proofs.UseLemmas.{length-with_part}
 use Rattle.own_model.proofs.NatMapLemmas.{some_of}
 use Rattle.cap_space.specs.Space.{Space}
+use Rattle.cap_space.specs.declared.cap.Cap.TheVariants.{Dataspace}
 use Rattle.region_map.specs.Regions.{Regions}
 use Rattle.dataspace_core.specs.Store.{Part, bytes_of, part_with_bytes}
-use Rattle.pd_core.specs.Own.{Sessions, selector_of, regions_of, own_of, range_refusal}
+use Rattle.pd_core.specs.Own.{Sessions, selector_of, regions_of, own_of, range_refusal, Lent}
 use Rattle.pd_core.specs.Sound.{IsScript}
-use Rattle.pd_core.proofs.NameLemmas.{Names, is_named}
+use Rattle.pd_core.proofs.NameLemmas.{Names, is_named, space_named}
 use Rattle.pd_core.proofs.OwnLemmas.{Settles, all_sessions, before, has_bytes, names_object, rewrites}
 
 -- what refuses a range refuses a call that looks at the count and then at what is found
@@ -49,7 +51,7 @@ counted (Some r) other is = cc
 count_within : (count : ℕ) → count_refusal count ≡ None → count ≤ most_bytes
 count_within count h = grind (arith, nat_tests)
 
-module _ (p : Part) (space : Space) (regions : Regions) (heap : OwnHeap) (sliced : NatMap (List ℕ)) (sound : IsScript p space regions heap sliced) (address count : ℕ) where
+module _ {L : Lent} (p : Part) (space : Space) (regions : Regions) (heap : OwnHeap) (sliced : NatMap (List ℕ)) (sound : IsScript L p space regions heap sliced) (address count : ℕ) where
   -- the own state before a call
   abbrev own : Sessions → OwnState
   own = before p space regions heap sliced sound
@@ -101,13 +103,17 @@ module _ (p : Part) (space : Space) (regions : Regions) (heap : OwnHeap) (sliced
     names : Names space.caps selector.0 key
     names = is_named space.caps key selector.0 selector.1
 
+    -- it is one of the script's own
+    abbrev its : (ds : DsId) × (get space.caps selector.0 ≡ Some (Dataspace ds)) × (ds.0 ≡ key)
+    its = space_named (get space.caps selector.0) key names (λ of session. sound.named.unlent selector.0 of session)
+
     -- the part has its bytes
     pub has : get p.spaces key ≡ Some (bytes_of p key)
-    has = subst (λ k. get p.spaces k ≡ Some (bytes_of p k)) names.same (has_bytes p space regions heap sliced sound selector.0 names.ds names.there)
+    has = subst (λ k. get p.spaces k ≡ Some (bytes_of p k)) its.2 (has_bytes p space regions heap sliced sound selector.0 its.0 its.1)
 
     -- in the own state the selector names these bytes
     object : (sessions : Sessions) → get (own sessions).selectors selector.0 ≡ Some (ADataspace (bytes_of p key))
-    object sessions = subst (λ k. get (own sessions).selectors selector.0 ≡ Some (ADataspace (bytes_of p k))) names.same (names_object p space regions heap sliced sound sessions selector.0 names.ds names.there)
+    object sessions = subst (λ k. get (own sessions).selectors selector.0 ≡ Some (ADataspace (bytes_of p k))) its.2 (names_object p space regions heap sliced sound sessions selector.0 its.0 its.1)
 
     -- the own state finds the range under that selector, at the same offset
     own_found : (sessions : Sessions) → resolved (own sessions).regions address count ≡ Some (selector.0, offset)
@@ -127,7 +133,7 @@ module _ (p : Part) (space : Space) (regions : Regions) (heap : OwnHeap) (sliced
     peek_is sessions = sym (peeks (own sessions) address count selector.0 offset (bytes_of p key) some (own_found sessions) (ap named_bytes (object sessions)))
 
     -- a poke puts its bytes over those of the dataspace
-    pub poke_settles : (bytes : List ℕ) → count ≡ length bytes → Settles (Poke address bytes) p space regions heap sliced Done (part_with_bytes p key offset bytes) space regions
+    pub poke_settles : (bytes : List ℕ) → count ≡ length bytes → Settles L (Poke address bytes) p space regions heap sliced Done (part_with_bytes p key offset bytes) space regions
     poke_settles bytes size =
         let over = with_part-within (bytes_of p key) offset bytes (subst (λ n. offset + n ≤ length (bytes_of p key)) size fits) in
         rewrites p space regions heap sliced sound (Poke address bytes) key selector.0 _ names (ap length (sym over) ∙ length-with_part (bytes_of p key) offset bytes)

@@ -31,7 +31,7 @@ use Rattle.server_frame.proofs.RowLaws.{IsNoRows}
 use Rattle.pd_core.specs.Component.{places_in, rows_in, own_in, IsSessionOf, NamesItsSessions, HasPlace, IsSoundRole}
 use Rattle.pd_core.specs.Core.{Roles, rows_at, sessions_in, Owner, Owns}
 use Rattle.pd_core.specs.Core.Owner.{Place, SessionAt}
-use Rattle.pd_core.specs.Own.{object_of, own_of, part_at}
+use Rattle.pd_core.specs.Own.{object_of, own_of, part_at, lent_in}
 use Rattle.pd_core.specs.Sessions.{row_session, NamesSession}
 use Rattle.pd_core.specs.Sound.{session_at, session_weight, IsSoundScript}
 use Rattle.pd_core.specs.declared.component.Role.TheVariants.{Script as AScript}
@@ -82,7 +82,7 @@ module _ {store : Store} {roles : Roles} {i s : ℕ} {script : Script} (two : Ar
 
     -- what a capability stands for has a capability where it is a session
     abbrev cost : Cap → ℕ
-    cost cap = unwrap_or (option_map caps_with (object_of (sessions_in store roles) (part_at store script) cap)) 0
+    cost cap = unwrap_or (option_map caps_with (object_of (lent_in store) (sessions_in store roles) (part_at store script) cap)) 0
 
     cost_covers : (k : ℕ) (cap : Cap) → get script.caps.caps k ≡ Some cap → session_weight cap ≤ cost cap
     cost_covers k (Dataspace ds) is = omega arith
@@ -99,7 +99,7 @@ module _ {store : Store} {roles : Roles} {i s : ℕ} {script : Script} (two : Ar
     unfolding own_of
     placed =
         let all = at_script two (λ r. IfSome (places_in r) (λ p. caps_limits (own_in (sessions_in store roles) store r) ≤ p)) (core.placed i) in
-        let selectors = total-picked caps_with (object_of (sessions_in store roles) (part_at store script)) script.caps.caps in
+        let selectors = total-picked caps_with (object_of (lent_in store) (sessions_in store roles) (part_at store script)) script.caps.caps in
         let weights = total-remove session_weight script.caps.caps q (Session s session) names in
         let costs = total-remove cost script.caps.caps q (Session s session) names in
         let found = ap (λ o. unwrap_or (option_map caps_with (option_map OpenSession (option_map row_session o))) 0) its.there in

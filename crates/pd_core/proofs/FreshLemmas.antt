@@ -47,11 +47,12 @@ use Rattle.own_model.specs.OwnHeap.{no_heap}
 use Rattle.pd_core.specs.declared.component.Role.TheVariants.{Script as AScript, Log as ALog, Files as AFiles, Gone as AGone}
 use Rattle.pd_core.specs.declared.script.Script.{Script}
 use Rattle.sliced_heap.proofs.HeapLaws.{empty_map}
-use Rattle.pd_core.specs.Own.{Sessions, no_sessions, own_of, own_at, part_at, own_heap_at, sliced_at, object_of, regions_of, selector_of}
+use Rattle.pd_core.specs.Own.{Sessions, no_sessions, own_of, own_at, part_at, own_heap_at, sliced_at, object_of, regions_of, selector_of, Lent, lent_in, no_lent}
 use Rattle.pd_core.specs.Sound.{session_at, rpc_weight, session_weight, IsLawful, IsSoundScript}
 use Rattle.pd_core.specs.Component.{Pays, entry_of, payer_in, payer_of, caps_in, caps_of, places_in, places_of, rows_in, tables_in, NamesItsSessions, HasPlaces, HasNewHeap, HasNewHeaps, own_in, own, IsSoundServer, IsSoundRole}
 use Rattle.pd_core.specs.Core.{Rules, Roles, roles_of, rows_at, sessions_in, world_of, Owner, Owns, IsCore}
 use Rattle.pd_core.specs.Core.Owner.{Init, Place, SessionAt}
+use Rattle.pd_core.proofs.NameLemmas.{cap_named}
 use Rattle.pd_core.proofs.ComponentLemmas.{pays_is}
 use Rattle.pd_core.proofs.WorldLemmas.{all_roles, place_of, role_at, one_of}
 use Rattle.std.proofs.lemmas.Bool.{cases_lt}
@@ -62,10 +63,10 @@ abbrev budget : ℕ → ℕ → StartEntry
 budget ram caps = record { entry = nobody; ram = ram; caps = caps }
 
 -- who has nothing has the own state of a start
-own_opened : (sessions : Sessions) (ram caps : ℕ) → own_of sessions (opened_part ram caps) empty empty no_heap empty ≡ start_state (budget ram caps)
+own_opened : (L : Lent) (sessions : Sessions) (ram caps : ℕ) → own_of L sessions (opened_part ram caps) empty empty no_heap empty ≡ start_state (budget ram caps)
 unfolding own_of regions_of
-own_opened sessions ram caps =
-    let selectors = picked-empty (object_of sessions (opened_part ram caps)) in
+own_opened L sessions ram caps =
+    let selectors = picked-empty (object_of L sessions (opened_part ram caps)) in
     let regions = picked-empty (λ (region : Region). option_map (λ (other : ℕ). record region { of = other }) (selector_of empty region.of)) in
     λ j. record { account = (start_state (budget ram caps)).account; selectors = selectors j; regions = regions j; heap = no_heap; sliced = empty; gone = (start_state (budget ram caps)).gone }
 
@@ -105,7 +106,7 @@ module _ (store : Store) (ram caps : ℕ) where
     -- the own state is that of a start
     script_unused : (sessions : Sessions) → own_at sessions store script ≡ start_state (budget ram caps)
     script_unused sessions =
-        (λ i. own_of sessions (unused i) (fresh.no_caps i) (fresh.no_regions i) (no_heap_yet i) (no_blocks i)) ∙ own_opened sessions ram caps
+        (λ i. own_of (lent_in store) sessions (unused i) (fresh.no_caps i) (fresh.no_regions i) (no_heap_yet i) (no_blocks i)) ∙ own_opened (lent_in store) sessions ram caps
 
     -- its limit is among all limits
     within : (account_of (part_at store script)).ram_limit ≤ script.regions.pages * 4096
@@ -128,7 +129,8 @@ module _ (store : Store) (ram caps : ℕ) where
           own = record {
             named = record {
               there = λ q ds names. absurd (none_in_empty _ fresh.no_caps q _ names);
-              one = λ s t a b first second same. absurd (none_in_empty _ fresh.no_caps s _ first);
+              one = λ s t key first second. absurd (none_in_empty _ fresh.no_caps s _ (cap_named (get script.caps.caps s) key first).1);
+              unlent = λ q of session names. absurd (none_in_empty _ fresh.no_caps q _ names);
             };
             paid = record { is_open = ap (λ (p : Part). is_some p.account) unused; named = omega (arith, few, blocks, heap); spare = omega (arith, none, weight); placed = omega (arith, limit, sessions, fresh.places) };
             ram = within;
@@ -159,8 +161,8 @@ module _ (store : Store) (ram caps : ℕ) where
     places : IfSome (places_in role) (λ places. caps ≤ places)
 
   -- a server's account is all that it has
-  server_state : (account : AccountId) → part account.0 store ≡ opened_part ram caps → own_of no_sessions (part account.0 store) empty empty no_heap empty ≡ start_state (budget ram caps)
-  server_state account unused = ap (λ p. own_of no_sessions p empty empty no_heap empty) unused ∙ own_opened no_sessions ram caps
+  server_state : (account : AccountId) → part account.0 store ≡ opened_part ram caps → own_of no_lent no_sessions (part account.0 store) empty empty no_heap empty ≡ start_state (budget ram caps)
+  server_state account unused = ap (λ p. own_of no_lent no_sessions p empty empty no_heap empty) unused ∙ own_opened no_lent no_sessions ram caps
 
   -- and it is sound where it has no sessions
   server_sound : {T : Type 0} (kept : T → Share → Type 0) (account : ℕ) (sessions : Slab (Kept T)) (regions : Regions) → part account store ≡ opened_part ram caps → HasNoSessions store sessions regions →

@@ -21,7 +21,7 @@ use Rattle.sliced_heap.proofs.HeapLaws.{heap_stays_among}
 use Rattle.heap_window.proofs.ShareLemmas.{shown_block}
 use Rattle.heap_core.specs.declared.heap.Heap.{Heap}
 use Rattle.heap_core.specs.Heap.{payer_of as heap_payer, heap_at, IsSound as IsSoundHeap}
-use Rattle.pd_core.specs.Own.{Sessions, own_of, own_at}
+use Rattle.pd_core.specs.Own.{Sessions, own_of, own_at, lent_in}
 use Rattle.pd_core.specs.Sound.{IsScript, IsSoundScript, rpc_weight}
 use Rattle.pd_core.specs.declared.script.Script.{Script}
 use Rattle.heap_window.proofs.BesideLemmas.{maps_memory}
@@ -34,14 +34,14 @@ use Rattle.heap_window.specs.Window.{IsNoHeapBlock}
 
 -- an account's part of a memory, with these tables and this heap, is a script's
 pub record Owns (account : ℕ) (store : Store) (space : Space) (regions : Regions) (heap : Heap) : Type 0 where
-  pub own : IsScript (part account store) space regions (heap_at heap store regions) (blocks_at account store regions)
+  pub own : IsScript (lent_in store) (part account store) space regions (heap_at heap store regions) (blocks_at account store regions)
   pub sound : IsSoundHeap heap store regions
   pub all : (start : ℕ) (region : Region) → get regions.heap start ≡ Some region → IsOfEither (share_at account store regions) start region
 
 -- its own state
 abbrev pub own_in : Sessions → ℕ → Store → Space → Regions → Heap → OwnState
 own_in sessions account store space regions heap =
-    own_of sessions (part account store) space.caps regions.user (heap_at heap store regions) (blocks_at account store regions)
+    own_of (lent_in store) sessions (part account store) space.caps regions.user (heap_at heap store regions) (blocks_at account store regions)
 
 -- a call changes the heap, its dataspaces, the account's use, and nothing else
 pub record Alone (account : ℕ) (store : Store) (space : Space) (regions : Regions) (heap : Heap) (store' : Store) (after : Regions) (heap' : Heap) : Type 0 where

@@ -1,6 +1,7 @@
 pub mod HexLemmas
 pub mod SpellingLemmas
 pub mod NameLemmas
+pub mod LentLemmas
 pub mod SessionOwnLemmas
 pub mod SessionStepLemmas
 pub mod SessionScriptLemmas

@@ -1,10 +1,8 @@
 -- A call of a session that a selector names: what the model tells of it, and that its caller stays sound.
 use Rattle.std.proofs.Common.{◌≡◌, ◌≢◌, ℕ, ◌≤◌, List, [], Some, is_some, unwrap_or, refl, sym, ap, subst, ◌∙◌, arith}
-use Rattle.std.proofs.lemmas.Option.{none-some}
 use Rattle.std.specs.Prelude.{Option, None, Result, Ok, Err, IsErrAnd}
 use Rattle.std.specs.Option.{option_map}
 use Rattle.std.specs.FinMap.{get}
-use Rattle.trade_base.specs.declared.id.DsId.{DsId}
 use Rattle.trade_base.specs.declared.id.SessionId.{SessionId}
 use Rattle.trade_base.specs.declared.refusal.Refusal.{Refusal}
 use Rattle.trade_base.specs.declared.refusal.Refusal.TheVariants.{BadArgs}
@@ -23,8 +21,7 @@ use Rattle.own_model.specs.StartList.{Entry}
 use Rattle.own_model.specs.SessionArgs.{Arguments, arguments_of}
 use Rattle.own_model.proofs.NatMapLemmas.{some_of, get-picked_at, get-remove_same, get-remove_other}
 use Rattle.own_model.proofs.Totals.{len-remove_at, total-remove, total_at_le}
-use Rattle.cap_space.specs.declared.cap.Cap.{Cap}
-use Rattle.cap_space.specs.declared.cap.Cap.TheVariants.{Dataspace, Session}
+use Rattle.cap_space.specs.declared.cap.Cap.TheVariants.{Session}
 use Rattle.cap_space.specs.Space.{Space, without_cap}
 use Rattle.dataspace_core.specs.Store.{Store, Part, part, account_of, account_in, accounts_in, ram_limits_in, raised_part, parted_part, ClosesPart, RaisesPart}
 use Rattle.dataspace_core.proofs.PartLaws.{account_of-part}
@@ -32,7 +29,7 @@ use Rattle.dataspace_core.proofs.RoomLaws.{account_in_part}
 use Rattle.server_frame.specs.Frame.{Row}
 use Rattle.pd_core.specs.Answer.{reply_of}
 use Rattle.pd_core.specs.declared.answer.Answer.{Answer}
-use Rattle.pd_core.specs.Own.{Sessions, object_of, own_at, own_of, own_heap_at, sliced_at, part_at}
+use Rattle.pd_core.specs.Own.{Sessions, object_of, own_at, own_of, own_heap_at, sliced_at, part_at, lent_in, key_at}
 use Rattle.pd_core.specs.Sessions.{row_session, AgreeBut, NamesSession, DoesSession}
 use Rattle.pd_core.specs.Sound.{rpc_weight, session_weight, IsSoundScript}
 use Rattle.pd_core.specs.declared.script.Script.{Script}
@@ -40,10 +37,6 @@ use Rattle.pd_core.proofs.OwnLemmas.{has_no_buffer}
 use Rattle.pd_core.proofs.SessionOwnLemmas.{AreNoSpaces, AreCounted}
 use Rattle.pd_core.proofs.SessionStepLemmas.{ChangesOne, some_sessions, some_are_open, some_same, with_session, with_session_same, with_session_other, closes_own, upgrades_own, serves_own, lawful_after}
 use Rattle.pd_core.proofs.SessionScriptLemmas.{own_still, sound_still}
-
--- a session is no dataspace
-pub no_space : (server : ℕ) (session : SessionId) (o : Option Cap) → o ≡ Some (Session server session) → (ds : DsId) → o ≢ Some (Dataspace ds)
-no_space server session o is ds names = cc
 
 -- an account's limit is within the machine's
 pub limit_within : (account : ℕ) (store : Store) (a : Account) → (part account store).account ≡ Some a → a.ram_limit ≤ ram_limits_in store
@@ -85,16 +78,16 @@ module _ (store store' : Store) (script : Script) (rows : NatMap (Row Labelled))
     closed_none = get-remove_same script.caps.caps selector selector refl
 
     closed_spaces : AreNoSpaces script.caps.caps closed_space.caps selector
-    closed_spaces = record { before = no_space server session _ names.named; after = λ ds is. none-some (Dataspace ds) (sym closed_none ∙ is) }
+    closed_spaces = record { before = ap key_at names.named; after = ap key_at closed_none }
 
     closed_changes : (S S' : Sessions) → AgreeBut S S' server session.0 → ChangesOne S S' p p' script.caps.caps closed_space.caps selector
     closed_changes S S' agree = record { spaces = ap (λ (q : Part). q.spaces) own; others = closed_others; agrees = others_agree S S' agree; no_spaces = closed_spaces }
 
     closes_does : DoesSession (Close selector) Done [] server session.0 (Some (row_session names.row)) None store script store' (record script { caps = closed_space })
     closes_does entry S S' kind agree was is =
-        closes_own S S' p p' script.caps.caps closed_space.caps selector (closed_changes S S' agree) script.regions.user (own_heap_at store script) (sliced_at store script) sound.own.named.one sound.own.attached
+        closes_own (lent_in store) S S' p p' script.caps.caps closed_space.caps selector (closed_changes S S' agree) script.regions.user (own_heap_at store script) (sliced_at store script) sound.own.named.one sound.own.attached
         entry server session (row_session names.row) names.named was (no_buffers S) closed_none (account_is ∙ closed)
-        ∙ ap {B = Outcome} (λ s. record { reply = Done; lines = []; next = s }) (sym (own_still store store' script (Some a) sound own refl limits closed_space S'))
+        ∙ ap {B = Outcome} (λ s. record { reply = Done; lines = []; next = s }) (sym (own_still store store' script (Some a) sound own refl limits closed_space selector closed_others closed_spaces S'))
 
     closed_counted : AreCounted p p' script.caps closed_space script.regions
     closed_counted =
@@ -119,9 +112,9 @@ module _ (store store' : Store) (script : Script) (rows : NatMap (Row Labelled))
     closes_sound =
         let S = some_sessions server session.0 (row_session names.row) in
         sound_still store store' script (Some a) sound own refl limits closed_space selector closed_others closed_spaces closed_counted
-        (lawful_after S S p p' script.caps.caps closed_space.caps selector (closed_changes S S (λ _ _ _. refl)) script.regions.user (own_heap_at store script) (sliced_at store script) sound.own.named.one sound.own.attached
+        (lawful_after (lent_in store) S S p p' script.caps.caps closed_space.caps selector (closed_changes S S (λ _ _ _. refl)) script.regions.user (own_heap_at store script) (sliced_at store script) sound.own.named.one sound.own.attached
         unrouted (Close selector) Done [] refl
-        (closes_own S S p p' script.caps.caps closed_space.caps selector (closed_changes S S (λ _ _ _. refl)) script.regions.user (own_heap_at store script) (sliced_at store script) sound.own.named.one sound.own.attached
+        (closes_own (lent_in store) S S p p' script.caps.caps closed_space.caps selector (closed_changes S S (λ _ _ _. refl)) script.regions.user (own_heap_at store script) (sliced_at store script) sound.own.named.one sound.own.attached
         unrouted server session (row_session names.row) names.named (some_same server session.0 (row_session names.row)) (no_buffers S) closed_none (account_is ∙ closed))
         (sound.own.lawful S (some_are_open server session.0 (row_session names.row) script.caps.caps)))
 
@@ -129,19 +122,19 @@ module _ (store store' : Store) (script : Script) (rows : NatMap (Row Labelled))
 
   -- the selector still names it
   put_spaces : AreNoSpaces script.caps.caps script.caps.caps selector
-  put_spaces = record { before = no_space server session _ names.named; after = no_space server session _ names.named }
+  put_spaces = record { before = ap key_at names.named; after = ap key_at names.named }
 
   put_changes : (S S' : Sessions) → AgreeBut S S' server session.0 → ChangesOne S S' p p' script.caps.caps script.caps.caps selector
   put_changes S S' agree = record { spaces = ap (λ (q : Part). q.spaces) own; others = λ q apart. refl; agrees = others_agree S S' agree; no_spaces = put_spaces }
 
   -- the own state after it is read out of the script
-  put_still : (S : Sessions) → own_at S store' script ≡ own_of S p' script.caps.caps script.regions.user (own_heap_at store script) (sliced_at store script)
-  put_still S = own_still store store' script (Some a) sound own refl limits script.caps S
+  put_still : (S : Sessions) → own_at S store' script ≡ own_of (lent_in store) S p' script.caps.caps script.regions.user (own_heap_at store script) (sliced_at store script)
+  put_still S = own_still store store' script (Some a) sound own refl limits script.caps selector (λ q apart. refl) put_spaces S
 
   upgrades_does : (text : List ℕ) (more : Arguments) → arguments_of text ≡ Some more → shortage (account_of p) more.ram more.caps ≡ None → a ≡ parted_with (account_of p) more.ram more.caps →
       DoesSession (Upgrade selector text) Done [] server session.0 (Some (row_session names.row)) (Some (upgraded (row_session names.row) more.ram more.caps)) store script store' script
   upgrades_does text more reads enough parted entry S S' kind agree was is =
-      upgrades_own S S' p p' script.caps.caps script.caps.caps selector (put_changes S S' agree) script.regions.user (own_heap_at store script) (sliced_at store script) sound.own.named.one sound.own.attached
+      upgrades_own (lent_in store) S S' p p' script.caps.caps script.caps.caps selector (put_changes S S' agree) script.regions.user (own_heap_at store script) (sliced_at store script) sound.own.named.one sound.own.attached
       entry server session (row_session names.row) names.named was text more reads enough names.named is (account_is ∙ parted)
       ∙ ap {B = Outcome} (λ s. record { reply = Done; lines = []; next = s }) (sym (put_still S'))
 
@@ -149,7 +142,7 @@ module _ (store store' : Store) (script : Script) (rows : NatMap (Row Labelled))
       DoesSession (CallSession selector request) (Told (served None (row_session names.row) request).reply) (served None (row_session names.row) request).lines server session.0 (Some (row_session names.row))
       (Some (served None (row_session names.row) request).session) store script store' script
   serves_does request same_one entry S S' kind agree was is =
-      serves_own S S' p p' script.caps.caps script.caps.caps selector (put_changes S S' agree) script.regions.user (own_heap_at store script) (sliced_at store script) sound.own.named.one sound.own.attached
+      serves_own (lent_in store) S S' p p' script.caps.caps script.caps.caps selector (put_changes S S' agree) script.regions.user (own_heap_at store script) (sliced_at store script) sound.own.named.one sound.own.attached
       entry server session (row_session names.row) names.named was request (no_buffers S) names.named is (account_is ∙ same_one)
       ∙ ap {B = Outcome} (λ s. record { reply = Told (served None (row_session names.row) request).reply; lines = (served None (row_session names.row) request).lines; next = s }) (sym (put_still S'))
 
@@ -172,7 +165,7 @@ module _ (store store' : Store) (script : Script) (rows : NatMap (Row Labelled))
         placed = omega (arith, sound.own.paid.placed, least, ap (λ (y : Account). y.caps_limit) account_is);
         ram = omega (arith, limit_within script.account.0 store' a (ap (λ (q : Part). q.account) own), limits, sound.heaps.sliced.maps.pages, ap (λ (y : Account). y.ram_limit) account_is);
       })
-      (lawful_after S S' p p' script.caps.caps script.caps.caps selector (put_changes S S' agree) script.regions.user (own_heap_at store script) (sliced_at store script) sound.own.named.one sound.own.attached
+      (lawful_after (lent_in store) S S' p p' script.caps.caps script.caps.caps selector (put_changes S S' agree) script.regions.user (own_heap_at store script) (sliced_at store script) sound.own.named.one sound.own.attached
       unrouted call reply lines refl
       (does unrouted S S' refl agree (some_same server session.0 (row_session names.row)) (with_session_same S server session.0 x) ∙ ap {B = Outcome} (λ s. record { reply = reply; lines = lines; next = s }) (put_still S'))
       (sound.own.lawful S (some_are_open server session.0 (row_session names.row) script.caps.caps)))
@@ -184,7 +177,7 @@ module _ (store : Store) (script : Script) (rows : NatMap (Row Labelled)) (selec
   -- the selector names the session in the own state
   named_at : session_named (get (own_at S store script).selectors selector) ≡ Some (row_session names.row)
   unfolding own_of
-  named_at = ap session_named (get-picked_at (object_of S (part_at store script)) script.caps.caps selector (Session server session) names.named ∙ ap (option_map OpenSession) was)
+  named_at = ap session_named (get-picked_at (object_of (lent_in store) S (part_at store script)) script.caps.caps selector (Session server session) names.named ∙ ap (option_map OpenSession) was)
 
   -- arguments that can't be read
   pub upgrade_unread : arguments_of text ≡ None → entry_step entry (Upgrade selector text) (own_at S store script) ≡ refused (own_at S store script) BadArgs

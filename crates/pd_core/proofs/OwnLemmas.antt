@@ -11,7 +11,7 @@ use Rattle.own_model.specs.NatMap.{NatMap, picked, total}
 use Rattle.own_model.specs.Account.{opened, charged, credited}
 use Rattle.own_model.specs.Call.{Call}
 use Rattle.own_model.specs.OwnHeap.{OwnHeap}
-use Rattle.own_model.specs.OwnState.{OwnState, named_bytes, Object, new_selector, pages_in, is_buffer_of, buffer_of}
+use Rattle.own_model.specs.OwnState.{OwnState, Object, new_selector, pages_in, is_buffer_of, buffer_of}
 use Rattle.own_model.specs.OwnState.Object.{Dataspace as ADataspace, RpcObject as AnRpcObject, OpenSession, Buffer as ABuffer}
 use Rattle.own_model.proofs.LentLemmas.{buffer_none}
 use Rattle.own_model.specs.OwnStep.{Outcome, script_step, unrouted}
@@ -34,9 +34,9 @@ use Rattle.region_map.specs.Regions.{Regions}
 use Rattle.dataspace_core.specs.Store.{Store, Part, part, space_at, account_of, bytes_of, PartBecomes}
 use Rattle.dataspace_core.proofs.PartLaws.{paid_in_part}
 use Rattle.sliced_heap.specs.Laws.{KeepsHeapWindow}
-use Rattle.pd_core.specs.Own.{Sessions, HasSessions, object_of, selector_of, regions_of, own_of}
+use Rattle.pd_core.specs.Own.{Sessions, HasSessions, object_of, selector_of, regions_of, own_of, Lent, key_at}
 use Rattle.pd_core.specs.Sound.{rpc_weight, session_weight, session_at, IsOne, AreNamed, AreBlocks, IsLawful, IsScript}
-use Rattle.pd_core.proofs.NameLemmas.{Names, is_named, regions_alike, attached_alike}
+use Rattle.pd_core.proofs.NameLemmas.{Names, is_named, regions_alike, attached_alike, cap_named, key_before, space_named}
 
 -- what a call leaves to the heaps: the heap window, and what their dataspaces hold
 pub record Spares (p p' : Part) (regions regions' : Regions) : Type 0 where
@@ -52,39 +52,39 @@ pub record Leaves (p p' : Part) (space space' : Space) : Type 0 where
   pub session_count : total session_weight space'.caps ≡ total session_weight space.caps
 
 -- a call answers this and makes the own state of this part and these tables of what it was, whatever the sessions are
-abbrev pub DoesOwn : Call → Part → Space → Regions → OwnHeap → NatMap (List ℕ) → Reply → Part → Space → Regions → OwnHeap → NatMap (List ℕ) → Type 0
-DoesOwn call p space regions heap sliced reply p' space' regions' heap' sliced' =
+abbrev pub DoesOwn : Lent → Call → Part → Space → Regions → OwnHeap → NatMap (List ℕ) → Reply → Part → Space → Regions → OwnHeap → NatMap (List ℕ) → Type 0
+DoesOwn L call p space regions heap sliced reply p' space' regions' heap' sliced' =
     (sessions : Sessions) → HasSessions sessions space.caps →
-    ◌≡◌ {A = Outcome} (record { reply = reply; lines = []; next = own_of sessions p' space'.caps regions'.user heap' sliced' }) (script_step call (own_of sessions p space.caps regions.user heap sliced))
+    ◌≡◌ {A = Outcome} (record { reply = reply; lines = []; next = own_of L sessions p' space'.caps regions'.user heap' sliced' }) (script_step call (own_of L sessions p space.caps regions.user heap sliced))
 
 -- what a call makes of a script's part, capabilities, regions and heaps: the model's outcome, and a sound script
-pub record Makes (call : Call) (p : Part) (space : Space) (regions : Regions) (heap : OwnHeap) (sliced : NatMap (List ℕ)) (reply : Reply) (p' : Part) (space' : Space) (regions' : Regions) (heap' : OwnHeap) (sliced' : NatMap (List ℕ)) : Type 0 where
-  pub outcome : DoesOwn call p space regions heap sliced reply p' space' regions' heap' sliced'
-  pub script : IsScript p' space' regions' heap' sliced'
+pub record Makes (L : Lent) (call : Call) (p : Part) (space : Space) (regions : Regions) (heap : OwnHeap) (sliced : NatMap (List ℕ)) (reply : Reply) (p' : Part) (space' : Space) (regions' : Regions) (heap' : OwnHeap) (sliced' : NatMap (List ℕ)) : Type 0 where
+  pub outcome : DoesOwn L call p space regions heap sliced reply p' space' regions' heap' sliced'
+  pub script : IsScript L p' space' regions' heap' sliced'
   pub leaves : Leaves p p' space space'
 
 -- the same of a call that leaves the heaps
-pub record Settles (call : Call) (p : Part) (space : Space) (regions : Regions) (heap : OwnHeap) (sliced : NatMap (List ℕ)) (reply : Reply) (p' : Part) (space' : Space) (regions' : Regions) : Type 0 where
-  pub makes : Makes call p space regions heap sliced reply p' space' regions' heap sliced
+pub record Settles (L : Lent) (call : Call) (p : Part) (space : Space) (regions : Regions) (heap : OwnHeap) (sliced : NatMap (List ℕ)) (reply : Reply) (p' : Part) (space' : Space) (regions' : Regions) : Type 0 where
+  pub makes : Makes L call p space regions heap sliced reply p' space' regions' heap sliced
   pub spares : Spares p p' regions regions'
 
 -- the same of what they are equal to
-pub settled : {call : Call} {p q p' : Part} {space t space' : Space} {regions r regions' : Regions} {heap : OwnHeap} {sliced : NatMap (List ℕ)} {reply : Reply} → q ≡ p' → t ≡ space' → r ≡ regions' →
-    Settles call p space regions heap sliced reply p' space' regions' → Settles call p space regions heap sliced reply q t r
-settled {call} {p} {q} {p'} {space} {t} {space'} {regions} {r} {heap = heap} {sliced} {reply} part caps map done =
-    subst (λ x. Settles call p space regions heap sliced reply x t r) (sym part)
-    (subst (λ x. Settles call p space regions heap sliced reply p' x r) (sym caps) (subst (λ x. Settles call p space regions heap sliced reply p' space' x) (sym map) done))
+pub settled : {L : Lent} {call : Call} {p q p' : Part} {space t space' : Space} {regions r regions' : Regions} {heap : OwnHeap} {sliced : NatMap (List ℕ)} {reply : Reply} → q ≡ p' → t ≡ space' → r ≡ regions' →
+    Settles L call p space regions heap sliced reply p' space' regions' → Settles L call p space regions heap sliced reply q t r
+settled {L} {call} {p} {q} {p'} {space} {t} {space'} {regions} {r} {heap = heap} {sliced} {reply} part caps map done =
+    subst (λ x. Settles L call p space regions heap sliced reply x t r) (sym part)
+    (subst (λ x. Settles L call p space regions heap sliced reply p' x r) (sym caps) (subst (λ x. Settles L call p space regions heap sliced reply p' space' x) (sym map) done))
 
 -- a map that stays
 pub same_window : {regions : Regions} → KeepsHeapWindow regions regions
 same_window = record { heap = refl; tags = refl; most = refl; pages = refl }
 
 -- what holds of a capability's object, by kinds: a dataspace's depends on its bytes alone
-object_alike : (sessions : Sessions) (p p' : Part) (cap : Cap) → ((ds : DsId) → cap ≡ Dataspace ds → get p'.spaces ds.0 ≡ get p.spaces ds.0) → object_of sessions p' cap ≡ object_of sessions p cap
-object_alike sessions p p' (Dataspace ds) alike = ap (option_map ADataspace) (alike ds refl)
-object_alike sessions p p' RpcObject alike = refl
-object_alike sessions p p' (Session server session) alike = refl
-object_alike sessions p p' (Buffer space session) alike = refl
+object_alike : (L : Lent) (sessions : Sessions) (p p' : Part) (cap : Cap) → ((ds : DsId) → cap ≡ Dataspace ds → get p'.spaces ds.0 ≡ get p.spaces ds.0) → object_of L sessions p' cap ≡ object_of L sessions p cap
+object_alike L sessions p p' (Dataspace ds) alike = ap (option_map ADataspace) (alike ds refl)
+object_alike L sessions p p' RpcObject alike = refl
+object_alike L sessions p p' (Session server session) alike = refl
+object_alike L sessions p p' (Buffer space session) alike = refl
 
 -- what is there is its value
 pub value_of : (o : Option (List ℕ)) → IsSome o → o ≡ Some (unwrap_or o [])
@@ -97,24 +97,24 @@ map_some f None = refl
 map_some f (Some x) = refl
 
 -- there is an object where there is a capability, and nowhere else
-has_object : (sessions : Sessions) (p : Part) (o : Option Cap) → ((ds : DsId) → o ≡ Some (Dataspace ds) → IsSome (get p.spaces ds.0)) →
-    ((server : ℕ) (session : SessionId) → o ≡ Some (Session server session) → IsSome (sessions server session.0)) → is_some (option_and_then (object_of sessions p) o) ≡ is_some o
-has_object sessions p None there ready = refl
-has_object sessions p (Some (Dataspace ds)) there ready = map_some ADataspace (get p.spaces ds.0) ∙ there ds refl
-has_object sessions p (Some RpcObject) there ready = refl
-has_object sessions p (Some (Buffer space session)) there ready = refl
-has_object sessions p (Some (Session server session)) there ready = map_some OpenSession (sessions server session.0) ∙ ready server session refl
+has_object : (L : Lent) (sessions : Sessions) (p : Part) (o : Option Cap) → ((ds : DsId) → o ≡ Some (Dataspace ds) → IsSome (get p.spaces ds.0)) →
+    ((server : ℕ) (session : SessionId) → o ≡ Some (Session server session) → IsSome (sessions server session.0)) → is_some (option_and_then (object_of L sessions p) o) ≡ is_some o
+has_object L sessions p None there ready = refl
+has_object L sessions p (Some (Dataspace ds)) there ready = map_some ADataspace (get p.spaces ds.0) ∙ there ds refl
+has_object L sessions p (Some RpcObject) there ready = refl
+has_object L sessions p (Some (Buffer space session)) there ready = refl
+has_object L sessions p (Some (Session server session)) there ready = map_some OpenSession (sessions server session.0) ∙ ready server session refl
 
 -- what is no capability of a buffer is no buffer
-not_buffer : (sessions : Sessions) (p : Part) (o : Option Cap) (session : ℕ) (bytes : List ℕ) → ((of : DsId) (other : Selector) → o ≡ Some (Buffer of other) → ⊥) →
-    option_and_then (object_of sessions p) o ≡ Some (ABuffer session bytes) → ⊥
-not_buffer sessions p None session bytes none is = none-some _ is
-not_buffer sessions p (Some (Dataspace ds)) session bytes none is =
+not_buffer : (L : Lent) (sessions : Sessions) (p : Part) (o : Option Cap) (session : ℕ) (bytes : List ℕ) → ((of : DsId) (other : Selector) → o ≡ Some (Buffer of other) → ⊥) →
+    option_and_then (object_of L sessions p) o ≡ Some (ABuffer session bytes) → ⊥
+not_buffer L sessions p None session bytes none is = none-some _ is
+not_buffer L sessions p (Some (Dataspace ds)) session bytes none is =
     elim (get p.spaces ds.0) as (λ o. option_map ADataspace o ≡ Some (ABuffer session bytes) → ⊥) [ None ↦ λ h. none-some _ h | Some x ↦ λ h. cc ] is
-not_buffer sessions p (Some RpcObject) session bytes none is = cc
-not_buffer sessions p (Some (Session server key)) session bytes none is =
+not_buffer L sessions p (Some RpcObject) session bytes none is = cc
+not_buffer L sessions p (Some (Session server key)) session bytes none is =
     elim (sessions server key.0) as (λ o. option_map OpenSession o ≡ Some (ABuffer session bytes) → ⊥) [ None ↦ λ h. none-some _ h | Some x ↦ λ h. cc ] is
-not_buffer sessions p (Some (Buffer of other)) session bytes none is = none of other refl
+not_buffer L sessions p (Some (Buffer of other)) session bytes none is = none of other refl
 
 -- what is no buffer is none of a session
 no_buffer_of : (q : ℕ) (o : Option Object) → ((session : ℕ) (bytes : List ℕ) → o ≡ Some (ABuffer session bytes) → ⊥) → is_buffer_of q o ≡ false
@@ -151,7 +151,7 @@ no_weight RpcObject plain = refl
 no_weight (Buffer space session) plain = refl
 no_weight (Session server session) plain = cc
 
-module _ (p : Part) (space : Space) (regions : Regions) (heap : OwnHeap) (sliced : NatMap (List ℕ)) (sound : IsScript p space regions heap sliced) where
+module _ {L : Lent} (p : Part) (space : Space) (regions : Regions) (heap : OwnHeap) (sliced : NatMap (List ℕ)) (sound : IsScript L p space regions heap sliced) where
   -- the part has the bytes of a dataspace that a selector names
   pub is_held : (s : ℕ) (ds : DsId) → get space.caps s ≡ Some (Dataspace ds) → IsSome (get p.spaces ds.0)
   is_held s ds names = sound.named.there s ds names
@@ -163,21 +163,21 @@ module _ (p : Part) (space : Space) (regions : Regions) (heap : OwnHeap) (sliced
   module _ (sessions : Sessions) where
     -- the own state before the change
     abbrev pub before : OwnState
-    before = own_of sessions p space.caps regions.user heap sliced
+    before = own_of L sessions p space.caps regions.user heap sliced
 
     -- what the own state has under a selector is the object of the capability there
-    pub object_is : (s : ℕ) → get before.selectors s ≡ option_and_then (object_of sessions p) (get space.caps s)
+    pub object_is : (s : ℕ) → get before.selectors s ≡ option_and_then (object_of L sessions p) (get space.caps s)
     unfolding own_of
-    object_is s = get-picked (object_of sessions p) space.caps s
+    object_is s = get-picked (object_of L sessions p) space.caps s
 
     -- and what the own state has under the selector
     pub names_object : (s : ℕ) (ds : DsId) → get space.caps s ≡ Some (Dataspace ds) → get before.selectors s ≡ Some (ADataspace (bytes_of p ds.0))
-    names_object s ds names = object_is s ∙ ap (option_and_then (object_of sessions p)) names ∙ ap (option_map ADataspace) (has_bytes s ds names)
+    names_object s ds names = object_is s ∙ ap (option_and_then (object_of L sessions p)) names ∙ ap (option_map ADataspace) (has_bytes s ds names)
 
     module _ (ready : HasSessions sessions space.caps) where
       -- the own state has the selectors of the space
       pub selects : (q : ℕ) → is_some (get before.selectors q) ≡ is_some (get space.caps q)
-      selects q = ap is_some (object_is q) ∙ has_object sessions p (get space.caps q) (sound.named.there q) (ready q)
+      selects q = ap is_some (object_is q) ∙ has_object L sessions p (get space.caps q) (sound.named.there q) (ready q)
 
       -- the own state's new selector is the space's
       pub same_new_selector : new_selector before.selectors ≡ new_selector space.caps
@@ -186,17 +186,14 @@ module _ (p : Part) (space : Space) (regions : Regions) (heap : OwnHeap) (sliced
           (none_at _ _ (selects _ ∙ ap is_some (new_selector_free space.caps)))
           (λ t positive below. selects t ∙ new_selector_least space.caps t positive below)
 
-  -- no selector names a buffer, as that would be of no pages
+  -- no selector names a buffer
   pub no_buffer : (s : ℕ) (of : DsId) (session : Selector) → get space.caps s ≡ Some (Buffer of session) → ⊥
-  no_buffer s of session names =
-      let law = (sound.lawful all_sessions (λ q server session there. refl)).sound in
-      let whole = law.whole s [] (ap named_bytes (object_is all_sessions s ∙ ap (option_and_then (object_of all_sessions p)) names)) in
-      absurd (omega (arith, whole.some))
+  no_buffer s of session names = sound.named.unlent s of session names
 
   -- so the own state has none
   pub holds_no_buffer : (sessions : Sessions) (s session : ℕ) (bytes : List ℕ) → get (before sessions).selectors s ≡ Some (ABuffer session bytes) → ⊥
   holds_no_buffer sessions s session bytes is =
-      not_buffer sessions p (get space.caps s) session bytes (λ of other named. no_buffer s of other named) (sym (object_is sessions s) ∙ is)
+      not_buffer L sessions p (get space.caps s) session bytes (λ of other named. no_buffer s of other named) (sym (object_is sessions s) ∙ is)
 
   -- nor has any of its sessions
   pub has_no_buffer : (sessions : Sessions) (q : ℕ) → buffer_of q (before sessions).selectors ≡ None
@@ -212,8 +209,8 @@ module _ (p : Part) (space : Space) (regions : Regions) (heap : OwnHeap) (sliced
   module _ (call : Call) where
     -- what the call makes of the own state is lawful, as it was before
     pub kept : (reply : Reply) (p' : Part) (space' : Space) (regions' : Regions) (heap' : OwnHeap) (sliced' : NatMap (List ℕ)) → ((q : ℕ) → session_at (get space'.caps q) ≡ session_at (get space.caps q)) →
-        DoesOwn call p space regions heap sliced reply p' space' regions' heap' sliced' →
-        (sessions : Sessions) → HasSessions sessions space'.caps → IsLawful (own_of sessions p' space'.caps regions'.user heap' sliced')
+        DoesOwn L call p space regions heap sliced reply p' space' regions' heap' sliced' →
+        (sessions : Sessions) → HasSessions sessions space'.caps → IsLawful (own_of L sessions p' space'.caps regions'.user heap' sliced')
     unfolding own_of
     kept reply p' space' regions' heap' sliced' alike outcome sessions ready =
         let entry : Entry = unrouted in
@@ -231,34 +228,46 @@ module _ (p : Part) (space : Space) (regions : Regions) (heap : OwnHeap) (sliced
         (still : (key : ℕ) → IsSome (get p.spaces key) → get spaces key ≡ get p.spaces key)
         (fresh : (ds : DsId) → cap ≡ Dataspace ds → get p.spaces ds.0 ≡ None)
         (counts : len spaces + rpc_weight cap ≡ len p.spaces + 1)
-        (plain : session_at (Some cap) ≡ None) (present : (ds : DsId) → cap ≡ Dataspace ds → IsSome (get spaces ds.0)) where
+        (plain : session_at (Some cap) ≡ None) (present : (ds : DsId) → cap ≡ Dataspace ds → IsSome (get spaces ds.0))
+        (no_lending : (of : DsId) (session : Selector) → cap ≢ Buffer of session) where
       -- the part with the charge, and these dataspaces
       abbrev pub charged_part : Part
       charged_part = record { account = Some (charged (account_of p) n 1); spaces = spaces }
 
-      module _ (new : (sessions : Sessions) → object_of sessions charged_part cap ≡ Some object) (s : ℕ) (least : s ≡ new_selector space.caps) where
+      module _ (new : (sessions : Sessions) → object_of L sessions charged_part cap ≡ Some object) (s : ℕ) (least : s ≡ new_selector space.caps) where
         -- the new selector named nothing before
         free_selector : get space.caps s ≡ None
         free_selector = rw least (new_selector_free space.caps)
 
         -- what was named keeps its object
-        object_stays : (sessions : Sessions) (q : ℕ) (c : Cap) → get space.caps q ≡ Some c → object_of sessions charged_part c ≡ object_of sessions p c
-        object_stays sessions q c there = object_alike sessions p charged_part c (λ ds is. still ds.0 (is_held q ds (there ∙ ap (λ x. Some x) is)))
+        object_stays : (sessions : Sessions) (q : ℕ) (c : Cap) → get space.caps q ≡ Some c → object_of L sessions charged_part c ≡ object_of L sessions p c
+        object_stays sessions q c there = object_alike L sessions p charged_part c (λ ds is. still ds.0 (is_held q ds (there ∙ ap (λ x. Some x) is)))
 
         -- no selector named the new dataspace
-        unnamed : (q : ℕ) (a b : DsId) → a.0 ≡ b.0 → cap ≡ Dataspace a → get space.caps q ≢ Some (Dataspace b)
-        unnamed q a b e is there = apart_from_free p.spaces a.0 b.0 (fresh a is) (is_held q b there) (sym e)
+        unnamed : (q key : ℕ) → key_at (Some cap) ≡ Some key → Names space.caps q key → ⊥
+        unnamed q key new old =
+            let its = space_named (get space.caps q) key old (λ of session. sound.named.unlent q of session) in
+            let mine = space_named (Some cap) key new (λ of session is. no_lending of session (same_Some cap (Buffer of session) is)) in
+            apart_from_free p.spaces mine.0.0 its.0.0 (fresh mine.0 (same_Some cap (Dataspace mine.0) mine.1)) (is_held q its.0 its.1) (its.2 ∙ sym mine.2)
+
+        -- a key is the new selector's
+        new_key : (q key : ℕ) → q ≡ s → Names (insert space.caps s cap) q key → key_at (Some cap) ≡ Some key
+        new_key q key at names = ap key_at (sym (get-insert_same space.caps s cap q at)) ∙ names
+
+        -- or another's
+        old_key : (q key : ℕ) → q ≢ s → Names (insert space.caps s cap) q key → Names space.caps q key
+        old_key q key apart names = ap key_at (sym (get-insert_other space.caps s cap q apart)) ∙ names
 
         -- a dataspace still has one selector at most
         grown_one : IsOne (insert space.caps s cap)
-        grown_one q t a b first second e = elim (after_insert space.caps s cap q (Dataspace a) first) [
-          | inl here ↦ elim (after_insert space.caps s cap t (Dataspace b) second) [
-            | inl too ↦ here.0 ∙ sym too.0
-            | inr old ↦ absurd (unnamed t a b e (sym here.1) old.1)
+        grown_one q t key first second = elim (cases_eq q s) [
+          | inl here ↦ elim (cases_eq t s) [
+            | inl too ↦ here ∙ sym too
+            | inr old ↦ absurd (unnamed t key (new_key q key here first) (old_key t key old second))
           ]
-          | inr old ↦ elim (after_insert space.caps s cap t (Dataspace b) second) [
-            | inl here ↦ absurd (unnamed q b a (sym e) (sym here.1) old.1)
-            | inr too ↦ sound.named.one q t a b old.1 too.1 e
+          | inr old ↦ elim (cases_eq t s) [
+            | inl here ↦ absurd (unnamed q key (new_key t key here second) (old_key q key old first))
+            | inr too ↦ sound.named.one q t key (old_key q key old first) (old_key t key too second)
           ]
         ]
 
@@ -267,6 +276,13 @@ module _ (p : Part) (space : Space) (regions : Regions) (heap : OwnHeap) (sliced
         grown_there q ds there = elim (after_insert space.caps s cap q (Dataspace ds) there) [
           | inl here ↦ present ds (sym here.1)
           | inr old ↦ let held = is_held q ds old.1 in ap is_some (still ds.0 held) ∙ held
+        ]
+
+        -- nor does a selector name a buffer
+        grown_unlent : (q : ℕ) (of : DsId) (session : Selector) → get (insert space.caps s cap) q ≡ Some (Buffer of session) → ⊥
+        grown_unlent q of session names = elim (after_insert space.caps s cap q (Buffer of session) names) [
+          | inl here ↦ no_lending of session (sym here.1)
+          | inr old ↦ sound.named.unlent q of session old.1
         ]
 
         -- the new selector names no block, and neither does another
@@ -279,7 +295,7 @@ module _ (p : Part) (space : Space) (regions : Regions) (heap : OwnHeap) (sliced
         -- the selector of a region's dataspace names what it did
         named_apart : (q start : ℕ) (region : Region) → get regions.user start ≡ Some region → selector_of space.caps region.of ≡ Some q → get (insert space.caps s cap) q ≡ get space.caps q
         named_apart q start region there names =
-            get-insert_other space.caps s cap q (apart_from_free space.caps s q free_selector (ap is_some (is_named space.caps region.of q names).there))
+            get-insert_other space.caps s cap q (apart_from_free space.caps s q free_selector (ap is_some (cap_named (get space.caps q) region.of (is_named space.caps region.of q names)).1))
 
         -- the sessions stay
         grown_sessions : (q : ℕ) → session_at (get (insert space.caps s cap) q) ≡ session_at (get space.caps q)
@@ -293,13 +309,13 @@ module _ (p : Part) (space : Space) (regions : Regions) (heap : OwnHeap) (sliced
         grown_count = omega (arith, total-insert_new session_weight space.caps s cap free_selector, no_weight cap plain)
 
         -- the own state has the object under its new selector
-        grown_own : (sessions : Sessions) → HasSessions sessions space.caps → own_of sessions charged_part (insert space.caps s cap) regions.user heap sliced
+        grown_own : (sessions : Sessions) → HasSessions sessions space.caps → own_of L sessions charged_part (insert space.caps s cap) regions.user heap sliced
             ≡ record (before sessions) { account = charged (before sessions).account n 1; selectors = insert (before sessions).selectors (new_selector (before sessions).selectors) object }
         unfolding own_of
         grown_own sessions ready =
-            let names = picked-insert_some (object_of sessions charged_part) space.caps s cap object (new sessions)
-            ∙ ap (λ m. insert m s object) (picked_alike (object_of sessions charged_part) (object_of sessions p) space.caps (object_stays sessions))
-            ∙ ap (λ k. insert (picked (object_of sessions p) space.caps) k object) (least ∙ sym (same_new_selector sessions ready)) in
+            let names = picked-insert_some (object_of L sessions charged_part) space.caps s cap object (new sessions)
+            ∙ ap (λ m. insert m s object) (picked_alike (object_of L sessions charged_part) (object_of L sessions p) space.caps (object_stays sessions))
+            ∙ ap (λ k. insert (picked (object_of L sessions p) space.caps) k object) (least ∙ sym (same_new_selector sessions ready)) in
             let attached = regions_alike space.caps (insert space.caps s cap) regions.user grown_one sound.attached named_apart in
             λ i. record { account = charged (account_of p) n 1; selectors = names i; regions = attached i; heap = heap; sliced = sliced; gone = false }
 
@@ -308,14 +324,14 @@ module _ (p : Part) (space : Space) (regions : Regions) (heap : OwnHeap) (sliced
           reply = Selected (new_selector (before sessions).selectors);
           lines = [];
           next = record (before sessions) { account = charged (before sessions).account n 1; selectors = insert (before sessions).selectors (new_selector (before sessions).selectors) object };
-        }) → Settles call p space regions heap sliced (Selected s) charged_part (with_cap space s cap) regions
+        }) → Settles L call p space regions heap sliced (Selected s) charged_part (with_cap space s cap) regions
         grows is =
-            let outcome : DoesOwn call p space regions heap sliced (Selected s) charged_part (with_cap space s cap) regions heap sliced
+            let outcome : DoesOwn L call p space regions heap sliced (Selected s) charged_part (with_cap space s cap) regions heap sliced
             = λ sessions ready. (λ i. record { reply = Selected ((least ∙ sym (same_new_selector sessions ready)) i); lines = []; next = grown_own sessions ready i }) ∙ sym (is sessions) in
             let bytes : (start : ℕ) (region : Region) → get regions.heap start ≡ Some region → get spaces region.of ≡ get p.spaces region.of
             = (λ start region there. still region.of (sound.blocks.held start region there)) in
-            let script : IsScript charged_part (with_cap space s cap) regions heap sliced = record {
-              named = record { there = grown_there; one = grown_one };
+            let script : IsScript L charged_part (with_cap space s cap) regions heap sliced = record {
+              named = record { there = grown_there; one = grown_one; unlent = grown_unlent };
               paid = record {
                 is_open = refl;
                 named = omega (arith, len-insert_new space.caps s cap free_selector, sound.paid.named, grown_count);
@@ -345,12 +361,12 @@ module _ (p : Part) (space : Space) (regions : Regions) (heap : OwnHeap) (sliced
       credited_part = record { account = Some (credited (account_of p) n 1); spaces = spaces }
 
       -- what is named still keeps its object
-      object_left : (sessions : Sessions) (q : ℕ) (c : Cap) → get (remove space.caps s) q ≡ Some c → object_of sessions credited_part c ≡ object_of sessions p c
-      object_left sessions q c here = object_alike sessions p credited_part c (λ ds is. still q ds (here ∙ ap (λ x. Some x) is))
+      object_left : (sessions : Sessions) (q : ℕ) (c : Cap) → get (remove space.caps s) q ≡ Some c → object_of L sessions credited_part c ≡ object_of L sessions p c
+      object_left sessions q c here = object_alike L sessions p credited_part c (λ ds is. still q ds (here ∙ ap (λ x. Some x) is))
 
       -- a dataspace still has one selector at most
       shrunk_one : IsOne (remove space.caps s)
-      shrunk_one q t a b first second e = sound.named.one q t a b (before_remove space.caps s q (Dataspace a) first) (before_remove space.caps s t (Dataspace b) second) e
+      shrunk_one q t key first second = sound.named.one q t key (key_before space.caps s q key first) (key_before space.caps s t key second)
 
       -- each region that is left had a dataspace that a selector names
       left_named : AreNamed space.caps regions'.user
@@ -372,11 +388,11 @@ module _ (p : Part) (space : Space) (regions : Regions) (heap : OwnHeap) (sliced
       shrunk_count = omega (arith, total-remove session_weight space.caps s cap there, no_weight cap plain)
 
       -- the own state has nothing under the selector
-      shrunk_own : (sessions : Sessions) → own_of sessions credited_part (remove space.caps s) regions'.user heap sliced
+      shrunk_own : (sessions : Sessions) → own_of L sessions credited_part (remove space.caps s) regions'.user heap sliced
           ≡ record (before sessions) { account = credited (before sessions).account n 1; selectors = remove (before sessions).selectors s; regions = regions_of space.caps regions'.user }
       unfolding own_of
       shrunk_own sessions =
-          let names = picked_alike (object_of sessions credited_part) (object_of sessions p) (remove space.caps s) (object_left sessions) ∙ picked-remove (object_of sessions p) space.caps s in
+          let names = picked_alike (object_of L sessions credited_part) (object_of L sessions p) (remove space.caps s) (object_left sessions) ∙ picked-remove (object_of L sessions p) space.caps s in
           let attached = regions_alike space.caps (remove space.caps s) regions'.user shrunk_one left_named left_apart in
           λ i. record { account = credited (account_of p) n 1; selectors = names i; regions = attached i; heap = heap; sliced = sliced; gone = false }
 
@@ -385,13 +401,13 @@ module _ (p : Part) (space : Space) (regions : Regions) (heap : OwnHeap) (sliced
         reply = Done;
         lines = [];
         next = record (before sessions) { account = credited (before sessions).account n 1; selectors = remove (before sessions).selectors s; regions = regions_of space.caps regions'.user };
-      }) → Settles call p space regions heap sliced Done credited_part (without_cap space s) regions'
+      }) → Settles L call p space regions heap sliced Done credited_part (without_cap space s) regions'
       shrinks is =
-          let outcome : DoesOwn call p space regions heap sliced Done credited_part (without_cap space s) regions' heap sliced
+          let outcome : DoesOwn L call p space regions heap sliced Done credited_part (without_cap space s) regions' heap sliced
           = λ sessions ready. (λ i. record { reply = Done; lines = []; next = shrunk_own sessions i }) ∙ sym (is sessions) in
           let shorter = len-remove_at space.caps s cap there in
-          let script : IsScript credited_part (without_cap space s) regions' heap sliced = record {
-            named = record { there = λ q ds here. ap is_some (still q ds here) ∙ is_held q ds (before_remove space.caps s q (Dataspace ds) here); one = shrunk_one };
+          let script : IsScript L credited_part (without_cap space s) regions' heap sliced = record {
+            named = record { there = λ q ds here. ap is_some (still q ds here) ∙ is_held q ds (before_remove space.caps s q (Dataspace ds) here); one = shrunk_one; unlent = λ q of session here. sound.named.unlent q of session (before_remove space.caps s q (Buffer of session) here) };
             paid = record {
               is_open = refl;
               named = omega (arith, shorter, sound.paid.named, shrunk_count);
@@ -416,7 +432,7 @@ module _ (p : Part) (space : Space) (regions : Regions) (heap : OwnHeap) (sliced
 
     -- a call that changes the regions settles, if selectors name their dataspaces
     pub remaps : (regions' : Regions) (reply : Reply) → regions'.most ≡ regions.most → KeepsHeapWindow regions regions' → AreNamed space.caps regions'.user →
-        DoesOwn call p space regions heap sliced reply p space regions' heap sliced → Settles call p space regions heap sliced reply p space regions'
+        DoesOwn L call p space regions heap sliced reply p space regions' heap sliced → Settles L call p space regions heap sliced reply p space regions'
     remaps regions' reply most window attached is = record {
       makes = record {
         outcome = is;
@@ -437,31 +453,35 @@ module _ (p : Part) (space : Space) (regions : Regions) (heap : OwnHeap) (sliced
     -- ---- other bytes
 
     module _ (key s : ℕ) (over : List ℕ) (names : Names space.caps s key) (size : length over ≡ length (bytes_of p key)) where
+      -- it is one of the script's own
+      abbrev its : (ds : DsId) × (get space.caps s ≡ Some (Dataspace ds)) × (ds.0 ≡ key)
+      its = space_named (get space.caps s) key names (λ of session. sound.named.unlent s of session)
+
       -- the part has the bytes that are written over
       has : get p.spaces key ≡ Some (bytes_of p key)
-      has = subst (λ k. get p.spaces k ≡ Some (bytes_of p k)) names.same (has_bytes s names.ds names.there)
+      has = subst (λ k. get p.spaces k ≡ Some (bytes_of p k)) its.2 (has_bytes s its.0 its.1)
 
       -- the part with other bytes of the dataspace
       abbrev pub written : Part
       written = record p { spaces = insert p.spaces key over }
 
       -- other selectors keep their objects
-      object_other : (sessions : Sessions) (q : ℕ) (c : Cap) → q ≢ s → get space.caps q ≡ Some c → object_of sessions written c ≡ object_of sessions p c
-      object_other sessions q c apart there = object_alike sessions p written c (λ d is.
-          get-insert_other p.spaces key over d.0 (λ e. apart (sound.named.one q s d names.ds (there ∙ ap (λ x. Some x) is) names.there (e ∙ sym names.same))))
+      object_other : (sessions : Sessions) (q : ℕ) (c : Cap) → q ≢ s → get space.caps q ≡ Some c → object_of L sessions written c ≡ object_of L sessions p c
+      object_other sessions q c apart there = object_alike L sessions p written c (λ d is.
+          get-insert_other p.spaces key over d.0 (λ e. apart (sound.named.one q s key (ap key_at (there ∙ ap (λ x. Some x) is) ∙ ap (λ k. Some k) e) names)))
 
       -- the dataspace's selector names the new bytes
-      object_here : (sessions : Sessions) (q : ℕ) → q ≡ s → option_and_then (object_of sessions written) (get space.caps q) ≡ Some (ADataspace over)
+      object_here : (sessions : Sessions) (q : ℕ) → q ≡ s → option_and_then (object_of L sessions written) (get space.caps q) ≡ Some (ADataspace over)
       object_here sessions q at =
-          ap (option_and_then (object_of sessions written)) (ap (get space.caps) at ∙ names.there) ∙ ap (option_map ADataspace) (get-insert_same p.spaces key over names.ds.0 names.same)
+          ap (option_and_then (object_of L sessions written)) (ap (get space.caps) at ∙ its.1) ∙ ap (option_map ADataspace) (get-insert_same p.spaces key over its.0.0 its.2)
 
       -- and the others what they did
-      written_at : (sessions : Sessions) (q : ℕ) → get (picked (object_of sessions written) space.caps) q ≡ get (insert (picked (object_of sessions p) space.caps) s (ADataspace over)) q
-      written_at sessions q = get-picked (object_of sessions written) space.caps q ∙ (elim (cases_eq q s) [
-        | inl at ↦ object_here sessions q at ∙ sym (get-insert_same (picked (object_of sessions p) space.caps) s (ADataspace over) q at)
+      written_at : (sessions : Sessions) (q : ℕ) → get (picked (object_of L sessions written) space.caps) q ≡ get (insert (picked (object_of L sessions p) space.caps) s (ADataspace over)) q
+      written_at sessions q = get-picked (object_of L sessions written) space.caps q ∙ (elim (cases_eq q s) [
+        | inl at ↦ object_here sessions q at ∙ sym (get-insert_same (picked (object_of L sessions p) space.caps) s (ADataspace over) q at)
         | inr apart ↦
-            and_then_alike (object_of sessions written) (object_of sessions p) (get space.caps q) (λ c there. object_other sessions q c apart there)
-            ∙ sym (get-picked (object_of sessions p) space.caps q) ∙ sym (get-insert_other (picked (object_of sessions p) space.caps) s (ADataspace over) q apart)
+            and_then_alike (object_of L sessions written) (object_of L sessions p) (get space.caps q) (λ c there. object_other sessions q c apart there)
+            ∙ sym (get-picked (object_of L sessions p) space.caps q) ∙ sym (get-insert_other (picked (object_of L sessions p) space.caps) s (ADataspace over) q apart)
       ])
 
       -- each dataspace is there still
@@ -473,15 +493,15 @@ module _ (p : Part) (space : Space) (regions : Regions) (heap : OwnHeap) (sliced
 
       -- so a call that does this settles
       pub rewrites : ((sessions : Sessions) → script_step call (before sessions) ≡ record { reply = Done; lines = []; next = record (before sessions) { selectors = insert (before sessions).selectors s (ADataspace over) } }) →
-          Settles call p space regions heap sliced Done written space regions
+          Settles L call p space regions heap sliced Done written space regions
       unfolding own_of
       rewrites is =
-          let outcome : DoesOwn call p space regions heap sliced Done written space regions heap sliced
+          let outcome : DoesOwn L call p space regions heap sliced Done written space regions heap sliced
           = λ sessions ready. (λ i. record { reply = Done; lines = []; next = record (before sessions) { selectors = same _ _ (written_at sessions) i } }) ∙ sym (is sessions) in
           let bytes : (start : ℕ) (region : Region) → get regions.heap start ≡ Some region → get written.spaces region.of ≡ get p.spaces region.of
-          = (λ start region there. get-insert_other p.spaces key over region.of (λ e. sound.blocks.unnamed start s region names.ds there names.there (names.same ∙ sym e))) in
-          let script : IsScript written space regions heap sliced = record {
-            named = record { there = written_there; one = sound.named.one };
+          = (λ start region there. get-insert_other p.spaces key over region.of (λ e. sound.blocks.unnamed start s region its.0 there its.1 (its.2 ∙ sym e))) in
+          let script : IsScript L written space regions heap sliced = record {
+            named = record { there = written_there; one = sound.named.one; unlent = sound.named.unlent };
             paid = record {
               is_open = sound.paid.is_open;
               named = sound.paid.named;
@@ -507,25 +527,25 @@ module _ (p : Part) (space : Space) (regions : Regions) (heap : OwnHeap) (sliced
         (is_open : IsSome p'.account) (ram_limit : (account_of p').ram_limit ≡ (account_of p).ram_limit) (caps_limit : (account_of p').caps_limit ≡ (account_of p).caps_limit)
         (spare : len p'.spaces + total rpc_weight space.caps ≤ (account_of p').caps_used) (blocks : AreBlocks p' space.caps regions'.heap) where
       -- what is named keeps its object
-      object_kept : (sessions : Sessions) (q : ℕ) (c : Cap) → get space.caps q ≡ Some c → object_of sessions p' c ≡ object_of sessions p c
-      object_kept sessions q c there = object_alike sessions p p' c (λ ds is. still q ds (there ∙ ap (λ x. Some x) is))
+      object_kept : (sessions : Sessions) (q : ℕ) (c : Cap) → get space.caps q ≡ Some c → object_of L sessions p' c ≡ object_of L sessions p c
+      object_kept sessions q c there = object_alike L sessions p p' c (λ ds is. still q ds (there ∙ ap (λ x. Some x) is))
 
       -- a call that changes the account and the heaps alone settles
       pub slices : ((sessions : Sessions) → script_step call (before sessions) ≡ record { reply = reply; lines = []; next = record (before sessions) { account = account_of p'; heap = heap'; sliced = sliced' } }) →
-          Makes call p space regions heap sliced reply p' space regions' heap' sliced'
+          Makes L call p space regions heap sliced reply p' space regions' heap' sliced'
       unfolding own_of
       slices is =
-          let selectors : (sessions : Sessions) → picked (object_of sessions p') space.caps ≡ picked (object_of sessions p) space.caps
-          = λ sessions. picked_alike (object_of sessions p') (object_of sessions p) space.caps (object_kept sessions) in
+          let selectors : (sessions : Sessions) → picked (object_of L sessions p') space.caps ≡ picked (object_of L sessions p) space.caps
+          = λ sessions. picked_alike (object_of L sessions p') (object_of L sessions p) space.caps (object_kept sessions) in
           let attached = ap (regions_of space.caps) user in
-          let outcome : DoesOwn call p space regions heap sliced reply p' space regions' heap' sliced'
+          let outcome : DoesOwn L call p space regions heap sliced reply p' space regions' heap' sliced'
           = λ sessions ready. (λ i. record { reply = reply; lines = []; next = record { account = account_of p'; selectors = selectors sessions i; regions = attached i; heap = heap'; sliced = sliced'; gone = false } }) ∙ sym (is sessions) in
           let lawful = kept reply p' space regions' heap' sliced' (λ q. refl) outcome in
           let was = sound.lawful all_sessions (λ q server session there. refl) in
           let now = lawful all_sessions (λ q server session there. refl) in record {
             outcome = outcome;
             script = record {
-              named = record { there = λ q ds there. ap is_some (still q ds there) ∙ is_held q ds there; one = sound.named.one };
+              named = record { there = λ q ds there. ap is_some (still q ds there) ∙ is_held q ds there; one = sound.named.one; unlent = sound.named.unlent };
               paid = record {
                 is_open = is_open;
                 named = omega (arith, now.uses.caps, was.uses.caps, ap (total object_caps) (selectors all_sessions), sound.paid.named);

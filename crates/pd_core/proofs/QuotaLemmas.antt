@@ -24,7 +24,7 @@ use Rattle.slab.specs.Slab.{Slab}
 use Rattle.slab.specs.Slab as slab
 use Rattle.server_frame.specs.Frame.{Row, sessions_of}
 use Rattle.server_frame.specs.declared.server.Session.{Session as Kept}
-use Rattle.pd_core.specs.Own.{Sessions, no_sessions, object_of, own_of, part_at}
+use Rattle.pd_core.specs.Own.{Sessions, no_sessions, object_of, own_of, part_at, Lent, lent_in, no_lent}
 use Rattle.pd_core.specs.Component.{Pays, caps_in, rows_in, own_in, own, rows_of}
 use Rattle.pd_core.specs.Core.{Rules, roles_of, rows_at, sessions_in, world_of, IsCore}
 use Rattle.pd_core.specs.Exit.{HasSelectorsTo}
@@ -80,9 +80,9 @@ no_caps role none q taken = absurd (true≢false (sym taken ∙ ap is_some (ap (
 -- a selector without a capability names nothing
 no_object : (sessions : Sessions) (store : Store) (role : Role) (q : ℕ) → get (caps_in role) q ≡ None → get (own_in sessions store role).selectors q ≡ None
 unfolding own_of
-no_object sessions store (AScript script) q none = get-picked_none (object_of sessions (part_at store script)) script.caps.caps q none
-no_object sessions store (ALog account server) q none = get-picked_none (object_of no_sessions (part account.0 store)) empty q none
-no_object sessions store (AFiles account server) q none = get-picked_none (object_of no_sessions (part account.0 store)) empty q none
+no_object sessions store (AScript script) q none = get-picked_none (object_of (lent_in store) sessions (part_at store script)) script.caps.caps q none
+no_object sessions store (ALog account server) q none = get-picked_none (object_of no_lent no_sessions (part account.0 store)) empty q none
+no_object sessions store (AFiles account server) q none = get-picked_none (object_of no_lent no_sessions (part account.0 store)) empty q none
 no_object sessions store AGone q none = get-empty q
 
 -- so at each place of the world none does past the selectors in use
@@ -105,22 +105,22 @@ found_in sessions (Ok named) = sessions named.0 named.1.0
 found_in sessions (Err refusal) = None
 
 -- what a selector has names the one that is found
-by_cap : (sessions : Sessions) (part : Part) (o : Option Cap) → session_named (option_and_then (object_of sessions part) o) ≡ found_in sessions (ok_or (session_at o) InvalidSession)
-by_cap sessions part None = refl
-by_cap sessions part (Some (Dataspace ds)) = no_space (get part.spaces ds.0)
-by_cap sessions part (Some RpcObject) = refl
-by_cap sessions part (Some (Buffer space session)) = refl
-by_cap sessions part (Some (Session server session)) = itself (sessions server session.0)
+by_cap : (L : Lent) (sessions : Sessions) (part : Part) (o : Option Cap) → session_named (option_and_then (object_of L sessions part) o) ≡ found_in sessions (ok_or (session_at o) InvalidSession)
+by_cap L sessions part None = refl
+by_cap L sessions part (Some (Dataspace ds)) = no_space (get part.spaces ds.0)
+by_cap L sessions part (Some RpcObject) = refl
+by_cap L sessions part (Some (Buffer space session)) = refl
+by_cap L sessions part (Some (Session server session)) = itself (sessions server session.0)
 
 -- a server's own state names none
-by_none : (part : Part) (q : ℕ) → session_named (get (picked (object_of no_sessions part) empty) q) ≡ None
-by_none part q = ap session_named (get-picked (object_of no_sessions part) empty q ∙ ap (option_and_then (object_of no_sessions part)) (get-empty q))
+by_none : (part : Part) (q : ℕ) → session_named (get (picked (object_of no_lent no_sessions part) empty) q) ≡ None
+by_none part q = ap session_named (get-picked (object_of no_lent no_sessions part) empty q ∙ ap (option_and_then (object_of no_lent no_sessions part)) (get-empty q))
 
 by_role : (sessions : Sessions) (store : Store) (role : Role) (q : ℕ) → session_named (get (own_in sessions store role).selectors q) ≡ found_in sessions (named_in role q)
 unfolding own_of
 by_role sessions store (AScript script) q =
     let part = part_at store script in
-    ap session_named (get-picked (object_of sessions part) script.caps.caps q) ∙ by_cap sessions part (get script.caps.caps q)
+    ap session_named (get-picked (object_of (lent_in store) sessions part) script.caps.caps q) ∙ by_cap (lent_in store) sessions part (get script.caps.caps q)
 by_role sessions store (ALog account server) q = by_none (part account.0 store) q
 by_role sessions store (AFiles account server) q = by_none (part account.0 store) q
 by_role sessions store AGone q = ap session_named (get-empty q)

@@ -23,7 +23,7 @@ use Rattle.cap_space.specs.declared.cap.Cap.{Cap}
 use Rattle.cap_space.specs.declared.cap.Cap.TheVariants.{Dataspace, RpcObject as AnRpcCap, Session, Buffer}
 use Rattle.region_map.specs.Regions.{Regions, attached, detached}
 use Rattle.dataspace_core.specs.Store.{Part, bytes_of}
-use Rattle.pd_core.specs.Own.{Sessions, Lent, selector_of, regions_of, own_of, sized_at}
+use Rattle.pd_core.specs.Own.{Sessions, Lent, selector_of, regions_of, own_of, sized_at, key_at}
 use Rattle.pd_core.specs.Sound.{AreNamed, IsScript}
 use Rattle.pd_core.proofs.NameLemmas.{named_is}
 use Rattle.pd_core.proofs.OwnLemmas.{Settles, all_sessions, before, object_is, no_buffer, few_bytes, names_object, remaps}
@@ -51,7 +51,7 @@ unsized L p (Some AnRpcCap) refusal h = (cc, refl)
 unsized L p (Some (Buffer space session)) refusal h = cc
 unsized L p (Some (Session server session)) refusal h = (cc, refl)
 
-module _ (p : Part) (space : Space) (regions : Regions) (heap : OwnHeap) (sliced : NatMap (List ℕ)) (sound : IsScript p space regions heap sliced) where
+module _ {L : Lent} (p : Part) (space : Space) (regions : Regions) (heap : OwnHeap) (sliced : NatMap (List ℕ)) (sound : IsScript L p space regions heap sliced) where
   -- the own state's regions have the starts and pages of the map's
   alike : (sessions : Sessions) → AreAlike regions.user (before p space regions heap sliced sound sessions).regions
   unfolding own_of regions_of
@@ -59,7 +59,7 @@ module _ (p : Part) (space : Space) (regions : Regions) (heap : OwnHeap) (sliced
 
   -- ---- attach
 
-  module _ (L : Lent) (s : ℕ) (refusal : Refusal) (none : Err refusal ≡ sized_at L p (get space.caps s)) where
+  module _ (s : ℕ) (refusal : Refusal) (none : Err refusal ≡ sized_at L p (get space.caps s)) where
     -- a call that attaches what has no bytes is refused
     unnamed : (sessions : Sessions) (step : Option (List ℕ) → Outcome) → step None ≡ refused (before p space regions heap sliced sound sessions) InvalidCap →
         refused (before p space regions heap sliced sound sessions) refusal ≡ step (named_bytes (get (before p space regions heap sliced sound sessions).selectors s))
@@ -67,7 +67,7 @@ module _ (p : Part) (space : Space) (regions : Regions) (heap : OwnHeap) (sliced
         let b = before p space regions heap sliced sound sessions in
         let un = unsized L p (get space.caps s) refusal none in
         let by : Option Object → Outcome = λ o. step (named_bytes o) in
-        ap (refused b) un.0 ∙ refuses by b nothing nothing (λ session. nothing) sessions p (get space.caps s)
+        ap (refused b) un.0 ∙ refuses L by b nothing nothing (λ session. nothing) sessions p (get space.caps s)
         (λ of session named. absurd (no_buffer p space regions heap sliced sound s of session named)) un.1 ∙ ap by (sym (object_is p space regions heap sliced sound sessions s))
 
     -- so an attach is
@@ -78,7 +78,7 @@ module _ (p : Part) (space : Space) (regions : Regions) (heap : OwnHeap) (sliced
     pub attach_at_unnamed : (address : ℕ) (sessions : Sessions) → refused (before p space regions heap sliced sound sessions) refusal ≡ script_step (AttachAt s address) (before p space regions heap sliced sound sessions)
     attach_at_unnamed address sessions = let b = before p space regions heap sliced sound sessions in unnamed sessions (λ o. attached_at s address o b) refl
 
-  module _ (L : Lent) (s : ℕ) (found : DsId × ℕ) (is : Ok found ≡ sized_at L p (get space.caps s)) where
+  module _ (s : ℕ) (found : DsId × ℕ) (is : Ok found ≡ sized_at L p (get space.caps s)) where
     -- the dataspace and its pages
     abbrev ds : DsId
     ds = found.0
@@ -140,22 +140,22 @@ module _ (p : Part) (space : Space) (regions : Regions) (heap : OwnHeap) (sliced
     -- a region more is named too
     attached_more : (address : ℕ) → AreNamed space.caps (attached regions ds.0 pages address).user
     attached_more address start region there = elim (after_insert regions.user address (record { of = ds.0; pages = pages }) start region there) [
-      | inl here ↦ ap (λ (r : Region). is_some (selector_of space.caps r.of)) here.1 ∙ ap is_some (named_is space.caps sound.named.one s ds named)
+      | inl here ↦ ap (λ (r : Region). is_some (selector_of space.caps r.of)) here.1 ∙ ap is_some (named_is space.caps sound.named.one s ds.0 (ap key_at named))
       | inr old ↦ sound.attached start region old.1
     ]
 
     -- a call that attaches the pages settles
     attaches : (call : Call) (address : ℕ) → ((sessions : Sessions) → script_step call (before p space regions heap sliced sound sessions) ≡ with_region s pages address (before p space regions heap sliced sound sessions)) →
-        Settles call p space regions heap sliced (Attached address) p space (attached regions ds.0 pages address)
+        Settles L call p space regions heap sliced (Attached address) p space (attached regions ds.0 pages address)
     unfolding own_of regions_of
     attaches call address is =
-        let more = renamed-insert (selector_of space.caps) regions.user address ds.0 pages s (named_is space.caps sound.named.one s ds named) in
+        let more = renamed-insert (selector_of space.caps) regions.user address ds.0 pages s (named_is space.caps sound.named.one s ds.0 (ap key_at named)) in
         remaps p space regions heap sliced sound call (attached regions ds.0 pages address) (Attached address) refl (record { heap = refl; tags = refl; most = refl; pages = refl }) (attached_more address)
         (λ sessions ready. (λ i. record { reply = Attached address; lines = []; next = record (before p space regions heap sliced sound sessions) { regions = more i } }) ∙ sym (is sessions))
 
     -- an attach settles
     pub attach_settles : (address : ℕ) → None ≡ attach_refusal regions.most regions.user pages → first_gap user_low user_high regions.user pages ≡ Some address →
-        Settles (Attach s) p space regions heap sliced (Attached address) p space (attached regions ds.0 pages address)
+        Settles L (Attach s) p space regions heap sliced (Attached address) p space (attached regions ds.0 pages address)
     attach_settles address accepted gap =
         attaches (Attach s) address (λ sessions. let b = before p space regions heap sliced sound sessions in
         first_is sessions ∙ ap (λ r. unless r b (with_region s pages (unwrap_or (first_gap user_low user_high regions.user pages) 0) b)) (sym accepted)
@@ -163,9 +163,9 @@ module _ (p : Part) (space : Space) (regions : Regions) (heap : OwnHeap) (sliced
 
     -- so does one at an address
     pub attach_at_settles : (address told : ℕ) → told ≡ address → None ≡ attach_at_refusal regions.most regions.user pages address →
-        Settles (AttachAt s address) p space regions heap sliced (Attached told) p space (attached regions ds.0 pages address)
+        Settles L (AttachAt s address) p space regions heap sliced (Attached told) p space (attached regions ds.0 pages address)
     attach_at_settles address told same accepted =
-        subst (λ a. Settles (AttachAt s address) p space regions heap sliced (Attached a) p space (attached regions ds.0 pages address)) (sym same)
+        subst (λ a. Settles L (AttachAt s address) p space regions heap sliced (Attached a) p space (attached regions ds.0 pages address)) (sym same)
         (attaches (AttachAt s address) address (λ sessions. let b = before p space regions heap sliced sound sessions in place_is address sessions ∙ ap (λ r. unless r b (with_region s pages address b)) (sym accepted)))
 
   -- ---- detach
@@ -180,7 +180,7 @@ module _ (p : Part) (space : Space) (regions : Regions) (heap : OwnHeap) (sliced
     detach_refused refusal is sessions = let b = before p space regions heap sliced sound sessions in ap (λ r. unless r b (region_detached address b)) is ∙ sym (detach_is sessions)
 
     -- a detach settles
-    pub detach_settles : None ≡ detach_refusal regions.user address → Settles (Detach address) p space regions heap sliced Done p space (detached regions address)
+    pub detach_settles : None ≡ detach_refusal regions.user address → Settles L (Detach address) p space regions heap sliced Done p space (detached regions address)
     unfolding own_of regions_of
     detach_settles accepted =
         let less = renamed-remove (selector_of space.caps) regions.user address in

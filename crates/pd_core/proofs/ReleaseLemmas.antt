@@ -11,7 +11,7 @@ use Rattle.cap_space.specs.declared.cap.Cap.TheVariants.{Dataspace, RpcObject}
 use Rattle.dataspace_core.specs.Store.{Store}
 use Rattle.pd_core.specs.declared.script.Script.{Script}
 use Rattle.pd_core.specs.Does.{Does}
-use Rattle.pd_core.specs.Own.{object_of, own_at, own_heap_at, part_at, sliced_at}
+use Rattle.pd_core.specs.Own.{object_of, own_at, own_heap_at, part_at, sliced_at, lent_in}
 use Rattle.pd_core.specs.Sound.{IsSoundScript, Keeps}
 use Rattle.pd_core.proofs.OwnLemmas.{all_sessions, object_is, names_object, selects}
 
@@ -48,7 +48,7 @@ module _ (s : ℕ) {old new : Store} {before after : Script} (sound : IsSoundScr
   capfree_takes_out is does =
       let was = own_at all_sessions old before in
       let p = part_at old before in
-      let named = object_is p before.caps before.regions (own_heap_at old before) (sliced_at old before) sound.own all_sessions s ∙ ap (option_and_then (object_of all_sessions p)) is in
+      let named = object_is p before.caps before.regions (own_heap_at old before) (sliced_at old before) sound.own all_sessions s ∙ ap (option_and_then (object_of (lent_in old) all_sessions p)) is in
       takes_out does.keeps (ap (λ (x : Outcome). x.next.selectors) (does.outcome all_sessions (λ q server session there. refl)) ∙ ap (λ o. (cap_freed s o was).next.selectors) named)
 
 -- ---- all selectors

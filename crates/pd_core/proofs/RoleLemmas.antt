@@ -22,7 +22,7 @@ use Rattle.server_frame.specs.Frame.{Row, row_of, sessions_of}
 use Rattle.server_frame.specs.declared.server.Session.{Session as Kept}
 use Rattle.server_frame.proofs.FrameLemmas.{Stays, row_stays}
 use Rattle.server_frame.proofs.FrameLaws.{server_stays}
-use Rattle.pd_core.specs.Own.{Sessions, no_sessions, object_of, regions_of, own_of, own_at, own_heap_at, sliced_at, part_at}
+use Rattle.pd_core.specs.Own.{Sessions, no_sessions, object_of, regions_of, own_of, own_at, own_heap_at, sliced_at, part_at, Lent, lent_in, no_lent}
 use Rattle.pd_core.specs.declared.script.Script.{Script}
 use Rattle.pd_core.specs.Sessions.{log_value, log_buffer, IsLogKept, files_value, files_buffer, IsFilesKept}
 use Rattle.pd_core.specs.Sound.{session_at}
@@ -37,19 +37,19 @@ use Rattle.pd_core.proofs.ScriptLemmas.{stays_elsewhere}
 -- ---- a script under other sessions
 
 -- what a script has is the same under sessions that agree on those that its selectors name
-named_alike : (S S' : Sessions) (p : Part) (cap : Cap) → ((server : ℕ) (session : SessionId) → cap ≡ Session server session → S' server session.0 ≡ S server session.0) → object_of S' p cap ≡ object_of S p cap
-named_alike S S' p (Dataspace ds) agrees = refl
-named_alike S S' p RpcObject agrees = refl
-named_alike S S' p (Buffer space session) agrees = refl
-named_alike S S' p (Session server session) agrees = ap (option_map OpenSession) (agrees server session refl)
+named_alike : (L : Lent) (S S' : Sessions) (p : Part) (cap : Cap) → ((server : ℕ) (session : SessionId) → cap ≡ Session server session → S' server session.0 ≡ S server session.0) → object_of L S' p cap ≡ object_of L S p cap
+named_alike L S S' p (Dataspace ds) agrees = refl
+named_alike L S S' p RpcObject agrees = refl
+named_alike L S S' p (Buffer space session) agrees = refl
+named_alike L S S' p (Session server session) agrees = ap (option_map OpenSession) (agrees server session refl)
 
 module _ (S S' : Sessions) (script : Script) (agrees : (q server : ℕ) (session : SessionId) → get script.caps.caps q ≡ Some (Session server session) → S' server session.0 ≡ S server session.0) where
   pub own_alike : (store : Store) → own_at S' store script ≡ own_at S store script
   unfolding own_of
   own_alike store i = record {
     account = account_of (part_at store script);
-    selectors = picked_alike (object_of S' (part_at store script)) (object_of S (part_at store script)) script.caps.caps
-        (λ q cap there. named_alike S S' (part_at store script) cap (λ server session is. agrees q server session (there ∙ ap Some is))) i;
+    selectors = picked_alike (object_of (lent_in store) S' (part_at store script)) (object_of (lent_in store) S (part_at store script)) script.caps.caps
+        (λ q cap there. named_alike (lent_in store) S S' (part_at store script) cap (λ server session is. agrees q server session (there ∙ ap Some is))) i;
     regions = regions_of script.caps.caps script.regions.user;
     heap = own_heap_at store script;
     sliced = sliced_at store script;
@@ -109,8 +109,8 @@ module _ (store store' : Store) (Beside : ℕ → Type 0) (stays : (regions : Re
   role_sound AGone sound apart beside = tt
 
   -- the own state of a server
-  server_own : (regions : Regions) (account : ℕ) → Beside account → own_of no_sessions (part account store') empty empty no_heap empty ≡ own_of no_sessions (part account store) empty empty no_heap empty
-  server_own regions account apart = ap (λ p. own_of no_sessions p empty empty no_heap empty) (stays regions account apart).own
+  server_own : (regions : Regions) (account : ℕ) → Beside account → own_of no_lent no_sessions (part account store') empty empty no_heap empty ≡ own_of no_lent no_sessions (part account store) empty empty no_heap empty
+  server_own regions account apart = ap (λ p. own_of no_lent no_sessions p empty empty no_heap empty) (stays regions account apart).own
 
   -- and with the own state that it had, where the sessions that it names are the same
   pub own_stays : (S S' : Sessions) (role : Role) → IsSoundRole store role → ((account : ℕ) → Pays role account → Beside account) →

@@ -7,7 +7,7 @@ use Rattle.std.specs.Option.{option_map, unwrap_or}
 use Rattle.std.specs.FinMap.{get}
 use Rattle.own_model.specs.Account.{Account, opened}
 use Rattle.own_model.specs.Call.{Call}
-use Rattle.own_model.specs.OwnStep.{refused, script_step}
+use Rattle.own_model.specs.OwnStep.{Outcome, refused, script_step}
 use Rattle.own_model.specs.Region.{Region}
 use Rattle.own_model.specs.Reply.{Reply}
 use Rattle.own_model.specs.Reply.Reply.{Refused}
@@ -28,12 +28,13 @@ use Rattle.sliced_heap.proofs.HeapLaws.{map_stays_for_payer, heap_stays, heap_st
 use Rattle.pd_core.specs.declared.answer.Answer.{Answer}
 use Rattle.pd_core.specs.Answer.{reply_of}
 use Rattle.pd_core.specs.Does.{Does}
-use Rattle.pd_core.specs.Own.{Sessions, own_of, own_at, part_at, own_heap_at, sliced_at}
+use Rattle.pd_core.specs.Own.{Sessions, own_of, own_at, part_at, own_heap_at, sliced_at, lent_in}
 use Rattle.pd_core.specs.Sound.{IsScript, IsSoundScript}
 use Rattle.pd_core.specs.declared.script.Script.{Script}
 use Rattle.heap_window.proofs.BesideLemmas.{map_of, whole_share, whole_tags, stands_alike}
 use Rattle.heap_window.proofs.ShareLemmas.{region_of_block}
 use Rattle.heap_core.proofs.StayLemmas as heap_laws
+use Rattle.pd_core.proofs.LentLemmas.{own_lent, script_lent, none_seen}
 use Rattle.pd_core.proofs.OwnLemmas.{Settles}
 
 -- a refused call leaves all as it is
@@ -91,7 +92,7 @@ module _ (store : Store) (script : Script) (sound : IsSoundScript store script) 
 
   -- a call that leaves the heaps
   pub finishes : {call : Call} {reply : Reply} {store' : Store} {q : Part} {space' : Space} {regions' : Regions} → PartBecomes script.account.0 q store store' →
-      Settles call (part_at store script) script.caps script.regions (own_heap_at store script) (sliced_at store script) reply (part script.account.0 store') space' regions' →
+      Settles (lent_in store) call (part_at store script) script.caps script.regions (own_heap_at store script) (sliced_at store script) reply (part script.account.0 store') space' regions' →
       Does call reply store script store' (record script { caps = space'; regions = regions' })
   finishes {call} {reply} {store'} {q} {space'} {regions'} becomes done =
       let account = script.account.0 in
@@ -123,10 +124,14 @@ module _ (store : Store) (script : Script) (sound : IsSoundScript store script) 
       (at_heap (λ a. (s : ℕ) → block_region (share_at a store' regions') s ≡ block_region (share_at a store script.regions) s) numbers)
       (at_heap (λ a. (s k : ℕ) (r : Region) → block_region (share_at a store script.regions) s ≡ Some (r, k) → get (part a store').spaces r.of ≡ get (part a store).spaces r.of)
       (λ s k r h. done.spares.bytes s r (block_there s (r, k) h))) in record {
-        outcome = λ sessions ready. (λ i. record { reply = reply; lines = []; next = own_of sessions p' space'.caps regions'.user (heap.value i) (blocks i) }) ∙ made.outcome sessions ready;
+        outcome = λ sessions ready.
+            (λ i. record { reply = reply; lines = []; next = own_of (lent_in store') sessions p' space'.caps regions'.user (heap.value i) (blocks i) })
+            ∙ ap {B = Outcome} (λ s. record { reply = reply; lines = []; next = s }) (own_lent (lent_in store) (lent_in store') p' space'.caps (none_seen (lent_in store') made.script) regions'.user (own_heap_at store script) (sliced_at store script) sessions)
+            ∙ made.outcome sessions ready;
         keeps = record {
           sound = record {
-            own = subst (λ h. IsScript p' space' regions' h (blocks_at account store' regions')) (sym heap.value) (subst (IsScript p' space' regions' (own_heap_at store script)) (sym blocks) made.script);
+            own = subst (λ h. IsScript (lent_in store') p' space' regions' h (blocks_at account store' regions')) (sym heap.value)
+                (subst (IsScript (lent_in store') p' space' regions' (own_heap_at store script)) (sym blocks) (script_lent (none_seen (lent_in store') made.script) made.script));
             heaps = record {
               heap = heap.sound;
               sliced = sliced.sound;
@@ -170,9 +175,9 @@ module _ (store : Store) (script : Script) (sound : IsSoundScript store script) 
       (at_heap (λ a. (s k : ℕ) (r : Region) → block_region (share_at a store regions) s ≡ Some (r, k) → get (part a store').spaces r.of ≡ get (part a store).spaces r.of)
       (λ s k r h. ap (λ (p : Part). get p.spaces r.of) same)) in record {
         sound = record {
-          own = subst (λ p. IsScript p script.caps regions (own_heap_at store' script) (sliced_at store' script)) (sym same)
-              (subst (λ h. IsScript (part_at store script) script.caps regions h (sliced_at store' script)) (sym heap.value)
-              (subst (IsScript (part_at store script) script.caps regions (own_heap_at store script)) (sym blocks) sound.own));
+          own = subst (λ p. IsScript (lent_in store') p script.caps regions (own_heap_at store' script) (sliced_at store' script)) (sym same)
+              (subst (λ h. IsScript (lent_in store') (part_at store script) script.caps regions h (sliced_at store' script)) (sym heap.value)
+              (subst (IsScript (lent_in store') (part_at store script) script.caps regions (own_heap_at store script)) (sym blocks) (script_lent (none_seen (lent_in store') sound.own) sound.own)));
           heaps = record {
             heap = heap.sound;
             sliced = sliced.sound;
@@ -181,5 +186,7 @@ module _ (store : Store) (script : Script) (sound : IsSoundScript store script) 
             all = still_all store' regions refl stands numbers;
           };
         };
-        own = λ sessions i. own_of sessions (same i) script.caps.caps regions.user (heap.value i) (blocks i);
+        own = λ sessions.
+            (λ i. own_of (lent_in store') sessions (same i) script.caps.caps regions.user (heap.value i) (blocks i))
+            ∙ own_lent (lent_in store) (lent_in store') (part_at store script) script.caps.caps (none_seen (lent_in store') sound.own) regions.user (own_heap_at store script) (sliced_at store script) sessions;
       }

@@ -28,7 +28,7 @@ use Rattle.log_service.specs.Session.{LabelledLine}
 use Rattle.file_service.specs.declared.service.FileService.{FileService}
 use Rattle.file_service.specs.declared.session.FileSession.{FileSession}
 use Rattle.pd_core.specs.Component.{payer_in, caps_in, places_in, rows_in, capacity_in, served_by, own_in, HasPlace, HasSession, Works, IsSoundRole}
-use Rattle.pd_core.specs.Own.{Sessions, no_sessions, own_of}
+use Rattle.pd_core.specs.Own.{Sessions, no_sessions, own_of, no_lent}
 use Rattle.pd_core.specs.Sessions.{log_value, log_buffer, IsLogKept, files_value, files_buffer, IsFilesKept}
 use Rattle.pd_core.specs.declared.component.Role.{Role}
 use Rattle.pd_core.specs.declared.component.Role.TheVariants.{Script as AScript, Log as ALog, Files as AFiles, Gone as AGone}
@@ -102,7 +102,7 @@ places_of_server (AFiles account server) serving = refl
 places_of_server AGone serving = absurd (cc)
 
 -- its own state is its account's
-pub own_of_server : (sessions : Sessions) (store : Store) (role : Role) → IsSome (served_by role) → own_in sessions store role ≡ own_of no_sessions (part (payer_in role) store) empty empty no_heap empty
+pub own_of_server : (sessions : Sessions) (store : Store) (role : Role) → IsSome (served_by role) → own_in sessions store role ≡ own_of no_lent no_sessions (part (payer_in role) store) empty empty no_heap empty
 own_of_server sessions store (AScript script) serving = absurd (cc)
 own_of_server sessions store (ALog account server) serving = refl
 own_of_server sessions store (AFiles account server) serving = refl

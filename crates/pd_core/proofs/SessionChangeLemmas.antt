@@ -26,7 +26,7 @@ use Rattle.server_frame.specs.Told.{Told}
 use Rattle.pd_core.specs.Component.{Pays, entry_of, kind_of, payer_in, payer_of, served_by, places_in, rows_in, own_in, NamesItsSessions, HasPlaces, IsSoundRole, StaysServer}
 use Rattle.pd_core.specs.Core.{Rules, Roles, roles_of, rows_at, sessions_in, Owner, Owns, NamesAccount, IsSoundCore}
 use Rattle.pd_core.specs.Core.Owner.{Init, Place, SessionAt}
-use Rattle.pd_core.specs.Own.{Sessions, no_sessions, own_of, own_at}
+use Rattle.pd_core.specs.Own.{Sessions, no_sessions, own_of, own_at, no_lent}
 use Rattle.pd_core.specs.Sessions.{row_session, AgreeBut, DoesSession}
 use Rattle.pd_core.specs.SessionCalls.{Goes}
 use Rattle.pd_core.specs.Sound.{session_at, IsSoundScript}
@@ -204,8 +204,8 @@ module _ {store : Store} {roles : Roles} {i s : ℕ} {script : Script} (two : Ar
           sound = sound_server store' host'.role still_serving stays.works (subst (λ one. IsSome (part one store').account) (sym stays.account) is_open)
               (omega (arith, enough_places store host.role host_serving sound, changes.moves.caps, stays.capacity));
           own = λ S S' _.
-              own_of_server S' store' host'.role still_serving ∙ ap (λ one. own_of no_sessions (part one store') empty empty no_heap empty) stays.account
-              ∙ ap (λ p. own_of no_sessions p empty empty no_heap empty) host_part ∙ sym (own_of_server S store host.role host_serving);
+              own_of_server S' store' host'.role still_serving ∙ ap (λ one. own_of no_lent no_sessions (part one store') empty empty no_heap empty) stays.account
+              ∙ ap (λ p. own_of no_lent no_sessions p empty empty no_heap empty) host_part ∙ sym (own_of_server S store host.role host_serving);
           caps = caps_of_server host'.role still_serving ∙ sym (caps_of_server host.role host_serving);
           places = places_of_server host'.role still_serving ∙ sym (places_of_server host.role host_serving);
           pays = λ one its. subst (Pays host.role) (sym stays.account ∙ pays_is host'.role one its) (pays_server host.role host_serving);

@@ -1,6 +1,5 @@
 -- A session is opened: what the model tells of it, and that its client stays sound.
 use Rattle.std.proofs.Common.{◌≡◌, ◌≢◌, ℕ, ◌≤◌, ◌<◌, List, [], Some, is_some, refl, sym, ap, subst, ◌∙◌, arith, true≢false}
-use Rattle.std.proofs.lemmas.Option.{none-some}
 use Rattle.std.specs.Prelude.{None, Ok, IsSome}
 use Rattle.std.specs.FinMap.{get, insert, len}
 use Rattle.trade_base.specs.declared.id.SessionId.{SessionId}
@@ -20,12 +19,12 @@ use Rattle.own_model.specs.StartList.{Entry}
 use Rattle.own_model.proofs.NatMapLemmas.{get-insert_same, get-insert_other}
 use Rattle.own_model.proofs.SessionLemmas.{donation_covered, large_enough}
 use Rattle.own_model.proofs.Totals.{len-insert_new, total-insert_new}
-use Rattle.cap_space.specs.declared.cap.Cap.TheVariants.{Dataspace, Session}
+use Rattle.cap_space.specs.declared.cap.Cap.TheVariants.{Session}
 use Rattle.cap_space.specs.Space.{Space, with_cap}
 use Rattle.dataspace_core.specs.Store.{Store, Part, part, account_of, account_in, ram_limits_in, parted_part}
 use Rattle.dataspace_core.proofs.PartLaws.{account_of-part}
 use Rattle.server_frame.specs.Frame.{Row}
-use Rattle.pd_core.specs.Own.{Sessions, HasSessions, own_at, own_of, own_heap_at, sliced_at, part_at}
+use Rattle.pd_core.specs.Own.{Sessions, HasSessions, own_at, own_of, own_heap_at, sliced_at, part_at, lent_in, key_at}
 use Rattle.pd_core.specs.Sessions.{AgreeBut}
 use Rattle.pd_core.specs.Sound.{rpc_weight, session_weight, IsLawful, IsSoundScript}
 use Rattle.pd_core.specs.declared.script.Script.{Script}
@@ -33,7 +32,7 @@ use Rattle.pd_core.proofs.OwnLemmas.{same_new_selector}
 use Rattle.pd_core.proofs.SessionOwnLemmas.{AreNoSpaces, AreCounted, lawful_whichever}
 use Rattle.pd_core.proofs.SessionStepLemmas.{ChangesOne, some_sessions, some_are_open, some_same, own_put, opens_own}
 use Rattle.pd_core.proofs.SessionScriptLemmas.{own_still, sound_still}
-use Rattle.pd_core.proofs.NamedSessionLemmas.{limit_within, no_space}
+use Rattle.pd_core.proofs.NamedSessionLemmas.{limit_within}
 
 -- each selector that names a session of the server under this entry names an open one
 abbrev pub NamesOpen : Script → NatMap (Row Labelled) → ℕ → Type 0
@@ -87,7 +86,7 @@ module _ (store store' : Store) (script : Script) (rows : NatMap (Row Labelled))
     opened_others q apart = get-insert_other script.caps.caps selector (Session server session) q apart
 
     opened_spaces : AreNoSpaces script.caps.caps opened_space.caps selector
-    opened_spaces = record { before = λ ds is. none-some (Dataspace ds) (sym fresh ∙ is); after = no_space server session _ names_it }
+    opened_spaces = record { before = ap key_at fresh; after = ap key_at names_it }
 
     -- no selector named it before
     others_agree : (S S' : Sessions) → AgreeBut S S' server session.0 → (q other : ℕ) (at : SessionId) → q ≢ selector → get script.caps.caps q ≡ Some (Session other at) → S' other at.0 ≡ S other at.0
@@ -101,9 +100,9 @@ module _ (store store' : Store) (script : Script) (rows : NatMap (Row Labelled))
     module _ (is_new : selector ≡ new_selector script.caps.caps) where
       own_opens : (entry : Entry) (S S' : Sessions) (service text : List ℕ) (w : Wish) → HasSessions S script.caps.caps → wish entry.name entry.routes service text ≡ Ok w → w.ram ≡ ram → w.caps ≡ caps → AgreeBut S S' server session.0 →
           S' server session.0 ≡ Some (new_session w) →
-          entry_step entry (Open service text) (own_at S store script) ≡ record { reply = Selected selector; lines = []; next = own_of S' (part script.account.0 store') opened_space.caps script.regions.user (own_heap_at store script) (sliced_at store script) }
+          entry_step entry (Open service text) (own_at S store script) ≡ record { reply = Selected selector; lines = []; next = own_of (lent_in store) S' (part script.account.0 store') opened_space.caps script.regions.user (own_heap_at store script) (sliced_at store script) }
       own_opens entry S S' service text w ready asks e f agree is =
-          opens_own S S' (part_at store script) (part script.account.0 store') script.caps.caps opened_space.caps selector (changes S S' agree) script.regions.user (own_heap_at store script) (sliced_at store script) sound.own.named.one sound.own.attached
+          opens_own (lent_in store) S S' (part_at store script) (part script.account.0 store') script.caps.caps opened_space.caps selector (changes S S' agree) script.regions.user (own_heap_at store script) (sliced_at store script) sound.own.named.one sound.own.attached
           entry service text w server session asks
           ((λ i. donation_refusal (account_of-part script.account.0 store i) (e i) (f i)) ∙ accepted)
           (is_new ∙ sym (same_new_selector (part_at store script) script.caps script.regions (own_heap_at store script) (sliced_at store script) sound.own S ready))
@@ -114,23 +113,23 @@ module _ (store store' : Store) (script : Script) (rows : NatMap (Row Labelled))
           entry_step entry (Open service text) (own_at S store script) ≡ record { reply = Selected selector; lines = []; next = own_at S' store' (record script { caps = opened_space }) }
       opens_does entry S S' service text w ready asks e f agree is =
           own_opens entry S S' service text w ready asks e f agree is
-          ∙ ap {B = Outcome} (λ s. record { reply = Selected selector; lines = []; next = s }) (sym (own_still store store' script (Some a) sound parted refl limits opened_space S'))
+          ∙ ap {B = Outcome} (λ s. record { reply = Selected selector; lines = []; next = s }) (sym (own_still store store' script (Some a) sound parted refl limits opened_space selector opened_others opened_spaces S'))
 
       -- any wish for so much
       abbrev any_wish : Wish
       any_wish = record { service = Log; label = []; ram = ram; caps = caps }
 
-      opened_lawful : (any : Sessions) → IsLawful (own_of any (part script.account.0 store') opened_space.caps script.regions.user (own_heap_at store script) (sliced_at store script))
+      opened_lawful : (any : Sessions) → IsLawful (own_of (lent_in store) any (part script.account.0 store') opened_space.caps script.regions.user (own_heap_at store script) (sliced_at store script))
       unfolding own_of
       opened_lawful any =
           let S = some_sessions server session.0 (new_session any_wish) in
           let ready = some_are_open server session.0 (new_session any_wish) script.caps.caps in
           let before = own_at S store script in
-          let put = own_put S S (part_at store script) (part script.account.0 store') script.caps.caps opened_space.caps selector (changes S S (λ _ _ _. refl)) script.regions.user (own_heap_at store script) (sliced_at store script)
+          let put = own_put (lent_in store) S S (part_at store script) (part script.account.0 store') script.caps.caps opened_space.caps selector (changes S S (λ _ _ _. refl)) script.regions.user (own_heap_at store script) (sliced_at store script)
           sound.own.named.one sound.own.attached server session (new_session any_wish) a names_it (some_same server session.0 (new_session any_wish)) (ap account_of parted) in
           let least_one = is_new ∙ sym (same_new_selector (part_at store script) script.caps script.regions (own_heap_at store script) (sliced_at store script) sound.own S ready) in
           let enough = ap (λ x. donation_refusal x ram caps) (account_of-part script.account.0 store) ∙ accepted in
-          lawful_whichever (part script.account.0 store') opened_space.caps script.regions.user (own_heap_at store script) (sliced_at store script) S any
+          lawful_whichever (lent_in store) (part script.account.0 store') opened_space.caps script.regions.user (own_heap_at store script) (sliced_at store script) S any
           (subst IsLawful (sym (put ∙ ap {B = OwnState} (λ n. record before { account = a; selectors = insert before.selectors n (OpenSession (new_session any_wish)) }) least_one)) (lawful_opened before any_wish enough (sound.own.lawful S ready)))
 
       counted : AreCounted (part_at store script) (part script.account.0 store') script.caps opened_space script.regions

@@ -1,10 +1,12 @@
 -- What calls of sessions do to a script's own state.
 use Rattle.std.proofs.Common.{cond, ◌≡◌, ◌≢◌, ℕ, ◌+◌, ◌*◌, ◌≤◌, false, List, [], ◌∷◌, Some, IsSome, unwrap_or, refl, sym, ap, subst, ◌∙◌, arith, inl, inr}
 use Rattle.std.proofs.lemmas.Bool.{cases_eq}
+use Rattle.std.proofs.lemmas.Option.{none-some}
 use Rattle.std.specs.Prelude.{Option, None}
 use Rattle.std.specs.Option.{option_map, option_and_then}
 use Rattle.std.specs.FinMap.{get, insert, remove, len}
 use Rattle.trade_base.specs.declared.id.DsId.{DsId}
+use Rattle.trade_base.specs.declared.id.Selector.{Selector}
 use Rattle.trade_base.specs.declared.id.SessionId.{SessionId}
 use Rattle.trade_base.specs.declared.refusal.Refusal.TheVariants.{Gone}
 use Rattle.own_model.specs.Call.{Call}
@@ -28,9 +30,9 @@ use Rattle.cap_space.specs.declared.cap.Cap.TheVariants.{Dataspace, RpcObject, S
 use Rattle.cap_space.specs.Space.{Space}
 use Rattle.region_map.specs.Regions.{Regions}
 use Rattle.dataspace_core.specs.Store.{Part, account_of}
-use Rattle.pd_core.specs.Own.{Sessions, object_of, selector_of, regions_of, own_of}
+use Rattle.pd_core.specs.Own.{Sessions, object_of, selector_of, regions_of, own_of, Lent, key_at}
 use Rattle.pd_core.specs.Sound.{rpc_weight, session_weight, IsOne, AreNamed, IsLawful, IsScript}
-use Rattle.pd_core.proofs.NameLemmas.{is_named, regions_alike, attached_alike}
+use Rattle.pd_core.proofs.NameLemmas.{is_named, regions_alike, attached_alike, Names}
 
 -- ---- which sessions there are makes no difference to what is lawful
 
@@ -48,37 +50,37 @@ no_bytes : (o : Option AnOpenSession) → named_bytes (option_map OpenSession o)
 no_bytes None = refl
 no_bytes (Some session) = refl
 
-no_size : (S S' : Sessions) (p : Part) (cap : Cap) → unwrap_or (option_map object_size (object_of S' p cap)) 0 ≡ unwrap_or (option_map object_size (object_of S p cap)) 0
-no_size S S' p (Dataspace ds) = refl
-no_size S S' p RpcObject = refl
-no_size S S' p (Buffer space session) = refl
-no_size S S' p (Session server session) = nothing (S' server session.0) ∙ sym (nothing (S server session.0))
+no_size : (L : Lent) (S S' : Sessions) (p : Part) (cap : Cap) → unwrap_or (option_map object_size (object_of L S' p cap)) 0 ≡ unwrap_or (option_map object_size (object_of L S p cap)) 0
+no_size L S S' p (Dataspace ds) = refl
+no_size L S S' p RpcObject = refl
+no_size L S S' p (Buffer space session) = refl
+no_size L S S' p (Session server session) = nothing (S' server session.0) ∙ sym (nothing (S server session.0))
 
-no_caps : (S S' : Sessions) (p : Part) (cap : Cap) → unwrap_or (option_map object_caps (object_of S' p cap)) 0 ≡ unwrap_or (option_map object_caps (object_of S p cap)) 0
-no_caps S S' p (Dataspace ds) = refl
-no_caps S S' p RpcObject = refl
-no_caps S S' p (Buffer space session) = refl
-no_caps S S' p (Session server session) = costless (S' server session.0) ∙ sym (costless (S server session.0))
+no_caps : (L : Lent) (S S' : Sessions) (p : Part) (cap : Cap) → unwrap_or (option_map object_caps (object_of L S' p cap)) 0 ≡ unwrap_or (option_map object_caps (object_of L S p cap)) 0
+no_caps L S S' p (Dataspace ds) = refl
+no_caps L S S' p RpcObject = refl
+no_caps L S S' p (Buffer space session) = refl
+no_caps L S S' p (Session server session) = costless (S' server session.0) ∙ sym (costless (S server session.0))
 
 -- an object has its bytes whatever the sessions are
-bytes_still : (S S' : Sessions) (p : Part) (o : Option Cap) → named_bytes (option_and_then (object_of S' p) o) ≡ named_bytes (option_and_then (object_of S p) o)
-bytes_still S S' p None = refl
-bytes_still S S' p (Some (Dataspace ds)) = refl
-bytes_still S S' p (Some RpcObject) = refl
-bytes_still S S' p (Some (Buffer space session)) = refl
-bytes_still S S' p (Some (Session server session)) = no_bytes (S' server session.0) ∙ sym (no_bytes (S server session.0))
+bytes_still : (L : Lent) (S S' : Sessions) (p : Part) (o : Option Cap) → named_bytes (option_and_then (object_of L S' p) o) ≡ named_bytes (option_and_then (object_of L S p) o)
+bytes_still L S S' p None = refl
+bytes_still L S S' p (Some (Dataspace ds)) = refl
+bytes_still L S S' p (Some RpcObject) = refl
+bytes_still L S S' p (Some (Buffer space session)) = refl
+bytes_still L S S' p (Some (Session server session)) = no_bytes (S' server session.0) ∙ sym (no_bytes (S server session.0))
 
-module _ (p : Part) (caps : NatMap Cap) (user : NatMap Region) (heap : OwnHeap) (sliced : NatMap (List ℕ)) (S S' : Sessions) where
-  selectors_still : (q : ℕ) → named_bytes (get (picked (object_of S' p) caps) q) ≡ named_bytes (get (picked (object_of S p) caps) q)
-  selectors_still q = ap named_bytes (get-picked (object_of S' p) caps q) ∙ bytes_still S S' p (get caps q) ∙ ap named_bytes (sym (get-picked (object_of S p) caps q))
+module _ (L : Lent) (p : Part) (caps : NatMap Cap) (user : NatMap Region) (heap : OwnHeap) (sliced : NatMap (List ℕ)) (S S' : Sessions) where
+  selectors_still : (q : ℕ) → named_bytes (get (picked (object_of L S' p) caps) q) ≡ named_bytes (get (picked (object_of L S p) caps) q)
+  selectors_still q = ap named_bytes (get-picked (object_of L S' p) caps q) ∙ bytes_still L S S' p (get caps q) ∙ ap named_bytes (sym (get-picked (object_of L S p) caps q))
 
-  size_same : total object_size (picked (object_of S' p) caps) ≡ total object_size (picked (object_of S p) caps)
-  size_same = total-picked object_size (object_of S' p) caps ∙ total_same _ _ caps (λ k cap there. no_size S S' p cap) ∙ sym (total-picked object_size (object_of S p) caps)
+  size_same : total object_size (picked (object_of L S' p) caps) ≡ total object_size (picked (object_of L S p) caps)
+  size_same = total-picked object_size (object_of L S' p) caps ∙ total_same _ _ caps (λ k cap there. no_size L S S' p cap) ∙ sym (total-picked object_size (object_of L S p) caps)
 
-  caps_same : total object_caps (picked (object_of S' p) caps) ≡ total object_caps (picked (object_of S p) caps)
-  caps_same = total-picked object_caps (object_of S' p) caps ∙ total_same _ _ caps (λ k cap there. no_caps S S' p cap) ∙ sym (total-picked object_caps (object_of S p) caps)
+  caps_same : total object_caps (picked (object_of L S' p) caps) ≡ total object_caps (picked (object_of L S p) caps)
+  caps_same = total-picked object_caps (object_of L S' p) caps ∙ total_same _ _ caps (λ k cap there. no_caps L S S' p cap) ∙ sym (total-picked object_caps (object_of L S p) caps)
 
-  pub lawful_whichever : IsLawful (own_of S p caps user heap sliced) → IsLawful (own_of S' p caps user heap sliced)
+  pub lawful_whichever : IsLawful (own_of L S p caps user heap sliced) → IsLawful (own_of L S' p caps user heap sliced)
   unfolding own_of
   lawful_whichever law = record {
     sound = record {
@@ -121,65 +123,68 @@ lawful_step entry call s script here law =
 -- ---- a selector's capability changes, and no dataspace does
 
 -- what a capability is to a component depends on the bytes of a dataspace, and on a session
-object_same : (S S' : Sessions) (p p' : Part) (cap : Cap) → p'.spaces ≡ p.spaces → ((server : ℕ) (session : SessionId) → cap ≡ Session server session → S' server session.0 ≡ S server session.0) → object_of S' p' cap ≡ object_of S p cap
-object_same S S' p p' (Dataspace ds) spaces agrees = ap (λ (m : NatMap (List ℕ)). option_map ADataspace (get m ds.0)) spaces
-object_same S S' p p' RpcObject spaces agrees = refl
-object_same S S' p p' (Buffer space session) spaces agrees = refl
-object_same S S' p p' (Session server session) spaces agrees = ap (option_map OpenSession) (agrees server session refl)
+object_same : (L : Lent) (S S' : Sessions) (p p' : Part) (cap : Cap) → p'.spaces ≡ p.spaces → ((server : ℕ) (session : SessionId) → cap ≡ Session server session → S' server session.0 ≡ S server session.0) → object_of L S' p' cap ≡ object_of L S p cap
+object_same L S S' p p' (Dataspace ds) spaces agrees = ap (λ (m : NatMap (List ℕ)). option_map ADataspace (get m ds.0)) spaces
+object_same L S S' p p' RpcObject spaces agrees = refl
+object_same L S S' p p' (Buffer space session) spaces agrees = refl
+object_same L S S' p p' (Session server session) spaces agrees = ap (option_map OpenSession) (agrees server session refl)
 
-objects_same : (S S' : Sessions) (p p' : Part) (o : Option Cap) → p'.spaces ≡ p.spaces → ((server : ℕ) (session : SessionId) → o ≡ Some (Session server session) → S' server session.0 ≡ S server session.0) → option_and_then (object_of S' p') o ≡ option_and_then (object_of S p) o
-objects_same S S' p p' None spaces agrees = refl
-objects_same S S' p p' (Some cap) spaces agrees = object_same S S' p p' cap spaces (λ server session is. agrees server session (ap Some is))
+objects_same : (L : Lent) (S S' : Sessions) (p p' : Part) (o : Option Cap) → p'.spaces ≡ p.spaces → ((server : ℕ) (session : SessionId) → o ≡ Some (Session server session) → S' server session.0 ≡ S server session.0) → option_and_then (object_of L S' p') o ≡ option_and_then (object_of L S p) o
+objects_same L S S' p p' None spaces agrees = refl
+objects_same L S S' p p' (Some cap) spaces agrees = object_same L S S' p p' cap spaces (λ server session is. agrees server session (ap Some is))
 
-module _ (S S' : Sessions) (p p' : Part) (spaces : p'.spaces ≡ p.spaces) (caps caps' : NatMap Cap) (selector : ℕ) (others : (q : ℕ) → q ≢ selector → get caps' q ≡ get caps q)
+module _ (L : Lent) (S S' : Sessions) (p p' : Part) (spaces : p'.spaces ≡ p.spaces) (caps caps' : NatMap Cap) (selector : ℕ) (others : (q : ℕ) → q ≢ selector → get caps' q ≡ get caps q)
     (agrees : (q server : ℕ) (session : SessionId) → q ≢ selector → get caps q ≡ Some (Session server session) → S' server session.0 ≡ S server session.0) where
   -- another selector names what it named
-  elsewhere : (q : ℕ) → q ≢ selector → get (picked (object_of S' p') caps') q ≡ get (picked (object_of S p) caps) q
+  elsewhere : (q : ℕ) → q ≢ selector → get (picked (object_of L S' p') caps') q ≡ get (picked (object_of L S p) caps) q
   elsewhere q other =
-      get-picked (object_of S' p') caps' q ∙ ap (option_and_then (object_of S' p')) (others q other)
-      ∙ objects_same S S' p p' (get caps q) spaces (λ server session is. agrees q server session other is) ∙ sym (get-picked (object_of S p) caps q)
+      get-picked (object_of L S' p') caps' q ∙ ap (option_and_then (object_of L S' p')) (others q other)
+      ∙ objects_same L S S' p p' (get caps q) spaces (λ server session is. agrees q server session other is) ∙ sym (get-picked (object_of L S p) caps q)
 
   -- the selector names a session now
   pub selectors_put : (server : ℕ) (session : SessionId) (x : AnOpenSession) → get caps' selector ≡ Some (Session server session) → S' server session.0 ≡ Some x →
-      picked (object_of S' p') caps' ≡ insert (picked (object_of S p) caps) selector (OpenSession x)
+      picked (object_of L S' p') caps' ≡ insert (picked (object_of L S p) caps) selector (OpenSession x)
   selectors_put server session x names is = same _ _ (λ q. elim (cases_eq q selector) [
     | inl here ↦
-        ap (get (picked (object_of S' p') caps')) here ∙ get-picked_at (object_of S' p') caps' selector (Session server session) names
-        ∙ ap (option_map OpenSession) is ∙ sym (get-insert_same (picked (object_of S p) caps) selector (OpenSession x) q here)
-    | inr other ↦ elsewhere q other ∙ sym (get-insert_other (picked (object_of S p) caps) selector (OpenSession x) q other)
+        ap (get (picked (object_of L S' p') caps')) here ∙ get-picked_at (object_of L S' p') caps' selector (Session server session) names
+        ∙ ap (option_map OpenSession) is ∙ sym (get-insert_same (picked (object_of L S p) caps) selector (OpenSession x) q here)
+    | inr other ↦ elsewhere q other ∙ sym (get-insert_other (picked (object_of L S p) caps) selector (OpenSession x) q other)
   ])
 
   -- or nothing
-  pub selectors_gone : get caps' selector ≡ None → picked (object_of S' p') caps' ≡ remove (picked (object_of S p) caps) selector
+  pub selectors_gone : get caps' selector ≡ None → picked (object_of L S' p') caps' ≡ remove (picked (object_of L S p) caps) selector
   selectors_gone gone = same _ _ (λ q. elim (cases_eq q selector) [
     | inl here ↦
-        ap (get (picked (object_of S' p') caps')) here ∙ get-picked (object_of S' p') caps' selector ∙ ap (option_and_then (object_of S' p')) gone
-        ∙ sym (get-remove_same (picked (object_of S p) caps) selector q here)
-    | inr other ↦ elsewhere q other ∙ sym (get-remove_other (picked (object_of S p) caps) selector q other)
+        ap (get (picked (object_of L S' p') caps')) here ∙ get-picked (object_of L S' p') caps' selector ∙ ap (option_and_then (object_of L S' p')) gone
+        ∙ sym (get-remove_same (picked (object_of L S p) caps) selector q here)
+    | inr other ↦ elsewhere q other ∙ sym (get-remove_other (picked (object_of L S p) caps) selector q other)
   ])
 
--- the selector named no dataspace, and names none
+-- the selector named no dataspace, its own or lent, and names none
 pub record AreNoSpaces (caps caps' : NatMap Cap) (selector : ℕ) : Type 0 where
-  pub before : (ds : DsId) → get caps selector ≢ Some (Dataspace ds)
-  pub after : (ds : DsId) → get caps' selector ≢ Some (Dataspace ds)
+  pub before : key_at (get caps selector) ≡ None
+  pub after : key_at (get caps' selector) ≡ None
 
 module _ (caps caps' : NatMap Cap) (selector : ℕ) (others : (q : ℕ) → q ≢ selector → get caps' q ≡ get caps q) (no_spaces : AreNoSpaces caps caps' selector) where
   -- another selector names the dataspace
-  pub not_it : (q : ℕ) (ds : DsId) → get caps' q ≡ Some (Dataspace ds) → q ≢ selector
-  not_it q ds is here = no_spaces.after ds (ap (get caps') (sym here) ∙ is)
+  pub not_it : (q key : ℕ) → Names caps' q key → q ≢ selector
+  not_it q key is here = none-some key (sym no_spaces.after ∙ ap (λ k. key_at (get caps' k)) (sym here) ∙ is)
 
   pub was_named : (q : ℕ) (ds : DsId) → get caps' q ≡ Some (Dataspace ds) → get caps q ≡ Some (Dataspace ds)
-  was_named q ds is = sym (others q (not_it q ds is)) ∙ is
+  was_named q ds is = sym (others q (not_it q ds.0 (ap key_at is))) ∙ is
+
+  -- and the buffer
+  pub lent_before : (q : ℕ) (of : DsId) (session : Selector) → get caps' q ≡ Some (Buffer of session) → get caps q ≡ Some (Buffer of session)
+  lent_before q of session is = sym (others q (not_it q of.0 (ap key_at is))) ∙ is
 
   -- so each dataspace has one selector still
   pub one_still : IsOne caps → IsOne caps'
-  one_still one s t a b at bt e = one s t a b (was_named s a at) (was_named t b bt) e
+  one_still one s t key at bt = one s t key (sym (ap key_at (others s (not_it s key at))) ∙ at) (sym (ap key_at (others t (not_it t key bt))) ∙ bt)
 
   module _ (user : NatMap Region) (one : IsOne caps) (attached : AreNamed caps user) where
     same_names : (s start : ℕ) (region : Region) → get user start ≡ Some region → selector_of caps region.of ≡ Some s → get caps' s ≡ get caps s
     same_names s start region there is =
-        let its = is_named caps region.of s is in
-        others s (λ here. no_spaces.before its.ds (ap (get caps) (sym here) ∙ its.there))
+        others s (λ here. none-some region.of (sym no_spaces.before ∙ ap (λ k. key_at (get caps k)) (sym here) ∙ is_named caps region.of s is))
 
     -- and each region its name
     pub regions_still : regions_of caps' user ≡ regions_of caps user
@@ -201,13 +206,14 @@ pub record AreCounted (p p' : Part) (space space' : Space) (regions : Regions) :
   pub placed : (account_of p').caps_limit + total session_weight space'.caps ≤ space'.places
   pub ram : (account_of p').ram_limit ≤ regions.pages * 4096
 
-pub script_with : (p p' : Part) (space space' : Space) (regions : Regions) (heap : OwnHeap) (sliced : NatMap (List ℕ)) (selector : ℕ) → IsScript p space regions heap sliced →
+pub script_with : {L : Lent} (p p' : Part) (space space' : Space) (regions : Regions) (heap : OwnHeap) (sliced : NatMap (List ℕ)) (selector : ℕ) → IsScript L p space regions heap sliced →
     ((q : ℕ) → q ≢ selector → get space'.caps q ≡ get space.caps q) → AreNoSpaces space.caps space'.caps selector → AreCounted p p' space space' regions →
-    ((S : Sessions) → IsLawful (own_of S p' space'.caps regions.user heap sliced)) → IsScript p' space' regions heap sliced
+    ((S : Sessions) → IsLawful (own_of L S p' space'.caps regions.user heap sliced)) → IsScript L p' space' regions heap sliced
 script_with p p' space space' regions heap sliced selector script others no_spaces counted lawful = record {
   named = record {
     there = λ q ds is. subst (λ (m : NatMap (List ℕ)). IsSome (get m ds.0)) (sym counted.spaces) (script.named.there q ds (was_named space.caps space'.caps selector others no_spaces q ds is));
     one = one_still space.caps space'.caps selector others no_spaces script.named.one;
+    unlent = λ q of session is. script.named.unlent q of session (lent_before space.caps space'.caps selector others no_spaces q of session is);
   };
   paid = record {
     is_open = counted.open_still;

@@ -30,7 +30,7 @@ use Rattle.pd_core.specs.declared.answer.Answer.{Answer}
 use Rattle.pd_core.specs.Component.{kind_of, own_in}
 use Rattle.pd_core.specs.Core.{Rules, roles_of, sessions_in, IsCore}
 use Rattle.pd_core.specs.Exit.{refusal_of}
-use Rattle.pd_core.specs.Own.{Sessions, object_of, own_of, own_at, part_at}
+use Rattle.pd_core.specs.Own.{Sessions, object_of, own_of, own_at, part_at, Lent, lent_in}
 use Rattle.pd_core.specs.SessionCalls.{named_in, Goes}
 use Rattle.pd_core.specs.Sound.{session_at}
 use Rattle.pd_core.specs.declared.component.Component.{Component}
@@ -66,18 +66,18 @@ no_space None = refl
 no_space (Some bytes) = refl
 
 -- a selector that names no session has none in the own state
-no_object : (S : Sessions) (part : Part) (o : Option Cap) → session_at o ≡ None → session_named (option_and_then (object_of S part) o) ≡ None
-no_object S part None none = refl
-no_object S part (Some (Dataspace ds)) none = no_space (get part.spaces ds.0)
-no_object S part (Some RpcObject) none = refl
-no_object S part (Some (Buffer space session)) none = refl
-no_object S part (Some (Session server session)) none = absurd (none-some (server, session) (sym none))
+no_object : (L : Lent) (S : Sessions) (part : Part) (o : Option Cap) → session_at o ≡ None → session_named (option_and_then (object_of L S part) o) ≡ None
+no_object L S part None none = refl
+no_object L S part (Some (Dataspace ds)) none = no_space (get part.spaces ds.0)
+no_object L S part (Some RpcObject) none = refl
+no_object L S part (Some (Buffer space session)) none = refl
+no_object L S part (Some (Session server session)) none = absurd (none-some (server, session) (sym none))
 
 unnamed : (S : Sessions) (store : Store) (script : Script) (selector : ℕ) → session_at (get script.caps.caps selector) ≡ None →
     session_named (get (own_at S store script).selectors selector) ≡ None
 unfolding own_of
 unnamed S store script selector none =
-    ap session_named (get-picked (object_of S (part_at store script)) script.caps.caps selector) ∙ no_object S (part_at store script) (get script.caps.caps selector) none
+    ap session_named (get-picked (object_of (lent_in store) S (part_at store script)) script.caps.caps selector) ∙ no_object (lent_in store) S (part_at store script) (get script.caps.caps selector) none
 
 -- a call of a session is refused where its selector names none
 abbrev pub AsksFor : Call → ℕ → Type 0

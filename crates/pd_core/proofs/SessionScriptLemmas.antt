@@ -19,10 +19,11 @@ use Rattle.sliced_heap.specs.Sliced.{block_regions}
 use Rattle.sliced_heap.specs.Heap.{payer_of as sliced_payer, blocks_at, MapsMemory}
 use Rattle.sliced_heap.specs.Laws.{HeapStays}
 use Rattle.sliced_heap.proofs.HeapLaws.{heap_stays_among}
-use Rattle.pd_core.specs.Own.{Sessions, own_of, own_at, own_heap_at, sliced_at, part_at}
+use Rattle.pd_core.specs.Own.{Sessions, own_of, own_at, own_heap_at, sliced_at, part_at, lent_in}
 use Rattle.pd_core.specs.Sound.{IsScript, IsLawful, IsSoundScript, HasHeaps}
 use Rattle.pd_core.specs.declared.script.Script.{Script}
-use Rattle.pd_core.proofs.SessionOwnLemmas.{AreNoSpaces, AreCounted, script_with}
+use Rattle.pd_core.proofs.LentLemmas.{LendAlike, own_lent, script_lent}
+use Rattle.pd_core.proofs.SessionOwnLemmas.{AreNoSpaces, AreCounted, script_with, lent_before}
 
 -- ---- the account's numbers are no matter to what stands in the heap window
 
@@ -136,17 +137,24 @@ module _ (store store' : Store) (script : Script) (account : Option Account) (so
           (sym own) (all_still (part_at store script) account script.regions.heap script.regions.tags start region (sound.heaps.all start region at));
     }
 
+    -- nothing is seen of what sessions lend, where no selector comes to name a buffer
+    seen : (selector : ℕ) → ((q : ℕ) → q ≢ selector → get space'.caps q ≡ get script.caps.caps q) → AreNoSpaces script.caps.caps space'.caps selector → LendAlike (lent_in store) (lent_in store') space'.caps
+    seen selector others no_spaces q of session is = absurd (sound.own.named.unlent q of session (lent_before script.caps.caps space'.caps selector others no_spaces q of session is))
+
     -- its own state is read out of what it had
-    pub own_still : (S : Sessions) → own_at S store' script' ≡ own_of S (part script.account.0 store') space'.caps script.regions.user (own_heap_at store script) (sliced_at store script)
-    own_still S i = own_of S (part script.account.0 store') space'.caps script.regions.user (same_heap i) (same_sliced i)
+    pub own_still : (selector : ℕ) → ((q : ℕ) → q ≢ selector → get space'.caps q ≡ get script.caps.caps q) → AreNoSpaces script.caps.caps space'.caps selector →
+        (S : Sessions) → own_at S store' script' ≡ own_of (lent_in store) S (part script.account.0 store') space'.caps script.regions.user (own_heap_at store script) (sliced_at store script)
+    own_still selector others no_spaces S =
+        (λ i. own_of (lent_in store') S (part script.account.0 store') space'.caps script.regions.user (same_heap i) (same_sliced i))
+        ∙ own_lent (lent_in store) (lent_in store') (part script.account.0 store') space'.caps (seen selector others no_spaces) script.regions.user (own_heap_at store script) (sliced_at store script) S
 
     -- and it is sound
     pub sound_still : (selector : ℕ) → ((q : ℕ) → q ≢ selector → get space'.caps q ≡ get script.caps.caps q) → AreNoSpaces script.caps.caps space'.caps selector →
         AreCounted (part_at store script) (part script.account.0 store') script.caps space' script.regions →
-        ((S : Sessions) → IsLawful (own_of S (part script.account.0 store') space'.caps script.regions.user (own_heap_at store script) (sliced_at store script))) → IsSoundScript store' script'
+        ((S : Sessions) → IsLawful (own_of (lent_in store) S (part script.account.0 store') space'.caps script.regions.user (own_heap_at store script) (sliced_at store script))) → IsSoundScript store' script'
     sound_still selector others no_spaces counted lawful = record {
-      own = subst (λ h. IsScript (part script.account.0 store') space' script.regions h (sliced_at store' script)) (sym same_heap)
-          (subst (λ b. IsScript (part script.account.0 store') space' script.regions (own_heap_at store script) b) (sym same_sliced)
-          (script_with (part_at store script) (part script.account.0 store') script.caps space' script.regions (own_heap_at store script) (sliced_at store script) selector sound.own others no_spaces counted lawful));
+      own = subst (λ h. IsScript (lent_in store') (part script.account.0 store') space' script.regions h (sliced_at store' script)) (sym same_heap)
+          (subst (λ b. IsScript (lent_in store') (part script.account.0 store') space' script.regions (own_heap_at store script) b) (sym same_sliced)
+          (script_lent (seen selector others no_spaces) (script_with (part_at store script) (part script.account.0 store') script.caps space' script.regions (own_heap_at store script) (sliced_at store script) selector sound.own others no_spaces counted lawful)));
       heaps = heaps_stay;
     }

@@ -30,7 +30,7 @@ use Rattle.own_model.proofs.NatMapLemmas.{get-picked_at}
 use Rattle.cap_space.specs.declared.cap.Cap.{Cap}
 use Rattle.cap_space.specs.declared.cap.Cap.TheVariants.{Session}
 use Rattle.dataspace_core.specs.Store.{Part, account_of}
-use Rattle.pd_core.specs.Own.{Sessions, HasSessions, object_of, own_of}
+use Rattle.pd_core.specs.Own.{Sessions, HasSessions, object_of, own_of, Lent}
 use Rattle.pd_core.specs.Sound.{IsOne, AreNamed, IsLawful}
 use Rattle.pd_core.proofs.SessionOwnLemmas.{AreNoSpaces, selectors_put, selectors_gone, regions_still, lawful_step, lawful_whichever}
 
@@ -73,9 +73,9 @@ none_lent x request = by_state x.state where
   by_state (Filing files) = no_text_makes (file_request request) files x.account
 
 -- an own state that is read out of parts hasn't exited
-stays_here : (S : Sessions) (p : Part) (caps : NatMap Cap) (user : NatMap Region) (heap : OwnHeap) (sliced : NatMap (List ℕ)) → (own_of S p caps user heap sliced).gone ≡ false
+stays_here : (L : Lent) (S : Sessions) (p : Part) (caps : NatMap Cap) (user : NatMap Region) (heap : OwnHeap) (sliced : NatMap (List ℕ)) → (own_of L S p caps user heap sliced).gone ≡ false
 unfolding own_of
-stays_here S p caps user heap sliced = refl
+stays_here L S p caps user heap sliced = refl
 
 -- ---- one selector changes
 
@@ -86,13 +86,13 @@ pub record ChangesOne (S S' : Sessions) (p p' : Part) (caps caps' : NatMap Cap) 
   pub agrees : (q server : ℕ) (session : SessionId) → q ≢ selector → get caps q ≡ Some (Session server session) → S' server session.0 ≡ S server session.0
   pub no_spaces : AreNoSpaces caps caps' selector
 
-module _ (S S' : Sessions) (p p' : Part) (caps caps' : NatMap Cap) (selector : ℕ) (changes : ChangesOne S S' p p' caps caps' selector) (user : NatMap Region) (heap : OwnHeap) (sliced : NatMap (List ℕ)) (one : IsOne caps) (attached : AreNamed caps user) where
+module _ (L : Lent) (S S' : Sessions) (p p' : Part) (caps caps' : NatMap Cap) (selector : ℕ) (changes : ChangesOne S S' p p' caps caps' selector) (user : NatMap Region) (heap : OwnHeap) (sliced : NatMap (List ℕ)) (one : IsOne caps) (attached : AreNamed caps user) where
   -- before and after
   abbrev before : OwnState
-  before = own_of S p caps user heap sliced
+  before = own_of L S p caps user heap sliced
 
   abbrev after : OwnState
-  after = own_of S' p' caps' user heap sliced
+  after = own_of L S' p' caps' user heap sliced
 
   -- the selector names a session after it
   pub own_put : (server : ℕ) (session : SessionId) (x : AnOpenSession) (a : Account) → get caps' selector ≡ Some (Session server session) → S' server session.0 ≡ Some x → account_of p' ≡ a →
@@ -100,7 +100,7 @@ module _ (S S' : Sessions) (p p' : Part) (caps caps' : NatMap Cap) (selector : �
   unfolding own_of
   own_put server session x a names is account = λ i. record {
     account = account i;
-    selectors = selectors_put S S' p p' changes.spaces caps caps' selector changes.others changes.agrees server session x names is i;
+    selectors = selectors_put L S S' p p' changes.spaces caps caps' selector changes.others changes.agrees server session x names is i;
     regions = regions_still caps caps' selector changes.others changes.no_spaces user one attached i;
     heap = heap;
     sliced = sliced;
@@ -112,7 +112,7 @@ module _ (S S' : Sessions) (p p' : Part) (caps caps' : NatMap Cap) (selector : �
   unfolding own_of
   own_gone a gone account = λ i. record {
     account = account i;
-    selectors = selectors_gone S S' p p' changes.spaces caps caps' selector changes.others changes.agrees gone i;
+    selectors = selectors_gone L S S' p p' changes.spaces caps caps' selector changes.others changes.agrees gone i;
     regions = regions_still caps caps' selector changes.others changes.no_spaces user one attached i;
     heap = heap;
     sliced = sliced;
@@ -135,7 +135,7 @@ module _ (S S' : Sessions) (p p' : Part) (caps caps' : NatMap Cap) (selector : �
     -- the selector names it before
     named_before : session_named (get before.selectors selector) ≡ Some x
     unfolding own_of
-    named_before = ap session_named (get-picked_at (object_of S p) caps selector (Session server session) named ∙ ap (option_map OpenSession) is)
+    named_before = ap session_named (get-picked_at (object_of L S p) caps selector (Session server session) named ∙ ap (option_map OpenSession) is)
 
     -- it is closed, without a buffer
     pub closes_own : buffer_of selector before.selectors ≡ None → get caps' selector ≡ None → account_of p' ≡ raised (account_of p) x.account.ram_limit x.account.caps_limit →
@@ -181,6 +181,6 @@ module _ (S S' : Sessions) (p p' : Part) (caps caps' : NatMap Cap) (selector : �
 
   -- where the model's call makes the one of the other, for some sessions, it is lawful for all
   pub lawful_after : (entry : Entry) (call : Call) (reply : Reply) (lines : List LogLine) → entry.kind ≡ AScript → entry_step entry call before ≡ record { reply = reply; lines = lines; next = after } → IsLawful before →
-      (any : Sessions) → IsLawful (own_of any p' caps' user heap sliced)
+      (any : Sessions) → IsLawful (own_of L any p' caps' user heap sliced)
   lawful_after entry call reply lines script steps law any =
-      lawful_whichever p' caps' user heap sliced S' any (subst (λ (o : Outcome). IsLawful o.next) steps (lawful_step entry call before script (stays_here S p caps user heap sliced) law))
+      lawful_whichever L p' caps' user heap sliced S' any (subst (λ (o : Outcome). IsLawful o.next) steps (lawful_step entry call before script (stays_here L S p caps user heap sliced) law))

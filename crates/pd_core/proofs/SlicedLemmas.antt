@@ -14,7 +14,7 @@ use Rattle.own_model.specs.HeapWindow.{heap_low, heap_high, heap_gap, largest_ma
 use Rattle.own_model.specs.NatMap.{joined, total}
 use Rattle.own_model.specs.OwnHeap.{ranges_of_heap}
 use Rattle.own_model.specs.OwnState.{OwnState, zeros}
-use Rattle.own_model.specs.OwnStep.{refused, unless, sliced_in, sliced_freed, own_heap_gap, script_step}
+use Rattle.own_model.specs.OwnStep.{Outcome, refused, unless, sliced_in, sliced_freed, own_heap_gap, script_step}
 use Rattle.own_model.specs.Region.{Region}
 use Rattle.own_model.specs.Reply.{Reply}
 use Rattle.own_model.specs.Reply.Reply.{Attached, Done}
@@ -38,12 +38,13 @@ use Rattle.sliced_heap.specs.Heap.{payer_of, share_at, blocks_at, IsSound as IsS
 use Rattle.sliced_heap.specs.Sliced.{sliced_tag, block_regions}
 use Rattle.heap_window.proofs.ShareLemmas.{shown_block}
 use Rattle.sliced_heap.proofs.HeapLaws.{blocks_are_regions}
-use Rattle.pd_core.specs.Own.{Sessions, own_at, own_of, part_at, own_heap_at, sliced_at}
+use Rattle.pd_core.specs.Own.{Sessions, lent_in, own_at, own_of, part_at, own_heap_at, sliced_at}
 use Rattle.pd_core.specs.Sound.{rpc_weight, HasHeaps, IsSoundScript}
 use Rattle.pd_core.specs.declared.script.Script.{Script}
 use Rattle.heap_window.proofs.BesideLemmas.{map_of, standing, whole_standing, sliced_no_block, stands_beside_more, stands_beside_less, ranges_alike, gap_is_free, lie_with, lie_without}
 use Rattle.heap_core.proofs.StayLemmas.{heap_stays}
 use Rattle.heap_core.proofs.BlockRangeLemmas.{blocks_are_regions as heap_blocks_are_regions}
+use Rattle.pd_core.proofs.LentLemmas.{own_lent, script_lent, none_seen}
 use Rattle.pd_core.proofs.OwnLemmas.{slices}
 use Rattle.pd_core.specs.Does.{Does}
 use Rattle.pd_core.proofs.ScriptLemmas.{at_heap, block_there, is_region}
@@ -106,9 +107,9 @@ module _ (store : Store) (script : Script) (sound : IsSoundScript store script) 
       let is_open = part_open account store' (subst (IsOpenIn store') has.sliced_pays has.sliced.opens) in
       let made = slices (part_at store script) script.caps script.regions (own_heap_at store script) (sliced_at store script) sound.own call p' after (heap_at heap' store' after) (blocks_at account store' after) reply
       changes.still user most pages is_open changes.ram_limit changes.caps_limit changes.spare (record { held = changes.held; unnamed = changes.unnamed }) is in record {
-        outcome = made.outcome;
+        outcome = λ sessions ready. ap {B = Outcome} (λ s. record { reply = reply; lines = []; next = s }) (own_lent (lent_in store) (lent_in store') p' script.caps.caps (none_seen (lent_in store') made.script) after.user (heap_at heap' store' after) (blocks_at account store' after) sessions) ∙ made.outcome sessions ready;
         keeps = record {
-          sound = record { own = made.script; heaps = has };
+          sound = record { own = script_lent (none_seen (lent_in store') made.script) made.script; heaps = has };
           account = refl;
           ram_limit = changes.ram_limit;
           caps_limit = changes.caps_limit;

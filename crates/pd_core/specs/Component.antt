@@ -22,7 +22,7 @@ use Rattle.sliced_heap.specs.Heap.{payer_of as sliced_payer}
 use Rattle.dataspace_core.specs.Share.{Share}
 use Rattle.server_frame.specs.Frame.{Row, sessions_of, IsServer}
 use Rattle.server_frame.specs.declared.server.Session.{Session as Kept}
-use Rattle.pd_core.specs.Own.{Sessions, no_sessions, own_of, own_at}
+use Rattle.pd_core.specs.Own.{Sessions, no_sessions, no_lent, own_of, own_at}
 use Rattle.pd_core.specs.Sessions.{log_value, log_buffer, IsLogKept, files_value, files_buffer, IsFilesKept}
 use Rattle.pd_core.specs.Sound.{session_at, IsNewHeap, IsNewSliced, IsSoundScript}
 use Rattle.pd_core.specs.declared.component.Role.{Role}
@@ -169,8 +169,8 @@ pub record NamesItsSessions (rows : ℕ → NatMap (Row Labelled)) (role : Role)
 -- the own state of a role: a server has its account alone, and who is gone has nothing
 abbrev pub own_in : Sessions → Store → Role → OwnState
 own_in sessions store (Script script) = own_at sessions store script
-own_in sessions store (Log account server) = own_of no_sessions (part account.0 store) empty empty no_heap empty
-own_in sessions store (Files account server) = own_of no_sessions (part account.0 store) empty empty no_heap empty
+own_in sessions store (Log account server) = own_of no_lent no_sessions (part account.0 store) empty empty no_heap empty
+own_in sessions store (Files account server) = own_of no_lent no_sessions (part account.0 store) empty empty no_heap empty
 own_in sessions store Gone = gone_state
 
 -- the component's own state

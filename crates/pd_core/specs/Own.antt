@@ -38,21 +38,43 @@ abbrev pub HasSessions : Sessions → NatMap Cap → Type 0
 HasSessions sessions caps =
     (selector server : ℕ) (session : SessionId) → get caps selector ≡ Some (Session server session) → IsSome (sessions server session.0)
 
+-- ---- what sessions lend
+
+-- the bytes of dataspaces by their keys: those that sessions lend are read so
+abbrev pub Lent : Type 0
+Lent = ℕ → List ℕ
+
+-- as a memory has them
+abbrev pub lent_in : Store → Lent
+lent_in store key = (space_at store key).bytes
+
+-- nothing
+abbrev pub no_lent : Lent
+no_lent key = []
+
 -- ---- the own state
 
--- what a capability is to a component. No call gives a capability of a buffer, so none has bytes
-abbrev pub object_of : Sessions → Part → Cap → Option Object
-object_of sessions part (Dataspace ds) = option_map ADataspace (get part.spaces ds.0)
-object_of sessions part RpcObject = Some AnRpcObject
-object_of sessions part (Session server session) = option_map OpenSession (sessions server session.0)
-object_of sessions part (Buffer space session) = Some (ABuffer session.0 [])
+-- what a capability is to a component: a buffer has the bytes of the dataspace that its session lends
+abbrev pub object_of : Lent → Sessions → Part → Cap → Option Object
+object_of lent sessions part (Dataspace ds) = option_map ADataspace (get part.spaces ds.0)
+object_of lent sessions part RpcObject = Some AnRpcObject
+object_of lent sessions part (Session server session) = option_map OpenSession (sessions server session.0)
+object_of lent sessions part (Buffer space session) = Some (ABuffer session.0 (lent space.0))
+
+-- the key of the dataspace that what a selector has is a capability of, its own or one that a session lends
+abbrev pub key_at : Option Cap → Option ℕ
+key_at (Some (Dataspace ds)) = Some ds.0
+key_at (Some RpcObject) = None
+key_at (Some (Session server session)) = None
+key_at (Some (Buffer space session)) = Some space.0
+key_at None = None
 
 -- a capability is of the dataspace under this key
 abbrev pub is_of : ℕ → Cap → Bool
 is_of key (Dataspace ds) = ds.0 == key
 is_of key RpcObject = false
 is_of key (Session server session) = false
-is_of key (Buffer space session) = false
+is_of key (Buffer space session) = space.0 == key
 
 -- the selector that names the dataspace under a key
 unfoldable pub selector_of : NatMap Cap → ℕ → Option ℕ
@@ -63,10 +85,10 @@ unfoldable pub regions_of : NatMap Cap → NatMap Region → NatMap Region
 regions_of caps user = picked (λ region. option_map (λ other. record region { of = other }) (selector_of caps region.of)) user
 
 -- the own state of a component that has this part, these capabilities, these regions, this heap and these sliced blocks
-unfoldable pub own_of : Sessions → Part → NatMap Cap → NatMap Region → OwnHeap → NatMap (List ℕ) → OwnState
-own_of sessions part caps user heap sliced = record {
+unfoldable pub own_of : Lent → Sessions → Part → NatMap Cap → NatMap Region → OwnHeap → NatMap (List ℕ) → OwnState
+own_of lent sessions part caps user heap sliced = record {
   account = account_of part;
-  selectors = picked (object_of sessions part) caps;
+  selectors = picked (object_of lent sessions part) caps;
   regions = regions_of caps user;
   heap = heap;
   sliced = sliced;
@@ -88,17 +110,9 @@ sliced_at store script = blocks_at script.account.0 store script.regions
 -- its own state
 abbrev pub own_at : Sessions → Store → Script → OwnState
 own_at sessions store script =
-    own_of sessions (part_at store script) script.caps.caps script.regions.user (own_heap_at store script) (sliced_at store script)
+    own_of (lent_in store) sessions (part_at store script) script.caps.caps script.regions.user (own_heap_at store script) (sliced_at store script)
 
 -- ---- what a script looks up
-
--- the bytes of dataspaces by their keys: those that sessions lend are read so
-abbrev pub Lent : Type 0
-Lent = ℕ → List ℕ
-
--- as a memory has them
-abbrev pub lent_in : Store → Lent
-lent_in store key = (space_at store key).bytes
 
 -- the dataspace that what a selector has is a capability of, its own or one that a session lends, and its pages
 abbrev pub sized_at : Lent → Part → Option Cap → Result (DsId × ℕ) Refusal

@@ -2,6 +2,7 @@
 use Rattle.std.specs.Prelude.{◌≡◌, ◌≢◌, ◌⊎◌, ℕ, ◌+◌, ◌*◌, ◌≤◌, List, Option, Some, None, IsSome}
 use Rattle.std.specs.FinMap.{get, len}
 use Rattle.trade_base.specs.declared.id.DsId.{DsId}
+use Rattle.trade_base.specs.declared.id.Selector.{Selector}
 use Rattle.trade_base.specs.declared.id.SessionId.{SessionId}
 use Rattle.own_model.specs.NatMap.{NatMap, total}
 use Rattle.own_model.specs.OwnHeap.{OwnHeap, no_heap}
@@ -22,7 +23,7 @@ use Rattle.heap_core.specs.Laws.{block_region}
 use Rattle.sliced_heap.specs.declared.heap.SlicedHeap.{SlicedHeap}
 use Rattle.sliced_heap.specs.Sliced.{block_regions}
 use Rattle.sliced_heap.specs.Heap.{payer_of as sliced_payer, share_at, MapsMemory, HasNoBlocks as HasNoSliced, IsSound as IsSoundSliced}
-use Rattle.pd_core.specs.Own.{Sessions, HasSessions, selector_of, own_of, part_at, own_heap_at, sliced_at}
+use Rattle.pd_core.specs.Own.{Sessions, HasSessions, Lent, lent_in, key_at, selector_of, own_of, part_at, own_heap_at, sliced_at}
 use Rattle.pd_core.specs.declared.script.Script.{Script}
 
 -- what counts the RPC objects
@@ -47,15 +48,16 @@ session_at (Some (Session server session)) = Some (server, session)
 session_at (Some (Buffer space session)) = None
 session_at None = None
 
--- a dataspace has one selector at most
+-- a dataspace has one selector at most, be it its own or lent
 abbrev pub IsOne : NatMap Cap → Type 0
-IsOne caps =
-    (s t : ℕ) (a b : DsId) → get caps s ≡ Some (Dataspace a) → get caps t ≡ Some (Dataspace b) → a.0 ≡ b.0 → s ≡ t
+IsOne caps = (s t key : ℕ) → key_at (get caps s) ≡ Some key → key_at (get caps t) ≡ Some key → s ≡ t
 
--- each dataspace that a selector names is one of its own that the account pays for
+-- each dataspace that a selector names is one of its own that the account pays for; no selector names a buffer, as no text
+-- asks for one yet
 pub record IsNamed (part : Part) (caps : NatMap Cap) : Type 0 where
   pub there : (selector : ℕ) (ds : DsId) → get caps selector ≡ Some (Dataspace ds) → IsSome (get part.spaces ds.0)
   pub one : IsOne caps
+  pub unlent : (selector : ℕ) (space : DsId) (session : Selector) → get caps selector ≡ Some (Buffer space session) → ⊥
 
 -- the account is open; it uses a capability for each selector but the sessions', each sliced block, each chunk and each
 -- large block, and one for each dataspace and each RPC object, where blocks and chunks are dataspaces without a selector;
@@ -85,14 +87,14 @@ pub record IsLawful (s : OwnState) : Type 0 where
 
 -- what is true of a script with this part, these capabilities, these regions, this heap and these sliced blocks, whatever
 -- its sessions are. The machine has at least the account's RAM
-pub record IsScript (part : Part) (space : Space) (regions : Regions) (heap : OwnHeap) (sliced : NatMap (List ℕ)) : Type 0 where
+pub record IsScript (lent : Lent) (part : Part) (space : Space) (regions : Regions) (heap : OwnHeap) (sliced : NatMap (List ℕ)) : Type 0 where
   pub named : IsNamed part space.caps
   pub paid : IsPaid part space heap sliced
   pub ram : (account_of part).ram_limit ≤ regions.pages * 4096
   pub attached : AreNamed space.caps regions.user
   pub most : regions.most ≡ most_regions
   pub blocks : AreBlocks part space.caps regions.heap
-  pub lawful : (sessions : Sessions) → HasSessions sessions space.caps → IsLawful (own_of sessions part space.caps regions.user heap sliced)
+  pub lawful : (sessions : Sessions) → HasSessions sessions space.caps → IsLawful (own_of lent sessions part space.caps regions.user heap sliced)
 
 -- a sliced heap is sound on each map of a memory that holds no sliced block of its account yet
 abbrev pub IsNewSliced : SlicedHeap → Type 0
@@ -120,7 +122,7 @@ pub record HasHeaps (store : Store) (script : Script) : Type 0 where
 
 -- what is true of a script between calls
 pub record IsSoundScript (store : Store) (script : Script) : Type 0 where
-  pub own : IsScript (part_at store script) script.caps script.regions (own_heap_at store script) (sliced_at store script)
+  pub own : IsScript (lent_in store) (part_at store script) script.caps script.regions (own_heap_at store script) (sliced_at store script)
   pub heaps : HasHeaps store script
 
 -- the script is sound after a call; its account, its limits, its places for capabilities and its sessions, the root's key,
