@@ -3,7 +3,9 @@
 
 A shape `NAME:SIZE` is one in steady state, on the machine `largest.json`: first so many things are taken, by lines that
 aren't among the LINES, and then one of them, at random, is given back and one taken in turn. NAME is live (dataspaces of
-a page), selectors (of RPC objects), blocks (sliced blocks of a page) or open (sessions of the log service).
+a page), selectors (of RPC objects), blocks (sliced blocks of a page), open (sessions of the log service), holes (of the
+least size, in a heap), small (blocks of 1 to 128 bytes), named (files of a session, on the machine `files.json`) or sized (the
+same, of which the size of one is asked).
 
 Shapes: quota (quota alone, both scripts in turn), churn (an allocation and its release, one dataspace at a time),
 limit (allocations and releases at the account's limit), bytes (pokes and peeks of 1 to 1,024 bytes in turn), short (the
@@ -16,6 +18,7 @@ with writes of up to 1,000 bytes), eight (eight clients of the machine `eight.js
 (lines that are refused, of all kinds), every (rounds of every call, by both scripts in turn, some refused; at the end both
 hold something of each kind, and exit).
 """
+import bisect
 import random
 import sys
 
@@ -131,56 +134,72 @@ def sliced(lines, rng):
 HEAP_HEADER = 16
 LEAST_BLOCK = 48
 FIRST_CHUNK = 4 * PAGE
+MOST_GROWTH = 64 * PAGE
 
 
-class Chunk:
-    """The first chunk of a heap: its blocks in order, each with its size and whether it is used."""
+class Heap:
+    """The chunks of a heap: the size of each block and the block before it, by addresses, and the holes in order."""
 
     def __init__(self):
-        self.blocks = [(FIRST_CHUNK, False)]
+        self.sizes, self.before, self.starts, self.holes = {}, {}, set(), []
+        self.end, self.growth = HEAP_WINDOW, FIRST_CHUNK
 
     def take(self, count):
-        """The address of the payload of a block for so many bytes, in the best hole, or None where none is large enough."""
+        """The address of the payload of a block for so many bytes, in the best hole. Where none serves, the heap grows."""
         size = max(LEAST_BLOCK, HEAP_HEADER + (count + 15) // 16 * 16)
-        best, best_size, offset = None, None, 0
-        for place, (have, used) in enumerate(self.blocks):
-            if not used and have >= size and (best is None or have < best_size):
-                best, best_size, at = place, have, offset
-            offset += have
-        if best is None:
-            return None
-        if best_size - size < LEAST_BLOCK:
-            self.blocks[best] = (best_size, True)
-        else:
-            self.blocks[best : best + 1] = [(size, True), (best_size - size, False)]
-        return HEAP_WINDOW + at + HEAP_HEADER
+        place = bisect.bisect_left(self.holes, (size, 0))
+        if place == len(self.holes):
+            self.starts.add(self.end)
+            self.sizes[self.end] = self.growth
+            self.holes.append((self.growth, self.end))
+            self.end += self.growth
+            self.growth = min(2 * self.growth, MOST_GROWTH)
+            place = bisect.bisect_left(self.holes, (size, 0))
+        have, block = self.holes.pop(place)
+        if have - size >= LEAST_BLOCK:
+            self.sizes[block] = size
+            self.add_hole(block + size, have - size, block)
+        return block + HEAP_HEADER
+
+    def add_hole(self, block, size, before):
+        self.sizes[block] = size
+        self.before[block] = before
+        if block + size in self.sizes and block + size not in self.starts:
+            self.before[block + size] = block
+        bisect.insort(self.holes, (size, block))
+
+    def is_hole(self, block):
+        place = bisect.bisect_left(self.holes, (self.sizes.get(block, 0), block))
+        return place < len(self.holes) and self.holes[place][1] == block
+
+    def join(self, block):
+        """Takes a hole away that is to be a part of another, and tells its size."""
+        size = self.sizes.pop(block)
+        self.holes.remove((size, block))
+        return size
 
     def give(self, address):
         """The block of a payload becomes a hole, joined with the holes beside it."""
-        offset, place = HEAP_WINDOW + HEAP_HEADER, 0
-        while offset != address:
-            offset += self.blocks[place][0]
-            place += 1
-        first, last = place, place + 1
-        if last < len(self.blocks) and not self.blocks[last][1]:
-            last += 1
-        if first > 0 and not self.blocks[first - 1][1]:
-            first -= 1
-        self.blocks[first:last] = [(sum(size for size, _ in self.blocks[first:last]), False)]
+        block = address - HEAP_HEADER
+        size, before = self.sizes.pop(block), self.before.get(block)
+        if block + size not in self.starts and self.is_hole(block + size):
+            size += self.join(block + size)
+        if block not in self.starts and self.is_hole(before):
+            block, size, before = before, size + self.join(before), self.before.get(before)
+        self.add_hole(block, size, before)
 
 
 def heap(lines, rng):
     """Blocks of 1 to 128 bytes, three taken to two given back until 64 are held."""
-    chunk, held = Chunk(), []
+    blocks, held = Heap(), []
     for _ in range(lines):
         count = rng.randint(1, 128)
-        address = None if len(held) == 64 or (held and rng.random() < 0.4) else chunk.take(count)
-        if address is None:
+        if len(held) == 64 or (held and rng.random() < 0.4):
             address = held.pop(rng.randrange(len(held)))
-            chunk.give(address)
+            blocks.give(address)
             yield f"alice del {address:#x}"
         else:
-            held.append(address)
+            held.append(blocks.take(count))
             yield f"alice new {count}"
 
 
@@ -200,23 +219,23 @@ SPARE_HOLES = 8
 def holes(lines, rng):
     """Least blocks side by side, of which every second one is given back; then one is taken and one given back in turn,
     with 48 or 49 of these holes, and the rest of the chunk as one more."""
-    chunk = Chunk()
+    heap = Heap()
     count = LIVE_HOLES + SPARE_HOLES
     blocks = []
     for _ in range(2 * count + 1):
-        blocks.append(chunk.take(1))
+        blocks.append(heap.take(1))
         yield "alice new 1"
     for address in blocks[1::2]:
-        chunk.give(address)
+        heap.give(address)
         yield f"alice del {address:#x}"
     held = []
     for _ in range(lines - 3 * count - 1):
         if len(held) < SPARE_HOLES:
-            held.append(chunk.take(1))
+            held.append(heap.take(1))
             yield "alice new 1"
         else:
             address = held.pop(rng.randrange(len(held)))
-            chunk.give(address)
+            heap.give(address)
             yield f"alice del {address:#x}"
 
 
@@ -437,7 +456,52 @@ def sized(lines, rng, size):
         yield f"alice call 1 SIZE f{rng.randrange(size)}"
 
 
+def live_holes(lines, rng, size):
+    """So many holes of the least size, each between used blocks, and as many used blocks between such: one of these is given
+    back and the best hole taken in turn."""
+    heap, blocks = Heap(), []
+    while len(blocks) < 2 * size:
+        one, other = heap.take(1), heap.take(1)
+        yield "alice new 1"
+        yield "alice new 1"
+        # The last block of a chunk may be larger.
+        if other - one == LEAST_BLOCK:
+            blocks.append(one)
+    rng.shuffle(blocks)
+    for address in blocks[size:]:
+        heap.give(address)
+        yield f"alice del {address:#x}"
+    held = blocks[:size]
+    for number in range(lines):
+        if number % 2 == 0:
+            place = rng.randrange(size)
+            heap.give(held[place])
+            yield f"alice del {held[place]:#x}"
+        else:
+            held[place] = heap.take(1)
+            yield "alice new 1"
+
+
+def small(lines, rng, size):
+    """So many blocks of 1 to 128 bytes: one given back and one taken in turn."""
+    heap, held = Heap(), []
+    for number in range(size + lines):
+        if number < size:
+            held.append(None)
+            place = number
+        elif (number - size) % 2 == 0:
+            place = rng.randrange(size)
+            heap.give(held[place])
+            yield f"alice del {held[place]:#x}"
+            continue
+        count = rng.randint(1, 128)
+        held[place] = heap.take(count)
+        yield f"alice new {count}"
+
+
 STEADY = {
+    "holes": live_holes,
+    "small": small,
     "named": named,
     "sized": sized,
     "live": steady("alice alloc 4096", lambda n: f"alice free {n + 1}"),
