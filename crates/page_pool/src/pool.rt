@@ -9,9 +9,9 @@ use std::alloc::Global;
 use std::marker::Model;
 use trade_base::NoMemory;
 
-/// A page's number.
+/// A page's number: there are at most 4096, so sixteen bits keep a table of these small.
 #[derive(Clone, Copy, Debug, PartialEq, Eq, PartialOrd, Ord, Hash)]
-pub struct PageNo(pub usize);
+pub struct PageNo(pub u16);
 
 /// Pages, each free or taken. Contracts see them as a list: for each page by its number `None`
 /// where it is free, and its 4096 bytes where it is taken.
@@ -50,7 +50,7 @@ impl Pool {
             free: 0,
         };
         for page in 0..pages {
-            pool.give(PageNo(page));
+            pool.give(PageNo(page as u16));
         }
         Ok(pool)
     }
@@ -72,7 +72,7 @@ impl Pool {
         self.head = self.bytes.load(start) as usize;
         self.free -= 1;
         self.bytes.clear_page(start);
-        Some(PageNo(page))
+        Some(PageNo(page as u16))
     }
 
     /// Makes a taken page free. It takes no memory, and the page is cleared when it is next taken.
@@ -81,8 +81,9 @@ impl Pool {
         ensures freed { self.new ≡ slice_set self.old page.0 None }
         ensures count { free_count self.new ≡ free_count self.old + 1 }
     {
-        self.bytes.store(page.0 * PAGE_BYTES, self.head as u64);
-        self.head = page.0;
+        self.bytes
+            .store(page.0 as usize * PAGE_BYTES, self.head as u64);
+        self.head = page.0 as usize;
         self.free += 1;
     }
 
@@ -94,7 +95,8 @@ impl Pool {
             buffer.new ≡ slice_range (page_bytes self.now page.0) offset end }
         ensures size { length (page_bytes self.now page.0) ≡ 4096 }
     {
-        self.bytes.read(page.0 * PAGE_BYTES + offset, buffer);
+        self.bytes
+            .read(page.0 as usize * PAGE_BYTES + offset, buffer);
     }
 
     /// Puts `part` at `offset` into a taken page. Nothing else changes.
@@ -106,7 +108,8 @@ impl Pool {
         ensures size { length (page_bytes self.old page.0) ≡ 4096 }
         ensures count { free_count self.new ≡ free_count self.old }
     {
-        self.bytes.write(page.0 * PAGE_BYTES + offset, part);
+        self.bytes
+            .write(page.0 as usize * PAGE_BYTES + offset, part);
     }
 
     /// The word of a taken page that stands at `offset`, its lowest byte first.

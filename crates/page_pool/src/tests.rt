@@ -22,7 +22,7 @@ fn take_and_fill(rt: &impl Abort, pool: &mut Pool) -> PageNo
 }
 
 /// Sixteen pages of ones.
-fn take_sixteen(rt: &impl Abort, pool: &mut Pool) -> [usize; 16]
+fn take_sixteen(rt: &impl Abort, pool: &mut Pool) -> [u16; 16]
     ensures taken { (k : ℕ) → k < 16 → IsTrue (is_taken pool.new (slice_index result k)) }
     ensures apart { (j k : ℕ) → j < k → k < 16 → slice_index result j ≢ slice_index result k }
 {
@@ -35,7 +35,7 @@ fn take_sixteen(rt: &impl Abort, pool: &mut Pool) -> [usize; 16]
 
 /// Gives back every second page, and then the others.
 #[tactic(auto, using(crate::proofs::PageLaws::page_laws))]
-fn give_sixteen(pool: &mut Pool, pages: &[usize; 16])
+fn give_sixteen(pool: &mut Pool, pages: &[u16; 16])
     requires taken { (k : ℕ) → k < 16 → IsTrue (is_taken pool.old (slice_index pages.now k)) }
     requires apart { (j k : ℕ) → j < k → k < 16
         → slice_index pages.now j ≢ slice_index pages.now k }

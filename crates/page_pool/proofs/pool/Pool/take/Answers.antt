@@ -13,7 +13,7 @@ load-requires c = let i = LiesIn-from_head _ c.self.inside.free _ c.self.invaria
 pub clear_page-requires : goal.clear_page-requires
 clear_page-requires c = let i = LiesIn-from_head _ c.self.inside.free _ c.self.invariant c.if-self-eq0.false in omega arith
 
-took : (c : goal.After-clear_page) → Took (linked c.clear_page.new.self (c.self.inside.free - 1) c.load.result) c.clear_page.new.self c.args.self.now c.self.inside.head
+took : (c : goal.After-row_known-1) → Took (linked c.clear_page.new.self (c.self.inside.free - 1) c.load.result) c.clear_page.new.self c.args.self.now c.self.inside.head
 took c =
     rw c.load.ensures (take_page _ _ c.self.inside.free _ _ c.self.invariant c.self.view_is c.if-self-eq0.false c.clear_page.ensures)
 
@@ -28,3 +28,8 @@ returns-clause-cleared c = (took c).cleared
 
 pub returns-clause-count : goal.returns-clause-count
 returns-clause-count c = (took c).count
+
+pub overflow_cast-result : goal.overflow_cast-result
+overflow_cast-result c =
+    let i = LiesIn-from_head _ c.self.inside.free _ c.self.invariant c.if-self-eq0.false in
+    omega (arith, i.inside, i.small)
