@@ -4,7 +4,7 @@ use Rattle.std.specs.Prelude.{nat_lt, if◌then◌else◌}
 use Rattle.own_model.specs.Heap as heap
 use Rattle.own_model.specs.Heap.{Used, Hole, size_of, bytes_in, IsBlockSize}
 use Rattle.avl_alloc.specs.declared.chunk.Block.{Block}
-use Rattle.avl_alloc.specs.Words.{Words, IsPlace}
+use Rattle.avl_alloc.specs.Words.{Words, IsWord, place_at}
 use Rattle.avl_alloc.specs.Layout.{Laid, IsRoom}
 use Rattle.avl_alloc.specs.Walk.{block_over}
 use Rattle.avl_alloc.proofs.HoleLemmas.{ltb-true, ltb-false}
@@ -28,32 +28,34 @@ ahead-start w start target blocks n laid = record {
   few = omega arith;
 }
 
--- a header within a chunk stands in words
-header_place : (bytes : ℕ → ℕ) (start from total m : ℕ) → IsRoom bytes start total → from % 16 ≡ 0 → from + m ≤ total → 48 ≤ m → (q : ℕ) → q % 8 ≡ 0 → q ≤ 8 → IsPlace bytes (start + from + q)
-header_place bytes start from total m room even in_chunk least q step small =
-    let chunk : (start + from + q) / 2 ^ 32 ≡ start / 2 ^ 32 = omega (arith, room.first, room.short) in
-    let offset : (start + from + q) % 2 ^ 32 ≡ from + q = omega (arith, room.first, room.short) in
-    record {
-      some = omega (arith, room.some);
-      word = record {
-        aligned = omega arith;
-        within = subst (λ c. (start + from + q) % 2 ^ 32 + 8 ≤ bytes (c - 1)) (sym chunk) (omega (arith, room.within));
-        short = omega arith;
-      };
-    }
+-- a chunk's first place tells its number
+pub of_chunk : (chunk : ℕ) → place_at chunk 0 / 2 ^ 32 - 1 ≡ chunk
+of_chunk chunk = omega arith
+
+-- and every other place is so far from it
+pub at_start : (chunk offset : ℕ) → place_at chunk offset ≡ place_at chunk 0 + offset
+at_start chunk offset = omega arith
+
+pub at_start_more : (chunk offset more : ℕ) → place_at chunk (offset + more) ≡ place_at chunk 0 + offset + more
+at_start_more chunk offset more = omega arith
+
+-- the words of a header lie within the chunk
+header_word : (bytes : ℕ → ℕ) (start from total m : ℕ) → IsRoom bytes start total → from % 16 ≡ 0 → from + m ≤ total → 48 ≤ m → (q : ℕ) → q % 8 ≡ 0 → q ≤ 8 → IsWord bytes (start / 2 ^ 32 - 1) (from + q)
+header_word bytes start from total m room even in_chunk least q step small =
+    record { aligned = omega arith; within = omega (arith, room.within); short = omega (arith, room.short) }
 
 -- what the walk reads where it stands
 pub record IsRead (bytes : ℕ → ℕ) (w : Words) (start from : ℕ) : Type 0 where
-  pub size_place : IsPlace bytes (start + from)
-  pub state_place : IsPlace bytes (start + from + 8)
+  pub size_word : IsWord bytes (start / 2 ^ 32 - 1) from
+  pub state_word : IsWord bytes (start / 2 ^ 32 - 1) (from + 8)
   pub short : from + w (start + from) ≤ 2 ^ 32
   pub some : 1 ≤ w (start + from)
 
 module _ (w : Words) (start from before target : ℕ) (blocks : List heap.Block) (n k : ℕ) (inside : target < bytes_in blocks) where
   read_block : (bytes : ℕ → ℕ) → IsRoom bytes start (bytes_in blocks) → (m : ℕ) → IsBlockSize m → w (start + from) ≡ m → from % 16 ≡ 0 → from + m ≤ bytes_in blocks → IsRead bytes w start from
   read_block bytes room m sized is even le = record {
-    size_place = subst (IsPlace bytes) (omega arith) (header_place bytes start from (bytes_in blocks) m room even le sized.least 0 (omega arith) (omega arith));
-    state_place = header_place bytes start from (bytes_in blocks) m room even le sized.least 8 (omega arith) (omega arith);
+    size_word = subst (IsWord bytes (start / 2 ^ 32 - 1)) (omega arith) (header_word bytes start from (bytes_in blocks) m room even le sized.least 0 (omega arith) (omega arith));
+    state_word = header_word bytes start from (bytes_in blocks) m room even le sized.least 8 (omega arith) (omega arith);
     short = omega (arith, room.short);
     some = omega (arith, sized.least);
   }

@@ -204,7 +204,7 @@ impl BestFit {
         if addr.offset >= self.sizes[addr.chunk] {
             return None;
         }
-        Some(walk(memory, place_of(addr.chunk), addr.offset))
+        Some(walk(memory, addr.chunk, addr.offset))
     }
 
     /// Takes the hole at a place for a block of `size` bytes. What is left stays a hole, unless it is

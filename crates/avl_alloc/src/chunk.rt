@@ -1,7 +1,7 @@
 //! The blocks of a chunk, by their headers.
 ghost use Rattle.std.specs.Prelude.{◌≡◌, ℕ, ◌+◌, ◌*◌, ◌<◌, ◌≤◌, ◌==◌, if◌then◌else◌, List, length};
 ghost use Rattle.own_model.specs.Heap.{Block as ModelBlock, bytes_in};
-ghost use Rattle.avl_alloc.specs.Words.{IsNode, with_word};
+ghost use Rattle.avl_alloc.specs.Words.{IsNode, place_at, with_word};
 ghost use Rattle.avl_alloc.specs.Layout.{Laid, IsRoom};
 ghost use Rattle.avl_alloc.specs.Walk.{block_over};
 
@@ -73,23 +73,27 @@ pub fn hole_at<M: WordMemory>(memory: &mut M, place: u64) -> u64
     }
 }
 
-/// The block in which an offset of a chunk lies, found by walking the headers from the chunk's first byte.
-pub fn walk<M: WordMemory>(memory: &mut M, start: u64, target: u64) -> Block
-    requires { (blocks : List ModelBlock) × Laid (M.word memory.old) start blocks ×
-        IsRoom (M.bytes (M.rest memory.old)) start (bytes_in blocks) × (target < bytes_in blocks) }
+/// The block in which an offset of a chunk lies, found by walking the headers from the chunk's first byte. It loads by chunk
+/// and offset, not by place, so that where the chunk's words are is looked up once.
+pub fn walk<M: WordMemory>(memory: &mut M, chunk: usize, target: u64) -> Block
+    requires { (blocks : List ModelBlock) × Laid (M.word memory.old) (place_at chunk 0) blocks ×
+        IsRoom (M.bytes (M.rest memory.old)) (place_at chunk 0) (bytes_in blocks) ×
+        (target < bytes_in blocks) }
     ensures reached { result.offset ≤ target }
-    ensures found { (blocks : List ModelBlock) → Laid (M.word memory.old) start blocks →
-        target < bytes_in blocks → result ≡ block_over 0 0 target blocks }
+    ensures found { (blocks : List ModelBlock)
+        → Laid (M.word memory.old) (place_at chunk 0) blocks → target < bytes_in blocks
+        → result ≡ block_over 0 0 target blocks }
     ensures words { M.word memory.new ≡ M.word memory.old }
     ensures rest { M.rest memory.new ≡ M.rest memory.old }
-    ensures loads { (blocks : List ModelBlock) → Laid (M.word memory.old) start blocks →
-        target < bytes_in blocks → M.loads memory.new ≤ M.loads memory.old + 2 * length blocks }
+    ensures loads { (blocks : List ModelBlock)
+        → Laid (M.word memory.old) (place_at chunk 0) blocks → target < bytes_in blocks
+        → M.loads memory.new ≤ M.loads memory.old + 2 * length blocks }
 {
     let mut offset = 0;
     let mut before = 0;
     'steps: loop {
-        let size = load(memory, start + offset);
-        let used = load(memory, start + offset + STATE) == USED;
+        let size = memory.load(chunk, offset);
+        let used = memory.load(chunk, offset + STATE) == USED;
         if target < offset + size {
             return Block {
                 offset,

@@ -32,8 +32,8 @@ pub walk-requires : goal.walk-requires
 walk-requires g c =
     let there = sound_chunk c.args.self.now (g.M.WordMemory.word c.args.memory.now) c.args.addr.chunk c.requires.sound c.if-addr-self.false in (
       chunk_of (heap_of c.args.self.now (g.M.WordMemory.word c.args.memory.now)) c.args.addr.chunk,
-      rw c.place_of.ensures there.laid,
-      rw c.place_of.ensures (sound_room c.args.self.now (g.M.WordMemory.word c.args.memory.now) c.args.addr.chunk _ c.requires.sound c.if-addr-self.false c.requires.fits),
+      there.laid,
+      sound_room c.args.self.now (g.M.WordMemory.word c.args.memory.now) c.args.addr.chunk _ c.requires.sound c.if-addr-self.false c.requires.fits,
       omega (arith, there.total, c.if-addr-self-2.false),
     )
 
@@ -42,9 +42,9 @@ returns-clause-found g c =
     let there = sound_chunk c.args.self.now (g.M.WordMemory.word c.args.memory.now) c.args.addr.chunk c.requires.sound c.if-addr-self.false in
     let blocks = chunk_of (heap_of c.args.self.now (g.M.WordMemory.word c.args.memory.now)) c.args.addr.chunk in
     let within : c.args.addr.offset < bytes_in blocks = omega (arith, there.total, c.if-addr-self-2.false) in
-    there_some c.args.addr.offset blocks _ within (c.walk.ensures.found blocks (rw c.place_of.ensures there.laid) within)
+    there_some c.args.addr.offset blocks _ within (c.walk.ensures.found blocks there.laid within)
 
 pub returns-clause-loads : goal.returns-clause-loads
 returns-clause-loads g c =
     let there = sound_chunk c.args.self.now (g.M.WordMemory.word c.args.memory.now) c.args.addr.chunk c.requires.sound c.if-addr-self.false in
-    c.walk.ensures.loads (chunk_of (heap_of c.args.self.now (g.M.WordMemory.word c.args.memory.now)) c.args.addr.chunk) (rw c.place_of.ensures there.laid) (omega (arith, there.total, c.if-addr-self-2.false))
+    c.walk.ensures.loads (chunk_of (heap_of c.args.self.now (g.M.WordMemory.word c.args.memory.now)) c.args.addr.chunk) there.laid (omega (arith, there.total, c.if-addr-self-2.false))
