@@ -6,3 +6,4 @@ pub mod TableLemmas
 pub mod HeapLemmas
 pub mod FoundLaws
 pub mod PackedLemmas
+pub mod PlaceLemmas

@@ -34,15 +34,6 @@ rising low high (row ∷ rows) is zero (suc j) d le h = let rest = from_low (end
 rising low high (row ∷ rows) is (suc i) zero d le h = absurd (omega arith)
 rising low high (row ∷ rows) is (suc i) (suc j) d le h = rising (end_of row) high rows is.1 i j d (omega arith) (omega arith)
 
--- what parts the rows by that test is their count
-pub count_is : (address i : ℕ) (rows : List Row) → i ≤ length rows → IsPartitionPoint (λ (row : Row). nat_le row.start address ≡ true) (λ (row : Row). nat_le row.start address ≡ false) rows i → i ≡ count_to address rows
-unfolding count_to
-count_is address i [] small at = omega arith
-count_is address zero (row ∷ rows) small at = ap (λ b. cond b (suc (count_to address rows)) 0) (sym (at.1 0 row (omega arith) (omega arith)))
-count_is address (suc i) (row ∷ rows) small at =
-    let rest = count_is address i rows (omega arith) (λ k d low high. at.0 (suc k) d (omega arith) (omega arith), λ k d low high. at.1 (suc k) d (omega arith) (omega arith)) in
-    ap suc rest ∙ ap (λ b. cond b (suc (count_to address rows)) 0) (sym (at.0 0 row (omega arith) (omega arith)))
-
 -- ---- the last of them
 
 -- where there are none there is no last

@@ -10,7 +10,8 @@ pub record AreKnown (low : ℕ) (packed : Packed) (rows : List Row) : Type 0 whe
   pub order : packed.count ≤ packed.until
   pub behind : IsPacked packed.from (packed.until - packed.count) packed.to (drop packed.count rows)
 
--- what is so of a table, and of what is known of its rows
-pub record IsKept (low high : ℕ) (rows : List Row) (packed : Packed) : Type 0 where
+-- what is so of a table, of the room in it, and of what is known of its rows
+pub record IsKept (low high : ℕ) (rows : List Row) (room : ℕ) (packed : Packed) : Type 0 where
   pub table : IsTable low high rows
   pub known : AreKnown low packed rows
+  pub few : room ≤ 4096

@@ -3,7 +3,9 @@
 
 mod map;
 mod packed;
+mod place;
 mod row;
+mod rows;
 mod search;
 mod table;
 #[cfg(test)]

@@ -1,10 +1,13 @@
 //! Which rows surely stand without a gap between them, so that a search for a gap passes them over.
-ghost use Rattle.std.specs.Prelude.{◌≡◌, ℕ, ◌+◌, ◌^◌, ◌<◌, ◌≤◌, List, drop, length, slice_index_or};
+ghost use Rattle.std.specs.Prelude.{◌≡◌, ℕ, ◌+◌, ◌^◌, ◌<◌, ◌≤◌, List, length, slice_index_or};
 ghost use Rattle.std.specs.List.{insert, remove};
 ghost use Rattle.region_map.specs.declared.row.Row.{Row as AnyRow};
 ghost use Rattle.region_map.specs.Rows.{AreInOrder, IsPacked};
 ghost use Rattle.region_map.specs.Known.{AreKnown};
+ghost use Rattle.region_map.specs.Places.{rows_of};
+ghost use Rattle.region_map.specs.declared.rows.Kept.{Kept as AnyKept};
 
+use super::place::{end_of, start_of};
 use super::row::Row;
 
 /// Two stretches of rows without a gap between them: those in front of `count`, from the window's first address on, and
@@ -50,23 +53,16 @@ impl Packed {
         }
     }
 
-    /// With the rows behind the first stretch that stand without a gap too.
-    pub fn raised(self, rows: &[Row]) -> Packed
-        ensures { (low : ℕ) → AreKnown low self rows.now → AreKnown low result rows.now }
+    /// With the rows behind the first stretch that stand without a gap too, by the places of all.
+    pub fn raised(self, places: &[u64]) -> Packed
+        ensures { (low : ℕ) (kept : List AnyKept) → AreKnown low self (rows_of kept places.now)
+            → AreKnown low result (rows_of kept places.now) }
     {
         let mut packed = self;
-        while packed.count < rows.len() && rows[packed.count].start == packed.end {
-            packed = Packed::front(packed.count + 1, rows[packed.count].end());
+        while packed.count < places.len() && start_of(places[packed.count]) == packed.end {
+            packed = Packed::front(packed.count + 1, end_of(places[packed.count]));
         }
         packed
-    }
-
-    /// The rows behind the first stretch.
-    pub fn rows_behind<'a>(self, rows: &'a [Row]) -> &'a [Row]
-        requires { self.count ≤ length rows.now }
-        ensures { result.now ≡ drop self.count rows.now }
-    {
-        &rows[self.count..]
     }
 
     /// Once a row is put in at a place where it overlaps none.

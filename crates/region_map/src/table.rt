@@ -8,7 +8,7 @@ ghost use Rattle.region_map.specs.Window.{fresh_window, window_with, window_with
 
 use super::packed::Packed;
 use super::row::Row;
-use super::search::{count_to, gap_from, last_to};
+use super::rows::Rows;
 use std::alloc::Global;
 use std::marker::Model;
 use trade_base::{DsId, NoMemory, PAGE};
@@ -16,8 +16,8 @@ use trade_base::{DsId, NoMemory, PAGE};
 /// The regions in a window of addresses. Contracts see them by their start addresses.
 #[derive(Drop)]
 pub struct Table {
-    /// One row a region, in the order of their starts. It has room for as many as there are at most.
-    rows: Vec<Row>,
+    /// One row a region, in the order of their starts. There is room for as many as there are at most.
+    rows: Rows,
     packed: Packed,
     /// The first address of the window.
     low: u64,
@@ -26,7 +26,6 @@ pub struct Table {
 }
 
 impl Model for Table {
-    ghost use Rattle.std.specs.Prelude.{vec_capacity};
     ghost use Rattle.region_map.specs.Rows.{map_of, region_of, tag_of};
     ghost use Rattle.region_map.specs.Known.{IsKept};
     ghost use Rattle.region_map.specs.Window.{Window, coded_window};
@@ -41,10 +40,10 @@ impl Model for Table {
           high = t.high;
           regions = map_of region_of t.rows.items;
           tags = map_of tag_of t.rows.items;
-          most = vec_capacity t.rows;
+          most = t.rows.capacity;
         } };
 
-    ghost invariant = { λ t. IsKept t.low t.high t.rows.items t.packed };
+    ghost invariant = { λ t. IsKept t.low t.high t.rows.items t.rows.capacity t.packed };
 }
 
 impl Table {
@@ -62,7 +61,7 @@ impl Table {
         ensures sound { IfOk result IsWindow }
     {
         let packed = Packed::front(0, low);
-        let rows = Vec::with_capacity(alloc, most).map_err(|_| NoMemory)?;
+        let rows = Rows::boot(alloc, most)?;
         Ok(Table {
             rows,
             packed,
@@ -75,7 +74,7 @@ impl Table {
     pub fn is_full(&self) -> bool
         ensures { result ≡ nat_le self.now.most (len self.now.regions) }
     {
-        self.rows.len() >= self.rows.capacity()
+        self.rows.is_full()
     }
 
     /// The first gap for so many pages.
@@ -85,10 +84,10 @@ impl Table {
         ensures gap { result ≡ gap_in self.old.low self.old.high self.old.regions pages }
         ensures kept { self.new ≡ self.old }
     {
-        let packed = self.packed.raised(&self.rows);
+        let packed = self.rows.raised(self.packed);
         self.packed = packed;
-        let behind = packed.rows_behind(&self.rows);
-        gap_from(packed.end, self.high, behind, pages)
+        self.rows
+            .gap_behind(packed.count, packed.end, self.high, pages)
     }
 
     /// Whether so many pages can stand at an address.
@@ -121,7 +120,7 @@ impl Table {
         requires small { address ≤ 2 ^ 40 }
         ensures { result ≡ meets self.now.regions address pages }
     {
-        match last_to(&self.rows, address + pages * PAGE - 1) {
+        match self.rows.last_to(address + pages * PAGE - 1) {
             Some(row) => address < row.end(),
             None => false,
         }
@@ -149,6 +148,7 @@ impl Table {
 
     /// Puts a row in its place.
     fn put(&mut self, row: Row)
+        requires few { row.pages ≤ 4096 }
         requires room { nat_le self.old.most (len self.old.regions) ≡ false }
         requires place { can_stand self.old.low self.old.high self.old.regions row.pages row.start
             ≡ true }
@@ -156,11 +156,9 @@ impl Table {
         ensures free { get self.old.regions row.start ≡ None }
         ensures sound { IsWindow self.new }
     {
-        let at = count_to(&self.rows, row.start);
+        let at = self.rows.count_to(row.start);
         self.packed = self.packed.with_row(at, row);
-
-        // There is room, so it is never refused.
-        let _ = self.rows.insert(at, row);
+        self.rows.insert(at, row);
     }
 
     /// Removes the region that starts at an address, and tells whether one does.
@@ -170,14 +168,17 @@ impl Table {
         ensures kept { OnFalse result (self.new ≡ self.old) }
         ensures sound { IsWindow self.new }
     {
-        match self.rows.binary_search_by_key(&address, |row| row.start) {
-            Ok(at) => {
-                let row = self.rows.remove(at);
-                self.packed = self.packed.without_row(at, row);
-                true
-            }
-            Err(_) => false,
+        let count = self.rows.count_to(address);
+        if count == 0 {
+            return false;
         }
+        let row = self.rows.row(count - 1);
+        if row.start != address {
+            return false;
+        }
+        self.rows.remove(count - 1);
+        self.packed = self.packed.without_row(count - 1, row);
+        true
     }
 
     /// Removes all regions of a dataspace.
@@ -189,7 +190,7 @@ impl Table {
         ensures sound { IsWindow self.new }
     {
         self.packed = Packed::front(0, self.low);
-        self.rows.retain(|row| row.ds.0 != ds.0);
+        self.rows.remove_of(ds);
     }
 
     /// The one row whose region holds the whole range.
@@ -199,7 +200,7 @@ impl Table {
             ≡ region_at self.now.regions address length }
         ensures tagged { IfSome result (λ row. get self.now.tags row.start ≡ Some row.tag) }
     {
-        let row = last_to(&self.rows, address)?;
+        let row = self.rows.last_to(address)?;
         if row.holds(address, length) {
             Some(row)
         } else {

@@ -1,36 +1,35 @@
 -- From row to row the gap is here, or behind the row.
-use Rattle.std.proofs.Common.{ℕ, ◌+◌, List, drop, sym, ap, ◌∙◌, subst, arith}
-use Rattle.region_map.specs.declared.row.Row.{Row}
-use Rattle.region_map.specs.Rows.{gap_from, AreInOrder}
-use Rattle.region_map.proofs.GapLemmas.{drop-row, drop-all, gap_in_front, gap_behind, gap_at_end, no_gap_at_end}
+use Rattle.std.proofs.Common.{◌+◌, get_or, drop, sym, ap, ◌∙◌, arith}
+use Rattle.region_map.specs.Places.{row_at, rows_of}
+use Rattle.region_map.specs.Rows.{gap_from}
+use Rattle.region_map.proofs.GapLemmas.{gap_in_front, gap_behind, gap_at_end, no_gap_at_end}
+use Rattle.region_map.proofs.PlaceLemmas.{rows-next, rows-end}
 use Rattle.region_map.proofs.search.gap_from.Goals as goal
 
 pub returns-then-address-pages : goal.returns-then-address-pages
-returns-then-address-pages c =
-    let row = c.row-item.result in
-    let left = drop-row c.loop-row.row-index c.args.rows.now row (omega arith) c.row-item.is in
-    sym (gap_in_front c.loop-row.address c.args.high c.args.pages row (drop (c.loop-row.row-index + 1) c.args.rows.now) (omega arith))
-    ∙ ap (λ rows. gap_from c.loop-row.address c.args.high rows c.args.pages) (sym left) ∙ c.loop-row.invariant.same
+returns-then-address-pages c = λ kept.
+    let row = row_at kept (get_or c.args.places.now c.loop-place.place-index 0) in
+    let rest = rows_of kept (drop (c.loop-place.place-index + 1) c.args.places.now) in
+    sym (gap_in_front c.loop-place.address c.args.high c.args.pages row rest (rw c.start_of.ensures at c.if-address-pages.true))
+    ∙ ap (λ rows. gap_from c.loop-place.address c.args.high rows c.args.pages) (sym (rows-next kept c.args.places.now c.loop-place.place-index c.loop-place-test.true)) ∙ c.loop-place.invariant.same kept
 
-pub loop-row-preserved : goal.loop-row-preserved
-loop-row-preserved c =
-    let row = c.row-item.result in
-    let left = drop-row c.loop-row.row-index c.args.rows.now row (omega arith) c.row-item.is in
-    let rest = drop (c.loop-row.row-index + 1) c.args.rows.now in
-    let parts = subst (λ (rows : List Row). AreInOrder c.loop-row.address c.args.high rows) left c.loop-row.invariant.in_order in
-    record {
-      in_order = subst (λ (n : ℕ). AreInOrder n c.args.high rest) (sym c.end-address.ensures) parts.1;
-      same = ap (λ n. gap_from n c.args.high rest c.args.pages) c.end-address.ensures
-          ∙ sym (gap_behind c.loop-row.address c.args.high c.args.pages row rest (omega arith))
-          ∙ ap (λ rows. gap_from c.loop-row.address c.args.high rows c.args.pages) (sym left) ∙ c.loop-row.invariant.same;
-    }
+pub loop-place-preserved : goal.loop-place-preserved
+loop-place-preserved c = record {
+  small = rw c.end_of-address.ensures (omega arith);
+  same = λ kept.
+      let row = row_at kept (get_or c.args.places.now c.loop-place.place-index 0) in
+      let rest = rows_of kept (drop (c.loop-place.place-index + 1) c.args.places.now) in
+      ap (λ n. gap_from n c.args.high rest c.args.pages) c.end_of-address.ensures
+      ∙ sym (gap_behind c.loop-place.address c.args.high c.args.pages row rest (rw c.start_of.ensures at c.if-address-pages.false))
+      ∙ ap (λ rows. gap_from c.loop-place.address c.args.high rows c.args.pages) (sym (rows-next kept c.args.places.now c.loop-place.place-index c.loop-place-test.true)) ∙ c.loop-place.invariant.same kept;
+}
 
 pub returns-then-address-pages-2 : goal.returns-then-address-pages-2
-returns-then-address-pages-2 c =
-    sym (gap_at_end c.loop-row.address c.args.high c.args.pages (omega arith))
-    ∙ ap (λ rows. gap_from c.loop-row.address c.args.high rows c.args.pages) (sym (drop-all c.loop-row.row-index c.args.rows.now (omega arith))) ∙ c.loop-row.invariant.same
+returns-then-address-pages-2 c = λ kept.
+    sym (gap_at_end c.loop-place.address c.args.high c.args.pages c.if-address-pages-2.true)
+    ∙ ap (λ rows. gap_from c.loop-place.address c.args.high rows c.args.pages) (sym (rows-end kept c.args.places.now c.loop-place.place-index c.loop-place-test.false)) ∙ c.loop-place.invariant.same kept
 
 pub returns-else-address-pages-2 : goal.returns-else-address-pages-2
-returns-else-address-pages-2 c =
-    sym (no_gap_at_end c.loop-row.address c.args.high c.args.pages (omega arith))
-    ∙ ap (λ rows. gap_from c.loop-row.address c.args.high rows c.args.pages) (sym (drop-all c.loop-row.row-index c.args.rows.now (omega arith))) ∙ c.loop-row.invariant.same
+returns-else-address-pages-2 c = λ kept.
+    sym (no_gap_at_end c.loop-place.address c.args.high c.args.pages c.if-address-pages-2.false)
+    ∙ ap (λ rows. gap_from c.loop-place.address c.args.high rows c.args.pages) (sym (rows-end kept c.args.places.now c.loop-place.place-index c.loop-place-test.false)) ∙ c.loop-place.invariant.same kept

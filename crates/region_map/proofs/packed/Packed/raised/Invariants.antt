@@ -1,10 +1,12 @@
 -- What is known stays known.
-use Rattle.std.proofs.Common.{ℕ, ◌-◌, length}
+use Rattle.std.proofs.Common.{ℕ, ◌-◌, List, length}
+use Rattle.region_map.specs.declared.rows.Kept.{Kept}
 use Rattle.region_map.specs.Known.{AreKnown}
+use Rattle.region_map.specs.Places.{rows_of}
 use Rattle.region_map.proofs.packed.Packed.raised.Given as goal
 
 abbrev pub invariant-loop-packed : goal.invariant-loop-packed
-invariant-loop-packed l = (low : ℕ) → AreKnown low l.initial.packed l.rows → AreKnown low l.packed l.rows
+invariant-loop-packed l = (low : ℕ) (kept : List Kept) → AreKnown low l.initial.packed (rows_of kept l.places) → AreKnown low l.packed (rows_of kept l.places)
 
 abbrev pub decreases-loop-packed : goal.decreases-loop-packed
-decreases-loop-packed l = length l.rows - l.packed.count
+decreases-loop-packed l = length l.places - l.packed.count

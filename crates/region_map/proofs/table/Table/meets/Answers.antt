@@ -6,12 +6,12 @@ use Rattle.region_map.proofs.SearchLemmas.{rising, meets_last, ends_after}
 use Rattle.region_map.proofs.table.Table.meets.Goals as goal
 
 pub last_to-requires : goal.last_to-requires
-last_to-requires c = rw c.deref.ensures.value (rising c.self.inside.low c.self.inside.high c.self.inside.rows.items c.self.invariant.table.in_order)
+last_to-requires c = rising c.self.inside.low c.self.inside.high c.self.inside.rows.items c.self.invariant.table.in_order
 
 pub returns-in-Some : goal.returns-in-Some
 returns-in-Some c =
     let bound = c.args.address + c.args.pages * 4096 - 1 in
-    let last : last_to bound c.self.inside.rows.items ≡ Some c.in-Some.row = ap (last_to bound) (sym c.deref.ensures.value) ∙ sym c.last_to.ensures ∙ c.in-Some.is in
+    let last : last_to bound c.self.inside.rows.items ≡ Some c.in-Some.row = sym c.last_to.ensures ∙ c.in-Some.is in
     rw (← c.self.view_is)
     (ap (nat_lt c.args.address) c.end.ensures
     ∙ sym (meets_last c.args.address c.args.pages bound c.self.inside.low c.self.inside.high c.self.inside.rows.items (omega arith) c.self.invariant.table.in_order ∙ ap (ends_after c.args.address) last))
@@ -19,6 +19,6 @@ returns-in-Some c =
 pub returns-in-None : goal.returns-in-None
 returns-in-None c =
     let bound = c.args.address + c.args.pages * 4096 - 1 in
-    let none : last_to bound c.self.inside.rows.items ≡ None = ap (last_to bound) (sym c.deref.ensures.value) ∙ sym c.last_to.ensures ∙ c.in-None.is in
+    let none : last_to bound c.self.inside.rows.items ≡ None = sym c.last_to.ensures ∙ c.in-None.is in
     rw (← c.self.view_is)
     (sym (meets_last c.args.address c.args.pages bound c.self.inside.low c.self.inside.high c.self.inside.rows.items (omega arith) c.self.invariant.table.in_order ∙ ap (ends_after c.args.address) none))

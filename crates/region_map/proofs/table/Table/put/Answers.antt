@@ -1,7 +1,6 @@
 -- A row at a place is put in.
-use Rattle.std.proofs.Common.{◌≡◌, ℕ, ◌<◌, sym, ap, ◌∙◌, subst, nat_le, true, false, vec_len, length, rules, arith}
+use Rattle.std.proofs.Common.{◌≡◌, ℕ, ◌<◌, sym, ap, ◌∙◌, subst, nat_le, true, false, length, arith}
 use Rattle.std.proofs.lemmas.Bool.Decides.{nat_tests}
-use Rattle.std.specs.Prelude.{vec_capacity, is_ok}
 use Rattle.std.specs.FinMap.{len}
 use Rattle.std.specs.List.{insert}
 use Rattle.own_model.specs.Region.{can_stand}
@@ -15,28 +14,21 @@ use Rattle.region_map.proofs.TableLemmas.{Added, added}
 use Rattle.region_map.proofs.table.Table.put.Goals as goal
 
 pub count_to-at-requires : goal.count_to-at-requires
-count_to-at-requires c = rw c.deref.ensures.value (rising c.self.inside.low c.self.inside.high c.self.inside.rows.items c.self.invariant.table.in_order)
+count_to-at-requires c = rising c.self.inside.low c.self.inside.high c.self.inside.rows.items c.self.invariant.table.in_order
 
 -- a count that a test leaves below
 below : (most count n : ℕ) → nat_le most count ≡ false → count ≡ n → n < most
 below most count n more same = grind (arith, nat_tests)
 
 -- there is room
-room : (c : goal.After-insert) → vec_len c.self.inside.rows < vec_capacity c.self.inside.rows
-room c =
-    let long : length c.self.inside.rows.items ≡ vec_len c.self.inside.rows = search rules in
+pub insert-requires-clause-room : goal.insert-requires-clause-room
+insert-requires-clause-room c =
     below _ _ _
     (subst (λ (w : Window). nat_le w.most (len w.regions) ≡ false) (sym c.self.view_is) c.requires.room)
-    (len-map_of region_of c.self.inside.low c.self.inside.high c.self.inside.rows.items c.self.invariant.table.in_order ∙ long)
-
--- so the row is put in
-put_in : (c : goal.After-insert) → c.insert.new.self.items ≡ insert c.self.inside.rows.items c.count_to-at.result c.args.row
-put_in c =
-    let ok : is_ok c.insert.result ≡ true = c.insert.ensures.succeeds (room c) in
-    rw ok at c.insert.ensures.items
+    (len-map_of region_of c.self.inside.low c.self.inside.high c.self.inside.rows.items c.self.invariant.table.in_order)
 
 items : (c : goal.After-insert) → c.insert.new.self.items ≡ insert c.self.inside.rows.items (count_to c.args.row.start c.self.inside.rows.items) c.args.row
-items c = rw (c.count_to-at.ensures.count, c.deref.ensures.value) at (put_in c)
+items c = rw c.count_to-at.ensures.count at c.insert.ensures.items
 
 -- at a place
 facts : (c : goal.After-insert) → Added c.self.inside.low c.self.inside.high c.self.inside.rows.items c.args.row
@@ -50,24 +42,24 @@ is_table c = rw (items c) (facts c).table
 pub invariant_of-self : goal.invariant_of-self
 invariant_of-self c = record {
   table = is_table c;
-  known = rw (put_in c) (c.with_row-self-inside.ensures c.self.inside.low c.self.inside.high c.self.inside.rows.items (rw (put_in c) at (is_table c).in_order) c.self.invariant.known);
+  known = rw c.insert.ensures.items (c.with_row-self-inside.ensures c.self.inside.low c.self.inside.high c.self.inside.rows.items (rw c.insert.ensures.items at (is_table c).in_order) c.self.invariant.known);
+  few = rw c.insert.ensures.capacity c.self.invariant.few;
 }
 
 pub returns-clause-added : goal.returns-clause-added
 returns-clause-added c =
     let regions = ap (map_of region_of) (items c) ∙ (facts c).regions in
     let tags = ap (map_of tag_of) (items c) ∙ (facts c).tags in
-    let most : vec_capacity c.insert.new.self ≡ vec_capacity c.self.inside.rows = (c.insert.ensures.in_place (room c)).1.0 in
     subst
-    (λ (w : Window). record { low = c.self.inside.low; high = c.self.inside.high; regions = map_of region_of c.insert.new.self.items; tags = map_of tag_of c.insert.new.self.items; most = vec_capacity c.insert.new.self } ≡ window_with w c.args.row.ds.0 c.args.row.pages c.args.row.tag c.args.row.start)
+    (λ (w : Window). record { low = c.self.inside.low; high = c.self.inside.high; regions = map_of region_of c.insert.new.self.items; tags = map_of tag_of c.insert.new.self.items; most = c.insert.new.self.capacity } ≡ window_with w c.args.row.ds.0 c.args.row.pages c.args.row.tag c.args.row.start)
     c.self.view_is
-    (λ i. record { low = c.self.inside.low; high = c.self.inside.high; regions = regions i; tags = tags i; most = most i })
+    (λ i. record { low = c.self.inside.low; high = c.self.inside.high; regions = regions i; tags = tags i; most = c.insert.ensures.capacity i })
 
 pub returns-clause-free : goal.returns-clause-free
 returns-clause-free c = rw (← c.self.view_is) (facts c).free
 
 pub returns-clause-sound : goal.returns-clause-sound
-returns-clause-sound c = is_window c.self.inside.low c.self.inside.high (vec_capacity c.insert.new.self) c.insert.new.self.items (is_table c)
+returns-clause-sound c = is_window c.self.inside.low c.self.inside.high c.insert.new.self.capacity c.insert.new.self.items (is_table c)
 
 pub with_row-self-inside-requires-clause-order : goal.with_row-self-inside-requires-clause-order
 with_row-self-inside-requires-clause-order c = c.self.invariant.known.order
@@ -75,5 +67,8 @@ with_row-self-inside-requires-clause-order c = c.self.invariant.known.order
 pub with_row-self-inside-requires-clause-short : goal.with_row-self-inside-requires-clause-short
 with_row-self-inside-requires-clause-short c =
     let within = until_within c.self.inside.low c.self.inside.packed c.self.inside.rows.items c.self.invariant.known in
-    let long : length c.self.inside.rows.items ≡ vec_len c.self.inside.rows = search rules in
-    omega (arith, c.self.inside.rows.small)
+    let room : length c.self.inside.rows.items < c.self.inside.rows.capacity =
+    below _ _ _
+    (subst (λ (w : Window). nat_le w.most (len w.regions) ≡ false) (sym c.self.view_is) c.requires.room)
+    (len-map_of region_of c.self.inside.low c.self.inside.high c.self.inside.rows.items c.self.invariant.table.in_order) in
+    omega (arith, c.self.invariant.few)

@@ -1,62 +1,68 @@
--- A row that the search finds is taken out.
-use Rattle.std.proofs.Common.{◌≡◌, ◌<◌, Ok, Err, length, refl, sym, ap, ◌∙◌, subst, rules}
-use Rattle.std.proofs.lemmas.List.Sorted.{answers_always}
-use Rattle.std.specs.Prelude.{vec_capacity, is_some, None}
+-- The last row up to the address is taken out, where it starts there.
+use Rattle.std.proofs.Common.{◌≡◌, ◌-◌, ◌<◌, suc, length, refl, sym, ap, ◌∙◌, subst, arith}
+use Rattle.std.proofs.lemmas.Option.{none-some, same_Some}
+use Rattle.std.specs.Prelude.{is_some, None, Some}
 use Rattle.std.specs.FinMap.{get}
-use Rattle.std.specs.List.Sorted.{IsBinarySearchResult}
-use Rattle.std.specs.Ordering.{nat_cmp}
 use Rattle.region_map.specs.declared.row.Row.{Row}
-use Rattle.region_map.specs.Rows.{region_of, tag_of, map_of, IsTable}
+use Rattle.region_map.specs.Rows.{region_of, tag_of, map_of, last_to, IsTable}
 use Rattle.region_map.specs.Window.{Window, IsWindow, window_without}
 use Rattle.region_map.proofs.ApartLemmas.{is_window}
-use Rattle.region_map.proofs.TableLemmas.{Removed, removed, same_start, not_found}
+use Rattle.region_map.proofs.SearchLemmas.{rising, last_of_none, last_of_some, get_nothing}
+use Rattle.region_map.proofs.TableLemmas.{Removed, removed}
 use Rattle.region_map.proofs.table.Table.remove.Goals as goal
 
-bound : (c : goal.After-self-1) → c.in-Ok.at < length c.self.inside.rows.items
-bound c = rw c.deref.ensures.value at c.in-Ok.ensures.bound
+pub count_to-count-requires : goal.count_to-count-requires
+count_to-count-requires c = rising c.self.inside.low c.self.inside.high c.self.inside.rows.items c.self.invariant.table.in_order
 
--- the row that is found starts at the address
-start : (c : goal.After-self-1) → c.remove-row.result.start ≡ c.args.address
-start c =
-    let position : IsBinarySearchResult (λ (row : Row). nat_cmp row.start c.args.address) c.deref.result.now (Ok c.in-Ok.at) =
-    c.in-Ok.ensures.position (λ row. row.start) (answers_always _ _ _ (λ f a r g called. search rules)) in
-    ap (λ (row : Row). row.start) c.remove-row.ensures.value ∙ same_start c.args.address c.in-Ok.at c.self.inside.rows.items c.remove-row.result (rw c.deref.ensures.value at position)
+-- no row starts at the address or before
+pub returns-then-count-eq0-clause-found : goal.returns-then-count-eq0-clause-found
+returns-then-count-eq0-clause-found c =
+    let none : last_to c.args.address c.self.inside.rows.items ≡ None = last_of_none c.args.address c.self.inside.rows.items (sym c.count_to-count.ensures.count ∙ c.if-count-eq0.true) in
+    rw (← c.self.view_is)
+    (sym (ap is_some (get_nothing region_of c.args.address c.self.inside.low c.self.inside.high c.self.inside.rows.items c.self.invariant.table.in_order (λ row last. absurd (none-some row (sym none ∙ last))))))
 
-facts : (c : goal.After-self-1) → Removed c.self.inside.low c.self.inside.high c.self.inside.rows.items c.in-Ok.at c.args.address
-facts c = removed c.self.inside.low c.self.inside.high c.self.inside.rows.items c.in-Ok.at c.remove-row.result c.args.address c.self.invariant.table (bound c) c.remove-row.ensures.value (start c)
+pub returns-then-count-eq0-clause-sound : goal.returns-then-count-eq0-clause-sound
+returns-then-count-eq0-clause-sound c = subst IsWindow c.self.view_is (is_window c.self.inside.low c.self.inside.high c.self.inside.rows.capacity c.self.inside.rows.items c.self.invariant.table)
 
-is_table : (c : goal.After-self-1) → IsTable c.self.inside.low c.self.inside.high c.remove-row.new.self.items
-is_table c = rw c.remove-row.ensures.items (facts c).table
+-- the last of those that do starts before it
+pub returns-then-row-address-clause-found : goal.returns-then-row-address-clause-found
+returns-then-row-address-clause-found c =
+    let more : c.count_to-count.result ≡ suc (c.count_to-count.result - 1) = omega arith in
+    let is_last : last_to c.args.address c.self.inside.rows.items ≡ Some c.row-row.result = last_of_some c.args.address (c.count_to-count.result - 1) c.self.inside.rows.items c.row-row.result (sym c.count_to-count.ensures.count ∙ more) c.row-row.ensures in
+    rw (← c.self.view_is)
+    (sym (ap is_some (get_nothing region_of c.args.address c.self.inside.low c.self.inside.high c.self.inside.rows.items c.self.invariant.table.in_order (λ row last starts. c.if-row-address.true (ap (λ (x : Row). x.start) (same_Some c.row-row.result row (sym is_last ∙ last)) ∙ starts)))))
+
+pub returns-then-row-address-clause-sound : goal.returns-then-row-address-clause-sound
+returns-then-row-address-clause-sound c = subst IsWindow c.self.view_is (is_window c.self.inside.low c.self.inside.high c.self.inside.rows.capacity c.self.inside.rows.items c.self.invariant.table)
+
+-- it starts there
+bound : (c : goal.After-self-1) → c.count_to-count.result - 1 < length c.self.inside.rows.items
+bound c = let within = c.count_to-count.ensures.within in let some = c.if-count-eq0.false in omega arith
+
+facts : (c : goal.After-self-1) → Removed c.self.inside.low c.self.inside.high c.self.inside.rows.items (c.count_to-count.result - 1) c.args.address
+facts c = removed c.self.inside.low c.self.inside.high c.self.inside.rows.items (c.count_to-count.result - 1) c.row-row.result c.args.address c.self.invariant.table (bound c) c.row-row.ensures c.if-row-address.false
+
+is_table : (c : goal.After-self-1) → IsTable c.self.inside.low c.self.inside.high c.remove.new.self.items
+is_table c = rw c.remove.ensures.items (facts c).table
 
 pub invariant_of-self : goal.invariant_of-self
 invariant_of-self c = record {
   table = is_table c;
-  known = rw c.remove-row.ensures.items (c.without_row-self-inside.ensures c.self.inside.low c.self.inside.rows.items (bound c) c.remove-row.ensures.value c.self.invariant.known);
+  known = rw c.remove.ensures.items (c.without_row-self-inside.ensures c.self.inside.low c.self.inside.rows.items (bound c) c.row-row.ensures c.self.invariant.known);
+  few = rw c.remove.ensures.capacity c.self.invariant.few;
 }
 
-pub returns-in-Ok : goal.returns-in-Ok
-returns-in-Ok c =
-    let regions = ap (map_of region_of) c.remove-row.ensures.items ∙ (facts c).regions in
-    let tags = ap (map_of tag_of) c.remove-row.ensures.items ∙ (facts c).tags in
-    record {
-      found = rw (← c.self.view_is) (sym (facts c).there);
-      removed = subst
-          (λ (w : Window). record { low = c.self.inside.low; high = c.self.inside.high; regions = map_of region_of c.remove-row.new.self.items; tags = map_of tag_of c.remove-row.new.self.items; most = vec_capacity c.remove-row.new.self } ≡ window_without w c.args.address)
-          c.self.view_is
-          (λ i. record { low = c.self.inside.low; high = c.self.inside.high; regions = regions i; tags = tags i; most = c.remove-row.ensures.capacity i });
-      kept = tt;
-      sound = is_window c.self.inside.low c.self.inside.high (vec_capacity c.remove-row.new.self) c.remove-row.new.self.items (is_table c);
-    }
+pub returns-clause-found : goal.returns-clause-found
+returns-clause-found c = rw (← c.self.view_is) (sym (facts c).there)
 
-pub returns-in-Err : goal.returns-in-Err
-returns-in-Err c =
-    let position : IsBinarySearchResult (λ (row : Row). nat_cmp row.start c.args.address) c.deref.result.now (Err c.in-Err.field-0) =
-    c.in-Err.ensures.position (λ row. row.start) (answers_always _ _ _ (λ f a r g called. search rules)) in
-    let none : get (map_of region_of c.self.inside.rows.items) c.args.address ≡ None =
-    not_found c.args.address c.self.inside.low c.self.inside.high c.in-Err.field-0 c.self.inside.rows.items c.self.invariant.table.in_order (rw c.deref.ensures.value at position) in
-    record {
-      found = rw (← c.self.view_is) (sym (ap is_some none));
-      removed = tt;
-      kept = refl;
-      sound = subst IsWindow c.self.view_is (is_window c.self.inside.low c.self.inside.high (vec_capacity c.self.inside.rows) c.self.inside.rows.items c.self.invariant.table);
-    }
+pub returns-clause-removed : goal.returns-clause-removed
+returns-clause-removed c =
+    let regions = ap (map_of region_of) c.remove.ensures.items ∙ (facts c).regions in
+    let tags = ap (map_of tag_of) c.remove.ensures.items ∙ (facts c).tags in
+    subst
+    (λ (w : Window). record { low = c.self.inside.low; high = c.self.inside.high; regions = map_of region_of c.remove.new.self.items; tags = map_of tag_of c.remove.new.self.items; most = c.remove.new.self.capacity } ≡ window_without w c.args.address)
+    c.self.view_is
+    (λ i. record { low = c.self.inside.low; high = c.self.inside.high; regions = regions i; tags = tags i; most = c.remove.ensures.capacity i })
+
+pub returns-clause-sound : goal.returns-clause-sound
+returns-clause-sound c = is_window c.self.inside.low c.self.inside.high c.remove.new.self.capacity c.remove.new.self.items (is_table c)

@@ -1,0 +1,182 @@
+-- Rows, their places and their slots.
+use Rattle.std.proofs.Common.{◌≡◌, ◌≢◌, ℕ, suc, zero, ◌+◌, ◌-◌, ◌*◌, ◌/◌, ◌%◌, ◌^◌, ◌<◌, ◌≤◌, Bool, true, false, cond, List, [], ◌∷◌, ◌++◌, map, length, get_or, set, drop, refl, sym, ap, subst, ◌∙◌, arith, get_or-set_same, get_or-set_other, drop-cons, add-one, nat_le}
+use Rattle.std.proofs.Math.Path.{PathP, to_path_p}
+use Rattle.std.proofs.Props.{props}
+use Rattle.std.proofs.lemmas.Bool.Decides.{nat_tests}
+use Rattle.std.proofs.lemmas.List.{length-map, get_or-map, get_or_read}
+use Rattle.std.proofs.lemmas.List.Sums.{sum_by_push, sum_by-cons}
+use Rattle.std.specs.List.{sum_by, filter, insert as insert_at, remove as remove_at}
+use Rattle.std.specs.List.Sorted.{IsNonDecreasingBy, IsPartitionPoint}
+use Rattle.region_map.specs.declared.row.Row.{Row}
+use Rattle.region_map.specs.declared.rows.Kept.{Kept}
+use Rattle.region_map.specs.Rows.{count_to}
+use Rattle.region_map.proofs.GapLemmas.{drop-all}
+use Rattle.region_map.specs.Places.{place_of, start_in, pages_in, slot_in, kept_in, row_at, rows_of, is_slot, times, named, AreStored}
+
+-- proofs of one fact of two equal things are the same, where the fact has one proof at most
+same_proof : (A : 𝕀 → Type 0) → ((x y : A 1) → x ≡ y) → (a : A 0) (b : A 1) → PathP A a b
+same_proof A one a b = to_path_p A (one (coe 0 1 (k. A k) a) b)
+
+-- rows with the same fields are the same
+pub same_row : (a b : Row) → a.start ≡ b.start → a.pages ≡ b.pages → a.ds ≡ b.ds → a.tag ≡ b.tag → a ≡ b
+same_row a b start pages ds tag = λ i. record {
+  start = start i;
+  pages = pages i;
+  ds = ds i;
+  tag = tag i;
+  aligned = same_proof (λ j. start j % 4096 ≡ 0) (hlevel props) a.aligned b.aligned i;
+  some = same_proof (λ j. 1 ≤ pages j) (hlevel props) a.some b.some i;
+  fits = same_proof (λ j. start j + pages j * 4096 < 2 ^ 63) (hlevel props) a.fits b.fits i;
+}
+
+-- ---- the rows of places
+
+-- the row at an index is that of the place there
+pub get_or-rows : (kept : List Kept) (places : List ℕ) (at : ℕ) (d : Row) → at < length places → get_or (rows_of kept places) at d ≡ row_at kept (get_or places at 0)
+get_or-rows kept [] at d h = absurd (omega arith)
+get_or-rows kept (place ∷ places) zero d h = refl
+get_or-rows kept (place ∷ places) (suc at) d h = get_or-rows kept places at d (omega arith)
+
+pub drop-rows : (kept : List Kept) (places : List ℕ) (at : ℕ) → rows_of kept (drop at places) ≡ drop at (rows_of kept places)
+drop-rows kept places zero = refl
+drop-rows kept [] (suc at) = refl
+drop-rows kept (place ∷ places) (suc at) = drop-rows kept places at
+
+pub insert-rows : (kept : List Kept) (places : List ℕ) (at place : ℕ) → rows_of kept (insert_at places at place) ≡ insert_at (rows_of kept places) at (row_at kept place)
+insert-rows kept places zero place = refl
+insert-rows kept [] (suc at) place = refl
+insert-rows kept (p ∷ places) (suc at) place = ap (λ rows. row_at kept p ∷ rows) (insert-rows kept places at place)
+
+pub remove-rows : (kept : List Kept) (places : List ℕ) (at : ℕ) → rows_of kept (remove_at places at) ≡ remove_at (rows_of kept places) at
+remove-rows kept [] zero = refl
+remove-rows kept [] (suc at) = refl
+remove-rows kept (p ∷ places) zero = refl
+remove-rows kept (p ∷ places) (suc at) = ap (λ rows. row_at kept p ∷ rows) (remove-rows kept places at)
+
+-- there are as many
+pub length-rows : (kept : List Kept) (places : List ℕ) → length (rows_of kept places) ≡ length places
+length-rows kept places = length-map places (row_at kept)
+
+-- the next of them
+pub rows-next : (kept : List Kept) (places : List ℕ) (at : ℕ) → at < length places → rows_of kept (drop at places) ≡ row_at kept (get_or places at 0) ∷ rows_of kept (drop (at + 1) places)
+rows-next kept places at h = let next : drop at places ≡ get_or places at 0 ∷ drop (at + 1) places = rw add-one (drop-cons places at 0 h) in ap (rows_of kept) next
+
+-- past the last there is none
+pub rows-end : (kept : List Kept) (places : List ℕ) (at : ℕ) → length places ≤ at → rows_of kept (drop at places) ≡ []
+rows-end kept places at h = drop-rows kept places at ∙ drop-all at (rows_of kept places) (rw (length-rows kept places) h)
+
+-- what parts the places by where they start is the count of the rows
+pub count_is : (kept : List Kept) (address i : ℕ) (places : List ℕ) → i ≤ length places → IsPartitionPoint (λ place. nat_le (start_in place) address ≡ true) (λ place. nat_le (start_in place) address ≡ false) places i → i ≡ count_to address (rows_of kept places)
+unfolding count_to
+count_is kept address i [] small at = omega arith
+count_is kept address zero (place ∷ places) small at = ap (λ b. cond b (suc (count_to address (rows_of kept places))) 0) (sym (at.1 0 place (omega arith) (omega arith)))
+count_is kept address (suc i) (place ∷ places) small at =
+    let rest = count_is kept address i places (omega arith) (λ k d low high. at.0 (suc k) d (omega arith) (omega arith), λ k d low high. at.1 (suc k) d (omega arith) (omega arith)) in
+    ap suc rest ∙ ap (λ b. cond b (suc (count_to address (rows_of kept places))) 0) (sym (at.0 0 place (omega arith) (omega arith)))
+
+-- their starts rise where those of the places do
+pub starts_rise : (kept : List Kept) (places : List ℕ) → IsNonDecreasingBy (λ (row : Row). row.start) (rows_of kept places) → IsNonDecreasingBy start_in places
+starts_rise kept places rise i j d le h =
+    let h' : j < length (rows_of kept places) = subst (λ n. j < n) (sym (length-map places (row_at kept))) h in
+    let up = rise i j (row_at kept d) le h' in
+    let low : i < length places = omega arith in
+    subst (λ (r : Row). r.start ≤ start_in (get_or places j d)) (get_or-map (row_at kept) places i d (row_at kept d) low)
+    (subst (λ (r : Row). (get_or (rows_of kept places) i (row_at kept d)).start ≤ r.start) (get_or-map (row_at kept) places j d (row_at kept d) h) up)
+
+-- ---- slots
+
+-- a place that is told of its parts
+module _ (start pages slot : ℕ) (aligned : start % 4096 ≡ 0) (small : start < 2 ^ 44) (some : 1 ≤ pages) (few : pages ≤ 65536) (fits : slot < 65536) where
+  pub start_in-place : start_in (place_of start pages slot) ≡ start
+  start_in-place = omega arith
+
+  pub pages_in-place : pages_in (place_of start pages slot) ≡ pages
+  pages_in-place = omega arith
+
+  pub slot_in-place : slot_in (place_of start pages slot) ≡ slot
+  slot_in-place = omega arith
+
+-- places that don't name a slot have the rows that they had before it was written
+pub rows_of-set : (kept : List Kept) (slot : ℕ) (k : Kept) (places : List ℕ) → named slot places ≡ 0 → rows_of (set kept slot k) places ≡ rows_of kept places
+rows_of-set kept slot k [] none = refl
+rows_of-set kept slot k (place ∷ places) none =
+    let more = sum_by-cons (λ p. is_slot slot (slot_in p)) place places in
+    let other : slot_in place ≢ slot = λ same. let one : is_slot slot (slot_in place) ≡ 1 = grind (arith, nat_tests) in absurd (omega arith) in
+    let here : row_at (set kept slot k) place ≡ row_at kept place =
+    let read = get_or-set_other kept slot (slot_in place) k (record { ds = record { 0 = 0 }; tag = 0 }) other in
+    same_row _ _ refl refl (ap (λ (x : Kept). x.ds) read) (ap (λ (x : Kept). x.tag) read) in
+    λ i. here i ∷ rows_of-set kept slot k places (omega arith) i
+
+-- a place names its slot
+pub named_at : (places : List ℕ) (at : ℕ) → at < length places → 1 ≤ named (slot_in (get_or places at 0)) places
+named_at [] at h = absurd (omega arith)
+named_at (place ∷ places) zero h =
+    let more = sum_by-cons (λ p. is_slot (slot_in place) (slot_in p)) place places in
+    let one : is_slot (slot_in place) (slot_in place) ≡ 1 = grind (arith, nat_tests) in
+    omega arith
+named_at (place ∷ places) (suc at) h =
+    let more = sum_by-cons (λ p. is_slot (slot_in (get_or places at 0)) (slot_in p)) place places in
+    let rest = named_at places at (omega arith) in
+    omega arith
+
+module _ (places : List ℕ) (kept : List Kept) (free : List ℕ) (capacity room at place : ℕ) (is : AreStored places kept free capacity room) (below : at < length places) (at_place : place ≡ get_or places at place) where
+  -- the place that is read, whatever would stand past the end
+  place_is : place ≡ get_or places at 0
+  place_is = get_or_read places at place below at_place 0
+
+  -- its slot is there
+  pub slot_there : slot_in place < length kept
+  slot_there =
+      let once = named_at places at below in
+      let same = ap slot_in place_is in
+      let there = is.there (slot_in (get_or places at 0)) (omega arith) in
+      let slots = is.slots in
+      omega arith
+
+  -- a row of what is read at the place and in its slot is the row
+  pub read_row : (slot : ℕ) (k : Kept) (row : Row) → slot ≡ slot_in place → k ≡ get_or kept slot k → row.start ≡ start_in place → row.pages ≡ pages_in place → row.ds ≡ k.ds → row.tag ≡ k.tag → (d : Row) → row ≡ get_or (rows_of kept places) at d
+  read_row slot k row slot_is at_slot start pages ds tag d =
+      let there = slot_there in
+      let read : k ≡ kept_in kept (slot_in place) = get_or_read kept slot k (omega arith) at_slot (record { ds = record { 0 = 0 }; tag = 0 }) ∙ ap (kept_in kept) slot_is in
+      same_row row (row_at kept place) start pages (ds ∙ ap (λ (x : Kept). x.ds) read) (tag ∙ ap (λ (x : Kept). x.tag) read)
+      ∙ ap (row_at kept) place_is ∙ sym (get_or-rows kept places at d below)
+
+-- a free slot is named by no place
+pub unnamed : (places : List ℕ) (kept : List Kept) (free rest : List ℕ) (capacity room slot : ℕ) → AreStored places kept free capacity room → free ≡ rest ++ slot ∷ [] → (named slot places ≡ 0) × (slot < capacity)
+unnamed places kept free rest capacity room slot is last =
+    let one : is_slot slot slot ≡ 1 = grind (arith, nat_tests) in
+    let times_is : times slot free ≡ times slot rest + is_slot slot slot = ap (times slot) last ∙ sum_by_push (is_slot slot) rest slot in
+    let once = is.once slot in
+    (omega arith, is.there slot (omega arith))
+
+-- with the rest of a row in a free slot, and its place among the others, the row is among theirs
+pub inserted : (kept : List Kept) (places : List ℕ) (at slot place : ℕ) (row : Row) → place ≡ place_of row.start row.pages slot → row.pages ≤ 65536 → row.start < 2 ^ 44 → slot < length kept → length kept ≤ 4096 → named slot places ≡ 0 → rows_of (set kept slot (record { ds = row.ds; tag = row.tag })) (insert_at places at place) ≡ insert_at (rows_of kept places) at row
+inserted kept places at slot place row is few small within short none =
+    let k : Kept = record { ds = row.ds; tag = row.tag } in
+    let fits : slot < 65536 = omega arith in
+    let slot_is : slot_in place ≡ slot = ap slot_in is ∙ slot_in-place row.start row.pages slot row.aligned small row.some few fits in
+    let read : kept_in (set kept slot k) (slot_in place) ≡ k = ap (kept_in (set kept slot k)) slot_is ∙ get_or-set_same kept slot k (record { ds = record { 0 = 0 }; tag = 0 }) within in
+    let here : row_at (set kept slot k) place ≡ row =
+    same_row _ _ (ap start_in is ∙ start_in-place row.start row.pages slot row.aligned small row.some few fits) (ap pages_in is ∙ pages_in-place row.start row.pages slot row.aligned small row.some few fits)
+    (ap (λ (x : Kept). x.ds) read) (ap (λ (x : Kept). x.tag) read) in
+    insert-rows (set kept slot k) places at place
+    ∙ ap (λ rows. insert_at rows at (row_at (set kept slot k) place)) (rows_of-set kept slot k places none)
+    ∙ ap (insert_at (rows_of kept places) at) here
+
+-- ---- all but some
+
+-- what fails the test goes, and the others stay
+pub filter-without : (keep : Row → Bool) (at : ℕ) (rows : List Row) (row : Row) → at < length rows → row ≡ get_or rows at row → keep row ≡ false → filter keep (remove_at rows at) ≡ filter keep rows
+filter-without keep at [] row h is fails = absurd (omega arith)
+filter-without keep zero (r ∷ rows) row h is fails = sym (ap (λ b. cond b (r ∷ filter keep rows) (filter keep rows)) (ap keep (sym is) ∙ fails))
+filter-without keep (suc at) (r ∷ rows) row h is fails = ap (λ rest. cond (keep r) (r ∷ rest) rest) (filter-without keep at rows row (omega arith) is fails)
+
+-- what was behind it is there
+pub drop-without : (at : ℕ) (rows : List Row) → at < length rows → drop at (remove_at rows at) ≡ drop (suc at) rows
+drop-without at [] h = absurd (omega arith)
+drop-without zero (r ∷ rows) h = refl
+drop-without (suc at) (r ∷ rows) h = drop-without at rows (omega arith)
+
+-- one more in front that passes
+pub filter-kept : (keep : Row → Bool) (row : Row) (rows : List Row) → keep row ≡ true → filter keep rows ≡ rows → filter keep (row ∷ rows) ≡ row ∷ rows
+filter-kept keep row rows passes is = ap (λ b. cond b (row ∷ filter keep rows) (filter keep rows)) passes ∙ ap (λ rest. row ∷ rest) is
