@@ -2,7 +2,7 @@
 use Rattle.std.proofs.Common.{◌≡◌, ℕ, ◌+◌, ◌-◌, ◌*◌, ◌/◌, ◌%◌, ◌^◌, ◌<◌, ◌≤◌, Bool, true, false, refl, sym, ap, ◌∙◌, subst, arith, List, [], ◌∷◌, length, eqb}
 use Rattle.std.specs.Prelude.{nat_lt, if◌then◌else◌}
 use Rattle.own_model.specs.Heap as heap
-use Rattle.own_model.specs.Heap.{Used, Hole, size_of, bytes_in, IsBlockSize}
+use Rattle.own_model.specs.Heap.{Used, Hole, bytes_in, IsBlockSize}
 use Rattle.avl_alloc.specs.declared.chunk.Block.{Block}
 use Rattle.avl_alloc.specs.Words.{Words, IsWord, place_at}
 use Rattle.avl_alloc.specs.Layout.{Laid, IsRoom}

@@ -1,11 +1,11 @@
 -- Rows, their places and their slots.
-use Rattle.std.proofs.Common.{◌≡◌, ◌≢◌, ℕ, suc, zero, ◌+◌, ◌-◌, ◌*◌, ◌/◌, ◌%◌, ◌^◌, ◌<◌, ◌≤◌, Bool, true, false, cond, List, [], ◌∷◌, ◌++◌, map, length, get_or, set, drop, refl, sym, ap, subst, ◌∙◌, arith, get_or-set_same, get_or-set_other, drop-cons, add-one, nat_le}
+use Rattle.std.proofs.Common.{◌≡◌, ◌≢◌, ℕ, suc, zero, ◌+◌, ◌*◌, ◌%◌, ◌^◌, ◌<◌, ◌≤◌, Bool, true, false, cond, List, [], ◌∷◌, ◌++◌, length, get_or, set, drop, refl, sym, ap, subst, ◌∙◌, arith, get_or-set_same, get_or-set_other, drop-cons, add-one, nat_le}
 use Rattle.std.proofs.Math.Path.{PathP, to_path_p}
 use Rattle.std.proofs.Props.{props}
 use Rattle.std.proofs.lemmas.Bool.Decides.{nat_tests}
 use Rattle.std.proofs.lemmas.List.{length-map, get_or-map, get_or_read}
 use Rattle.std.proofs.lemmas.List.Sums.{sum_by_push, sum_by-cons}
-use Rattle.std.specs.List.{sum_by, filter, insert as insert_at, remove as remove_at}
+use Rattle.std.specs.List.{filter, insert as insert_at, remove as remove_at}
 use Rattle.std.specs.List.Sorted.{IsNonDecreasingBy, IsPartitionPoint}
 use Rattle.region_map.specs.declared.row.Row.{Row}
 use Rattle.region_map.specs.declared.rows.Kept.{Kept}

@@ -1,22 +1,17 @@
 -- What each call of a table does, over its rows.
-use Rattle.std.proofs.Common.{◌≡◌, ℕ, suc, zero, ◌<◌, ◌≤◌, ◌≢◌, true, false, List, [], ◌∷◌, length, get_or, Some, Ok, Err, inl, inr, ◌%◌, ◌^◌, refl, sym, ap, subst, ◌∙◌, true≢false, is_some, arith}
-use Rattle.std.proofs.lemmas.Bool.{cases_lt}
-use Rattle.std.proofs.lemmas.Bool.Decides.{nat_tests}
-use Rattle.std.proofs.lemmas.Cmp.{ranked}
+use Rattle.std.proofs.Common.{◌≡◌, ℕ, suc, zero, ◌<◌, ◌≤◌, true, false, List, [], ◌∷◌, length, get_or, Some, ◌%◌, ◌^◌, refl, sym, ap, subst, ◌∙◌, true≢false, is_some, arith}
 use Rattle.std.proofs.lemmas.Option.{none-some}
 use Rattle.std.specs.Prelude.{None}
 use Rattle.std.specs.FinMap.{get, insert, remove, empty}
 use Rattle.std.specs.List.{insert as insert_at, remove as remove_at}
-use Rattle.std.specs.List.Sorted.{IsBinarySearchResult, IsNonDecreasingBy}
-use Rattle.std.specs.Ordering.{nat_cmp, ordering_index}
 use Rattle.own_model.specs.Region.{overlap, can_stand, IsPlace}
-use Rattle.own_model.proofs.NatMapLemmas.{get-insert_same, get-insert_other, get-empty}
+use Rattle.own_model.proofs.NatMapLemmas.{get-insert_same, get-insert_other}
 use Rattle.own_model.proofs.RegionLemmas.{place, overlap_self}
 use Rattle.region_map.specs.declared.row.Row.{Row}
 use Rattle.region_map.specs.Rows.{region_of, tag_of, end_of, map_of, AreInOrder, count_to, IsTable}
 use Rattle.region_map.proofs.GapLemmas.{clear_at}
 use Rattle.region_map.proofs.RowLemmas.{map_of-cons, map_of-insert, map_of-remove, AreInOrder-insert, AreInOrder-remove}
-use Rattle.region_map.proofs.SearchLemmas.{rising, from_low, last_before, get_last, get_nothing}
+use Rattle.region_map.proofs.SearchLemmas.{from_low, last_before, get_last, get_nothing}
 
 -- no rows are no map
 pub map_of-none : {X : Type 0} (f : Row → X) → map_of f [] ≡ empty
@@ -58,30 +53,6 @@ added low high rows row is can =
 
 -- ---- a row less
 
--- the comparisons with an address rise along the rows, as a binary search asks
-pub comparisons_rise : (address low high : ℕ) (rows : List Row) → AreInOrder low high rows → IsNonDecreasingBy (λ (row : Row). ordering_index (nat_cmp row.start address)) rows
-comparisons_rise address low high rows is i j d le h =
-    let up : (get_or rows i d).start ≤ (get_or rows j d).start = rising low high rows is i j d le h in
-    grind (arith, nat_tests)
-
--- a start that no row has, wherever one looks, has nothing
-absent : {X : Type 0} (f : Row → X) (address : ℕ) (rows : List Row) → ((k : ℕ) (d : Row) → k < length rows → (get_or rows k d).start ≢ address) → get (map_of f rows) address ≡ None
-unfolding map_of
-absent f address [] none = get-empty address
-absent f address (row ∷ rows) none =
-    get-insert_other (map_of f rows) row.start (f row) address (λ e. none 0 row (omega arith) (sym e))
-    ∙ absent f address rows (λ k d h. none (suc k) d (omega arith))
-
--- so where the search finds no row, none starts there
-pub not_found : (address low high i : ℕ) (rows : List Row) → AreInOrder low high rows → IsBinarySearchResult (λ (row : Row). nat_cmp row.start address) rows (Err i) → get (map_of region_of rows) address ≡ None
-not_found address low high i rows is at =
-    let parts = at (comparisons_rise address low high rows is) in
-    absent region_of address rows (λ k d h e.
-    elim (cases_lt k i) [
-      | inl below ↦ let less : (get_or rows k d).start < address = ranked _ address _ (sym (parts.0 k d (omega arith) below)) in omega arith
-      | inr above ↦ let more : address < (get_or rows k d).start = ranked _ address _ (sym (parts.1 k d above h)) in omega arith
-    ])
-
 -- a row put back where it was taken from
 back : (rows : List Row) (i : ℕ) (row : Row) → i < length rows → row ≡ get_or rows i row → insert_at (remove_at rows i) i row ≡ rows
 back [] i row h is = absurd (omega arith)
@@ -122,7 +93,3 @@ removed low high rows i row address is h at same =
       there = ap (λ m. is_some (get m row.start)) (sym (ap (map_of region_of) put_back) ∙ map_of-insert region_of (remove_at rows i) i row free)
           ∙ ap is_some (get-insert_same (map_of region_of (remove_at rows i)) row.start (region_of row) row.start refl);
     })
-
--- what compares equal is equal
-pub same_start : (address i : ℕ) (rows : List Row) (d : Row) → IsBinarySearchResult (λ (row : Row). nat_cmp row.start address) rows (Ok i) → (get_or rows i d).start ≡ address
-same_start address i rows d at = ranked _ address _ (sym (at d))

@@ -1,5 +1,5 @@
 -- The next row starts where those before it end.
-use Rattle.std.proofs.Common.{◌≡◌, ◌<◌, get_or, length, sym, ◌∙◌, add-one, arith}
+use Rattle.std.proofs.Common.{◌<◌, get_or, length, sym, ◌∙◌, add-one, arith}
 use Rattle.region_map.specs.Places.{row_at, rows_of}
 use Rattle.region_map.proofs.PackedLemmas.{packed_more}
 use Rattle.region_map.proofs.PlaceLemmas.{get_or-rows, length-rows}

@@ -1,8 +1,7 @@
 -- The last row up to the address is taken out, where it starts there.
-use Rattle.std.proofs.Common.{◌≡◌, ◌-◌, ◌<◌, suc, length, refl, sym, ap, ◌∙◌, subst, arith}
+use Rattle.std.proofs.Common.{◌≡◌, ◌-◌, ◌<◌, suc, length, sym, ap, ◌∙◌, subst, arith}
 use Rattle.std.proofs.lemmas.Option.{none-some, same_Some}
 use Rattle.std.specs.Prelude.{is_some, None, Some}
-use Rattle.std.specs.FinMap.{get}
 use Rattle.region_map.specs.declared.row.Row.{Row}
 use Rattle.region_map.specs.Rows.{region_of, tag_of, map_of, last_to, IsTable}
 use Rattle.region_map.specs.Window.{Window, IsWindow, window_without}
