@@ -1,7 +1,9 @@
 //! The file service: what it answers to the requests of a session.
-ghost use Rattle.std.specs.Prelude.{◌≡◌, ◌*◌, ◌/◌, ◌≤◌, length, [], Some, None};
+ghost use Rattle.std.specs.Prelude.{◌≡◌, ◌++◌, ◌*◌, ◌/◌, ◌≤◌, length, [], Some, None};
 ghost use Rattle.own_model.specs.BufferService.{session_request};
-ghost use Rattle.own_model.specs.FileText.FileRequest.{Write};
+ghost use Rattle.own_model.specs.FileText.{file_reply};
+ghost use Rattle.own_model.specs.FileText.{FileReply as Answered};
+ghost use Rattle.own_model.specs.FileText.FileRequest.{Read, Write};
 ghost use Rattle.own_model.specs.Routes.Service.{Files};
 ghost use Rattle.own_model.specs.Session.{Labelled, state_at_first};
 ghost use Rattle.own_model.specs.Text.{bytes_of_hex, hex_bytes};
@@ -13,7 +15,7 @@ ghost use Rattle.server_frame.specs.Told.{nothing_told};
 ghost use Rattle.session_proto.specs.FileReply.{model_reply, account_of};
 ghost use Rattle.file_service.specs.Furnished.{stock, IsFurnished, KeepsSession};
 ghost use Rattle.file_service.specs.Lent.{buffer_key};
-ghost use Rattle.file_service.specs.Session.{HasFiles, IsReady, IsAnswered, Serves, done_reply, counted_reply, lent_reply, lent_effect, gone_effect, served_in, session_served};
+ghost use Rattle.file_service.specs.Session.{HasFiles, IsReady, IsAnswered, IsTold, Serves, done_reply, counted_reply, lent_reply, lent_effect, gone_effect, served_in, session_served};
 
 use crate::furnished::{end_nodes, furnish};
 use crate::lent::give_any;
@@ -28,6 +30,9 @@ use trade_base::{AccountId, DsId};
 
 /// The most bytes that a request writes.
 const MOST_WRITTEN: usize = 4096;
+
+/// So many bytes are written by way of a small buffer, as a large one takes long to clear.
+const FEW_WRITTEN: usize = 128;
 
 /// The most bytes that a request reads.
 const MOST_READ: usize = 1024;
@@ -117,11 +122,7 @@ fn answer(
             counted(write(session, heap, memory, map, file, offset, hex)).write(reply)
         }
         Some(FileRequest::Read { file, offset, len }) => {
-            let mut buffer = [0; MOST_READ];
-            match session.read(heap, memory, map, file, offset, len, &mut buffer) {
-                Ok(count) => FileReply::Bytes(&buffer[..count]).write(reply),
-                Err(error) => FileReply::Refused(error).write(reply),
-            }
+            tell_read(session, heap, memory, map, file, offset, len, reply);
         }
         Some(FileRequest::Size(name)) => {
             counted(session.size(heap, memory, map, name)).write(reply)
@@ -167,9 +168,36 @@ fn answer(
     Effect::Nothing
 }
 
-/// Puts the bytes that a text of hexadecimal digits stands for over a file's from an offset on, and tells how many they are.
-/// It stands alone, since who takes it in would clear its buffer at each request.
+/// Tells at most so many bytes of a file from an offset on, or why not, behind what the reply was. It stands alone, since who takes
+/// it in would clear its buffer at each request.
 #[inline(never)]
+fn tell_read(
+    session: &FileSession,
+    heap: &SlicedHeap,
+    memory: &mut Memory,
+    map: &RegionMap,
+    file: &[u8],
+    offset: u64,
+    len: u64,
+    reply: &mut Reply,
+)
+    requires furnished { IsFurnished session.now.heap heap.now memory.old map.now }
+    requires files { HasFiles session.now (stock session.now.heap heap.now memory.old map.now) }
+    requires room { length reply.old.text ≤ 49 }
+    ensures told { (answer : Answered)
+        × ((IsTold (Read file.now offset len) answer session.now
+        (stock session.now.heap heap.now memory.old map.now))
+        × (reply.new ≡ record reply.old { text = reply.old.text ++ file_reply answer })) }
+    ensures memory { memory.new ≡ memory.old }
+{
+    let mut buffer = [0; MOST_READ];
+    match session.read(heap, memory, map, file, offset, len, &mut buffer) {
+        Ok(count) => FileReply::Bytes(&buffer[..count]).write(reply),
+        Err(error) => FileReply::Refused(error).write(reply),
+    }
+}
+
+/// Puts the bytes that a text of hexadecimal digits stands for over a file's from an offset on, and tells how many they are.
 fn write(
     session: &mut FileSession,
     heap: &mut SlicedHeap,
@@ -191,7 +219,38 @@ fn write(
     ensures keeps { KeepsSession heap.old session.new.heap heap.new
         memory.old memory.new map.old map.new }
 {
-    let mut buffer = [0; MOST_WRITTEN];
+    if hex.len() <= 2 * FEW_WRITTEN {
+        write_by::<FEW_WRITTEN>(session, heap, memory, map, file, offset, hex)
+    } else {
+        write_by::<MOST_WRITTEN>(session, heap, memory, map, file, offset, hex)
+    }
+}
+
+/// The same by way of a buffer of so many bytes. It stands alone, since who takes it in would clear its buffer at each request.
+#[inline(never)]
+fn write_by<const N: usize>(
+    session: &mut FileSession,
+    heap: &mut SlicedHeap,
+    memory: &mut Memory,
+    map: &mut RegionMap,
+    file: &[u8],
+    offset: u64,
+    hex: &[u8],
+) -> Result<u64, FileError>
+    requires hex { bytes_of_hex hex.now ≡ Some (hex_bytes hex.now) }
+    requires few { length hex.now ≤ 2 * N }
+    requires small { N ≤ MOST_WRITTEN }
+    requires furnished { IsFurnished session.old.heap heap.old memory.old map.old }
+    requires files { HasFiles session.old (stock session.old.heap heap.old memory.old map.old) }
+    ensures serves { Serves
+        (served_in (Write file.now offset (hex_bytes hex.now)) session.old
+        (stock session.old.heap heap.old memory.old map.old))
+        (counted_reply result) session.old session.new
+        (stock session.new.heap heap.new memory.new map.new) }
+    ensures keeps { KeepsSession heap.old session.new.heap heap.new
+        memory.old memory.new map.old map.new }
+{
+    let mut buffer = [0; N];
     let bytes = &mut buffer[..hex.len() / 2];
     decode_hex(hex, bytes);
     session.write(heap, memory, map, file, offset, bytes)

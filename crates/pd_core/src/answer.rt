@@ -1,6 +1,7 @@
 //! The answers to calls, and their texts.
 ghost use Rattle.std.specs.Prelude.{◌≡◌, ◌+◌, ◌≤◌, ◌++◌, length, codes};
-ghost use Rattle.own_model.specs.Reply.{address_text, reply_text, share_text};
+ghost use Rattle.own_model.specs.Reply.{address_text, reply_text};
+ghost use Rattle.own_model.specs.Reply.Reply.{Selected};
 ghost use Rattle.trade_base.specs.Refusal.{refusal_name};
 ghost use Rattle.pd_core.specs.Answer.{reply_of, told_alone};
 
@@ -34,7 +35,9 @@ pub struct Quotas {
     pub caps_limit: Caps,
 }
 
-/// Writes what a call is answered in place of what the reply was. It finishes no log line.
+/// Writes what a call is answered in place of what the reply was. It finishes no log line. Who calls it takes it in, so that an
+/// outcome needn't be put together before it is told.
+#[inline(always)]
 pub(crate) fn tell(outcome: Result<Answer, Refusal>, reply: &mut Reply)
     ensures { reply.new ≡ told_alone (reply_text (reply_of outcome)) }
 {
@@ -45,6 +48,7 @@ pub(crate) fn tell(outcome: Result<Answer, Refusal>, reply: &mut Reply)
 }
 
 /// Writes why a call is refused in place of what the reply was.
+#[inline(never)]
 pub(crate) fn refuse(refusal: Refusal, reply: &mut Reply)
     ensures { reply.new ≡ told_alone (refusal_name refusal) }
 {
@@ -66,14 +70,12 @@ impl Answer {
     ghost use Rattle.pd_core.specs.Answer.{model_answer, told_alone};
 
     /// Writes the answer in place of what the reply was.
+    #[inline(always)]
     fn tell(self, reply: &mut Reply)
         ensures { reply.new ≡ told_alone (reply_text (model_answer self)) }
     {
         match self {
-            Answer::Selected(selector) => {
-                tell_text(b"cap ", reply);
-                reply.add_number(u64::from(selector.0));
-            }
+            Answer::Selected(selector) => tell_selector(selector, reply),
             Answer::Attached(address) => tell_address(address, reply),
             Answer::Done => tell_text(b"ok", reply),
             Answer::Quotas(quotas) => quotas.tell(reply),
@@ -91,30 +93,23 @@ impl Quotas {
         ensures { reply.new ≡ told_alone (quota_text (quotas_account self)) }
     {
         tell_text(b"ram ", reply);
-        add_share(self.ram_used.0, self.ram_limit.0, reply);
+        reply.add_share(self.ram_used.0, self.ram_limit.0);
         reply.add_text(b" caps ");
-        add_share(
-            u64::from(self.caps_used.0),
-            u64::from(self.caps_limit.0),
-            reply,
-        );
+        reply.add_share(u64::from(self.caps_used.0), u64::from(self.caps_limit.0));
     }
 }
 
-/// Appends a use and a limit.
-#[inline]
-fn add_share(used: u64, limit: u64, reply: &mut Reply)
-    requires { length reply.old.text + 41 ≤ 2100 }
-    ensures added { reply.new
-        ≡ record reply.old { text = reply.old.text ++ share_text used limit } }
-    ensures len { length reply.new.text ≤ length reply.old.text + 41 }
+/// Writes a new capability's selector in place of what the reply was.
+#[inline(never)]
+fn tell_selector(selector: Selector, reply: &mut Reply)
+    ensures { reply.new ≡ told_alone (reply_text (Selected selector.0)) }
 {
-    reply.add_number(used);
-    reply.add_text(b"/");
-    reply.add_number(limit);
+    tell_text(b"cap ", reply);
+    reply.add_number(u64::from(selector.0));
 }
 
 /// Writes where a new region starts in place of what the reply was.
+#[inline(never)]
 fn tell_address(address: u64, reply: &mut Reply)
     ensures { reply.new ≡ told_alone (codes "at " ++ address_text address) }
 {

@@ -54,16 +54,16 @@ fn call_from<'a>(word: &[u8], arguments: Option<&'a [u8]>) -> Option<Call<'a>>
         return Some(Call::Attach(number(arguments)?));
     }
     if word == b"attach_at".as_slice() {
-        return read_attach_at(arguments);
+        return read_attach_at(arguments?);
     }
     if word == b"detach".as_slice() {
         return Some(Call::Detach(address(arguments)?));
     }
     if word == b"peek".as_slice() {
-        return read_peek(arguments);
+        return read_peek(arguments?);
     }
     if word == b"poke".as_slice() {
-        return read_poke(arguments);
+        return read_poke(arguments?);
     }
     if word == b"capalloc".as_slice() {
         return read_none(Call::Capalloc, arguments);
@@ -84,13 +84,13 @@ fn call_from<'a>(word: &[u8], arguments: Option<&'a [u8]>) -> Option<Call<'a>>
         return Some(Call::Sdel(address(arguments)?));
     }
     if word == b"open".as_slice() {
-        return read_open(arguments);
+        return read_open(arguments?);
     }
     if word == b"upgrade".as_slice() {
-        return read_upgrade(arguments);
+        return read_upgrade(arguments?);
     }
     if word == b"call".as_slice() {
-        return read_session_call(arguments);
+        return read_session_call(arguments?);
     }
     if word == b"close".as_slice() {
         return Some(Call::Close(number(arguments)?));
@@ -132,66 +132,66 @@ fn read_none<'a>(call: Call<'a>, arguments: Option<&[u8]>) -> Option<Call<'a>>
 }
 
 /// A selector and an address, parted by a space.
-fn read_attach_at(arguments: Option<&[u8]>) -> Option<Call<'_>>
-    ensures call { option_map model_call result ≡ of_two AttachAt number_of address_of (option_copied arguments.entry) }
+fn read_attach_at(arguments: &[u8]) -> Option<Call<'_>>
+    ensures call { option_map model_call result ≡ of_two AttachAt number_of address_of (Some arguments.now) }
     ensures well_formed { IfSome result IsWellFormed }
 {
-    let (selector, address) = split_first_word(arguments?);
+    let (selector, address) = split_first_word(arguments);
     let selector = read_number(selector)?;
     let address = read_address(address?)?;
     Some(Call::AttachAt { selector, address })
 }
 
 /// An address and a count of bytes, parted by a space.
-fn read_peek(arguments: Option<&[u8]>) -> Option<Call<'_>>
-    ensures call { option_map model_call result ≡ of_two Peek address_of number_of (option_copied arguments.entry) }
+fn read_peek(arguments: &[u8]) -> Option<Call<'_>>
+    ensures call { option_map model_call result ≡ of_two Peek address_of number_of (Some arguments.now) }
     ensures well_formed { IfSome result IsWellFormed }
 {
-    let (address, count) = split_first_word(arguments?);
+    let (address, count) = split_first_word(arguments);
     let address = read_address(address)?;
     let count = read_number(count?)?;
     Some(Call::Peek { address, count })
 }
 
 /// An address and the hexadecimal digits of one or more bytes, parted by a space.
-fn read_poke(arguments: Option<&[u8]>) -> Option<Call<'_>>
+fn read_poke(arguments: &[u8]) -> Option<Call<'_>>
     ensures call { option_map model_call result
-        ≡ of_two Poke address_of some_bytes_of_hex (option_copied arguments.entry) }
+        ≡ of_two Poke address_of some_bytes_of_hex (Some arguments.now) }
     ensures well_formed { IfSome result IsWellFormed }
 {
-    let (address, hex) = split_first_word(arguments?);
+    let (address, hex) = split_first_word(arguments);
     let address = read_address(address)?;
     let hex = read_hex(hex?)?;
     Some(Call::Poke { address, hex })
 }
 
 /// A service's name, and the arguments of a session after a space, if there are any.
-fn read_open(arguments: Option<&[u8]>) -> Option<Call<'_>>
-    ensures call { option_map model_call result ≡ of_text Open name_of (option_copied arguments.entry) }
+fn read_open(arguments: &[u8]) -> Option<Call<'_>>
+    ensures call { option_map model_call result ≡ of_text Open name_of (Some arguments.now) }
     ensures well_formed { IfSome result IsWellFormed }
 {
-    let (service, args) = split_name(arguments?)?;
+    let (service, args) = split_name(arguments)?;
     let args = text_or_none(args);
     Some(Call::Open { service, args })
 }
 
 /// A selector, and the arguments of a session after a space, if there are any.
-fn read_upgrade(arguments: Option<&[u8]>) -> Option<Call<'_>>
-    ensures call { option_map model_call result ≡ of_text Upgrade number_of (option_copied arguments.entry) }
+fn read_upgrade(arguments: &[u8]) -> Option<Call<'_>>
+    ensures call { option_map model_call result ≡ of_text Upgrade number_of (Some arguments.now) }
     ensures well_formed { IfSome result IsWellFormed }
 {
-    let (selector, args) = split_first_word(arguments?);
+    let (selector, args) = split_first_word(arguments);
     let selector = read_number(selector)?;
     let args = text_or_none(args);
     Some(Call::Upgrade { selector, args })
 }
 
 /// A selector, and a request after a space, if there is one.
-fn read_session_call(arguments: Option<&[u8]>) -> Option<Call<'_>>
-    ensures call { option_map model_call result ≡ of_text CallSession number_of (option_copied arguments.entry) }
+fn read_session_call(arguments: &[u8]) -> Option<Call<'_>>
+    ensures call { option_map model_call result ≡ of_text CallSession number_of (Some arguments.now) }
     ensures well_formed { IfSome result IsWellFormed }
 {
-    let (selector, request) = split_first_word(arguments?);
+    let (selector, request) = split_first_word(arguments);
     let selector = read_number(selector)?;
     let request = text_or_none(request);
     Some(Call::CallSession { selector, request })

@@ -1,6 +1,6 @@
 //! What a call is answered: finished log lines, and the text of a reply.
 ghost use Rattle.std.specs.Prelude.{◌≡◌, ◌+◌, ◌*◌, ◌≤◌, [], ◌++◌, length, decimal, IfOk};
-ghost use Rattle.own_model.specs.Reply.{hex_text, log_text};
+ghost use Rattle.own_model.specs.Reply.{hex_text, log_text, share_text};
 ghost use Rattle.server_frame.specs.Told.{nothing_told};
 
 use crate::bounded_bytes::BoundedBytes;
@@ -91,6 +91,7 @@ impl Reply {
     {
         self.text.add(text);
     }
+
     /// Appends to the text a number in decimal digits, for which there is room.
     pub fn add_number(&mut self, number: u64)
         requires { length self.old.text + 20 ≤ LONGEST_TEXT }
@@ -98,6 +99,18 @@ impl Reply {
         ensures len { length self.new.text ≤ length self.old.text + 20 }
     {
         self.text.add_number(number);
+    }
+
+    /// Appends to the text a use and a limit, with a slash between them, for which there is room.
+    pub fn add_share(&mut self, used: u64, limit: u64)
+        requires { length self.old.text + 41 ≤ LONGEST_TEXT }
+        ensures added { self.new
+            ≡ record self.old { text = self.old.text ++ share_text used limit } }
+        ensures len { length self.new.text ≤ length self.old.text + 41 }
+    {
+        self.text.add_number(used);
+        self.text.add(b"/");
+        self.text.add_number(limit);
     }
 
     /// Appends to the text bytes in hexadecimal digits of small letters, which still fit.

@@ -1,7 +1,7 @@
 //! The file service's replies.
 ghost use Rattle.std.specs.Prelude.{◌≡◌, ◌+◌, ◌*◌, ◌≤◌, ◌++◌, length};
 ghost use Rattle.own_model.specs.FileText.{file_reply, bytes_reply, error_name};
-ghost use Rattle.own_model.specs.Reply.{share_text, quota_text};
+ghost use Rattle.own_model.specs.Reply.{quota_text};
 ghost use Rattle.session_proto.specs.FileReply.{model_reply, model_error, room_for, account_of};
 
 use server_frame::Reply;
@@ -141,23 +141,10 @@ fn add_shares(reply: &mut Reply, shares: Shares)
         ≡ record reply.old { text = reply.old.text ++ quota_text (account_of shares) } }
 {
     reply.add_text(b"ram ");
-    add_share(reply, shares.ram_used.0, shares.ram_limit.0);
+    reply.add_share(shares.ram_used.0, shares.ram_limit.0);
     reply.add_text(b" caps ");
-    add_share(
-        reply,
+    reply.add_share(
         u64::from(shares.caps_used.0),
         u64::from(shares.caps_limit.0),
     );
-}
-
-/// Appends a use and a limit.
-fn add_share(reply: &mut Reply, used: u64, limit: u64)
-    requires { length reply.old.text + 41 ≤ 2100 }
-    ensures added { reply.new
-        ≡ record reply.old { text = reply.old.text ++ share_text used limit } }
-    ensures len { length reply.new.text ≤ length reply.old.text + 41 }
-{
-    reply.add_number(used);
-    reply.add_text(b"/");
-    reply.add_number(limit);
 }

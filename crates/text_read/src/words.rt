@@ -43,7 +43,8 @@ pub fn split_name(text: &[u8]) -> Option<(&[u8], Option<&[u8]>)>
     }
 }
 
-/// How many bytes at the front may stand in a name.
+/// How many bytes at the front may stand in a name. It stands alone, so that its loop has registers of its own.
+#[inline(never)]
 fn name_len(text: &[u8]) -> usize
     ensures { result ≡ name_len text.now }
 {

@@ -5,6 +5,7 @@ use Rattle.session_proto.specs.File.{HasHex}
 use Rattle.file_service.proofs.BufferRequestLemmas.{files_answered, read_as}
 use Rattle.file_service.proofs.RequestLemmas.{hex_is_short, name_reply, named_served}
 use Rattle.file_service.proofs.ResultLemmas.{keeps_same}
+use Rattle.file_service.proofs.ServeLemmas.{serves_same}
 use Rattle.file_service.proofs.service.answer.Goals as goal
 
 pub write-requires-in-Some-Write-clause-few : goal.write-requires-in-Some-Write-clause-few
@@ -28,6 +29,17 @@ returns-in-Some-Write c =
     record {
       answered = files_answered c.requires.ready a.request.now _ _ a.reply.now _ (read_as a.request.now _ _ r.field-0-is r.ensures.request) c.write-in-Some-Write.ensures.keeps c.write-in-Some-Write.ensures.serves
           (c.write-in-Some-Write-2.ensures ∙ ap (λ p. record a.reply.now { text = a.reply.now.text ++ file_reply p }) c.counted.ensures) c.requires.reply;
+    }
+
+pub returns-in-Some-Read : goal.returns-in-Some-Read
+returns-in-Some-Read c =
+    let a = c.args in
+    let r = c.in-Some-Read in
+    let t = c.tell_read.ensures.told in
+    record {
+      answered = files_answered c.requires.ready a.request.now _ t.0 a.reply.now _ (read_as a.request.now _ _ r.field-0-is r.ensures.request)
+          (keeps_same c.requires.ready.furnished refl refl c.tell_read.ensures.memory refl)
+          (serves_same _ t.0 a.session.now a.heap.now a.memory.now _ a.map.now c.requires.ready.files c.tell_read.ensures.memory t.1.0) t.1.1 c.requires.reply;
     }
 
 pub returns-in-Some-Drop : goal.returns-in-Some-Drop
