@@ -5,3 +5,4 @@ pub mod SignLemmas
 pub mod TailLemmas
 pub mod ReadingLemmas
 pub mod LawLemmas
+pub mod PlainLemmas

@@ -1,8 +1,10 @@
 //! What a line says.
-ghost use Rattle.std.specs.Prelude.{◌≡◌, ◌+◌, ◌<◌, ◌≤◌, ◌^◌, ◌==◌, length, is_some, slice_index, true};
+ghost use Rattle.std.specs.Prelude.{◌≡◌, ◌+◌, ◌<◌, ◌≤◌, ◌^◌, ◌==◌, length, is_some, slice_index, true, None};
 ghost use Rattle.std.specs.Option.{option_copied};
 ghost use Rattle.own_model.specs.Call.{spoken};
 ghost use Rattle.friendly_lines.specs.Friendly.{expects_bad_line, said_of, said_of_both, said_of_call, said_of_line, said_of_signs, said_of_text, without_return};
+ghost use Rattle.friendly_lines.specs.Friendly.Said.{Call};
+ghost use Rattle.friendly_lines.specs.Laws.{IsPlain};
 ghost use Rattle.friendly_lines.specs.declared.fault.Reason.TheVariants.{NoCall};
 ghost use Rattle.friendly_lines.specs.Says.{says};
 
@@ -28,9 +30,12 @@ pub enum Said<'a> {
 }
 
 /// What a line says, which is without its newline. The engine's line is put together in `room`, where it isn't a piece of the
-/// line itself. A call that isn't one in the engine's grammar is a fault, unless `Bad_line` is expected.
+/// line itself. A call that isn't one in the engine's grammar is a fault, unless `Bad_line` is expected; and a line of that
+/// grammar in which nothing is to be translated is the engine's as it stands.
+#[tactic(auto, using(crate::proofs::PlainLemmas::plain_lines_pass))]
 pub fn read_line<'a>(line: &'a [u8], room: &'a mut Line) -> Result<Said<'a>, Fault>
-    ensures { says result ≡ said_of line.now }
+    ensures value { says result ≡ said_of line.now }
+    ensures plain { IsPlain line.now → says result ≡ Ok (Call line.now None) }
 {
     let signs = skip_blanks(line);
     said_of_signs(line.len() - signs.len() + 1, signs, room)

@@ -1,0 +1,529 @@
+-- A call of the engine that has none of the forms that are translated passes as it stands.
+use Rattle.std.proofs.Common.{◌≡◌, ℕ, ◌+◌, ◌-◌, ◌*◌, ◌^◌, ◌<◌, ◌≤◌, ◌&&◌, ◌||◌, Bool, true, false, true≢false, cond, not, nat_eq, nat_lt, nat_le, List, [], ◌∷◌, ◌++◌, length, drop, take, slice_index, is_some, codes, Option, Some, None, Ok, refl, sym, ap, ◌∙◌, subst, arith}
+use Rattle.std.specs.Char.{is_ascii_digit}
+use Rattle.std.specs.List.{list_all, starts_with}
+use Rattle.std.specs.Option.{option_and_then, option_map, option_map_or, unwrap_or}
+use Rattle.std.specs.Str.{all_ascii_digits, bytes_eq}
+use Rattle.std.specs.Str.Parse.{digits_value}
+use Rattle.std.proofs.lemmas.Bool.Decides.{nat_tests}
+use Rattle.std.proofs.lemmas.Option.{none-some}
+use Rattle.std.proofs.lemmas.Slice.Eq.{bytes_eq-Decides}
+use Rattle.trade_base.specs.Amount.{number_of}
+use Rattle.own_model.specs.Call.{Call, Form, Spoken, call_in, form_of, forms, name_of, of_none, of_one, of_text, of_two, some_bytes_of_hex, spoken}
+use Rattle.own_model.specs.Text.{FirstWord, address_of, bytes_of_hex, first_word, hex_digit_of, hex_number_after, is_name, is_name_byte}
+use Rattle.own_model.specs.Transcript.{longest_line}
+use Rattle.friendly_lines.specs.Friendly.{Said, fault_in, said_of_both, said_of_call, said_of_signs, said_of_text, without_return}
+use Rattle.friendly_lines.specs.Laws.{IsPlain, PlainLinesPass, is_quoted}
+use Rattle.friendly_lines.specs.Parts.{Tail, parts_of, quoted_or, request_tail, size_text, spelled, tail_of, tail_text, text_written, word_text}
+use Rattle.friendly_lines.specs.Parts.Tail.{Words, Kept, Quoted}
+use Rattle.friendly_lines.specs.Quotes.{inside_quotes}
+use Rattle.friendly_lines.specs.Words.{Word, is_blank, next_word, skip_blanks, spaced, up_to_blank, words_spaced}
+use Rattle.friendly_lines.specs.Written.{added}
+
+-- a text without a blank, and a word: one that isn't empty
+abbrev is_unbroken : List ℕ → Bool
+is_unbroken text = list_all (λ b. not (is_blank b)) text
+
+abbrev is_word : List ℕ → Bool
+is_word [] = false
+is_word (b ∷ bs) = is_unbroken (b ∷ bs)
+
+-- what follows a word: nothing, or a space and more
+abbrev behind_word : Option (List ℕ) → List ℕ
+behind_word None = []
+behind_word (Some rest) = 32 ∷ rest
+
+-- ---- tests
+
+and_left : (a b : Bool) → (a && b) ≡ true → a ≡ true
+and_left true b both = refl
+and_left false b both = absurd (true≢false (sym both))
+
+and_right : (a b : Bool) → (a && b) ≡ true → b ≡ true
+and_right true b both = both
+and_right false b both = absurd (true≢false (sym both))
+
+and_both : (a b : Bool) → a ≡ true → b ≡ true → (a && b) ≡ true
+and_both a b first second = rw first second
+
+not_true : (a : Bool) → not a ≡ true → a ≡ false
+not_true true is = absurd (true≢false (sym is))
+not_true false is = refl
+
+some_if : {X : Type 0} (test : Bool) (found : Option X) (x : X) → cond test found None ≡ Some x → test ≡ true
+some_if true found x is = refl
+some_if false found x is = absurd (none-some x is)
+
+some_then : {X : Type 0} (test : Bool) (found : Option X) (x : X) → cond test found None ≡ Some x → found ≡ Some x
+some_then true found x is = is
+some_then false found x is = absurd (none-some x is)
+
+-- ---- words that are parted by one space
+
+-- the first byte of an unbroken text is no blank, and neither is one behind it
+first_sign : (b : ℕ) (bs : List ℕ) → is_unbroken (b ∷ bs) ≡ true → is_blank b ≡ false
+first_sign b bs whole = not_true (is_blank b) (and_left (not (is_blank b)) (is_unbroken bs) whole)
+
+more_signs : (b : ℕ) (bs : List ℕ) → is_unbroken (b ∷ bs) ≡ true → is_unbroken bs ≡ true
+more_signs b bs whole = and_right (not (is_blank b)) (is_unbroken bs) whole
+
+-- a text is its first word, and what follows it
+word_and_behind : (text : List ℕ) → text ≡ (first_word text).word ++ behind_word (first_word text).rest
+word_and_behind [] = refl
+word_and_behind (b ∷ bs) =
+    let here : FirstWord = record { word = []; rest = Some bs } in
+    let later : FirstWord = record { word = b ∷ (first_word bs).word; rest = (first_word bs).rest } in
+    elim (nat_eq b 32) as (λ t. nat_eq b 32 ≡ t → b ∷ bs ≡ (cond t here later).word ++ behind_word (cond t here later).rest) [
+      | true ↦ λ space. let first : b ≡ 32 = grind (arith, nat_tests) in ap (λ x. x ∷ bs) first
+      | false ↦ λ other. ap (λ l. b ∷ l) (word_and_behind bs)
+    ] refl
+
+-- no blank is a space
+no_space : (b : ℕ) → is_blank b ≡ false → nat_eq b 32 ≡ false
+no_space b sign = grind (arith, nat_tests)
+
+-- an unbroken text is its first word
+first_unbroken : (text : List ℕ) → is_unbroken text ≡ true → first_word text ≡ record { word = text; rest = None }
+first_unbroken [] whole = refl
+first_unbroken (b ∷ bs) whole =
+    rw (no_space b (first_sign b bs whole)) (ap (λ (w : FirstWord). record { word = b ∷ w.word; rest = w.rest }) (first_unbroken bs (more_signs b bs whole)))
+
+-- an unbroken text and what follows it are parted
+parted_word : (word : List ℕ) (rest : Option (List ℕ)) → is_unbroken word ≡ true →
+    up_to_blank (word ++ behind_word rest) ≡ record { word = word; rest = behind_word rest }
+parted_word [] None whole = refl
+parted_word [] (Some rest) whole = refl
+parted_word (b ∷ bs) rest whole =
+    rw (first_sign b bs whole) (ap (λ (w : Word). record { word = b ∷ w.word; rest = w.rest }) (parted_word bs rest (more_signs b bs whole)))
+
+-- no blank stands before a word
+at_word : (word : List ℕ) (rest : Option (List ℕ)) → is_word word ≡ true → skip_blanks (word ++ behind_word rest) ≡ word ++ behind_word rest
+at_word [] rest is = absurd (true≢false (sym is))
+at_word (b ∷ bs) rest is = rw (first_sign b bs is) refl
+
+unbroken_word : (word : List ℕ) → is_word word ≡ true → is_unbroken word ≡ true
+unbroken_word [] is = refl
+unbroken_word (b ∷ bs) is = is
+
+next_is : (word : List ℕ) (rest : Option (List ℕ)) → is_word word ≡ true → next_word (word ++ behind_word rest) ≡ record { word = word; rest = behind_word rest }
+next_is word rest is = ap up_to_blank (at_word word rest is) ∙ parted_word word rest (unbroken_word word is)
+
+-- words of one word
+words_within : (word : List ℕ) → is_unbroken word ≡ true → words_spaced true word ≡ word
+words_within [] whole = refl
+words_within (b ∷ bs) whole = rw (first_sign b bs whole) (ap (λ l. b ∷ l) (words_within bs (more_signs b bs whole)))
+
+words_of_one : (word : List ℕ) → is_word word ≡ true → words_spaced false word ≡ 32 ∷ word
+words_of_one [] is = absurd (true≢false (sym is))
+words_of_one (b ∷ bs) is = rw (first_sign b bs is) (ap (λ l. 32 ∷ b ∷ l) (words_within bs (more_signs b bs is)))
+
+spaced_word : (word : List ℕ) → is_word word ≡ true → spaced word ≡ 32 ∷ word
+spaced_word [] is = absurd (true≢false (sym is))
+spaced_word (b ∷ bs) is = refl
+
+-- ---- arguments that are words
+
+-- no byte that passes a test is a blank
+abbrev KeepsBlanksOut : (ℕ → Bool) → Type 0
+KeepsBlanksOut test = (b : ℕ) → test b ≡ true → not (is_blank b) ≡ true
+
+all_unbroken : (test : ℕ → Bool) → KeepsBlanksOut test → (text : List ℕ) → list_all test text ≡ true → is_unbroken text ≡ true
+all_unbroken test keeps [] all = refl
+all_unbroken test keeps (b ∷ bs) all =
+    and_both (not (is_blank b)) (is_unbroken bs) (keeps b (and_left (test b) (list_all test bs) all)) (all_unbroken test keeps bs (and_right (test b) (list_all test bs) all))
+
+-- an unbroken text that isn't empty
+some_word : (text : List ℕ) → nat_lt 0 (length text) ≡ true → is_unbroken text ≡ true → is_word text ≡ true
+some_word [] some whole = absurd (true≢false (sym some))
+some_word (b ∷ bs) some whole = whole
+
+digit_sign : KeepsBlanksOut is_ascii_digit
+digit_sign b digit = grind (arith, nat_tests)
+
+digits_unbroken : (ds : List ℕ) → all_ascii_digits ds ≡ true → is_unbroken ds ≡ true
+digits_unbroken [] all = refl
+digits_unbroken (d ∷ ds) all =
+    and_both (not (is_blank d)) (is_unbroken ds) (digit_sign d (and_left (is_ascii_digit d) (all_ascii_digits ds) all)) (digits_unbroken ds (and_right (is_ascii_digit d) (all_ascii_digits ds) all))
+
+-- what is read of a text is read of words alone
+abbrev ReadsWords : {X : Type 0} → (List ℕ → Option X) → Type 0
+ReadsWords {X = X} read = (text : List ℕ) (x : X) → read text ≡ Some x → is_word text ≡ true
+
+number_is_word : ReadsWords number_of
+number_is_word text n is =
+    let tests : ((nat_lt 0 (length text) && all_ascii_digits text) && nat_lt (digits_value 10 text) (2 ^ 64)) ≡ true = some_if _ (Some (digits_value 10 text)) n is in
+    let digits : (nat_lt 0 (length text) && all_ascii_digits text) ≡ true = and_left _ _ tests in
+    let more : nat_lt 0 (length text) ≡ true = and_left _ _ digits in
+    some_word text more (digits_unbroken text (and_right _ _ digits))
+
+hex_blank : (b : ℕ) → is_blank b ≡ true → hex_digit_of b ≡ None
+hex_blank b blank = grind (arith, nat_tests)
+
+hex_sign : (b d : ℕ) → hex_digit_of b ≡ Some d → not (is_blank b) ≡ true
+hex_sign b d is = elim (is_blank b) as (λ t. is_blank b ≡ t → not t ≡ true) [
+  | true ↦ λ blank. absurd (none-some d (sym (hex_blank b blank) ∙ is))
+  | false ↦ λ other. refl
+] refl
+
+hex_unbroken : (n : ℕ) (ds : List ℕ) (v : ℕ) → hex_number_after n ds ≡ Some v → is_unbroken ds ≡ true
+hex_unbroken n [] v is = refl
+hex_unbroken n (b ∷ bs) v is =
+    elim (hex_digit_of b) as (λ found. hex_digit_of b ≡ found → option_and_then (λ digit. hex_number_after (n * 16 + digit) bs) found ≡ Some v → is_unbroken (b ∷ bs) ≡ true) [
+      | None ↦ λ found none. absurd (none-some v none)
+      | Some digit ↦ λ found some. and_both (not (is_blank b)) (is_unbroken bs) (hex_sign b digit found) (hex_unbroken (n * 16 + digit) bs v some)
+    ] refl is
+
+address_is_word : ReadsWords address_of
+address_is_word text a is =
+    let tests : (bytes_eq (take 2 text) (codes "0x") && (nat_le 3 (length text) && nat_le (length text) 18)) ≡ true = some_if _ (hex_number_after 0 (drop 2 text)) a is in
+    let front : take 2 text ≡ codes "0x" = (bytes_eq-Decides (take 2 text) (codes "0x")).0 (and_left _ _ tests) in
+    address_word text a front (some_then _ (hex_number_after 0 (drop 2 text)) a is)
+  where
+    address_word : (text : List ℕ) (a : ℕ) → take 2 text ≡ codes "0x" → hex_number_after 0 (drop 2 text) ≡ Some a → is_word text ≡ true
+    address_word [] a front digits = cc
+    address_word (x ∷ []) a front digits = cc
+    address_word (x ∷ y ∷ rest) a front digits =
+        let first : x ≡ 48 = cc in
+        let second : y ≡ 120 = cc in
+        rw (first, second) (hex_unbroken 0 rest a digits)
+
+bytes_unbroken : (text bytes : List ℕ) → bytes_of_hex text ≡ Some bytes → is_unbroken text ≡ true
+bytes_unbroken [] bytes is = refl
+bytes_unbroken (digit ∷ []) bytes is = absurd (none-some bytes is)
+bytes_unbroken (high ∷ low ∷ rest) bytes is =
+    elim (hex_digit_of high) as (λ h. hex_digit_of high ≡ h →
+    option_and_then (λ byte. option_map (λ bytes. byte ∷ bytes) (bytes_of_hex rest)) (option_and_then (λ h. option_map (λ l. h * 16 + l) (hex_digit_of low)) h) ≡ Some bytes → is_unbroken (high ∷ low ∷ rest) ≡ true) [
+      | None ↦ λ at none. absurd (none-some bytes none)
+      | Some h ↦ λ at.
+          elim (hex_digit_of low) as (λ l. hex_digit_of low ≡ l →
+          option_and_then (λ byte. option_map (λ bytes. byte ∷ bytes) (bytes_of_hex rest)) (option_map (λ l. h * 16 + l) l) ≡ Some bytes → is_unbroken (high ∷ low ∷ rest) ≡ true) [
+            | None ↦ λ too none. absurd (none-some bytes none)
+            | Some l ↦ λ too.
+                elim (bytes_of_hex rest) as (λ left. bytes_of_hex rest ≡ left →
+                option_map (λ bytes. (h * 16 + l) ∷ bytes) left ≡ Some bytes → is_unbroken (high ∷ low ∷ rest) ≡ true) [
+                  | None ↦ λ there none. absurd (none-some bytes none)
+                  | Some left ↦ λ there some. and_both (not (is_blank high)) (is_unbroken (low ∷ rest)) (hex_sign high h at) (and_both (not (is_blank low)) (is_unbroken rest) (hex_sign low l too) (bytes_unbroken rest left there))
+                ] refl
+          ] refl
+    ] refl is
+
+bytes_are_word : ReadsWords some_bytes_of_hex
+bytes_are_word text bytes is =
+    let more : nat_lt 0 (length text) ≡ true = some_if _ (bytes_of_hex text) bytes is in
+    some_word text more (bytes_unbroken text bytes (some_then (nat_lt 0 (length text)) (bytes_of_hex text) bytes is))
+
+name_sign : KeepsBlanksOut is_name_byte
+name_sign b byte = grind (arith, nat_tests)
+
+is_name_word : (text : List ℕ) → is_name text ≡ true → is_word text ≡ true
+is_name_word text is =
+    let some : nat_le 1 (length text) ≡ true = and_left _ _ (and_left _ _ is) in
+    let more : nat_lt 0 (length text) ≡ true = grind (arith, nat_tests) in
+    some_word text more (all_unbroken is_name_byte name_sign text (and_right _ _ is))
+
+name_is_word : ReadsWords name_of
+name_is_word text name is = is_name_word text (some_if _ (Some text) name is)
+
+-- ---- forms whose arguments pass as they stand
+
+-- of what stands behind a form's word the first word passes, and so does what follows it, where that is no text in quotes
+record Passes (form arguments : List ℕ) : Type 0 where
+  word : is_word (first_word arguments).word ≡ true
+  sized : word_text form (first_word arguments).word ≡ (first_word arguments).word
+  tail : is_quoted (tail_of form (behind_word (first_word arguments).rest)) ≡ false →
+      tail_text (tail_of form (behind_word (first_word arguments).rest)) ≡ behind_word (first_word arguments).rest
+
+-- where there is nothing, nothing comes of it
+record PassesNone (form : List ℕ) : Type 0 where
+  sized : word_text form [] ≡ []
+  tail : tail_text (tail_of form []) ≡ []
+
+abbrev PassesBehind : List ℕ → Option (List ℕ) → Type 0
+PassesBehind form None = PassesNone form
+PassesBehind form (Some arguments) = Passes form arguments
+
+-- a form lets through what it reads
+record Lets (form : Form) : Type 0 where
+  word : is_word form.word ≡ true
+  passes : (arguments : Option (List ℕ)) (call : Call) → form.call arguments ≡ Some call → PassesBehind form.word arguments
+
+none_lets : (form : List ℕ) (call : Call) → is_word form ≡ true → PassesNone form → Lets (record { word = form; call = of_none call })
+none_lets form call word nothing = record { word = word; passes = go }
+  where
+    go : (arguments : Option (List ℕ)) (made : Call) → of_none call arguments ≡ Some made → PassesBehind form arguments
+    go None made is = nothing
+    go (Some arguments) made is = absurd (none-some made is)
+
+one_lets : {X : Type 0} (form : List ℕ) (call : X → Call) (read : List ℕ → Option X) → is_word form ≡ true → ReadsWords read
+    → ((text : List ℕ) (x : X) → read text ≡ Some x → word_text form text ≡ text) → tail_text (tail_of form []) ≡ []
+    → Lets (record { word = form; call = of_one call read })
+one_lets {X = X} form call read word reads sized none = record { word = word; passes = go }
+  where
+    passes : (arguments : List ℕ) (x : X) → read arguments ≡ Some x → Passes form arguments
+    passes arguments x is =
+        let only : first_word arguments ≡ record { word = arguments; rest = None } = first_unbroken arguments (unbroken_word arguments (reads arguments x is)) in
+        record { word = rw only (reads arguments x is); sized = rw only (sized arguments x is); tail = rw only (λ unquoted. none) }
+
+    go : (arguments : Option (List ℕ)) (made : Call) → of_one call read arguments ≡ Some made → PassesBehind form arguments
+    go None made is = absurd (none-some made is)
+    go (Some arguments) made is =
+        elim (read arguments) as (λ found. read arguments ≡ found → option_map call found ≡ Some made → Passes form arguments) [
+          | None ↦ λ found none. absurd (none-some made none)
+          | Some x ↦ λ found some. passes arguments x found
+        ] refl is
+
+-- words behind a form that has no text in quotes
+abbrev HasWords : List ℕ → Type 0
+HasWords form = (rest : List ℕ) → is_quoted (tail_of form rest) ≡ false → tail_of form rest ≡ Words rest
+
+abbrev Keeps : List ℕ → Type 0
+Keeps form = (rest : List ℕ) → is_quoted (tail_of form rest) ≡ false → tail_of form rest ≡ Kept rest
+
+two_lets : {X Y : Type 0} (form : List ℕ) (call : X → Y → Call) (first : List ℕ → Option X) (second : List ℕ → Option Y) → is_word form ≡ true
+    → ReadsWords first → ReadsWords second → ((text : List ℕ) → word_text form text ≡ text) → HasWords form
+    → Lets (record { word = form; call = of_two call first second })
+two_lets {X = X} {Y = Y} form call first second word reads_first reads_second sized words = record { word = word; passes = go }
+  where
+    passes : (arguments rest : List ℕ) (x : X) (y : Y) → (first_word arguments).rest ≡ Some rest → first (first_word arguments).word ≡ Some x → second rest ≡ Some y → Passes form arguments
+    passes arguments rest x y more one two = record {
+      word = reads_first (first_word arguments).word x one;
+      sized = sized (first_word arguments).word;
+      tail = rw more (λ unquoted. rw (words (32 ∷ rest) unquoted) (words_of_one rest (reads_second rest y two)));
+    }
+
+    go : (arguments : Option (List ℕ)) (made : Call) → of_two call first second arguments ≡ Some made → PassesBehind form arguments
+    go None made is = absurd (none-some made is)
+    go (Some arguments) made is =
+        elim (first (first_word arguments).word) as (λ one. first (first_word arguments).word ≡ one →
+        option_and_then (λ x. option_map (call x) (option_and_then second (first_word arguments).rest)) one ≡ Some made → Passes form arguments) [
+          | None ↦ λ at none. absurd (none-some made none)
+          | Some x ↦ λ at.
+              elim ((first_word arguments).rest) as (λ rest. (first_word arguments).rest ≡ rest → option_map (call x) (option_and_then second rest) ≡ Some made → Passes form arguments) [
+                | None ↦ λ there none. absurd (none-some made none)
+                | Some rest ↦ λ there.
+                    elim (second rest) as (λ two. second rest ≡ two → option_map (call x) two ≡ Some made → Passes form arguments) [
+                      | None ↦ λ too none. absurd (none-some made none)
+                      | Some y ↦ λ too some. passes arguments rest x y there at too
+                    ] refl
+              ] refl
+        ] refl is
+
+text_lets : {X : Type 0} (form : List ℕ) (call : X → List ℕ → Call) (first : List ℕ → Option X) → is_word form ≡ true
+    → ReadsWords first → ((text : List ℕ) → word_text form text ≡ text) → Keeps form
+    → Lets (record { word = form; call = of_text call first })
+text_lets {X = X} form call first word reads sized keeps = record { word = word; passes = go }
+  where
+    kept : (rest : Option (List ℕ)) → tail_text (Kept (behind_word rest)) ≡ behind_word rest
+    kept None = refl
+    kept (Some rest) = refl
+
+    go : (arguments : Option (List ℕ)) (made : Call) → of_text call first arguments ≡ Some made → PassesBehind form arguments
+    go None made is = absurd (none-some made is)
+    go (Some arguments) made is =
+        elim (first (first_word arguments).word) as (λ one. first (first_word arguments).word ≡ one →
+        option_map (λ x. call x (unwrap_or (first_word arguments).rest [])) one ≡ Some made → Passes form arguments) [
+          | None ↦ λ at none. absurd (none-some made none)
+          | Some x ↦ λ at some. record {
+            word = reads (first_word arguments).word x at;
+            sized = sized (first_word arguments).word;
+            tail = λ unquoted. rw (keeps (behind_word (first_word arguments).rest) unquoted) (kept (first_word arguments).rest);
+          }
+        ] refl is
+
+-- where no text in quotes is found there is what stands for it
+unquoted_other : (other : Tail) (front text : List ℕ) → is_quoted (quoted_or other front text) ≡ false → quoted_or other front text ≡ other
+unquoted_other other front text =
+    elim (inside_quotes text) as (λ inside. is_quoted (option_map_or (λ i. Quoted front i (length text - 1)) inside other) ≡ false → option_map_or (λ i. Quoted front i (length text - 1)) inside other ≡ other) [
+      | None ↦ λ unquoted. refl
+      | Some inside ↦ λ unquoted. absurd (true≢false unquoted)
+    ]
+
+keeps_request : (rest : List ℕ) → is_quoted (request_tail rest) ≡ false → request_tail rest ≡ Kept rest
+keeps_request rest =
+    let tail : Option (List ℕ) → Tail = λ (found : Option (List ℕ)). option_map_or (λ text. quoted_or (Kept rest) (take (length (drop 1 rest) - (length text + 1)) (drop 1 rest)) text) found (Kept rest) in
+    elim (text_written (drop 1 rest)) as (λ found. is_quoted (tail found) ≡ false → tail found ≡ Kept rest) [
+      | None ↦ λ unquoted. refl
+      | Some text ↦ λ unquoted. unquoted_other (Kept rest) (take (length (drop 1 rest) - (length text + 1)) (drop 1 rest)) text unquoted
+    ]
+
+abbrev AllLet : List Form → Type 0
+AllLet [] = Unit {0}
+AllLet (form ∷ rest) = Lets form × AllLet rest
+
+size_is : (text : List ℕ) (n : ℕ) → number_of text ≡ Some n → size_text text ≡ text
+size_is text n is = rw is refl
+
+forms_let : AllLet forms
+forms_let = (
+  one_lets (codes "alloc") _ number_of refl number_is_word size_is refl,
+  (
+    one_lets (codes "free") _ number_of refl number_is_word (λ text n is. refl) refl,
+    (
+      one_lets (codes "attach") _ number_of refl number_is_word (λ text n is. refl) refl,
+      (
+        two_lets (codes "attach_at") _ number_of address_of refl number_is_word address_is_word (λ text. refl) (λ rest unquoted. refl),
+        (
+          one_lets (codes "detach") _ address_of refl address_is_word (λ text a is. refl) refl,
+          (
+            two_lets (codes "peek") _ address_of number_of refl address_is_word number_is_word (λ text. refl) (λ rest unquoted. refl),
+            (
+              two_lets (codes "poke") _ address_of some_bytes_of_hex refl address_is_word bytes_are_word (λ text. refl) (λ rest. unquoted_other (Words rest) [] (skip_blanks rest)),
+              (
+                none_lets (codes "capalloc") _ refl (record { sized = refl; tail = refl }),
+                (
+                  one_lets (codes "capfree") _ number_of refl number_is_word (λ text n is. refl) refl,
+                  (
+                    one_lets (codes "new") _ number_of refl number_is_word size_is refl,
+                    (
+                      one_lets (codes "del") _ address_of refl address_is_word (λ text a is. refl) refl,
+                      (
+                        one_lets (codes "snew") _ number_of refl number_is_word size_is refl,
+                        (
+                          one_lets (codes "sdel") _ address_of refl address_is_word (λ text a is. refl) refl,
+                          (
+                            text_lets (codes "open") Call.Open name_of refl name_is_word (λ text. refl) (λ rest unquoted. refl),
+                            (
+                              text_lets (codes "upgrade") Call.Upgrade number_of refl number_is_word (λ text. refl) (λ rest unquoted. refl),
+                              (
+                                text_lets (codes "call") Call.CallSession number_of refl number_is_word (λ text. refl) keeps_request,
+                                (
+                                  one_lets (codes "close") _ number_of refl number_is_word (λ text n is. refl) refl,
+                                  (
+                                    none_lets (codes "exit") _ refl (record { sized = refl; tail = refl }),
+                                    (
+                                      none_lets (codes "quota") _ refl (record { sized = refl; tail = refl }),
+                                      tt,
+                                    ),
+                                  ),
+                                ),
+                              ),
+                            ),
+                          ),
+                        ),
+                      ),
+                    ),
+                  ),
+                ),
+              ),
+            ),
+          ),
+        ),
+      ),
+    ),
+  ),
+)
+
+-- the form of a call, and what stands behind it
+record IsForm (word : List ℕ) (arguments : Option (List ℕ)) : Type 0 where
+  word_is : is_word word ≡ true
+  passes : PassesBehind word arguments
+
+form_in : (list : List Form) → AllLet list → (word : List ℕ) (arguments : Option (List ℕ)) (call : Call) → call_in list word arguments ≡ Some call → IsForm word arguments
+form_in [] all word arguments call is = absurd (none-some call is)
+form_in (form ∷ rest) all word arguments call is =
+    elim (bytes_eq word form.word) as (λ t. bytes_eq word form.word ≡ t → cond t (form.call arguments) (call_in rest word arguments) ≡ Some call → IsForm word arguments) [
+      | true ↦ λ same found.
+          let e : word ≡ form.word = (bytes_eq-Decides word form.word).0 same in
+          subst (λ w. IsForm w arguments) (sym e) (record { word_is = all.0.word; passes = all.0.passes arguments call found })
+      | false ↦ λ other found. form_in rest all.1 word arguments call found
+    ] refl is
+
+-- ---- whole calls
+
+-- the parts of a call spell it
+spells : (name form : List ℕ) (arguments : Option (List ℕ)) → is_word name ≡ true → IsForm form arguments
+    → is_quoted (parts_of (name ++ behind_word (Some (form ++ behind_word arguments)))).tail ≡ false
+    → spelled (parts_of (name ++ behind_word (Some (form ++ behind_word arguments)))) ≡ name ++ behind_word (Some (form ++ behind_word arguments))
+spells name form None is call =
+    rw (next_is name (Some (form ++ behind_word None)) is, next_is form None call.word_is)
+    (λ unquoted. rw (call.passes.sized, call.passes.tail, spaced_word form call.word_is) refl)
+spells name form (Some arguments) is call =
+    let word : List ℕ = (first_word arguments).word in
+    let rest : Option (List ℕ) = (first_word arguments).rest in
+    let whole : arguments ≡ word ++ behind_word rest = word_and_behind arguments in
+    let third : next_word arguments ≡ record { word = word; rest = behind_word rest } = ap next_word whole ∙ next_is word rest call.passes.word in
+    rw (next_is name (Some (form ++ behind_word (Some arguments))) is, next_is form (Some arguments) call.word_is, third)
+    (λ unquoted. rw (call.passes.sized, call.passes.tail unquoted, spaced_word form call.word_is, spaced_word word call.passes.word)
+    (ap (λ a. name ++ 32 ∷ (form ++ 32 ∷ a)) (sym whole)))
+
+-- what a call of the grammar says
+record SaysCall (line : List ℕ) : Type 0 where
+  named : is_name (first_word line).word ≡ true
+  text : List ℕ
+  behind : (first_word line).rest ≡ Some text
+  call : Call
+  says : form_of text ≡ Some call
+
+says_call : (line : List ℕ) → is_some (spoken line) ≡ true → SaysCall line
+says_call line is =
+    let tells : Call → Spoken = λ (call : Call). record { name = (first_word line).word; call = call } in
+    elim (is_name (first_word line).word) as (λ t. is_name (first_word line).word ≡ t → is_some (cond t (option_map tells (option_and_then form_of (first_word line).rest)) None) ≡ true → SaysCall line) [
+      | false ↦ λ other none. absurd (true≢false (sym none))
+      | true ↦ λ named some.
+          elim ((first_word line).rest) as (λ rest. (first_word line).rest ≡ rest → is_some (option_map tells (option_and_then form_of rest)) ≡ true → SaysCall line) [
+            | None ↦ λ at none. absurd (true≢false (sym none))
+            | Some text ↦ λ at some.
+                elim (form_of text) as (λ found. form_of text ≡ found → is_some (option_map tells found) ≡ true → SaysCall line) [
+                  | None ↦ λ there none. absurd (true≢false (sym none))
+                  | Some call ↦ λ there some. record { named = named; text = text; behind = at; call = call; says = there }
+                ] refl some
+          ] refl some
+    ] refl is
+
+-- how a line begins that begins with a name
+record BeginsCall (line : List ℕ) : Type 0 where
+  unmarked : nat_eq (slice_index line 0) 33 ≡ false
+  text : (nat_eq (length line) 0 || nat_eq (slice_index line 0) 35) ≡ false
+  no_log : starts_with nat_eq line (codes "=> ") ≡ false
+  skipped : skip_blanks line ≡ line
+
+begins : (name more : List ℕ) → is_name name ≡ true → BeginsCall (name ++ more)
+begins [] more is = absurd (true≢false (sym is))
+begins (b ∷ bs) more is =
+    let sign : is_name_byte b ≡ true = and_left (is_name_byte b) (list_all is_name_byte bs) (and_right _ (list_all is_name_byte (b ∷ bs)) is) in
+    let one : nat_eq b 33 ≡ false = grind (arith, nat_tests) in
+    let two : nat_eq b 35 ≡ false = grind (arith, nat_tests) in
+    let three : nat_eq 61 b ≡ false = grind (arith, nat_tests) in
+    let some : nat_eq (length ((b ∷ bs) ++ more)) 0 ≡ false = grind (arith, nat_tests) in
+    let blank : is_blank b ≡ false = not_true (is_blank b) (name_sign b sign) in
+    record { unmarked = one; text = rw (some, two) refl; no_log = rw three refl; skipped = rw blank refl }
+
+-- a call that isn't quoted has no escape
+no_fault : (count : ℕ) (tail : Tail) → is_quoted tail ≡ false → fault_in count tail ≡ None
+no_fault count (Words rest) unquoted = refl
+no_fault count (Kept rest) unquoted = refl
+no_fault count (Quoted front inside left) unquoted = absurd (true≢false unquoted)
+
+added_short : (line : List ℕ) → length line ≤ longest_line → added (Some []) line ≡ Some line
+unfolding added
+added_short line short = let fits : nat_le (length line) (longest_line - length {A = ℕ} []) ≡ true = grind (arith, nat_tests) in rw fits refl
+
+-- the line that a call is, where it spells itself
+call_said : (column : ℕ) (line : List ℕ) → IsPlain line → spelled (parts_of line) ≡ line → said_of_call column line None ≡ Ok (Said.Call line None)
+call_said column line plain spelt =
+    rw (no_fault (length line) (parts_of line).tail plain.unquoted, spelt, added_short line plain.short, plain.call) refl
+
+both_said : (column : ℕ) (line : List ℕ) → IsPlain line → said_of_both column line ≡ said_of_call column line None
+both_said column line plain = rw (plain.closed, plain.arrow) refl
+
+text_said : (column : ℕ) (line : List ℕ) → BeginsCall line → said_of_text column line ≡ said_of_both column line
+text_said column line front = rw (front.text, front.no_log) refl
+
+signs_said : (column : ℕ) (line : List ℕ) → BeginsCall line → without_return line ≡ line → said_of_signs column line ≡ said_of_text column line
+signs_said column line front ending = rw front.unmarked (ap (said_of_text column) ending)
+
+pub plain_lines_pass : PlainLinesPass
+plain_lines_pass line plain =
+    let says : SaysCall line = says_call line plain.call in
+    let name : List ℕ = (first_word line).word in
+    let form : List ℕ = (first_word says.text).word in
+    let arguments : Option (List ℕ) = (first_word says.text).rest in
+    let whole : line ≡ name ++ behind_word (Some (form ++ behind_word arguments)) =
+    word_and_behind line ∙ ap (λ r. name ++ behind_word r) says.behind ∙ ap (λ t. name ++ 32 ∷ t) (word_and_behind says.text) in
+    let spelt : spelled (parts_of line) ≡ line =
+    subst (λ l. is_quoted (parts_of l).tail ≡ false → spelled (parts_of l) ≡ l) (sym whole)
+    (spells name form arguments (is_name_word name says.named) (form_in forms forms_let form arguments says.call says.says)) plain.unquoted in
+    let front : BeginsCall line = subst BeginsCall (sym whole) (begins name (behind_word (Some (form ++ behind_word arguments))) says.named) in
+    let column : ℕ = length line - length line + 1 in
+    ap (λ s. said_of_signs (length line - length s + 1) s) front.skipped
+    ∙ signs_said column line front plain.ending ∙ text_said column line front ∙ both_said column line plain ∙ call_said column line plain spelt
