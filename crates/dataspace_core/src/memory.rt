@@ -1,5 +1,5 @@
 //! Dataspaces over a pool of pages and the books of accounts.
-ghost use Rattle.std.specs.Prelude.{◌≡◌, ◌+◌, ◌%◌, ◌^◌, ◌<◌, ◌≤◌, length, if◌then◌else◌, Some, None, IsSome, IfOk, IfErr, IfSome, OnOk, OnErr, slice_range};
+ghost use Rattle.std.specs.Prelude.{◌≡◌, ◌+◌, ◌*◌, ◌/◌, ◌%◌, ◌^◌, ◌<◌, ◌≤◌, length, if◌then◌else◌, Some, None, IsSome, IfOk, IfErr, IfSome, OnOk, OnErr, slice_range};
 ghost use Rattle.std.specs.Result.{result_err};
 ghost use Rattle.std.specs.FinMap.{get, len};
 ghost use Rattle.trade_base.specs.Page.{is_valid_size, page_of};
@@ -147,6 +147,15 @@ impl Memory {
         ensures { result ≡ length (space_at self.now ds.0).bytes }
     {
         size_of(space_under(&self.spaces, ds))
+    }
+
+    /// How many pages a dataspace has: no more than the machine.
+    pub fn pages(&self, ds: DsId) -> u64
+        requires { Exists self.now ds.0 }
+        ensures pages { result ≡ length (space_at self.now ds.0).bytes / 4096 }
+        ensures few { result * 4096 ≤ ram_limits_in self.now }
+    {
+        size_of(space_under(&self.spaces, ds)) / PAGE
     }
 
     /// Fills `buffer` with the bytes of a dataspace from `offset` on.

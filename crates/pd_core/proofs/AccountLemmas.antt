@@ -28,7 +28,7 @@ use Rattle.cap_space.specs.declared.cap.Cap.TheVariants.{Dataspace, RpcObject, S
 use Rattle.region_map.specs.Regions.{Regions, all_detached}
 use Rattle.dataspace_core.specs.Store.{Part, account_of, part_with_space, part_without_space, charged_part, credited_part, bytes_of}
 use Rattle.pd_core.specs.Own.{Sessions, object_of, selector_of, regions_of, own_of, Lent, key_at}
-use Rattle.pd_core.specs.Sound.{rpc_weight, IsScript}
+use Rattle.pd_core.specs.Sound.{rpc_weight, buffer_at, IsScript}
 use Rattle.pd_core.proofs.NameLemmas.{is_named, named_is}
 use Rattle.pd_core.proofs.OwnLemmas.{Settles, same_window, before, object_is, has_bytes, names_object, grows, shrinks}
 
@@ -92,7 +92,8 @@ module _ {L : Lent} (p : Part) (space : Space) (regions : Regions) (heap : OwnHe
   pub alloc_fits : (n : ℕ) → None ≡ alloc_refusal n (account_of p) → Fits (account_of p) (page_of n) 1
   alloc_fits n accepted = covers _ _ _ (accepted_size n _ (sym accepted))
 
-  module _ (n : ℕ) (accepted : None ≡ alloc_refusal n (account_of p)) (ds : DsId) (free : get p.spaces ds.0 ≡ None) where
+  module _ (n : ℕ) (accepted : None ≡ alloc_refusal n (account_of p)) (ds : DsId) (free : get p.spaces ds.0 ≡ None)
+      (not_lent : (q of key : ℕ) → buffer_at (get space.caps q) ≡ Some (of, key) → key ≢ ds.0) where
     -- the dataspaces with the new one
     abbrev more : NatMap (List ℕ)
     more = insert p.spaces ds.0 (zeros (page_of n))
@@ -106,7 +107,8 @@ module _ {L : Lent} (p : Part) (space : Space) (regions : Regions) (heap : OwnHe
         (λ key there. get-insert_other p.spaces ds.0 (zeros (page_of n)) key (apart_from_free p.spaces ds.0 key free there))
         (λ d is. ap (get p.spaces) (sym (same_key ds d is)) ∙ free)
         (omega (arith, len-insert_new p.spaces ds.0 (zeros (page_of n)) free)) refl
-        (λ d is. ap (λ k. is_some (get more k)) (sym (same_key ds d is)) ∙ ap is_some fits) (λ of session is. cc)
+        (λ d is. ap (λ k. is_some (get more k)) (sym (same_key ds d is)) ∙ ap is_some fits) refl
+        (λ q of key has h. not_lent q of key has (sym (same_Some ds.0 key h)))
         (λ sessions. ap (option_map ADataspace) fits) s least
         (λ sessions. let b = before p space regions heap sliced sound sessions in ap (λ r. unless r b (allocated n b)) (sym accepted))
 
@@ -143,7 +145,7 @@ module _ {L : Lent} (p : Part) (space : Space) (regions : Regions) (heap : OwnHe
           shrinks p space regions heap sliced sound (Free s) (length (bytes_of p ds.0)) (remove p.spaces ds.0) (Dataspace ds) s named (all_detached regions ds.0)
           (λ q d there. get-remove_other p.spaces ds.0 d.0 (rest_apart q d there)) left
           (λ start region there. get-remove_other p.spaces ds.0 region.of (λ e. sound.blocks.unnamed start s region ds there named (sym e)))
-          (omega (arith, len-remove_at p.spaces ds.0 (bytes_of p ds.0) has)) refl (record { heap = refl; tags = refl; most = refl; pages = refl }) refl
+          (omega (arith, len-remove_at p.spaces ds.0 (bytes_of p ds.0) has)) refl (record { heap = refl; tags = refl; most = refl; pages = refl }) refl refl
           (λ sessions. let b = before p space regions heap sliced sound sessions in
           ap (λ o. freed s o b) (names_object p space regions heap sliced sound sessions s ds named)
           ∙ (λ i. record { reply = Done; lines = []; next = record b { account = credited b.account (length (bytes_of p ds.0)) 1; selectors = remove b.selectors s; regions = sym map i } }))
@@ -163,7 +165,7 @@ module _ {L : Lent} (p : Part) (space : Space) (regions : Regions) (heap : OwnHe
   pub capalloc_settles : None ≡ shortage (account_of p) 0 1 → (s : ℕ) → s ≡ new_selector space.caps → Settles L Capalloc p space regions heap sliced (Selected s) (charged_part p 1) (with_cap space s RpcObject) regions
   unfolding own_of
   capalloc_settles accepted s least =
-      grows p space regions heap sliced sound Capalloc 0 p.spaces RpcObject AnRpcObject (λ key there. refl) (λ ds is. cc) refl refl (λ ds is. cc) (λ of session is. cc) (λ sessions. refl) s least
+      grows p space regions heap sliced sound Capalloc 0 p.spaces RpcObject AnRpcObject (λ key there. refl) (λ ds is. cc) refl refl (λ ds is. cc) refl (λ q of key has h. none-some key h) (λ sessions. refl) s least
       (λ sessions. let b = before p space regions heap sliced sound sessions in ap (λ r. unless r b (cap_allocated b)) (sym accepted))
 
   -- ---- capfree
@@ -189,6 +191,6 @@ module _ {L : Lent} (p : Part) (space : Space) (regions : Regions) (heap : OwnHe
       unfolding own_of
       capfree_settles =
           shrinks p space regions heap sliced sound (Capfree s) 0 p.spaces RpcObject s named regions (λ q d there. refl) (λ start region there. (there, not_attached region.of))
-          (λ start region there. refl) refl refl same_window refl
+          (λ start region there. refl) refl refl same_window refl refl
           (λ sessions. let b = before p space regions heap sliced sound sessions in
           ap (λ o. cap_freed s o b) (object_is p space regions heap sliced sound sessions s ∙ ap (option_and_then (object_of L sessions p)) named))

@@ -7,13 +7,14 @@ use Rattle.std.proofs.lemmas.Bool.Decides.{nat_tests}
 use Rattle.std.specs.FinMap.{get, insert}
 use Rattle.trade_base.specs.declared.refusal.Refusal.{Refusal}
 use Rattle.trade_base.specs.declared.refusal.Refusal.TheVariants.{PageFault}
+use Rattle.trade_base.specs.Bytes.{with_bytes}
 use Rattle.trade_base.specs.declared.id.DsId.{DsId}
 use Rattle.own_model.specs.Call.Call.{Peek, Poke}
 use Rattle.own_model.specs.OwnState.Object.{Dataspace as ADataspace}
 use Rattle.own_model.specs.OwnStep.{Outcome, refused, unless, count_refusal, most_bytes, peeked, poked, script_step}
 use Rattle.own_model.specs.NatMap.{NatMap}
 use Rattle.own_model.specs.OwnHeap.{OwnHeap}
-use Rattle.own_model.specs.OwnState.{OwnState, named_bytes}
+use Rattle.own_model.specs.OwnState.{OwnState, Object, named_bytes, object_with, with_part}
 use Rattle.own_model.specs.Place.{Place, in_dataspace, in_payload, in_block, found}
 use Rattle.own_model.specs.Sliced.{block_found}
 use Rattle.own_model.specs.Region.{resolved}
@@ -21,7 +22,6 @@ use Rattle.own_model.specs.Reply.Reply.{Bytes, Done}
 use Rattle.own_model.proofs.CallLemmas.{peeks, pokes}
 use Rattle.own_model.proofs.RangeLemmas.{range_fits, with_part-within}
 use Rattle.own_model.proofs.RegionLemmas.{resolved_renamed, resolved_facts}
-use Rattle.own_model.proofs.UseLemmas.{length-with_part}
 use Rattle.own_model.proofs.NatMapLemmas.{some_of}
 use Rattle.cap_space.specs.Space.{Space}
 use Rattle.cap_space.specs.declared.cap.Cap.TheVariants.{Dataspace}
@@ -29,8 +29,8 @@ use Rattle.region_map.specs.Regions.{Regions}
 use Rattle.dataspace_core.specs.Store.{Part, bytes_of, part_with_bytes}
 use Rattle.pd_core.specs.Own.{Sessions, selector_of, regions_of, own_of, range_refusal, Lent}
 use Rattle.pd_core.specs.Sound.{IsScript}
-use Rattle.pd_core.proofs.NameLemmas.{Names, is_named, space_named}
-use Rattle.pd_core.proofs.OwnLemmas.{Settles, all_sessions, before, has_bytes, names_object, rewrites}
+use Rattle.pd_core.proofs.NameLemmas.{Names, IsOwn, is_named}
+use Rattle.pd_core.proofs.OwnLemmas.{Settles, all_sessions, before, names_object, rewrites}
 
 -- what refuses a range refuses a call that looks at the count and then at what is found
 ranges_refused : (b : OwnState) (step : Option Place → Outcome) (rename : ℕ × ℕ → Option (ℕ × ℕ)) → step None ≡ refused b PageFault → (refusal : Refusal) (count : Option Refusal) (region sliced block : Option (ℕ × ℕ)) →
@@ -94,50 +94,52 @@ module _ {L : Lent} (p : Part) (space : Space) (regions : Regions) (heap : OwnHe
 
   module _ (key offset : ℕ) (some : count_refusal count ≡ None) (at : resolved regions.user address count ≡ Some (key, offset)) where
     -- a selector names the dataspace that is found
-    abbrev selector : (s : ℕ) × (selector_of space.caps key ≡ Some s)
+    abbrev pub selector : (s : ℕ) × (selector_of space.caps key ≡ Some s)
     selector =
         let facts = resolved_facts regions.user address count key offset at in
         some_of (selector_of space.caps key) (subst (λ k. IsSome (selector_of space.caps k)) facts.3 (sound.attached facts.0.0 facts.0.1 facts.2))
 
     -- it names the dataspace under the key
-    names : Names space.caps selector.0 key
+    pub names : Names space.caps selector.0 key
     names = is_named space.caps key selector.0 selector.1
 
-    -- it is one of the script's own
-    abbrev its : (ds : DsId) × (get space.caps selector.0 ≡ Some (Dataspace ds)) × (ds.0 ≡ key)
-    its = space_named (get space.caps selector.0) key names (λ of session. sound.named.unlent selector.0 of session)
-
-    -- the part has its bytes
-    pub has : get p.spaces key ≡ Some (bytes_of p key)
-    has = subst (λ k. get p.spaces k ≡ Some (bytes_of p k)) its.2 (has_bytes p space regions heap sliced sound selector.0 its.0 its.1)
-
-    -- in the own state the selector names these bytes
-    object : (sessions : Sessions) → get (own sessions).selectors selector.0 ≡ Some (ADataspace (bytes_of p key))
-    object sessions = subst (λ k. get (own sessions).selectors selector.0 ≡ Some (ADataspace (bytes_of p k))) its.2 (names_object p space regions heap sliced sound sessions selector.0 its.0 its.1)
-
     -- the own state finds the range under that selector, at the same offset
-    own_found : (sessions : Sessions) → resolved (own sessions).regions address count ≡ Some (selector.0, offset)
+    pub own_found : (sessions : Sessions) → resolved (own sessions).regions address count ≡ Some (selector.0, offset)
     own_found sessions =
         renamed_is sessions ∙ ap (option_and_then (λ (x : ℕ × ℕ). option_map (λ other. (other, x.1)) (selector_of space.caps x.0))) at
         ∙ ap (option_map (λ other. (other, offset))) selector.1
 
-    -- the range lies within the bytes
-    pub fits : offset + count ≤ length (bytes_of p key)
-    fits =
-        let law = (sound.lawful all_sessions (λ q server session there. refl)).sound in
-        let range = range_fits (own all_sessions) address count selector.0 offset law (own_found all_sessions) in
-        subst (λ (l : List ℕ). offset + count ≤ length l) (same_Some range.0 (bytes_of p key) (sym range.1 ∙ ap named_bytes (object all_sessions))) range.2
+    module _ (bytes : List ℕ) (has : (sessions : Sessions) → named_bytes (get (own sessions).selectors selector.0) ≡ Some bytes) where
+      -- the range lies within the bytes that the selector names
+      pub fits : offset + count ≤ length bytes
+      fits =
+          let law = (sound.lawful all_sessions (λ q server session there. refl)).sound in
+          let range = range_fits (own all_sessions) address count selector.0 offset law (own_found all_sessions) in
+          subst (λ (l : List ℕ). offset + count ≤ length l) (same_Some range.0 bytes (sym range.1 ∙ has all_sessions)) range.2
 
-    -- a peek tells the bytes of the dataspace
-    pub peek_is : (sessions : Sessions) → record { reply = Bytes (slice_range (bytes_of p key) offset (offset + count)); lines = []; next = own sessions } ≡ script_step (Peek address count) (own sessions)
-    peek_is sessions = sym (peeks (own sessions) address count selector.0 offset (bytes_of p key) some (own_found sessions) (ap named_bytes (object sessions)))
+      -- a peek tells these
+      pub peek_is : (sessions : Sessions) → record { reply = Bytes (slice_range bytes offset (offset + count)); lines = []; next = own sessions } ≡ script_step (Peek address count) (own sessions)
+      peek_is sessions = sym (peeks (own sessions) address count selector.0 offset bytes some (own_found sessions) (has sessions))
 
-    -- a poke puts its bytes over those of the dataspace
-    pub poke_settles : (bytes : List ℕ) → count ≡ length bytes → Settles L (Poke address bytes) p space regions heap sliced Done (part_with_bytes p key offset bytes) space regions
-    poke_settles bytes size =
-        let over = with_part-within (bytes_of p key) offset bytes (subst (λ n. offset + n ≤ length (bytes_of p key)) size fits) in
-        rewrites p space regions heap sliced sound (Poke address bytes) key selector.0 _ names (ap length (sym over) ∙ length-with_part (bytes_of p key) offset bytes)
+      -- a poke puts its bytes over those of what the selector names
+      pub poke_is : (put : List ℕ) (object : Object) (sessions : Sessions) → count ≡ length put → get (own sessions).selectors selector.0 ≡ Some object →
+          script_step (Poke address put) (own sessions) ≡ record { reply = Done; lines = []; next = record (own sessions) { selectors = insert (own sessions).selectors selector.0 (object_with object offset put) } }
+      poke_is put object sessions size there =
+          pokes (own sessions) address selector.0 offset put object (ap count_refusal (sym size) ∙ some) (ap (resolved (own sessions).regions address) (sym size) ∙ own_found sessions) there
+
+      -- which are within them
+      pub put_over : (put : List ℕ) → count ≡ length put → with_part bytes offset put ≡ with_bytes bytes offset put
+      put_over put size = with_part-within bytes offset put (subst (λ n. offset + n ≤ length bytes) size fits)
+
+    -- a poke over bytes of the script's own settles
+    pub poke_settles : (put : List ℕ) → count ≡ length put → (its : IsOwn (get space.caps selector.0) key) → Settles L (Poke address put) p space regions heap sliced Done (part_with_bytes p key offset put) space regions
+    poke_settles put size its =
+        let ds = its.ds in
+        let object = λ (sessions : Sessions). names_object p space regions heap sliced sound sessions selector.0 ds its.is in
+        let has = λ (sessions : Sessions). ap named_bytes (object sessions) in
+        subst (λ k. Settles L (Poke address put) p space regions heap sliced Done (part_with_bytes p k offset put) space regions) its.key_is
+        (rewrites p space regions heap sliced sound (Poke address put) ds selector.0 _ its.is
         (λ sessions.
         let b = own sessions in
-        pokes b address selector.0 offset bytes (ADataspace (bytes_of p key)) (ap count_refusal (sym size) ∙ some) (ap (resolved b.regions address) (sym size) ∙ own_found sessions) (object sessions)
-        ∙ ap (λ l. record { reply = Done; lines = []; next = record b { selectors = insert b.selectors selector.0 (ADataspace l) } }) over)
+        poke_is (bytes_of p ds.0) has put (ADataspace (bytes_of p ds.0)) sessions size (object sessions)
+        ∙ ap (λ l. record { reply = Done; lines = []; next = record b { selectors = insert b.selectors selector.0 (ADataspace l) } }) (put_over (bytes_of p ds.0) has put size)))

@@ -14,12 +14,12 @@ use Rattle.dataspace_core.specs.Room.{HasRoom}
 use Rattle.dataspace_core.specs.Store.{Store, parents_in, root_in, IsOpenIn, IsChildIn}
 use Rattle.server_frame.specs.Frame.{Row}
 use Rattle.trade_base.specs.declared.id.SessionId.{SessionId}
-use Rattle.pd_core.specs.Component.{Pays, caps_in, places_in, own_in, NamesItsSessions, HasPlaces, IsSoundRole}
+use Rattle.pd_core.specs.Component.{Pays, caps_in, places_in, own_in, lent_of, lent_by, NamesItsSessions, HasPlaces, IsSoundRole}
 use Rattle.pd_core.specs.Core.{Roles, rows_at, sessions_in, Owner, Owns, NamesAccount, IsSoundCore}
 use Rattle.pd_core.specs.Core.Owner.{Init, Place, SessionAt}
 use Rattle.pd_core.specs.Own.{Sessions}
 use Rattle.pd_core.specs.Sessions.{row_session}
-use Rattle.pd_core.specs.Sound.{session_at}
+use Rattle.pd_core.specs.Sound.{session_at, buffer_at}
 use Rattle.pd_core.specs.declared.component.Role.{Role}
 use Rattle.pd_core.proofs.HeldLemmas.{same_place, not_place, client_pays}
 
@@ -42,7 +42,6 @@ pub record Follows (store : Store) (before : Role) (store' : Store) (after : Rol
 pub record IsTouched (store : Store) (roles : Roles) (i server id : ℕ) (was is : Option (Row Labelled)) : Type 0 where
   pub was_its : (row : Row Labelled) → was ≡ Some row → Pays (roles i) row.client
   pub is_its : (row : Row Labelled) → is ≡ Some row → Pays (roles i) row.client
-  pub unlent : (row : Row Labelled) → is ≡ Some row → row.buffer ≡ None
   pub alone : (account : ℕ) → option_map (λ (row : Row Labelled). row.key) is ≡ Some account → (owner : Owner) → Owns store roles owner account → owner ≡ SessionAt server id
 
 -- the component at a place changes, and perhaps one session of it, under a key of the server at another place; the other roles
@@ -138,11 +137,15 @@ module _ {i s key : ℕ} {store store' : Store} {roles roles' : Roles} (core : I
     | inr touched ↦ not_place i (core.apart Init (Place i) (root_in store) refl (subst (Pays (roles i)) (e ∙ changes.root) (touched.1.is_its row there)))
   ]
 
-  unlent_after : (server id : ℕ) (row : Row Labelled) → get (rows_at store' roles' server) id ≡ Some row → row.buffer ≡ None
-  unlent_after server id row there = elim (each_row server id) [
-    | inl same ↦ core.unlent server id row (sym same ∙ there)
-    | inr touched ↦ touched.1.unlent row there
-  ]
+  -- what the sessions lend that another than the caller names
+  lent_row : (k : ℕ) → k ≢ i → (q : ℕ) (o : Option (ℕ × SessionId)) → session_at (get (caps_in (roles k)) q) ≡ o → lent_by (rows_at store' roles') o ≡ lent_by (rows_at store roles) o
+  lent_row k other q None names = refl
+  lent_row k other q (Some named) names = ap lent_of (named_row k other q named.0 named.1 names)
+
+  same_lent : (k : ℕ) → k ≢ i → (q : ℕ) → lent_by (rows_at store' roles') (session_at (get (caps_in (roles' k)) q)) ≡ lent_by (rows_at store roles) (session_at (get (caps_in (roles k)) q))
+  same_lent k other q =
+      ap (λ (m : NatMap Cap). lent_by (rows_at store' roles') (session_at (get m q))) (changes.others k other).caps
+      ∙ lent_row k other q (session_at (get (caps_in (roles k)) q)) refl
 
   named_after : (k : ℕ) → k ≢ i → NamesItsSessions (rows_at store' roles') (roles' k)
   named_after k other =
@@ -154,6 +157,10 @@ module _ {i s key : ℕ} {store store' : Store} {roles roles' : Roles} (core : I
             let its = (core.named k).its q server session (was q server session names) in
             record { row = its.row; there = named_row k other q server session (was q server session names) ∙ its.there; client = follows.paid its.row.client its.client };
         once = λ p q server a b one two. (core.named k).once p q server a b (was p server a one) (was q server b two);
+        lent = λ p q key has. same_lent k other q ∙ (core.named k).lent p q key (ap (λ (m : NatMap Cap). buffer_at (get m p)) (sym follows.caps) ∙ has);
+        lends = λ q key lends.
+            let its = (core.named k).lends q key (sym (same_lent k other q) ∙ lends) in
+            (its.0, ap (λ (m : NatMap Cap). buffer_at (get m its.0)) follows.caps ∙ its.1);
       }
 
   held_after : (child parent : ℕ) → IsChildIn store' child parent → parent ≢ root_in store' → (place : ℕ) × NamesAccount (rows_at store' roles') (roles' place) child parent
@@ -189,7 +196,6 @@ module _ {i s key : ℕ} {store store' : Store} {roles roles' : Roles} (core : I
     children = λ k account pays. changes.children k account (was_place k account pays) pays ∙ core.children k account (was_place k account pays) ∙ ap Some (sym changes.root);
     apart = apart_after;
     clients = clients_after;
-    unlent = unlent_after;
     named = at_each (λ k. NamesItsSessions (rows_at store' roles') (roles' k)) changes.named named_after;
     placed = at_each (λ k. HasPlaces (sessions_in store' roles') store' (roles' k)) changes.placed (λ k other.
         subst (λ o. IfSome o (λ places. caps_limits (own_in (sessions_in store' roles') store' (roles' k)) ≤ places)) (sym (changes.others k other).places)

@@ -1,8 +1,9 @@
 -- Calls of a session between a script and a server: what they require follows from the core, and what they change is one
 -- session.
-use Rattle.std.proofs.Common.{◌≡◌, ◌≢◌, ℕ, ◌+◌, ◌<◌, ◌≤◌, Some, is_some, unwrap_or, refl, sym, ap, subst, ◌∙◌, arith}
+use Rattle.std.proofs.Common.{◌≡◌, ◌≢◌, ℕ, ◌+◌, ◌<◌, ◌≤◌, List, Some, is_some, unwrap_or, refl, sym, ap, subst, ◌∙◌, arith, inl, inr}
+use Rattle.std.proofs.lemmas.Bool.{cases_eq}
 use Rattle.std.specs.FinMap.{get, insert, remove}
-use Rattle.std.specs.Prelude.{Option, None, IfSome}
+use Rattle.std.specs.Prelude.{Option, None, IsSome, IfSome}
 use Rattle.std.specs.Option.{option_map}
 use Rattle.std.proofs.lemmas.Option.{none-some, same_Some}
 use Rattle.trade_base.specs.declared.id.SessionId.{SessionId}
@@ -10,36 +11,41 @@ use Rattle.own_model.specs.Account.{Account, Fits, opened, parted_with}
 use Rattle.own_model.specs.Donation.{raised}
 use Rattle.own_model.specs.Limits.{caps_limits, caps_with}
 use Rattle.own_model.specs.NatMap.{NatMap, total}
+use Rattle.own_model.specs.OwnState.{new_selector}
 use Rattle.own_model.specs.OwnState.Object.{OpenSession}
 use Rattle.own_model.specs.Session.{session_account, donation_refusal, Labelled}
 use Rattle.own_model.proofs.NatMapLemmas.{apart_from_free, some_of, value_at, get-insert_same, get-insert_other, get-remove_same, get-remove_other, before_remove}
+use Rattle.own_model.proofs.NewSelector.{new_selector_free}
 use Rattle.own_model.proofs.SessionLemmas.{donation_covered, large_enough}
 use Rattle.own_model.proofs.Totals.{total-remove, total_le, total-picked, total-insert_same}
-use Rattle.cap_space.specs.Space.{without_cap}
 use Rattle.cap_space.specs.declared.cap.Cap.{Cap}
 use Rattle.cap_space.specs.declared.cap.Cap.TheVariants.{Dataspace, RpcObject, Session, Buffer}
 use Rattle.dataspace_core.specs.Room.{IsOuter}
-use Rattle.dataspace_core.specs.Store.{Store, Part, part, account_in, account_of, accounts_in, parents_in, room_in, ram_limits_in, IsChildIn, IsOpenIn, PartBecomes, RaisesPart, ClosesPart}
+use Rattle.dataspace_core.specs.Store.{Store, Part, part, space_at, account_in, account_of, accounts_in, parents_in, room_in, ram_limits_in, IsChildIn, IsOpenIn, PartBecomes, RaisesPart, ClosesPart}
 use Rattle.dataspace_core.proofs.LimitLaws.{accounts_after}
-use Rattle.dataspace_core.proofs.PartLaws.{account_of-part, open_in_part, part_open}
+use Rattle.dataspace_core.proofs.PartLaws.{IsPaidBy, account_of-part, open_in_part, paid_in_part, part_open}
 use Rattle.dataspace_core.proofs.RoomLaws.{limits_moved, limits_opened, room_for_one_more, room_is_taken, room_is_raised, room_stays, room_is_given_back}
 use Rattle.server_frame.specs.declared.effect.Effect.{Effect}
 use Rattle.server_frame.specs.Frame.{new_row, OpensSession, ServesSession, Row}
 use Rattle.server_frame.specs.Session.{Served}
 use Rattle.server_frame.proofs.PlaceLaws.{opens_an_account}
 use Rattle.server_frame.proofs.RowLaws.{IsNoRows}
-use Rattle.pd_core.specs.Component.{places_in, rows_in, own_in, IsSessionOf, NamesItsSessions, HasPlace, IsSoundRole}
+use Rattle.pd_core.specs.Component.{caps_in, places_in, rows_in, own_in, IsSessionOf, lent_of, lent_by, NamesItsSessions, HasPlace, IsSoundRole}
 use Rattle.pd_core.specs.Core.{Roles, rows_at, sessions_in, Owner, Owns}
 use Rattle.pd_core.specs.Core.Owner.{Place, SessionAt}
 use Rattle.pd_core.specs.Own.{object_of, own_of, part_at, lent_in}
-use Rattle.pd_core.specs.Sessions.{row_session, NamesSession}
-use Rattle.pd_core.specs.Sound.{session_at, session_weight, IsSoundScript}
+use Rattle.pd_core.specs.Sessions.{row_session, IsLentAt, HoldsLent, NamesSession}
+use Rattle.pd_core.specs.Sound.{session_at, buffer_at, lent_from, IsOthers, AreOthers, session_weight, lent_weight, IsOne, IsSoundScript}
 use Rattle.pd_core.specs.declared.component.Role.TheVariants.{Script as AScript}
 use Rattle.pd_core.specs.declared.script.Script.{Script}
-use Rattle.pd_core.proofs.HeldLemmas.{no_place, owned_open, owns_row, pays_no_init, row_paid as paid_row}
-use Rattle.pd_core.proofs.ServerLemmas.{IsPaidRow, place_in}
-use Rattle.pd_core.proofs.SessionChangeLemmas.{AreTwo, MovesAccounts, IsTied, ChangesSession, at_script, pays_client}
-use Rattle.pd_core.proofs.SessionOpenLemmas.{NamesOpen, script_with}
+use Rattle.pd_core.proofs.HeldLemmas.{no_place, same_session, lender, owned_open, owns_row, pays_no_init, row_paid as paid_row}
+use Rattle.pd_core.proofs.LentPlaceLemmas.{alone_weight, lending_weight, lent_once, counted_by_sessions}
+use Rattle.pd_core.proofs.NameLemmas.{buffer_key, own_or_lent, lent_key, Names}
+use Rattle.pd_core.proofs.LentLemmas.{LendAlike, paid_still}
+use Rattle.pd_core.proofs.ServerLemmas.{IsPaidRow, lent_paid, sound_works, place_in}
+use Rattle.pd_core.proofs.SessionChangeLemmas.{AreTwo, MovesAccounts, IsTied, KeepsBut, lent_pair, ChangesSession, at_script, pays_client}
+use Rattle.pd_core.proofs.SessionTurnLemmas.{Turns}
+use Rattle.pd_core.proofs.SessionOpenLemmas.{NamesOpen, script_with, free_before}
 
 module _ {store : Store} {roles : Roles} {i s : ℕ} {script : Script} (two : AreTwo store roles i s script) where
   open two use {core, is_script, serving}
@@ -63,10 +69,35 @@ module _ {store : Store} {roles : Roles} {i s : ℕ} {script : Script} (two : Ar
   named = at_script two (NamesItsSessions (rows_at store roles)) (core.named i)
 
   -- a session has two capabilities
-  row_covers : (at id : ℕ) (row : Row Labelled) → get (rows_at store roles at) id ≡ Some row → 2 ≤ row.account.caps_limit
+  pub row_covers : (at id : ℕ) (row : Row Labelled) → get (rows_at store roles at) id ≡ Some row → 2 ≤ row.account.caps_limit
   row_covers at id row is =
       let paid = paid_row core at id row is in
       subst (λ (a : Account). 2 ≤ a.caps_limit) paid.account (core.room.paid row.key row.client paid.child (core.clients at id row is))
+
+  one : IsOne script.caps.caps
+  one = script_sound.own.named.one
+
+  -- ---- what other sessions lend
+
+  -- a call touches the client's account and one that nobody had but this session
+  module _ (account : ℕ) (id : ℕ) (alone : (owner : Owner) → Owns store roles owner account → owner ≡ SessionAt s id) (store' : Store)
+      (others : (other : ℕ) → other ≢ payer → other ≢ account → part other store' ≡ part other store) where
+    -- a buffer that another session lends stays what it is, and its payer is neither
+    pub lent_beside : (p by key : ℕ) → buffer_at (get script.caps.caps p) ≡ Some (by, key) → ((r : Row Labelled) → get rows id ≡ Some r → r.buffer ≡ Some key → ⊥) →
+        IsPaidBy (space_at store key).payer key (space_at store key).bytes store' × (((space_at store key).payer ≢ payer) × ((space_at store key).payer ≢ account))
+    lent_beside p by key has not_its =
+        let its = lender core i p by key (ap (λ r. buffer_at (get (caps_in r) p)) is_script ∙ has) in
+        let apart : (space_at store key).payer ≢ payer = λ e. no_place i its.server its.id (core.apart (SessionAt its.server its.id) (Place i) payer (its.owns ∙ ap Some e) (pays_client two)) in
+        let beside : (space_at store key).payer ≢ account = λ e.
+        let same = same_session its.server its.id s id (alone (SessionAt its.server its.id) (its.owns ∙ ap Some e)) in
+        not_its its.row (sym (λ j. get (rows_at store roles (same.0 j)) (same.1 j)) ∙ its.there) its.lends in
+        let there = (paid_in_part its.row.key key (space_at store key).bytes store its.has).exists in
+        (paid_still store store' key there (others (space_at store key).payer apart beside), (apart, beside))
+
+    -- so it is another's still
+    pub others_beside : (p by key : ℕ) → buffer_at (get script.caps.caps p) ≡ Some (by, key) → ((r : Row Labelled) → get rows id ≡ Some r → r.buffer ≡ Some key → ⊥) → IsOthers payer store' key
+    others_beside p by key has not_its =
+        let its = lent_beside p by key has not_its in record { there = its.0.exists; apart = λ e. its.1.0 (sym its.0.payer ∙ e) }
 
   -- ---- the session that a selector names
 
@@ -80,11 +111,47 @@ module _ {store : Store} {roles : Roles} {i s : ℕ} {script : Script} (two : Ar
     pub row_paid : IsPaidRow store row
     row_paid = paid_row core s session.0 row its.there
 
-    -- what a capability stands for has a capability where it is a session
+    -- it lends what its row says
+    pub lent_row : lent_by (rows_at store roles) (session_at (get script.caps.caps q)) ≡ row.buffer
+    lent_row = ap (λ o. lent_by (rows_at store roles) (session_at o)) names ∙ ap lent_of its.there
+
+    -- one selector has that, or the new one will
+    pub lent_under : (lent : Option ℕ) → lent_by (rows_at store roles) (session_at (get script.caps.caps q)) ≡ lent → (k : ℕ) × HoldsLent script.caps.caps q k lent
+    lent_under None is = (
+      new_selector script.caps.caps,
+      record {
+        at = record { has = ap buffer_at (new_selector_free script.caps.caps); free = λ _. new_selector_free script.caps.caps };
+        new = λ _. refl;
+        only = λ j key has. absurd (none-some key (sym is ∙ named.lent j q key has));
+      },
+    )
+    lent_under (Some key) is =
+        let its = named.lends q key is in (
+          its.0,
+          record {
+            at = record { has = its.1; free = λ none. absurd (none-some key (sym none)) };
+            new = λ none. absurd (none-some key (sym none));
+            only = λ j other has.
+                let same : key ≡ other = same_Some key other (sym is ∙ named.lent j q other has) in
+                (one j its.0 key (buffer_key (get script.caps.caps j) q key (has ∙ ap (λ n. Some (q, n)) (sym same))) (buffer_key (get script.caps.caps its.0) q key its.1), ap (λ n. Some n) same);
+          },
+        )
+
+    abbrev pub under : ℕ
+    under = (lent_under row.buffer lent_row).0
+
+    pub holds_lent : HoldsLent script.caps.caps q (lent_under row.buffer lent_row).0 row.buffer
+    holds_lent = (lent_under row.buffer lent_row).1
+
+    -- what a capability stands for has two capabilities where it is a session
     abbrev cost : Cap → ℕ
     cost cap = unwrap_or (option_map caps_with (object_of (lent_in store) (sessions_in store roles) (part_at store script) cap)) 0
 
-    cost_covers : (k : ℕ) (cap : Cap) → get script.caps.caps k ≡ Some cap → session_weight cap ≤ cost cap
+    -- which are one for itself and one for what it lends
+    abbrev weight : Cap → ℕ
+    weight cap = alone_weight cap + lending_weight (rows_at store roles) cap
+
+    cost_covers : (k : ℕ) (cap : Cap) → get script.caps.caps k ≡ Some cap → weight cap ≤ cost cap
     cost_covers k (Dataspace ds) is = omega arith
     cost_covers k RpcObject is = omega arith
     cost_covers k (Buffer space session) is = omega arith
@@ -92,20 +159,22 @@ module _ {store : Store} {roles : Roles} {i s : ℕ} {script : Script} (two : Ar
         let one = named.its k at other (ap session_at is) in
         let least = row_covers at other.0 one.row one.there in
         let found = ap (λ o. unwrap_or (option_map caps_with (option_map OpenSession (option_map row_session o))) 0) one.there in
-        omega (arith, least, found)
+        omega (arith, least, found, lent_once (lent_by (rows_at store roles) (Some (at, other))))
 
     -- there is a place for each selector that the account could pay for with the session's limits
-    pub placed : (account_in store payer).caps_limit + row.account.caps_limit + total session_weight script.caps.caps ≤ script.caps.places + 1
+    pub placed : (account_in store payer).caps_limit + row.account.caps_limit + total session_weight script.caps.caps ≤ script.caps.places + 1 + lent_weight row.buffer
     unfolding own_of
     placed =
         let all = at_script two (λ r. IfSome (places_in r) (λ p. caps_limits (own_in (sessions_in store roles) store r) ≤ p)) (core.placed i) in
         let selectors = total-picked caps_with (object_of (lent_in store) (sessions_in store roles) (part_at store script)) script.caps.caps in
-        let weights = total-remove session_weight script.caps.caps q (Session s session) names in
+        let counted = counted_by_sessions (rows_at store roles) (AScript script) named one in
+        let weights = total-remove weight script.caps.caps q (Session s session) names in
+        let own = ap lent_weight (ap lent_of its.there) in
         let costs = total-remove cost script.caps.caps q (Session s session) names in
         let found = ap (λ o. unwrap_or (option_map caps_with (option_map OpenSession (option_map row_session o))) 0) its.there in
-        let rest = total_le session_weight cost (remove script.caps.caps q) (λ k cap is. cost_covers k cap (before_remove script.caps.caps q k cap is)) in
+        let rest = total_le weight cost (remove script.caps.caps q) (λ k cap is. cost_covers k cap (before_remove script.caps.caps q k cap is)) in
         let account = ap (λ (a : Account). a.caps_limit) (account_of-part payer store) in
-        omega (arith, all, selectors, weights, costs, found, rest, account)
+        omega (arith, all, selectors, counted, weights, own, costs, found, rest, account)
 
     abbrev pub names_session : NamesSession script store rows q s session
     names_session = record {
@@ -114,6 +183,9 @@ module _ {store : Store} {roles : Roles} {i s : ℕ} {script : Script} (two : Ar
       client = sym its.client;
       named = names;
       once = λ p other is e. named.once p q s other session (ap session_at is) (ap session_at names) e;
+      under = under;
+      lent = holds_lent;
+      least = row_covers s session.0 row its.there;
       placed = placed;
     }
 
@@ -121,13 +193,13 @@ module _ {store : Store} {roles : Roles} {i s : ℕ} {script : Script} (two : Ar
     pub row_alone : (owner : Owner) → Owns store roles owner row.key → owner ≡ SessionAt s session.0
     row_alone owner owns = core.apart owner (SessionAt s session.0) row.key owns (owns_row core s session.0 row its.there)
 
-    tied : IsTied payer row.key s q session script.caps.caps rows (Some row)
+    tied : IsTied payer row.key s q under session script.caps.caps rows (Some row)
     tied = record {
-      names = ap session_at names;
+      has = names;
       there = its.there;
       client = λ r is. ap (λ (x : Row Labelled). x.client) (sym (same_Some row r is)) ∙ sym its.client;
       key = λ r is. ap (λ (x : Row Labelled). x.key) (sym (same_Some row r is));
-      unlent = λ r is. core.unlent s session.0 r (its.there ∙ is);
+      lent = holds_lent.at;
     }
 
     -- its account is its client's child
@@ -136,6 +208,60 @@ module _ {store : Store} {roles : Roles} {i s : ℕ} {script : Script} (two : Ar
 
     apart : payer ≢ row.key
     apart e = row_paid.apart (sym its.client ∙ e)
+
+    -- a script that has turned keeps the rest
+    pub keeps_but : {script' : Script} {lent lent' : Option ℕ} → Turns script script' q under lent lent' → KeepsBut script script' q under
+    keeps_but turns = record { account = ap (λ (x : Script). x.account) turns.is; places = turns.places; caps = turns.tables.others }
+
+    -- ---- what it lends
+
+    -- its account pays for it
+    pub its_lent : (key : ℕ) → row.buffer ≡ Some key → get (part row.key store).spaces key ≡ Some (space_at store key).bytes
+    its_lent key lends = lent_paid store (roles s) (sound_works store (roles s) (core.sound s)) session.0 key row its.there lends
+
+    -- and no other selector names it
+    not_its : (p by key : ℕ) → p ≢ under → buffer_at (get script.caps.caps p) ≡ Some (by, key) → (r : Row Labelled) → get rows session.0 ≡ Some r → r.buffer ≡ Some key → ⊥
+    not_its p by key apart has r there lends =
+        let same : row ≡ r = same_Some row r (sym its.there ∙ there) in
+        apart (one p under key (buffer_key (get script.caps.caps p) by key has)
+        (buffer_key (get script.caps.caps under) q key (holds_lent.at.has ∙ ap (lent_from q) (ap (λ (x : Row Labelled). x.buffer) same ∙ lends))))
+
+    module _ (store' : Store) (others : (other : ℕ) → other ≢ payer → other ≢ row.key → part other store' ≡ part other store) where
+      -- the bytes of other buffers stay
+      pub lent_alike : (p by key : ℕ) → p ≢ under → buffer_at (get script.caps.caps p) ≡ Some (by, key) → lent_in store' key ≡ lent_in store key
+      lent_alike p by key apart has = (lent_beside row.key session.0 row_alone store' others p by key has (not_its p by key apart has)).0.bytes_are
+
+      -- after it the session's account pays for what that lends
+      module _ (lent' : Option ℕ) (paid : (key : ℕ) → lent' ≡ Some key → get (part row.key store').spaces key ≡ Some (space_at store' key).bytes) where
+        paid_now : (key : ℕ) → lent' ≡ Some key → IsPaidBy row.key key (space_at store' key).bytes store'
+        paid_now key lends = paid_in_part row.key key (space_at store' key).bytes store' (paid key lends)
+
+        -- so others pay for all that the client is lent
+        pub are_others : {script' : Script} → KeepsBut script script' q under → buffer_at (get script'.caps.caps q) ≡ None → IsLentAt script'.caps.caps q under lent' → AreOthers payer store' script'.caps.caps
+        are_others {script'} stays none lent p by key has = elim (cases_eq p under) [
+          | inl at ↦
+              let lends = (lent_pair lent' q by key (sym lent.has ∙ ap (λ n. buffer_at (get script'.caps.caps n)) (sym at) ∙ has)).1 in
+              let now = paid_now key lends in
+              record { there = now.exists; apart = λ e. apart (sym e ∙ now.payer) }
+          | inr beside ↦
+              let not_q : p ≢ q = λ e. none-some (by, key) (sym none ∙ ap (λ n. buffer_at (get script'.caps.caps n)) (sym e) ∙ has) in
+              let had = ap buffer_at (sym (stays.caps p not_q beside)) ∙ has in
+              others_beside row.key session.0 row_alone store' others p by key had (not_its p by key beside had)
+        ]
+
+        -- and no other selector named what it lends
+        pub fresh_lent : (part payer store').spaces ≡ (part payer store).spaces → (p key : ℕ) → lent' ≡ Some key → p ≢ under → Names script.caps.caps p key → ⊥
+        fresh_lent same p key lends beside names =
+            let now = paid_now key lends in
+            elim (own_or_lent (get script.caps.caps p) key names) [
+              | inl own ↦
+                  let held = value_at (part payer store).spaces key (subst (λ n. IsSome (get (part payer store).spaces n)) own.key_is (script_sound.own.named.there p own.ds own.is)) in
+                  let mine = paid_in_part payer key held.0 store' (ap (λ (m : NatMap (List ℕ)). get m key) same ∙ held.1) in
+                  apart (sym mine.payer ∙ now.payer)
+              | inr lent ↦
+                  let its = lent_beside row.key session.0 row_alone store' others p lent.session.0 key (lent_key lent) (not_its p lent.session.0 key beside (lent_key lent)) in
+                  its.1.1 (sym its.0.payer ∙ now.payer)
+            ]
 
     module _ (store' : Store) where
       -- more is donated
@@ -173,24 +299,23 @@ module _ {store : Store} {roles : Roles} {i s : ℕ} {script : Script} (two : Ar
           }
 
       -- its row is written
-      pub changes_written : {next : Row Labelled} {rows' : NatMap (Row Labelled)} → next.client ≡ row.client → next.key ≡ row.key → next.buffer ≡ None → rows' ≡ insert rows session.0 next →
-          MovesAccounts payer row.key store store' → IsSoundScript store' script → ram_limits_in store' ≡ ram_limits_in store →
-          ChangesSession row.key s q session store store' script script rows rows' (Some row) (Some next)
-      changes_written {next} {rows'} client key unlent written moves sound ram = record {
+      pub changes_written : {next : Row Labelled} {rows' : NatMap (Row Labelled)} {script' : Script} → KeepsBut script script' q under → get script'.caps.caps q ≡ Some (Session s session) →
+          IsLentAt script'.caps.caps q under next.buffer → next.client ≡ row.client → next.key ≡ row.key → rows' ≡ insert rows session.0 next →
+          MovesAccounts payer row.key store store' → IsSoundScript store' script' → ram_limits_in store' ≡ ram_limits_in store →
+          ChangesSession row.key s q under session store store' script script' rows rows' (Some row) (Some next)
+      changes_written {next} {rows'} stays has lent client key written moves sound ram = record {
         moves = moves;
         ram = ram;
         sound = sound;
-        pays = refl;
-        places = refl;
-        caps_stay = λ p _. refl;
+        stays = stays;
         rows_stay = λ id other. ap (λ (m : NatMap (Row Labelled)). get m id) written ∙ get-insert_other rows session.0 next id other;
         tied = tied;
         tied_after = record {
-          names = ap session_at names;
+          has = has;
           there = ap (λ (m : NatMap (Row Labelled)). get m session.0) written ∙ get-insert_same rows session.0 next session.0 refl;
           client = λ r is. ap (λ (x : Row Labelled). x.client) (sym (same_Some next r is)) ∙ client ∙ sym its.client;
           key = λ r is. ap (λ (x : Row Labelled). x.key) (sym (same_Some next r is)) ∙ key;
-          unlent = λ r is. ap (λ (x : Row Labelled). x.buffer) (sym (same_Some next r is)) ∙ unlent;
+          lent = lent;
         };
         below = λ _ _. refl;
       }
@@ -219,24 +344,22 @@ module _ {store : Store} {roles : Roles} {i s : ℕ} {script : Script} (two : Ar
               room = room_is_given_back row.key payer store store' closes payer_open payer_outer child apart (pays_no_init core i payer (pays_client two)) core.room;
             }
 
-        pub changes_closed : {rows' : NatMap (Row Labelled)} → rows' ≡ remove rows session.0 → IsSoundScript store' (record script { caps = without_cap script.caps q }) →
-            ram_limits_in store' ≡ ram_limits_in store →
-            ChangesSession row.key s q session store store' script (record script { caps = without_cap script.caps q }) rows rows' (Some row) None
-        changes_closed written sound ram = record {
+        pub changes_closed : {rows' : NatMap (Row Labelled)} {script' : Script} → KeepsBut script script' q under → get script'.caps.caps q ≡ None → get script'.caps.caps under ≡ None →
+            rows' ≡ remove rows session.0 → IsSoundScript store' script' → ram_limits_in store' ≡ ram_limits_in store →
+            ChangesSession row.key s q under session store store' script script' rows rows' (Some row) None
+        changes_closed stays gone none written sound ram = record {
           moves = close_moves;
           ram = ram;
           sound = sound;
-          pays = refl;
-          places = refl;
-          caps_stay = λ p other. get-remove_other script.caps.caps q p other;
+          stays = stays;
           rows_stay = λ id other. ap (λ (m : NatMap (Row Labelled)). get m id) written ∙ get-remove_other rows session.0 id other;
           tied = tied;
           tied_after = record {
-            names = ap session_at (get-remove_same script.caps.caps q q refl);
+            has = gone;
             there = ap (λ (m : NatMap (Row Labelled)). get m session.0) written ∙ get-remove_same rows session.0 session.0 refl;
             client = λ r is. absurd (none-some r is);
             key = λ r is. absurd (none-some r is);
-            unlent = λ r is. absurd (none-some r is);
+            lent = record { has = ap buffer_at none; free = λ _. none };
           };
           below = λ other is. absurd (key_gone other is);
         }
@@ -273,8 +396,18 @@ module _ {store : Store} {roles : Roles} {i s : ℕ} {script : Script} (two : Ar
       abbrev pub first_row : Row Labelled
       first_row = new_row payer opens.key ram caps first
 
+      -- what other sessions lend the client is another's still, and holds what it held
+      not_there : (key : ℕ) (r : Row Labelled) → get rows session.0 ≡ Some r → r.buffer ≡ Some key → ⊥
+      not_there key r there lends = none-some r (sym opens.free ∙ there)
+
+      pub open_alike : LendAlike (lent_in store) (lent_in store') script.caps.caps
+      open_alike p by key has = (lent_beside opens.key session.0 new_alone store' opens.others p by key has (not_there key)).0.bytes_are
+
+      pub open_others : AreOthers payer store' script.caps.caps
+      open_others p by key has = others_beside opens.key session.0 new_alone store' opens.others p by key has (not_there key)
+
       pub changes_opened : (selector : ℕ) → get script.caps.caps selector ≡ None → IsSoundScript store' (script_with script selector s session) → ram_limits_in store' ≡ ram_limits_in store →
-          ChangesSession opens.key s selector session store store' script (script_with script selector s session) rows rows' None (Some first_row)
+          ChangesSession opens.key s selector (new_selector (insert script.caps.caps selector (Session s session))) session store store' script (script_with script selector s session) rows rows' None (Some first_row)
       changes_opened selector free sound limits = record {
         moves = record {
           others = opens.others;
@@ -289,17 +422,23 @@ module _ {store : Store} {roles : Roles} {i s : ℕ} {script : Script} (two : Ar
         };
         ram = limits;
         sound = sound;
-        pays = refl;
-        places = refl;
-        caps_stay = λ p other. get-insert_other script.caps.caps selector (Session s session) p other;
+        stays = record { account = refl; places = refl; caps = λ p other _. get-insert_other script.caps.caps selector (Session s session) p other };
         rows_stay = λ id other. ap (λ (m : NatMap (Row Labelled)). get m id) opens.sessions ∙ get-insert_other rows session.0 first_row id other;
-        tied = record { names = ap session_at free; there = opens.free; client = λ r is. absurd (none-some r is); key = λ r is. absurd (none-some r is); unlent = λ r is. absurd (none-some r is) };
+        tied = record {
+          has = free;
+          there = opens.free;
+          client = λ r is. absurd (none-some r is);
+          key = λ r is. absurd (none-some r is);
+          lent = let before = free_before script s session selector free in record { has = ap buffer_at before; free = λ _. before };
+        };
         tied_after = record {
-          names = ap session_at (get-insert_same script.caps.caps selector (Session s session) selector refl);
+          has = get-insert_same script.caps.caps selector (Session s session) selector refl;
           there = ap (λ (m : NatMap (Row Labelled)). get m session.0) opens.sessions ∙ get-insert_same rows session.0 first_row session.0 refl;
           client = λ r is. ap (λ (x : Row Labelled). x.client) (sym (same_Some first_row r is));
           key = λ r is. ap (λ (x : Row Labelled). x.key) (sym (same_Some first_row r is));
-          unlent = λ r is. ap (λ (x : Row Labelled). x.buffer) (sym (same_Some first_row r is));
+          lent =
+              let none = new_selector_free (insert script.caps.caps selector (Session s session)) in
+              record { has = ap buffer_at none; free = λ _. none };
         };
         below = λ _ _. refl;
       }

@@ -18,7 +18,7 @@ use Rattle.dataspace_core.specs.Store.{Store, part, account_of, account_in, acco
 use Rattle.pd_core.specs.declared.script.Script.{Script}
 use Rattle.trade_base.specs.declared.id.AccountId.{AccountId}
 use Rattle.pd_core.specs.Own.{Sessions, own_of, own_at}
-use Rattle.pd_core.specs.Sound.{Keeps as ScriptKeeps}
+use Rattle.pd_core.specs.Sound.{OthersStay, SparesOthers, Keeps as ScriptKeeps}
 use Rattle.pd_core.specs.Component.{Pays, entry_of, kind_of, payer_in, payer_of, served_by, own_in, own, IsSoundRole, IsSound, Keeps}
 use Rattle.pd_core.specs.Exit.{IsScriptRole}
 use Rattle.trade_base.specs.declared.refusal.Refusal.TheVariants.{Gone as IsGone}
@@ -36,9 +36,9 @@ script_outcome rules sessions store component script call is plain =
     ∙ routes_alike (entry_of rules component) (model_call call) (own_at sessions store script) plain.of_no_session
 
 -- what the script keeps, the component does
-pub script_keeps : {store store' : Store} (component : Component) (script script' : Script) → component.role ≡ AScript script → ScriptKeeps store script store' script' →
+pub script_keeps : {store store' : Store} (component : Component) (script script' : Script) → component.role ≡ AScript script → ScriptKeeps store script store' script' → SparesOthers script.account.0 script.caps.caps store store' →
     Keeps store component store' (record component { role = AScript script' })
-script_keeps {store} {store'} component script script' is keeps =
+script_keeps {store} {store'} component script script' is keeps others =
     subst (λ role. Keeps store (record component { role = role }) store' (record component { role = AScript script' })) (sym is) (record {
       sound = keeps.sound;
       entry = λ rules. refl;
@@ -49,11 +49,12 @@ script_keeps {store} {store'} component script script' is keeps =
       caps_limit = ap (λ (a : AccountId). (account_of (part a.0 store')).caps_limit) (sym keeps.account) ∙ keeps.caps_limit;
       places = ap Some keeps.places;
       sessions = keeps.sessions;
+      buffers = keeps.buffers;
       rows = refl;
       root = keeps.root;
       parents = keeps.parents;
       room = keeps.room;
-      others = keeps.others;
+      others = others;
       limits = keeps.limits;
     })
 
@@ -86,12 +87,13 @@ account_open store (ALog key server) sound account pays = subst (λ k. IsSome (p
 account_open store (AFiles key server) sound account pays = subst (λ k. IsSome (part k store).account) pays sound.is_open
 account_open store AGone sound account pays = absurd pays
 
--- ---- what a plain call keeps of the memory
+-- ---- what a plain call that leaves other parts keeps of the memory
 
-module _ (store : Store) (before : Component) (store' : Store) (after : Component) (sound : IsSound store before) (script : IsScriptRole before.role) (keeps : Keeps store before store' after) where
+module _ (store : Store) (before : Component) (store' : Store) (after : Component) (sound : IsSound store before) (script : IsScriptRole before.role) (keeps : Keeps store before store' after)
+    (others : OthersStay (payer_of before) store store') where
   -- only the part of the caller's account changes
   pub part_becomes : PartBecomes (payer_of before) (part (payer_of before) store') store store'
-  part_becomes = record { own = refl; others = keeps.others; root = keeps.root; parents = keeps.parents; room = keeps.room }
+  part_becomes = record { own = refl; others = others; root = keeps.root; parents = keeps.parents; room = keeps.room }
 
   -- it was open, and has its limit still
   was_open : IsOpenIn store (payer_of before)

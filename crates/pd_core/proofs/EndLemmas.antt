@@ -28,7 +28,7 @@ use Rattle.heap_window.proofs.ShareLemmas.{shown_block}
 use Rattle.pd_core.specs.declared.script.Script.{Script}
 use Rattle.pd_core.specs.Own.{own_of, own_at, own_heap_at, part_at, sliced_at}
 use Rattle.pd_core.specs.Release.{IsCleared}
-use Rattle.pd_core.specs.Sound.{IsSoundScript, Keeps}
+use Rattle.pd_core.specs.Sound.{IsSoundScript, OthersStay, Keeps}
 use Rattle.heap_window.proofs.BesideLemmas.{standing, none_standing, sliced_standing, elsewhere_standing}
 use Rattle.pd_core.proofs.OwnLemmas.{all_sessions, selects}
 use Rattle.pd_core.proofs.SlicedLemmas.{LeavesHeap, heap_beside, parts_stay}
@@ -135,14 +135,14 @@ module _ (store : Store) (script : Script) (sound : IsSoundScript store script) 
 -- ---- the account closes
 
 -- calls of the script before leave its account as it was
-pub clears_after : {old mid new : Store} {before after : Script} → Keeps old before mid after → IsCleared after.account.0 mid new → IsCleared before.account.0 old new
-clears_after {old} {mid} {new} {before} {after} kept cleared =
+pub clears_after : {old mid new : Store} {before after : Script} → Keeps old before mid after → OthersStay before.account.0 old mid → IsCleared after.account.0 mid new → IsCleared before.account.0 old new
+clears_after {old} {mid} {new} {before} {after} kept others cleared =
     let same : after.account.0 ≡ before.account.0 = ap (λ (a : AccountId). a.0) kept.account in
     record {
       unused = subst (λ a. (account_of (part a new)).caps_used ≡ 0) same cleared.unused;
       ram_limit = subst (λ a. (account_of (part a new)).ram_limit ≡ (account_of (part_at mid after)).ram_limit) same cleared.ram_limit ∙ kept.ram_limit;
       caps_limit = subst (λ a. (account_of (part a new)).caps_limit ≡ (account_of (part_at mid after)).caps_limit) same cleared.caps_limit ∙ kept.caps_limit;
-      others = λ other apart. cleared.others other (λ e. apart (e ∙ same)) ∙ kept.others other apart;
+      others = λ other apart. cleared.others other (λ e. apart (e ∙ same)) ∙ others other apart;
       root = cleared.root ∙ kept.root;
       parents = cleared.parents ∙ kept.parents;
       room = cleared.room ∙ kept.room;

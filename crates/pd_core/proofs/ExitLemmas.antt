@@ -13,26 +13,26 @@ use Rattle.own_model.specs.OwnStep.{gone_state}
 use Rattle.own_model.specs.Session.{Labelled}
 use Rattle.own_model.specs.StartList.Kind.{Script as AScriptKind}
 use Rattle.own_model.specs.Transcript.{nothing, state_at}
-use Rattle.own_model.proofs.NatMapLemmas.{before_remove, get-empty, get-remove_other}
+use Rattle.own_model.proofs.NatMapLemmas.{none_if, before_remove, get-empty, get-remove_other}
 use Rattle.dataspace_core.specs.Share.{share_in}
 use Rattle.dataspace_core.specs.Store.{Store, Part, part, account_of, account_in, parents_in, root_in, ram_limits_in, caps_limits_in, IsChildIn, IsLeafIn, ClosesPart}
 use Rattle.dataspace_core.proofs.PartLaws.{account_of-part, open_in_part}
 use Rattle.server_frame.specs.Frame.{Row}
 use Rattle.server_frame.specs.Session.{holding}
-use Rattle.pd_core.specs.Component.{Pays, kind_of, served_by, payer_in, payer_of, caps_in, caps_of, rows_in, own_in, own, HasPlaces, IsSoundRole}
+use Rattle.pd_core.specs.Component.{Pays, kind_of, served_by, payer_in, payer_of, caps_in, caps_of, rows_in, own_in, own, lent_by, NamesItsSessions, HasPlaces, IsSoundRole}
 use Rattle.pd_core.specs.Core.{Rules, Roles, roles_of, rows_at, sessions_in, world_of, Owner, Owns, IsCore}
 use Rattle.pd_core.specs.Core.Owner.{Init, Place, SessionAt}
 use Rattle.pd_core.specs.Exit.{IsScriptRole}
 use Rattle.pd_core.specs.Own.{Sessions, own_of}
 use Rattle.pd_core.specs.SessionCalls.{Agrees, Leads}
-use Rattle.pd_core.specs.Sound.{session_at}
+use Rattle.pd_core.specs.Sound.{session_at, buffer_at}
 use Rattle.pd_core.specs.declared.component.Component.{Component}
 use Rattle.pd_core.specs.declared.component.Role.{Role}
 use Rattle.pd_core.specs.declared.component.Role.TheVariants.{Script as AScript, Log as ALog, Files as AFiles, Gone as AGone}
 use Rattle.pd_core.proofs.ChangeLemmas.{ChangesCore, Follows, core_after}
 use Rattle.pd_core.proofs.ComponentLemmas.{pays_is, pays_script}
 use Rattle.dataspace_core.proofs.RoomLaws.{room_after_exit}
-use Rattle.pd_core.proofs.HeldLemmas.{same_place, not_place, not_session, no_place, pays_alone, held_by}
+use Rattle.pd_core.proofs.HeldLemmas.{names_none, same_place, not_place, not_session, no_place, pays_alone, held_by}
 use Rattle.pd_core.proofs.RoleLemmas.{Leaves, role_left, rows_left}
 use Rattle.pd_core.proofs.WorldLemmas.{same_leads, SameFaces, face_set, world_changed, role_at, role_set, role_kept}
 
@@ -101,6 +101,12 @@ module _ {store : Store} {components : List Component} {i : ℕ} {d : Component}
       let names = held_by core i (payer_of (get_or components i d)) pays child below in
       none-some (names.server, names.session) (sym (none names.selector) ∙ ap (λ r. session_at (get (caps_in r) names.selector)) (sym is_caller) ∙ names.names)
 
+  -- nor has it a buffer, as that is of a session that it names
+  pub alone_unlent : (q : ℕ) → buffer_at (get (caps_of (get_or components i d)) q) ≡ None
+  alone_unlent q =
+      let named = subst (NamesItsSessions (rows_at store (roles_of components))) is_caller (core.named i) in
+      none_if (buffer_at (get (caps_of (get_or components i d)) q)) (λ b has. none-some b.1 (sym (ap (lent_by (rows_at store (roles_of components))) (none b.0)) ∙ named.lent q b.0 b.1 has))
+
   -- ---- it goes, and its account
 
   module _ {store' : Store} (closes : ClosesPart (payer_of (get_or components i d)) (root_in store) store store') (ram : ram_limits_in store' ≡ ram_limits_in store) (caps : caps_limits_in store' ≡ caps_limits_in store) where
@@ -150,21 +156,15 @@ module _ {store : Store} {components : List Component} {i : ℕ} {d : Component}
       | inr other ↦ ap (rows_in store') (role_kept components i after k other) ∙ rows_left leaves k (no_session k)
     ]
 
-    gone_names : (q : ℕ) (named : ℕ × SessionId) → session_at (get (caps_in (roles' i)) q) ≢ Some named
-    gone_names q named is = none-some named (sym (ap (λ r. session_at (get (caps_in r) q)) is_gone ∙ ap session_at (get-empty q)) ∙ is)
-
     changes : ChangesCore i 0 0 store roles store' roles'
     changes = record {
       others = λ k other. subst (Follows store (roles k) store') (sym (role_kept components i after k other))
-          (role_left leaves k (no_session k) (λ touched. elim touched [ inl e ↦ not_place k (sym e) | inr e ↦ other (same_place k i e) ]) (core.sound k));
+          (role_left leaves k (no_session k) core (λ touched. elim touched [ inl e ↦ not_place k (sym e) | inr e ↦ other (same_place k i e) ]) (λ server id _ _ _. no_session server id));
       sound = subst (IsSoundRole store') (sym is_gone) tt;
       pays = λ account its. absurd (subst (λ r. Pays r account) is_gone its);
       rows = λ server id _. ap (λ (m : NatMap (Row Labelled)). get m id) (same_rows server);
       row = inl (ap (λ (m : NatMap (Row Labelled)). get m 0) (same_rows 0));
-      named = record {
-        its = λ q server session is. absurd (gone_names q (server, session) is);
-        once = λ p q server a b is _ _. absurd (gone_names p (server, a) is);
-      };
+      named = subst (NamesItsSessions (rows_at store' roles')) (sym is_gone) (names_none (rows_at store' roles') AGone refl);
       held = λ child parent its is.
           absurd (alone_leaf child (was_child child parent is ∙ ap Some (sym (pays_is (get_or components i d).role parent (subst (λ r. Pays r parent) is_caller its)))));
       placed = subst (HasPlaces (sessions_in store' roles') store') (sym is_gone) tt;

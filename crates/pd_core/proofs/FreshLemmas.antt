@@ -48,12 +48,13 @@ use Rattle.pd_core.specs.declared.component.Role.TheVariants.{Script as AScript,
 use Rattle.pd_core.specs.declared.script.Script.{Script}
 use Rattle.sliced_heap.proofs.HeapLaws.{empty_map}
 use Rattle.pd_core.specs.Own.{Sessions, no_sessions, own_of, own_at, part_at, own_heap_at, sliced_at, object_of, regions_of, selector_of, Lent, lent_in, no_lent}
-use Rattle.pd_core.specs.Sound.{session_at, rpc_weight, session_weight, IsLawful, IsSoundScript}
+use Rattle.pd_core.specs.Sound.{session_at, buffer_at, rpc_weight, session_weight, IsLawful, IsSoundScript}
 use Rattle.pd_core.specs.Component.{Pays, entry_of, payer_in, payer_of, caps_in, caps_of, places_in, places_of, rows_in, tables_in, NamesItsSessions, HasPlaces, HasNewHeap, HasNewHeaps, own_in, own, IsSoundServer, IsSoundRole}
 use Rattle.pd_core.specs.Core.{Rules, Roles, roles_of, rows_at, sessions_in, world_of, Owner, Owns, IsCore}
 use Rattle.pd_core.specs.Core.Owner.{Init, Place, SessionAt}
 use Rattle.pd_core.proofs.NameLemmas.{cap_named}
 use Rattle.pd_core.proofs.ComponentLemmas.{pays_is}
+use Rattle.pd_core.proofs.HeldLemmas.{names_none}
 use Rattle.pd_core.proofs.WorldLemmas.{all_roles, place_of, role_at, one_of}
 use Rattle.std.proofs.lemmas.Bool.{cases_lt}
 use Rattle.pd_core.specs.Fresh.{account_at, start_of, opened_part, started_world, AreEmpty, HasNoSessions, IsNewServer, IsFresh, AreFresh}
@@ -130,7 +131,6 @@ module _ (store : Store) (ram caps : ℕ) where
             named = record {
               there = λ q ds names. absurd (none_in_empty _ fresh.no_caps q _ names);
               one = λ s t key first second. absurd (none_in_empty _ fresh.no_caps s _ (cap_named (get script.caps.caps s) key first).1);
-              unlent = λ q of session names. absurd (none_in_empty _ fresh.no_caps q _ names);
             };
             paid = record { is_open = ap (λ (p : Part). is_some p.account) unused; named = omega (arith, few, blocks, heap); spare = omega (arith, none, weight); placed = omega (arith, limit, sessions, fresh.places) };
             ram = within;
@@ -143,6 +143,7 @@ module _ (store : Store) (ram caps : ℕ) where
             lawful = λ open_sessions ready. subst IsLawful (sym (script_unused open_sessions))
                 (record { sound = start_sound (budget ram caps); uses = start_uses (budget ram caps); within = record { ram = omega arith; caps = omega arith } });
           };
+          lent = λ s q key names. absurd (none-some (q, key) (sym (ap (λ (m : NatMap Cap). buffer_at (get m s)) fresh.no_caps ∙ ap buffer_at (get-empty s)) ∙ names));
           heaps = record {
             heap = heaps.heap.sound store script.regions (subst (IsOpenIn store) (sym heaps.heap_pays) opens) heap_maps.0 (heap_maps.1 (heap_payer script.heap));
             sliced = heaps.sliced store script.regions (subst (IsOpenIn store) (sym heaps.sliced_pays) opens) maps.0 (maps.1 (sliced_payer script.sliced));
@@ -205,12 +206,7 @@ module _ (store : Store) (component : Component) (fresh : IsFresh store componen
 
   -- it names no session
   fresh_named : (rows : ℕ → NatMap (Row Labelled)) → NamesItsSessions rows component.role
-  fresh_named rows =
-      let none : (q : ℕ) → session_at (get (caps_of component) q) ≡ None = λ q. ap session_at (ap (λ (m : NatMap Cap). get m q) role.no_caps ∙ get-empty q) in
-      record {
-        its = λ q server session there. absurd (none-some (server, session) (sym (none q) ∙ there));
-        once = λ p q server a b there _ _. absurd (none-some (server, a) (sym (none p) ∙ there));
-      }
+  fresh_named rows = names_none rows component.role role.no_caps
 
   -- there is a place for each capability of its budget
   fresh_places : (sessions : Sessions) → HasPlaces sessions store component.role
@@ -291,9 +287,8 @@ module _ (store : Store) (components : List Component) (fresh : AreFresh store c
         subst (λ n. IsChildIn store n (root_in store)) (at.1 d) (fresh.each k d at.0).child;
     apart = apart;
     clients = λ server id row there. no_row server id row there;
-    unlent = λ server id row there. no_row server id row there;
     named = all_roles (λ _ r. NamesItsSessions (rows_at store roles) r) components
-        (λ _. record { its = λ q server session is. absurd (none-some (server, session) (sym (ap session_at (get-empty q)) ∙ is)); once = λ p q server a b is _ _. absurd (none-some (server, a) (sym (ap session_at (get-empty p)) ∙ is)) })
+        (λ _. names_none (rows_at store roles) _ refl)
         (λ k h d. fresh_named store _ (fresh.each k d h) (rows_at store roles));
     placed = all_roles (λ _ r. HasPlaces (sessions_in store roles) store r) components (λ _. tt) (λ k h d. fresh_places store _ (fresh.each k d h) (sessions_in store roles));
     held = λ child parent is inner. absurd (inner (fresh.outer child parent is));

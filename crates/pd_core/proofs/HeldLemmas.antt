@@ -1,21 +1,26 @@
 -- What follows of the accounts and the sessions of a sound core.
 use Rattle.std.proofs.Common.{◌≡◌, ◌≢◌, ℕ, Some, is_some, refl, sym, ap, subst, ◌∙◌}
 use Rattle.std.proofs.lemmas.Option.{none-some, same_Some}
-use Rattle.std.specs.FinMap.{get}
+use Rattle.std.specs.FinMap.{get, empty}
 use Rattle.std.specs.Option.{option_map}
 use Rattle.std.specs.Prelude.{Option, None}
+use Rattle.own_model.specs.NatMap.{NatMap}
 use Rattle.own_model.specs.Session.{Labelled}
-use Rattle.dataspace_core.specs.Store.{Store, root_in, IsOpenIn, IsChildIn}
-use Rattle.dataspace_core.proofs.PartLaws.{open_in_part}
+use Rattle.own_model.proofs.NatMapLemmas.{get-empty}
+use Rattle.cap_space.specs.declared.cap.Cap.{Cap}
+use Rattle.dataspace_core.specs.Store.{Store, part, space_at, root_in, IsOpenIn, IsChildIn}
+use Rattle.dataspace_core.proofs.PartLaws.{open_in_part, paid_in_part}
 use Rattle.server_frame.specs.Frame.{Row}
-use Rattle.pd_core.specs.Component.{Pays, caps_in}
+use Rattle.pd_core.specs.Component.{Pays, caps_in, lent_of, lent_by, NamesItsSessions}
 use Rattle.pd_core.specs.Core.{Roles, rows_at, sessions_in, Owner, Owns, NamesAccount, IsSoundCore}
 use Rattle.pd_core.specs.Core.Owner.{Init, Place, SessionAt}
 use Rattle.pd_core.specs.Own.{HasSessions}
 use Rattle.pd_core.specs.Sessions.{row_session}
-use Rattle.pd_core.specs.Sound.{session_at}
+use Rattle.pd_core.specs.Sound.{session_at, buffer_at}
+use Rattle.pd_core.specs.declared.component.Role.{Role}
+use Rattle.trade_base.specs.declared.id.SessionId.{SessionId}
 use Rattle.pd_core.proofs.ComponentLemmas.{account_open}
-use Rattle.pd_core.proofs.ServerLemmas.{IsPaidRow, paid_in, sound_works}
+use Rattle.pd_core.proofs.ServerLemmas.{IsPaidRow, paid_in, lent_paid, sound_works}
 
 -- ---- owners
 
@@ -34,6 +39,19 @@ no_place k server id e = cc
 
 pub same_session : (a b c d : ℕ) → SessionAt a b ≡ SessionAt c d → (a ≡ c) × (b ≡ d)
 same_session a b c d e = (cc, cc)
+
+-- ---- a role without a capability
+
+-- it names nothing
+pub names_none : (rows : ℕ → NatMap (Row Labelled)) (role : Role) → caps_in role ≡ empty → NamesItsSessions rows role
+names_none rows role none =
+    let no_cap : (q : ℕ) → get (caps_in role) q ≡ None = λ q. ap (λ (m : NatMap Cap). get m q) none ∙ get-empty q in
+    record {
+      its = λ q server session is. absurd (none-some (server, session) (sym (ap session_at (no_cap q)) ∙ is));
+      once = λ p q server a b is _ _. absurd (none-some (server, a) (sym (ap session_at (no_cap p)) ∙ is));
+      lent = λ p q key is. absurd (none-some (q, key) (sym (ap buffer_at (no_cap p)) ∙ is));
+      lends = λ q key is. absurd (none-some key (sym (ap (λ o. lent_by rows (session_at o)) (no_cap q)) ∙ is));
+    }
 
 -- ---- whose accounts there are
 
@@ -55,6 +73,41 @@ module _ {store : Store} {roles : Roles} (core : IsSoundCore store roles) where
   owned_open Init account owns = subst (IsOpenIn store) owns core.init
   owned_open (Place k) account owns = open_in_part account store (account_open store (roles k) (core.sound k) account owns)
   owned_open (SessionAt server id) account owns = row_open server id account (get (rows_at store roles server) id) refl owns
+
+  -- the session that lends a component a dataspace, and its account, which pays for that
+  pub record IsLender (k key : ℕ) : Type 0 where
+    pub server : ℕ
+    pub id : ℕ
+    pub row : Row Labelled
+    pub there : get (rows_at store roles server) id ≡ Some row
+    pub its : Pays (roles k) row.client
+    pub lends : row.buffer ≡ Some key
+    pub has : get (part row.key store).spaces key ≡ Some (space_at store key).bytes
+    pub payer : (space_at store key).payer ≡ row.key
+    pub owns : Owns store roles (SessionAt server id) (space_at store key).payer
+
+  lender_named : (k q key : ℕ) (o : Option (ℕ × SessionId)) → session_at (get (caps_in (roles k)) q) ≡ o → lent_by (rows_at store roles) o ≡ Some key → IsLender k key
+  lender_named k q key None names lent = absurd (none-some key lent)
+  lender_named k q key (Some named) names lent =
+      let its = (core.named k).its q named.0 named.1 names in
+      let lends = sym (ap lent_of its.there) ∙ lent in
+      let has = lent_paid store (roles named.0) (sound_works store (roles named.0) (core.sound named.0)) named.1.0 key its.row its.there lends in
+      let payer = (paid_in_part its.row.key key (space_at store key).bytes store has).payer in
+      record {
+        server = named.0;
+        id = named.1.0;
+        row = its.row;
+        there = its.there;
+        its = its.client;
+        lends = lends;
+        has = has;
+        payer = payer;
+        owns = owns_row named.0 named.1.0 its.row its.there ∙ ap Some (sym payer);
+      }
+
+  -- each buffer that a component names is lent by one
+  pub lender : (k s q key : ℕ) → buffer_at (get (caps_in (roles k)) s) ≡ Some (q, key) → IsLender k key
+  lender k s q key names = lender_named k q key (session_at (get (caps_in (roles k)) q)) refl ((core.named k).lent s q key names)
 
   -- the client of a session that a component names pays
   pub client_pays : (k child parent : ℕ) → NamesAccount (rows_at store roles) (roles k) child parent → Pays (roles k) parent

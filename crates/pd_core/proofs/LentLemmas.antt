@@ -1,5 +1,6 @@
 -- What sessions lend, in a script's own state: only the bytes of the buffers that its selectors name are seen of it.
-use Rattle.std.proofs.Common.{◌≡◌, ◌≢◌, ℕ, false, List, Some, IsSome, is_some, refl, sym, ap, ◌∙◌, subst}
+use Rattle.std.proofs.Common.{◌≡◌, ◌≢◌, ℕ, false, List, Option, Some, None, refl, sym, ap, ◌∙◌, subst}
+use Rattle.std.proofs.lemmas.Option.{none-some, same_Some}
 use Rattle.std.specs.FinMap.{get}
 use Rattle.trade_base.specs.declared.id.DsId.{DsId}
 use Rattle.trade_base.specs.declared.id.Selector.{Selector}
@@ -7,26 +8,36 @@ use Rattle.own_model.specs.NatMap.{NatMap}
 use Rattle.own_model.specs.OwnHeap.{OwnHeap}
 use Rattle.own_model.specs.OwnState.Object.{Buffer as ABuffer}
 use Rattle.own_model.specs.Region.{Region}
-use Rattle.own_model.proofs.NatMapLemmas.{picked_alike, some_of}
+use Rattle.own_model.proofs.NatMapLemmas.{picked_alike}
 use Rattle.cap_space.specs.Space.{Space}
 use Rattle.cap_space.specs.declared.cap.Cap.{Cap}
 use Rattle.cap_space.specs.declared.cap.Cap.TheVariants.{Dataspace, RpcObject, Session, Buffer}
 use Rattle.region_map.specs.Regions.{Regions}
-use Rattle.dataspace_core.specs.Store.{Store, Part, part, account_of}
-use Rattle.dataspace_core.proofs.PartLaws.{paid_in_part}
+use Rattle.dataspace_core.specs.Store.{Store, Part, part, account_of, Exists, space_at}
+use Rattle.dataspace_core.proofs.PartLaws.{IsPaidBy, paid_in_part, part_of_payer}
 use Rattle.pd_core.specs.Own.{Sessions, Lent, lent_in, object_of, regions_of, own_of}
-use Rattle.pd_core.specs.Sound.{IsLawful, IsScript}
+use Rattle.pd_core.specs.Sound.{buffer_at, IsLawful, IsScript, AreOthers}
 
--- the buffers that selectors name hold the same bytes
+-- ---- the buffers that selectors name
+
+-- a capability of a buffer is one
+pub buffer_is : (o : Option Cap) (q key : ℕ) → buffer_at o ≡ Some (q, key) → (of : DsId) × (session : Selector) × (o ≡ Some (Buffer of session)) × (◌≡◌ {A = ℕ × ℕ} (session.0, of.0) (q, key))
+buffer_is None q key h = absurd (none-some (q, key) h)
+buffer_is (Some (Dataspace ds)) q key h = absurd (none-some (q, key) h)
+buffer_is (Some RpcObject) q key h = absurd (none-some (q, key) h)
+buffer_is (Some (Session server session)) q key h = absurd (none-some (q, key) h)
+buffer_is (Some (Buffer of session)) q key h = (of, session, refl, same_Some _ _ h)
+
+-- they hold the same bytes
 abbrev pub LendAlike : Lent → Lent → NatMap Cap → Type 0
-LendAlike L L' caps = (selector : ℕ) (of : DsId) (session : Selector) → get caps selector ≡ Some (Buffer of session) → L' of.0 ≡ L of.0
+LendAlike L L' caps = (selector q key : ℕ) → buffer_at (get caps selector) ≡ Some (q, key) → L' key ≡ L key
 
 -- so a capability's object is the same
-object_lent : (L L' : Lent) (sessions : Sessions) (p : Part) (cap : Cap) → ((of : DsId) (session : Selector) → cap ≡ Buffer of session → L' of.0 ≡ L of.0) → object_of L' sessions p cap ≡ object_of L sessions p cap
+pub object_lent : (L L' : Lent) (sessions : Sessions) (p : Part) (cap : Cap) → ((q key : ℕ) → buffer_at (Some cap) ≡ Some (q, key) → L' key ≡ L key) → object_of L' sessions p cap ≡ object_of L sessions p cap
 object_lent L L' sessions p (Dataspace ds) alike = refl
 object_lent L L' sessions p RpcObject alike = refl
 object_lent L L' sessions p (Session server session) alike = refl
-object_lent L L' sessions p (Buffer of session) alike = ap (λ bytes. Some (ABuffer session.0 bytes)) (alike of session refl)
+object_lent L L' sessions p (Buffer of session) alike = ap (λ bytes. Some (ABuffer session.0 bytes)) (alike session.0 of.0 refl)
 
 module _ (L L' : Lent) (p : Part) (caps : NatMap Cap) (alike : LendAlike L L' caps) (user : NatMap Region) (heap : OwnHeap) (sliced : NatMap (List ℕ)) where
   -- and so is the own state
@@ -35,7 +46,7 @@ module _ (L L' : Lent) (p : Part) (caps : NatMap Cap) (alike : LendAlike L L' ca
   own_lent sessions i = record {
     account = account_of p;
     selectors = picked_alike (object_of L' sessions p) (object_of L sessions p) caps
-        (λ q cap there. object_lent L L' sessions p cap (λ of session is. alike q of session (there ∙ ap (λ c. Some c) is))) i;
+        (λ q cap there. object_lent L L' sessions p cap (λ s key is. alike q s key (ap buffer_at there ∙ is))) i;
     regions = regions_of caps user;
     heap = heap;
     sliced = sliced;
@@ -55,28 +66,26 @@ script_lent {L} {L'} {p} {space} {regions} {heap} {sliced} alike script = record
   lawful = λ sessions ready. subst IsLawful (sym (own_lent L L' p space.caps alike regions.user heap sliced sessions)) (script.lawful sessions ready);
 }
 
--- where no selector names a buffer, nothing is seen
-pub none_seen : (L' : Lent) {L : Lent} {p : Part} {space : Space} {regions : Regions} {heap : OwnHeap} {sliced : NatMap (List ℕ)} → IsScript L p space regions heap sliced → LendAlike L L' space.caps
-none_seen L' script q of session names = absurd (script.named.unlent q of session names)
-
 -- ---- who pays for it
 
--- a dataspace is one that an account other than this pays for
-pub record IsOthers (account : ℕ) (store : Store) (key : ℕ) : Type 0 where
-  pub payer : ℕ
-  pub apart : payer ≢ account
-  pub there : IsSome (get (part payer store).spaces key)
+-- a dataspace stays what it is where who pays for it keeps its part
+pub paid_still : (store store' : Store) (key : ℕ) → Exists store key → part (space_at store key).payer store' ≡ part (space_at store key).payer store →
+    IsPaidBy (space_at store key).payer key (space_at store key).bytes store'
+paid_still store store' key there same =
+    paid_in_part (space_at store key).payer key (space_at store key).bytes store' (ap (λ (p : Part). get p.spaces key) same ∙ part_of_payer store key there)
 
-module _ (account : ℕ) (store store' : Store) (others : (other : ℕ) → other ≢ account → part other store' ≡ part other store) where
-  -- a call for an account leaves it so
-  pub others_still : (key : ℕ) → IsOthers account store key → IsOthers account store' key
-  others_still key its = record { payer = its.payer; apart = its.apart; there = ap (λ (p : Part). is_some (get p.spaces key)) (others its.payer its.apart) ∙ its.there }
+-- who pays for the buffers that selectors name keeps its part
+abbrev pub LendersStay : Store → Store → NatMap Cap → Type 0
+LendersStay store store' caps = (s q key : ℕ) → buffer_at (get caps s) ≡ Some (q, key) → part (space_at store key).payer store' ≡ part (space_at store key).payer store
 
-  -- and the bytes that it holds: such a call leaves all that a script sees of what sessions lend
-  pub lent_still : (caps : NatMap Cap) → ((selector : ℕ) (of : DsId) (session : Selector) → get caps selector ≡ Some (Buffer of session) → IsOthers account store of.0) →
-      LendAlike (lent_in store) (lent_in store') caps
-  lent_still caps lent q of session names =
-      let its = lent q of session names in
-      let has = some_of (get (part its.payer store).spaces of.0) its.there in
-      (paid_in_part its.payer of.0 has.0 store' (ap (λ (p : Part). get p.spaces of.0) (others its.payer its.apart) ∙ has.1)).bytes_are
-      ∙ sym (paid_in_part its.payer of.0 has.0 store has.1).bytes_are
+module _ (account : ℕ) (store store' : Store) (caps : NatMap Cap) (lent : AreOthers account store caps) (stay : LendersStay store store' caps) where
+  -- so another pays for them still
+  pub others_still : AreOthers account store' caps
+  others_still s q key names =
+      let its = lent s q key names in
+      let paid = paid_still store store' key its.there (stay s q key names) in
+      record { there = paid.exists; apart = λ e. its.apart (sym paid.payer ∙ e) }
+
+  -- and they hold the same bytes
+  pub lent_still : LendAlike (lent_in store) (lent_in store') caps
+  lent_still s q key names = (paid_still store store' key (lent s q key names).there (stay s q key names)).bytes_are

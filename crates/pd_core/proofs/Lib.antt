@@ -2,9 +2,14 @@ pub mod HexLemmas
 pub mod SpellingLemmas
 pub mod NameLemmas
 pub mod LentLemmas
+pub mod LentPokeLemmas
+pub mod LentWriteLemmas
+pub mod SparesLemmas
+pub mod LentPlaceLemmas
 pub mod SessionOwnLemmas
 pub mod SessionStepLemmas
 pub mod SessionScriptLemmas
+pub mod SessionTurnLemmas
 pub mod NamedSessionLemmas
 pub mod ServerLemmas
 pub mod HeldLemmas
@@ -16,6 +21,8 @@ pub mod SessionChangeLemmas
 pub mod ClientServerLemmas
 pub mod SessionRefusedLemmas
 pub mod SessionWorldLemmas
+pub mod ServedSessionLemmas
+pub mod ClosedSessionLemmas
 pub mod SessionOpenLemmas
 pub mod OwnLemmas
 pub mod ScriptLemmas

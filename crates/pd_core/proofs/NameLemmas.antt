@@ -1,5 +1,6 @@
 -- The selector that names a dataspace, when capabilities change.
-use Rattle.std.proofs.Common.{◌≡◌, ℕ, true, Option, Some, None, is_some, eqb-true, true≢false, subst, refl, sym, ap, ◌∙◌}
+use Rattle.std.specs.Prelude.{◌⊎◌}
+use Rattle.std.proofs.Common.{◌≡◌, ℕ, true, Option, Some, None, inl, inr, is_some, eqb-true, true≢false, subst, refl, sym, ap, ◌∙◌}
 use Rattle.std.proofs.lemmas.Bool.{eq-eqb}
 use Rattle.std.proofs.lemmas.Option.{none-some, same_Some}
 use Rattle.std.specs.List.{find}
@@ -11,10 +12,12 @@ use Rattle.own_model.specs.NatMap.{NatMap}
 use Rattle.own_model.specs.Region.{Region}
 use Rattle.own_model.proofs.EntryLemmas.{found_in_map, finds_in_map}
 use Rattle.own_model.proofs.NatMapLemmas.{picked_alike, some_of, before_remove}
+use Rattle.cap_space.specs.Space.{is_buffer}
 use Rattle.cap_space.specs.declared.cap.Cap.{Cap}
 use Rattle.cap_space.specs.declared.cap.Cap.TheVariants.{Dataspace, RpcObject, Session, Buffer}
 use Rattle.pd_core.specs.Own.{key_at, is_of, selector_of, regions_of}
-use Rattle.pd_core.specs.Sound.{IsOne, AreNamed}
+use Rattle.pd_core.specs.Sound.{session_at, buffer_at, IsOne, AreNamed}
+use Rattle.pd_core.specs.Sessions.{IsLentAt}
 
 -- a selector names the dataspace under a key
 abbrev pub Names : NatMap Cap → ℕ → ℕ → Type 0
@@ -39,19 +42,72 @@ pub cap_named : (o : Option Cap) (key : ℕ) → key_at o ≡ Some key → (cap 
 cap_named None key h = absurd (none-some key h)
 cap_named (Some cap) key h = (cap, refl)
 
+-- a buffer is of the dataspace that it tells
+pub buffer_key : (o : Option Cap) (q key : ℕ) → buffer_at o ≡ Some (q, key) → key_at o ≡ Some key
+buffer_key None q key h = absurd (none-some (q, key) h)
+buffer_key (Some (Dataspace ds)) q key h = absurd (none-some (q, key) h)
+buffer_key (Some RpcObject) q key h = absurd (none-some (q, key) h)
+buffer_key (Some (Session server session)) q key h = absurd (none-some (q, key) h)
+buffer_key (Some (Buffer of session)) q key h = let same = same_Some (session.0, of.0) (q, key) h in ap (λ (x : ℕ × ℕ). Some x.1) same
+
+-- a buffer passes the test for one in its dataspace
+pub buffer_test : (o : Option Cap) (q key : ℕ) → buffer_at o ≡ Some (q, key) → is_buffer key o ≡ true
+buffer_test None q key h = absurd (none-some (q, key) h)
+buffer_test (Some (Dataspace ds)) q key h = absurd (none-some (q, key) h)
+buffer_test (Some RpcObject) q key h = absurd (none-some (q, key) h)
+buffer_test (Some (Session server session)) q key h = absurd (none-some (q, key) h)
+buffer_test (Some (Buffer of session)) q key h = let same = same_Some (session.0, of.0) (q, key) h in eq-eqb of.0 key (ap (λ (x : ℕ × ℕ). x.1) same)
+
+-- and what passes it has that key
+pub tested_key : (o : Option Cap) (key : ℕ) → is_buffer key o ≡ true → key_at o ≡ Some key
+tested_key None key h = absurd (true≢false (sym h))
+tested_key (Some (Dataspace ds)) key h = absurd (true≢false (sym h))
+tested_key (Some RpcObject) key h = absurd (true≢false (sym h))
+tested_key (Some (Session server session)) key h = absurd (true≢false (sym h))
+tested_key (Some (Buffer of session)) key h = ap (λ k. Some k) (eqb-true of.0 key h)
+
+-- what has a buffer has no session
+no_session : (o : Option Cap) (b : ℕ × ℕ) → buffer_at o ≡ Some b → session_at o ≡ None
+no_session None b h = refl
+no_session (Some (Dataspace ds)) b h = refl
+no_session (Some RpcObject) b h = refl
+no_session (Some (Session server session)) b h = absurd (none-some b h)
+no_session (Some (Buffer of session)) b h = refl
+
+-- nor has the selector of what a session lends
+pub lent_aside : {caps : NatMap Cap} {q k : ℕ} {lent : Option ℕ} → IsLentAt caps q k lent → session_at (get caps k) ≡ None
+lent_aside {lent = None} at = ap session_at (at.free refl)
+lent_aside {caps = caps} {q = q} {k = k} {lent = Some key} at = no_session (get caps k) (q, key) at.has
+
 -- what has a key still had it before a selector was taken out
 pub key_before : (caps : NatMap Cap) (s q key : ℕ) → key_at (get (remove caps s) q) ≡ Some key → key_at (get caps q) ≡ Some key
 key_before caps s q key h =
     let its = cap_named (get (remove caps s) q) key h in
     ap key_at (before_remove caps s q its.0 its.1) ∙ sym (ap key_at its.1) ∙ h
 
--- one that is no buffer's is of a dataspace of its own
-pub space_named : (o : Option Cap) (key : ℕ) → key_at o ≡ Some key → ((of : DsId) (session : Selector) → o ≡ Some (Buffer of session) → ⊥) → (ds : DsId) × (o ≡ Some (Dataspace ds)) × (ds.0 ≡ key)
-space_named None key h none = absurd (none-some key h)
-space_named (Some (Dataspace ds)) key h none = (ds, refl, same_Some ds.0 key h)
-space_named (Some RpcObject) key h none = absurd (none-some key h)
-space_named (Some (Session server session)) key h none = absurd (none-some key h)
-space_named (Some (Buffer of session)) key h none = absurd (none of session refl)
+-- what has a key is of a dataspace of the script's own
+pub record IsOwn (o : Option Cap) (key : ℕ) : Type 0 where
+  pub ds : DsId
+  pub is : o ≡ Some (Dataspace ds)
+  pub key_is : ds.0 ≡ key
+
+-- or it is a buffer's
+pub record IsLent (o : Option Cap) (key : ℕ) : Type 0 where
+  pub of : DsId
+  pub session : Selector
+  pub is : o ≡ Some (Buffer of session)
+  pub key_is : of.0 ≡ key
+
+pub own_or_lent : (o : Option Cap) (key : ℕ) → key_at o ≡ Some key → IsOwn o key ⊎ IsLent o key
+own_or_lent None key h = absurd (none-some key h)
+own_or_lent (Some (Dataspace ds)) key h = inl (record { ds = ds; is = refl; key_is = same_Some ds.0 key h })
+own_or_lent (Some RpcObject) key h = absurd (none-some key h)
+own_or_lent (Some (Session server session)) key h = absurd (none-some key h)
+own_or_lent (Some (Buffer of session)) key h = inr (record { of = of; session = session; is = refl; key_is = same_Some of.0 key h })
+
+-- a buffer's tells that key
+pub lent_key : {o : Option Cap} {key : ℕ} (its : IsLent o key) → buffer_at o ≡ Some (its.session.0, key)
+lent_key its = ap buffer_at its.is ∙ ap (λ k. Some (its.session.0, k)) its.key_is
 
 -- the selector of an entry that is found names the dataspace under the key
 key_of_found : (caps : NatMap Cap) (key s : ℕ) (o : Option (ℕ × Cap)) → find (λ e. is_of key e.1) (entries caps) ≡ o → option_map (λ e. e.0) o ≡ Some s → Names caps s key

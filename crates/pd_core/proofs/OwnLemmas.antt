@@ -21,7 +21,7 @@ use Rattle.own_model.specs.Reply.Reply.{Selected, Done}
 use Rattle.own_model.specs.Session.ServiceState.{Logging}
 use Rattle.own_model.specs.Use.{object_size, object_caps}
 use Rattle.own_model.specs.StartList.{Entry}
-use Rattle.own_model.proofs.NatMapLemmas.{same, get-insert_same, get-insert_other, get-remove_same, get-remove_other, get-picked, picked-insert_some, picked-remove, picked_alike, and_then_alike, after_insert, apart_from_free, none_at, before_remove}
+use Rattle.own_model.proofs.NatMapLemmas.{same, get-insert_same, get-insert_other, get-remove_same, get-remove_other, get-picked, picked-insert_some, picked-remove, picked_alike, alike_insert, alike_remove, and_then_alike, after_insert, apart_from_free, none_at, before_remove}
 use Rattle.own_model.proofs.NewSelector.{new_selector_is, new_selector_positive, new_selector_free, new_selector_least}
 use Rattle.own_model.proofs.Totals.{len-insert_new, len-insert_at, len-remove_at, total-insert_new, total-remove, total_at_le}
 use Rattle.own_model.proofs.SoundLemmas.{step_sound}
@@ -35,20 +35,21 @@ use Rattle.dataspace_core.specs.Store.{Store, Part, part, space_at, account_of, 
 use Rattle.dataspace_core.proofs.PartLaws.{paid_in_part}
 use Rattle.sliced_heap.specs.Laws.{KeepsHeapWindow}
 use Rattle.pd_core.specs.Own.{Sessions, HasSessions, object_of, selector_of, regions_of, own_of, Lent, key_at}
-use Rattle.pd_core.specs.Sound.{rpc_weight, session_weight, session_at, IsOne, AreNamed, AreBlocks, IsLawful, IsScript}
-use Rattle.pd_core.proofs.NameLemmas.{Names, is_named, regions_alike, attached_alike, cap_named, key_before, space_named}
+use Rattle.pd_core.specs.Sound.{rpc_weight, session_weight, session_at, buffer_at, IsOne, AreNamed, AreBlocks, IsLawful, IsScript}
+use Rattle.pd_core.proofs.NameLemmas.{Names, is_named, regions_alike, attached_alike, cap_named, key_before, own_or_lent, lent_key}
 
 -- what a call leaves to the heaps: the heap window, and what their dataspaces hold
 pub record Spares (p p' : Part) (regions regions' : Regions) : Type 0 where
   pub window : KeepsHeapWindow regions regions'
   pub bytes : (start : ℕ) (region : Region) → get regions.heap start ≡ Some region → get p'.spaces region.of ≡ get p.spaces region.of
 
--- what a call leaves of the limits and of the sessions
+-- what a call leaves of the limits, of the sessions and of their buffers
 pub record Leaves (p p' : Part) (space space' : Space) : Type 0 where
   pub ram_limit : (account_of p').ram_limit ≡ (account_of p).ram_limit
   pub caps_limit : (account_of p').caps_limit ≡ (account_of p).caps_limit
   pub places : space'.places ≡ space.places
   pub sessions : (q : ℕ) → session_at (get space'.caps q) ≡ session_at (get space.caps q)
+  pub buffers : (q : ℕ) → buffer_at (get space'.caps q) ≡ buffer_at (get space.caps q)
   pub session_count : total session_weight space'.caps ≡ total session_weight space.caps
 
 -- a call answers this and makes the own state of this part and these tables of what it was, whatever the sessions are
@@ -105,25 +106,6 @@ has_object L sessions p (Some RpcObject) there ready = refl
 has_object L sessions p (Some (Buffer space session)) there ready = refl
 has_object L sessions p (Some (Session server session)) there ready = map_some OpenSession (sessions server session.0) ∙ ready server session refl
 
--- what is no capability of a buffer is no buffer
-not_buffer : (L : Lent) (sessions : Sessions) (p : Part) (o : Option Cap) (session : ℕ) (bytes : List ℕ) → ((of : DsId) (other : Selector) → o ≡ Some (Buffer of other) → ⊥) →
-    option_and_then (object_of L sessions p) o ≡ Some (ABuffer session bytes) → ⊥
-not_buffer L sessions p None session bytes none is = none-some _ is
-not_buffer L sessions p (Some (Dataspace ds)) session bytes none is =
-    elim (get p.spaces ds.0) as (λ o. option_map ADataspace o ≡ Some (ABuffer session bytes) → ⊥) [ None ↦ λ h. none-some _ h | Some x ↦ λ h. cc ] is
-not_buffer L sessions p (Some RpcObject) session bytes none is = cc
-not_buffer L sessions p (Some (Session server key)) session bytes none is =
-    elim (sessions server key.0) as (λ o. option_map OpenSession o ≡ Some (ABuffer session bytes) → ⊥) [ None ↦ λ h. none-some _ h | Some x ↦ λ h. cc ] is
-not_buffer L sessions p (Some (Buffer of other)) session bytes none is = none of other refl
-
--- what is no buffer is none of a session
-no_buffer_of : (q : ℕ) (o : Option Object) → ((session : ℕ) (bytes : List ℕ) → o ≡ Some (ABuffer session bytes) → ⊥) → is_buffer_of q o ≡ false
-no_buffer_of q None none = refl
-no_buffer_of q (Some (ADataspace bytes)) none = refl
-no_buffer_of q (Some AnRpcObject) none = refl
-no_buffer_of q (Some (OpenSession session)) none = refl
-no_buffer_of q (Some (ABuffer session bytes)) none = absurd (none session bytes refl)
-
 -- ---- sessions
 
 -- sessions of which each is open
@@ -144,12 +126,12 @@ pub open_before : (sessions : Sessions) (caps caps' : NatMap Cap) → ((q : ℕ)
 open_before sessions caps caps' alike ready q server session there =
     ready q server session (session_is (get caps' q) server session (alike q ∙ ap session_at there))
 
--- what is no session counts as none
-no_weight : (cap : Cap) → session_at (Some cap) ≡ None → session_weight cap ≡ 0
-no_weight (Dataspace ds) plain = refl
-no_weight RpcObject plain = refl
-no_weight (Buffer space session) plain = refl
-no_weight (Session server session) plain = cc
+-- what is no session and no buffer counts as none
+no_weight : (cap : Cap) → session_at (Some cap) ≡ None → buffer_at (Some cap) ≡ None → session_weight cap ≡ 0
+no_weight (Dataspace ds) plain own = refl
+no_weight RpcObject plain own = refl
+no_weight (Buffer space session) plain own = cc
+no_weight (Session server session) plain own = cc
 
 module _ {L : Lent} (p : Part) (space : Space) (regions : Regions) (heap : OwnHeap) (sliced : NatMap (List ℕ)) (sound : IsScript L p space regions heap sliced) where
   -- the part has the bytes of a dataspace that a selector names
@@ -186,19 +168,6 @@ module _ {L : Lent} (p : Part) (space : Space) (regions : Regions) (heap : OwnHe
           (none_at _ _ (selects _ ∙ ap is_some (new_selector_free space.caps)))
           (λ t positive below. selects t ∙ new_selector_least space.caps t positive below)
 
-  -- no selector names a buffer
-  pub no_buffer : (s : ℕ) (of : DsId) (session : Selector) → get space.caps s ≡ Some (Buffer of session) → ⊥
-  no_buffer s of session names = sound.named.unlent s of session names
-
-  -- so the own state has none
-  pub holds_no_buffer : (sessions : Sessions) (s session : ℕ) (bytes : List ℕ) → get (before sessions).selectors s ≡ Some (ABuffer session bytes) → ⊥
-  holds_no_buffer sessions s session bytes is =
-      not_buffer L sessions p (get space.caps s) session bytes (λ of other named. no_buffer s of other named) (sym (object_is sessions s) ∙ is)
-
-  -- nor has any of its sessions
-  pub has_no_buffer : (sessions : Sessions) (q : ℕ) → buffer_of q (before sessions).selectors ≡ None
-  has_no_buffer sessions q = buffer_none q (before sessions).selectors (λ k. no_buffer_of q (get (before sessions).selectors k) (holds_no_buffer sessions k))
-
   -- the bytes of a dataspace that a selector names are no more than the machine's
   pub few_bytes : (s : ℕ) (ds : DsId) → get space.caps s ≡ Some (Dataspace ds) → length (bytes_of p ds.0) ≤ regions.pages * 4096
   unfolding own_of
@@ -229,7 +198,8 @@ module _ {L : Lent} (p : Part) (space : Space) (regions : Regions) (heap : OwnHe
         (fresh : (ds : DsId) → cap ≡ Dataspace ds → get p.spaces ds.0 ≡ None)
         (counts : len spaces + rpc_weight cap ≡ len p.spaces + 1)
         (plain : session_at (Some cap) ≡ None) (present : (ds : DsId) → cap ≡ Dataspace ds → IsSome (get spaces ds.0))
-        (no_lending : (of : DsId) (session : Selector) → cap ≢ Buffer of session) where
+        (own : buffer_at (Some cap) ≡ None)
+        (not_lent : (q of key : ℕ) → buffer_at (get space.caps q) ≡ Some (of, key) → key_at (Some cap) ≢ Some key) where
       -- the part with the charge, and these dataspaces
       abbrev pub charged_part : Part
       charged_part = record { account = Some (charged (account_of p) n 1); spaces = spaces }
@@ -243,12 +213,20 @@ module _ {L : Lent} (p : Part) (space : Space) (regions : Regions) (heap : OwnHe
         object_stays : (sessions : Sessions) (q : ℕ) (c : Cap) → get space.caps q ≡ Some c → object_of L sessions charged_part c ≡ object_of L sessions p c
         object_stays sessions q c there = object_alike L sessions p charged_part c (λ ds is. still ds.0 (is_held q ds (there ∙ ap (λ x. Some x) is)))
 
+        -- it is no buffer's
+        no_lending : (of : DsId) (session : Selector) → cap ≢ Buffer of session
+        no_lending of session e = none-some (session.0, of.0) (sym own ∙ ap (λ c. buffer_at (Some c)) e)
+
         -- no selector named the new dataspace
         unnamed : (q key : ℕ) → key_at (Some cap) ≡ Some key → Names space.caps q key → ⊥
-        unnamed q key new old =
-            let its = space_named (get space.caps q) key old (λ of session. sound.named.unlent q of session) in
-            let mine = space_named (Some cap) key new (λ of session is. no_lending of session (same_Some cap (Buffer of session) is)) in
-            apart_from_free p.spaces mine.0.0 its.0.0 (fresh mine.0 (same_Some cap (Dataspace mine.0) mine.1)) (is_held q its.0 its.1) (its.2 ∙ sym mine.2)
+        unnamed q key new old = elim (own_or_lent (get space.caps q) key old) [
+          | inl its ↦ elim (own_or_lent (Some cap) key new) [
+            | inl mine ↦
+                apart_from_free p.spaces mine.ds.0 its.ds.0 (fresh mine.ds (same_Some cap (Dataspace mine.ds) mine.is)) (is_held q its.ds its.is) (its.key_is ∙ sym mine.key_is)
+            | inr mine ↦ no_lending mine.of mine.session (same_Some cap (Buffer mine.of mine.session) mine.is)
+          ]
+          | inr its ↦ not_lent q its.session.0 key (lent_key its) new
+        ]
 
         -- a key is the new selector's
         new_key : (q key : ℕ) → q ≡ s → Names (insert space.caps s cap) q key → key_at (Some cap) ≡ Some key
@@ -278,13 +256,6 @@ module _ {L : Lent} (p : Part) (space : Space) (regions : Regions) (heap : OwnHe
           | inr old ↦ let held = is_held q ds old.1 in ap is_some (still ds.0 held) ∙ held
         ]
 
-        -- nor does a selector name a buffer
-        grown_unlent : (q : ℕ) (of : DsId) (session : Selector) → get (insert space.caps s cap) q ≡ Some (Buffer of session) → ⊥
-        grown_unlent q of session names = elim (after_insert space.caps s cap q (Buffer of session) names) [
-          | inl here ↦ no_lending of session (sym here.1)
-          | inr old ↦ sound.named.unlent q of session old.1
-        ]
-
         -- the new selector names no block, and neither does another
         grown_unnamed : (start q : ℕ) (region : Region) (ds : DsId) → get regions.heap start ≡ Some region → get (insert space.caps s cap) q ≡ Some (Dataspace ds) → ds.0 ≢ region.of
         grown_unnamed start q region ds there names = elim (after_insert space.caps s cap q (Dataspace ds) names) [
@@ -304,9 +275,13 @@ module _ {L : Lent} (p : Part) (space : Space) (regions : Regions) (heap : OwnHe
           | inr apart ↦ ap session_at (get-insert_other space.caps s cap q apart)
         ]
 
+        -- and so do the buffers
+        grown_buffers : (q : ℕ) → buffer_at (get (insert space.caps s cap) q) ≡ buffer_at (get space.caps q)
+        grown_buffers = alike_insert buffer_at space.caps s cap (own ∙ sym (ap buffer_at free_selector))
+
         -- and there are as many
         grown_count : total session_weight (insert space.caps s cap) ≡ total session_weight space.caps
-        grown_count = omega (arith, total-insert_new session_weight space.caps s cap free_selector, no_weight cap plain)
+        grown_count = omega (arith, total-insert_new session_weight space.caps s cap free_selector, no_weight cap plain own)
 
         -- the own state has the object under its new selector
         grown_own : (sessions : Sessions) → HasSessions sessions space.caps → own_of L sessions charged_part (insert space.caps s cap) regions.user heap sliced
@@ -331,7 +306,7 @@ module _ {L : Lent} (p : Part) (space : Space) (regions : Regions) (heap : OwnHe
             let bytes : (start : ℕ) (region : Region) → get regions.heap start ≡ Some region → get spaces region.of ≡ get p.spaces region.of
             = (λ start region there. still region.of (sound.blocks.held start region there)) in
             let script : IsScript L charged_part (with_cap space s cap) regions heap sliced = record {
-              named = record { there = grown_there; one = grown_one; unlent = grown_unlent };
+              named = record { there = grown_there; one = grown_one };
               paid = record {
                 is_open = refl;
                 named = omega (arith, len-insert_new space.caps s cap free_selector, sound.paid.named, grown_count);
@@ -345,7 +320,7 @@ module _ {L : Lent} (p : Part) (space : Space) (regions : Regions) (heap : OwnHe
               lawful = kept (Selected s) charged_part (with_cap space s cap) regions heap sliced grown_sessions outcome;
             } in
             record {
-              makes = record { outcome = outcome; script = script; leaves = record { ram_limit = refl; caps_limit = refl; places = refl; sessions = grown_sessions; session_count = grown_count } };
+              makes = record { outcome = outcome; script = script; leaves = record { ram_limit = refl; caps_limit = refl; places = refl; sessions = grown_sessions; buffers = grown_buffers; session_count = grown_count } };
               spares = record { window = same_window; bytes = bytes };
             }
 
@@ -355,7 +330,8 @@ module _ {L : Lent} (p : Part) (space : Space) (regions : Regions) (heap : OwnHe
         (still : (q : ℕ) (ds : DsId) → get (remove space.caps s) q ≡ Some (Dataspace ds) → get spaces ds.0 ≡ get p.spaces ds.0)
         (left : (start : ℕ) (region : Region) → get regions'.user start ≡ Some region → (get regions.user start ≡ Some region) × (selector_of space.caps region.of ≢ Some s))
         (spared : (start : ℕ) (region : Region) → get regions.heap start ≡ Some region → get spaces region.of ≡ get p.spaces region.of)
-        (counts : len spaces + 1 ≡ len p.spaces + rpc_weight cap) (most : regions'.most ≡ regions.most) (window : KeepsHeapWindow regions regions') (plain : session_at (Some cap) ≡ None) where
+        (counts : len spaces + 1 ≡ len p.spaces + rpc_weight cap) (most : regions'.most ≡ regions.most) (window : KeepsHeapWindow regions regions') (plain : session_at (Some cap) ≡ None)
+        (own : buffer_at (Some cap) ≡ None) where
       -- the part with the credit, and these dataspaces
       abbrev pub credited_part : Part
       credited_part = record { account = Some (credited (account_of p) n 1); spaces = spaces }
@@ -383,9 +359,13 @@ module _ {L : Lent} (p : Part) (space : Space) (regions : Regions) (heap : OwnHe
         | inr apart ↦ ap session_at (get-remove_other space.caps s q apart)
       ]
 
+      -- and so do the buffers
+      shrunk_buffers : (q : ℕ) → buffer_at (get (remove space.caps s) q) ≡ buffer_at (get space.caps q)
+      shrunk_buffers = alike_remove buffer_at space.caps s (sym own ∙ sym (ap buffer_at there))
+
       -- and there are as many
       shrunk_count : total session_weight (remove space.caps s) ≡ total session_weight space.caps
-      shrunk_count = omega (arith, total-remove session_weight space.caps s cap there, no_weight cap plain)
+      shrunk_count = omega (arith, total-remove session_weight space.caps s cap there, no_weight cap plain own)
 
       -- the own state has nothing under the selector
       shrunk_own : (sessions : Sessions) → own_of L sessions credited_part (remove space.caps s) regions'.user heap sliced
@@ -407,7 +387,7 @@ module _ {L : Lent} (p : Part) (space : Space) (regions : Regions) (heap : OwnHe
           = λ sessions ready. (λ i. record { reply = Done; lines = []; next = shrunk_own sessions i }) ∙ sym (is sessions) in
           let shorter = len-remove_at space.caps s cap there in
           let script : IsScript L credited_part (without_cap space s) regions' heap sliced = record {
-            named = record { there = λ q ds here. ap is_some (still q ds here) ∙ is_held q ds (before_remove space.caps s q (Dataspace ds) here); one = shrunk_one; unlent = λ q of session here. sound.named.unlent q of session (before_remove space.caps s q (Buffer of session) here) };
+            named = record { there = λ q ds here. ap is_some (still q ds here) ∙ is_held q ds (before_remove space.caps s q (Dataspace ds) here); one = shrunk_one };
             paid = record {
               is_open = refl;
               named = omega (arith, shorter, sound.paid.named, shrunk_count);
@@ -424,7 +404,7 @@ module _ {L : Lent} (p : Part) (space : Space) (regions : Regions) (heap : OwnHe
             lawful = kept Done credited_part (without_cap space s) regions' heap sliced shrunk_sessions outcome;
           } in
           record {
-            makes = record { outcome = outcome; script = script; leaves = record { ram_limit = refl; caps_limit = refl; places = refl; sessions = shrunk_sessions; session_count = shrunk_count } };
+            makes = record { outcome = outcome; script = script; leaves = record { ram_limit = refl; caps_limit = refl; places = refl; sessions = shrunk_sessions; buffers = shrunk_buffers; session_count = shrunk_count } };
             spares = record { window = window; bytes = spared };
           }
 
@@ -445,35 +425,31 @@ module _ {L : Lent} (p : Part) (space : Space) (regions : Regions) (heap : OwnHe
           blocks = rw window.heap sound.blocks;
           lawful = kept reply p space regions' heap sliced (λ q. refl) is;
         };
-        leaves = record { ram_limit = refl; caps_limit = refl; places = refl; sessions = λ q. refl; session_count = refl };
+        leaves = record { ram_limit = refl; caps_limit = refl; places = refl; sessions = λ q. refl; buffers = λ q. refl; session_count = refl };
       };
       spares = record { window = window; bytes = λ start region there. refl };
     }
 
     -- ---- other bytes
 
-    module _ (key s : ℕ) (over : List ℕ) (names : Names space.caps s key) (size : length over ≡ length (bytes_of p key)) where
-      -- it is one of the script's own
-      abbrev its : (ds : DsId) × (get space.caps s ≡ Some (Dataspace ds)) × (ds.0 ≡ key)
-      its = space_named (get space.caps s) key names (λ of session. sound.named.unlent s of session)
-
+    module _ (ds : DsId) (s : ℕ) (over : List ℕ) (names : get space.caps s ≡ Some (Dataspace ds)) where
       -- the part has the bytes that are written over
-      has : get p.spaces key ≡ Some (bytes_of p key)
-      has = subst (λ k. get p.spaces k ≡ Some (bytes_of p k)) its.2 (has_bytes s its.0 its.1)
+      has : get p.spaces ds.0 ≡ Some (bytes_of p ds.0)
+      has = has_bytes s ds names
 
       -- the part with other bytes of the dataspace
       abbrev pub written : Part
-      written = record p { spaces = insert p.spaces key over }
+      written = record p { spaces = insert p.spaces ds.0 over }
 
       -- other selectors keep their objects
       object_other : (sessions : Sessions) (q : ℕ) (c : Cap) → q ≢ s → get space.caps q ≡ Some c → object_of L sessions written c ≡ object_of L sessions p c
       object_other sessions q c apart there = object_alike L sessions p written c (λ d is.
-          get-insert_other p.spaces key over d.0 (λ e. apart (sound.named.one q s key (ap key_at (there ∙ ap (λ x. Some x) is) ∙ ap (λ k. Some k) e) names)))
+          get-insert_other p.spaces ds.0 over d.0 (λ e. apart (sound.named.one q s ds.0 (ap key_at (there ∙ ap (λ x. Some x) is) ∙ ap (λ k. Some k) e) (ap key_at names))))
 
       -- the dataspace's selector names the new bytes
       object_here : (sessions : Sessions) (q : ℕ) → q ≡ s → option_and_then (object_of L sessions written) (get space.caps q) ≡ Some (ADataspace over)
       object_here sessions q at =
-          ap (option_and_then (object_of L sessions written)) (ap (get space.caps) at ∙ its.1) ∙ ap (option_map ADataspace) (get-insert_same p.spaces key over its.0.0 its.2)
+          ap (option_and_then (object_of L sessions written)) (ap (get space.caps) at ∙ names) ∙ ap (option_map ADataspace) (get-insert_same p.spaces ds.0 over ds.0 refl)
 
       -- and the others what they did
       written_at : (sessions : Sessions) (q : ℕ) → get (picked (object_of L sessions written) space.caps) q ≡ get (insert (picked (object_of L sessions p) space.caps) s (ADataspace over)) q
@@ -485,10 +461,10 @@ module _ {L : Lent} (p : Part) (space : Space) (regions : Regions) (heap : OwnHe
       ])
 
       -- each dataspace is there still
-      written_there : (q : ℕ) (ds : DsId) → get space.caps q ≡ Some (Dataspace ds) → IsSome (get written.spaces ds.0)
-      written_there q ds there = elim (cases_eq ds.0 key) [
-        | inl at ↦ ap is_some (get-insert_same p.spaces key over ds.0 at)
-        | inr apart ↦ ap is_some (get-insert_other p.spaces key over ds.0 apart) ∙ is_held q ds there
+      written_there : (q : ℕ) (d : DsId) → get space.caps q ≡ Some (Dataspace d) → IsSome (get written.spaces d.0)
+      written_there q d there = elim (cases_eq d.0 ds.0) [
+        | inl at ↦ ap is_some (get-insert_same p.spaces ds.0 over d.0 at)
+        | inr apart ↦ ap is_some (get-insert_other p.spaces ds.0 over d.0 apart) ∙ is_held q d there
       ]
 
       -- so a call that does this settles
@@ -499,13 +475,13 @@ module _ {L : Lent} (p : Part) (space : Space) (regions : Regions) (heap : OwnHe
           let outcome : DoesOwn L call p space regions heap sliced Done written space regions heap sliced
           = λ sessions ready. (λ i. record { reply = Done; lines = []; next = record (before sessions) { selectors = same _ _ (written_at sessions) i } }) ∙ sym (is sessions) in
           let bytes : (start : ℕ) (region : Region) → get regions.heap start ≡ Some region → get written.spaces region.of ≡ get p.spaces region.of
-          = (λ start region there. get-insert_other p.spaces key over region.of (λ e. sound.blocks.unnamed start s region its.0 there its.1 (its.2 ∙ sym e))) in
+          = (λ start region there. get-insert_other p.spaces ds.0 over region.of (λ e. sound.blocks.unnamed start s region ds there names (sym e))) in
           let script : IsScript L written space regions heap sliced = record {
-            named = record { there = written_there; one = sound.named.one; unlent = sound.named.unlent };
+            named = record { there = written_there; one = sound.named.one };
             paid = record {
               is_open = sound.paid.is_open;
               named = sound.paid.named;
-              spare = omega (arith, sound.paid.spare, len-insert_at p.spaces key over (bytes_of p key) has);
+              spare = omega (arith, sound.paid.spare, len-insert_at p.spaces ds.0 over (bytes_of p ds.0) has);
               placed = sound.paid.placed;
             };
             ram = sound.ram;
@@ -515,7 +491,7 @@ module _ {L : Lent} (p : Part) (space : Space) (regions : Regions) (heap : OwnHe
             lawful = kept Done written space regions heap sliced (λ q. refl) outcome;
           } in
           record {
-            makes = record { outcome = outcome; script = script; leaves = record { ram_limit = refl; caps_limit = refl; places = refl; sessions = λ q. refl; session_count = refl } };
+            makes = record { outcome = outcome; script = script; leaves = record { ram_limit = refl; caps_limit = refl; places = refl; sessions = λ q. refl; buffers = λ q. refl; session_count = refl } };
             spares = record { window = same_window; bytes = bytes };
           }
 
@@ -545,7 +521,7 @@ module _ {L : Lent} (p : Part) (space : Space) (regions : Regions) (heap : OwnHe
           let now = lawful all_sessions (λ q server session there. refl) in record {
             outcome = outcome;
             script = record {
-              named = record { there = λ q ds there. ap is_some (still q ds there) ∙ is_held q ds there; one = sound.named.one; unlent = sound.named.unlent };
+              named = record { there = λ q ds there. ap is_some (still q ds there) ∙ is_held q ds there; one = sound.named.one };
               paid = record {
                 is_open = is_open;
                 named = omega (arith, now.uses.caps, was.uses.caps, ap (total object_caps) (selectors all_sessions), sound.paid.named);
@@ -558,7 +534,7 @@ module _ {L : Lent} (p : Part) (space : Space) (regions : Regions) (heap : OwnHe
               blocks = blocks;
               lawful = lawful;
             };
-            leaves = record { ram_limit = ram_limit; caps_limit = caps_limit; places = refl; sessions = λ q. refl; session_count = refl };
+            leaves = record { ram_limit = ram_limit; caps_limit = caps_limit; places = refl; sessions = λ q. refl; buffers = λ q. refl; session_count = refl };
           }
 
 -- ---- over the memory
@@ -568,6 +544,6 @@ pub for_payer : {payer account : ℕ} {old new : Store} (change : Part → Part)
 for_payer {old = old} {new} change same becomes = subst (λ a. PartBecomes a (change (part a old)) old new) same becomes
 
 -- the pages of a dataspace are those of its bytes in the part
-pub pages_are : (store : Store) (account ds : ℕ) → get (part account store).spaces ds ≡ Some (bytes_of (part account store) ds) → (n : ℕ) → n ≡ length (space_at store ds).bytes →
-    n / 4096 ≡ pages_in (bytes_of (part account store) ds)
-pages_are store account ds has n size = ap (λ k. k / 4096) (size ∙ ap length (paid_in_part account ds _ store has).bytes_are)
+pub pages_are : (store : Store) (account ds : ℕ) → get (part account store).spaces ds ≡ Some (bytes_of (part account store) ds) → (n : ℕ) → n ≡ pages_in (space_at store ds).bytes →
+    n ≡ pages_in (bytes_of (part account store) ds)
+pages_are store account ds has n size = size ∙ ap pages_in (paid_in_part account ds _ store has).bytes_are

@@ -14,23 +14,22 @@ use Rattle.dataspace_core.specs.Store.{Store, Part, part, root_in}
 use Rattle.dataspace_core.proofs.PartLaws.{open_in_part, part_open}
 use Rattle.server_frame.specs.Frame.{Row}
 use Rattle.server_frame.specs.Told.{Told as Written}
-use Rattle.server_frame.proofs.FrameLaws.{stays_of_others}
 use Rattle.pd_core.specs.Answer.{Told, told, told_of}
-use Rattle.pd_core.specs.Component.{Pays, entry_of, payer_of, service_of, caps_in, places_in, rows_in, own_in, own, NamesItsSessions, IsSoundRole, IsSound, Keeps}
+use Rattle.pd_core.specs.Component.{Pays, entry_of, payer_of, service_of, caps_in, places_in, rows_in, own_in, own, lent_by, NamesItsSessions, IsSoundRole, IsSound, Keeps}
 use Rattle.pd_core.specs.Core.{Rules, Roles, roles_of, rows_at, sessions_in, Owns, NamesAccount, IsCore}
 use Rattle.pd_core.specs.Core.Owner.{Place}
 use Rattle.pd_core.specs.Exit.{refusal_of, IsScriptRole}
 use Rattle.pd_core.specs.Own.{Sessions}
 use Rattle.pd_core.specs.SessionCalls.{Goes}
 use Rattle.pd_core.specs.Sessions.{row_session}
-use Rattle.pd_core.specs.Sound.{session_at}
+use Rattle.pd_core.specs.Sound.{session_at, buffer_at, WritesLent}
 use Rattle.pd_core.specs.declared.component.Component.{Component}
 use Rattle.pd_core.specs.declared.component.Role.{Role}
 use Rattle.pd_core.specs.declared.component.Role.TheVariants.{Script as AScript, Log as ALog, Files as AFiles, Gone as AGone}
 use Rattle.pd_core.proofs.ChangeLemmas.{ChangesCore, Follows}
 use Rattle.pd_core.proofs.ComponentLemmas.{pays_script, part_becomes, same_caps, same_room}
 use Rattle.pd_core.proofs.HeldLemmas.{same_place, no_place, pays_alone, pays_no_init, held_by}
-use Rattle.pd_core.proofs.RoleLemmas.{Leaves, role_left, rows_left}
+use Rattle.pd_core.proofs.SparesLemmas.{SparesRest, spares_beside, spares_lent}
 use Rattle.pd_core.proofs.WorldLemmas.{face_of, face_set, goes, places_kept, stays_goes, role_at, role_set, role_kept, same_init}
 
 -- a role makes calls or is refused
@@ -79,32 +78,39 @@ module _ (store : Store) (components : List Component) (i : ℕ) (d : Component)
       pays : Pays (roles i) payer
       pays = subst (λ r. Pays r payer) (sym is_caller) (pays_script caller.role script)
 
-      -- what others see of their accounts stays
-      leaves : Leaves store roles store' (λ owner. owner ≡ Place i)
-      leaves = record {
-        stays = λ owner account other owns regions.
-            stays_of_others payer account (part payer store') store store' regions (part_becomes store caller store' after sound script keeps)
-            (λ e. other (pays_alone core i payer pays owner (subst (Owns store roles owner) e owns)));
-        ram = keeps.limits;
-        caps = same_caps store caller store' after sound script keeps;
-      }
+      -- the caller names what it named
+      caps_are : caps_in caller.role ≡ caps_in (roles i)
+      caps_are = ap caps_in (sym is_caller)
 
-      same_root : part (root_in store) store' ≡ part (root_in store) store
-      same_root = keeps.others (root_in store) (λ e. pays_no_init core i payer pays (sym e))
+      -- what isn't the caller's stays, but for what a session lends it
+      rest : SparesRest i store roles store'
+      rest = elim keeps.others [
+        | inl others ↦
+            let becomes = part_becomes store caller store' after sound script keeps others in
+            spares_beside core i payer pays becomes keeps.limits (same_caps store caller store' after sound script keeps others) (same_room store caller store' after sound script keeps others core.room)
+        | inr writes ↦ spares_lent core i (subst (λ caps. WritesLent caps store store') caps_are writes)
+      ]
 
       same_rows : (k : ℕ) → rows_at store' roles' k ≡ rows_at store roles k
       same_rows k = elim (cases_eq k i) [
         | inl at ↦ ap (λ n. rows_in store' (roles' n)) at ∙ ap (rows_in store') is_after ∙ keeps.rows ∙ ap (rows_in store) (sym is_caller) ∙ ap (λ n. rows_in store (roles n)) (sym at)
-        | inr other ↦ ap (rows_in store') (role_kept components i after k other) ∙ rows_left leaves k (λ id. no_place i k id)
+        | inr other ↦ ap (rows_in store') (role_kept components i after k other) ∙ rest.rows k other
       ]
 
       -- so all sessions stay
       same_sessions : sessions_in store' roles' ≡ S
       same_sessions j server session = option_map row_session (get (same_rows server j) session)
 
-      -- the caller names the sessions that it named
+      -- the caller names the sessions and the buffers that it named
       same_names : (q : ℕ) → session_at (get (caps_in (roles' i)) q) ≡ session_at (get (caps_in (roles i)) q)
       same_names q = ap (λ r. session_at (get (caps_in r) q)) is_after ∙ keeps.sessions q ∙ ap (λ r. session_at (get (caps_in r) q)) (sym is_caller)
+
+      same_buffers : (q : ℕ) → buffer_at (get (caps_in (roles' i)) q) ≡ buffer_at (get (caps_in (roles i)) q)
+      same_buffers q = ap (λ r. buffer_at (get (caps_in r) q)) is_after ∙ keeps.buffers q ∙ ap (λ r. buffer_at (get (caps_in r) q)) (sym is_caller)
+
+      -- and they lend what they lent
+      same_lent : (q : ℕ) → lent_by (rows_at store' roles') (session_at (get (caps_in (roles' i)) q)) ≡ lent_by (rows_at store roles) (session_at (get (caps_in (roles i)) q))
+      same_lent q j = lent_by (λ k. same_rows k j) (same_names q j)
 
       named : NamesItsSessions (rows_at store' roles') (roles' i)
       named = record {
@@ -116,6 +122,8 @@ module _ (store : Store) (components : List Component) (i : ℕ) (d : Component)
               client = subst (λ r. Pays r its.row.client) (sym is_after) (keeps.paid its.row.client (subst (λ r. Pays r its.row.client) is_caller its.client));
             };
         once = λ p q server a b one two. (core.named i).once p q server a b (sym (same_names p) ∙ one) (sym (same_names q) ∙ two);
+        lent = λ p q key has. same_lent q ∙ (core.named i).lent p q key (sym (same_buffers p) ∙ has);
+        lends = λ q key lends. let its = (core.named i).lends q key (sym (same_lent q) ∙ lends) in (its.0, same_buffers its.0 ∙ its.1);
       }
 
       held : (child parent : ℕ) → Pays (roles i) parent → get store'.books.parents child ≡ Some parent → NamesAccount (rows_at store' roles') (roles' i) child parent
@@ -140,7 +148,7 @@ module _ (store : Store) (components : List Component) (i : ℕ) (d : Component)
         changes : ChangesCore i 0 0 store roles store' roles'
         changes = record {
           others = λ k other. subst (Follows store (roles k) store') (sym (role_kept components i after k other))
-              (role_left leaves k (λ id. no_place i k id) (λ e. other (same_place k i e)) (core.sound k));
+              (rest.follows k other);
           sound = subst (IsSoundRole store') (sym is_after) keeps.sound;
           pays = λ account its. subst (λ r. Pays r account) (sym is_caller) (keeps.pays account (subst (λ r. Pays r account) is_after its));
           rows = λ server id _. ap (λ (m : NatMap (Row Labelled)). get m id) (same_rows server);
@@ -149,11 +157,11 @@ module _ (store : Store) (components : List Component) (i : ℕ) (d : Component)
           held = held;
           placed = places_kept S (sessions_in store' roles') store store' (roles i) (roles' i) (entry_of (rules i) caller) call on own_next
               (ap places_in is_after ∙ keeps.places ∙ ap places_in (sym is_caller)) (core.placed i);
-          init = open_in_part (root_in store) store' (ap (λ (p : Part). is_some p.account) same_root ∙ part_open (root_in store) store core.init);
+          init = open_in_part (root_in store) store' (ap (λ (p : Part). is_some p.account) rest.init ∙ part_open (root_in store) store core.init);
           root = keeps.root;
           children = λ k account _ _. ap (λ (m : NatMap ℕ). get m account) keeps.parents;
           parents = λ child parent below. inr (ap (λ (m : NatMap ℕ). get m child) (sym keeps.parents) ∙ below);
-          room = same_room store caller store' after sound script keeps core.room;
+          room = rest.room;
         }
 
       script_goes : (call : Call) → is_exit call ≡ false → (rules : Rules) (reply : Written) → told reply (own S store' after) ≡ told_of (own_step (entry_of (rules i) caller) call (own S store caller)) →
@@ -161,7 +169,7 @@ module _ (store : Store) (components : List Component) (i : ℕ) (d : Component)
       script_goes call on rules reply is =
           let next = ap (λ S. own S store' after) same_sessions ∙ ap (λ (t : Told). t.next) is in
           goes components components' core (changes call on rules next) (face_set components i after d (face_is caller after keeps.entry keeps.service)) here d rules call on
-          (same_init store store' keeps.root same_root) reply (own_step (entry_of (rules i) caller) call (own S store caller)) refl (ap (λ (t : Told). t.text) is) (ap (λ (t : Told). t.lines) is)
+          (same_init store store' keeps.root rest.init) reply (own_step (entry_of (rules i) caller) call (own S store caller)) refl (ap (λ (t : Told). t.text) is) (ap (λ (t : Told). t.lines) is)
           (sym next ∙ ap (own_in (sessions_in store' roles') store') (sym is_after))
 
     -- ---- a plain call, of a script or of one that makes none

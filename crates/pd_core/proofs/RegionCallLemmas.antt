@@ -1,10 +1,10 @@
 -- A script's calls on its regions.
 use Rattle.std.proofs.Common.{◌≡◌, ℕ, ◌≤◌, List, [], Some, None, is_some, refl, sym, ap, subst, ◌∙◌, arith, inl, inr}
 use Rattle.std.specs.Prelude.{Ok, Err, Option}
-use Rattle.std.specs.Option.{unwrap_or}
+use Rattle.std.proofs.lemmas.Option.{none-some}
+use Rattle.std.specs.Option.{option_map, option_and_then, unwrap_or}
 use Rattle.std.specs.FinMap.{get}
 use Rattle.trade_base.specs.declared.id.DsId.{DsId}
-use Rattle.trade_base.specs.declared.id.Selector.{Selector}
 use Rattle.trade_base.specs.declared.refusal.Refusal.{Refusal}
 use Rattle.trade_base.specs.declared.refusal.Refusal.TheVariants.{InvalidCap}
 use Rattle.own_model.specs.Call.{Call}
@@ -12,6 +12,7 @@ use Rattle.own_model.specs.Call.Call.{Attach, AttachAt, Detach}
 use Rattle.own_model.specs.NatMap.{NatMap}
 use Rattle.own_model.specs.OwnHeap.{OwnHeap}
 use Rattle.own_model.specs.OwnState.{Object, named_bytes, pages_in}
+use Rattle.own_model.specs.OwnState.Object.{Dataspace as ADataspace}
 use Rattle.own_model.specs.OwnStep.{Outcome, refused, unless, attached_first, attached_at, with_region, region_detached, script_step}
 use Rattle.own_model.specs.Region.{Region, user_low, user_high, first_gap, user_gap, attach_refusal, attach_at_refusal, detach_refusal, most_regions}
 use Rattle.own_model.specs.Reply.Reply.{Attached, Done}
@@ -23,33 +24,45 @@ use Rattle.cap_space.specs.declared.cap.Cap.{Cap}
 use Rattle.cap_space.specs.declared.cap.Cap.TheVariants.{Dataspace, RpcObject as AnRpcCap, Session, Buffer}
 use Rattle.region_map.specs.Regions.{Regions, attached, detached}
 use Rattle.dataspace_core.specs.Store.{Part, bytes_of}
-use Rattle.pd_core.specs.Own.{Sessions, Lent, selector_of, regions_of, own_of, sized_at, key_at}
-use Rattle.pd_core.specs.Sound.{AreNamed, IsScript}
+use Rattle.pd_core.specs.Own.{Sessions, Lent, object_of, selector_of, regions_of, own_of, sized_at, key_at}
+use Rattle.pd_core.specs.Sound.{buffer_at, AreNamed, IsScript}
 use Rattle.pd_core.proofs.NameLemmas.{named_is}
-use Rattle.pd_core.proofs.OwnLemmas.{Settles, all_sessions, before, object_is, no_buffer, few_bytes, names_object, remaps}
+use Rattle.pd_core.proofs.OwnLemmas.{Settles, all_sessions, before, object_is, has_bytes, remaps}
 use Rattle.pd_core.proofs.AccountLemmas.{refuses}
 
--- a capability is no buffer's
-abbrev IsNoBuffer : Option Cap → Type 0
-IsNoBuffer o = (of : DsId) (session : Selector) → o ≡ Some (Buffer of session) → ⊥
+-- what a look-up finds is the dataspace of a capability that has bytes, with the pages of these
+record IsSized (L : Lent) (p : Part) (o : Option Cap) (found : DsId × ℕ) : Type 0 where
+  bytes : List ℕ
+  key : key_at o ≡ Some found.0.0
+  there : (sessions : Sessions) → named_bytes (option_and_then (object_of L sessions p) o) ≡ Some bytes
+  pages : found.1 ≡ pages_in bytes
 
--- what a look-up finds, with its pages
-found_dataspace : (L : Lent) (p : Part) (o : Option Cap) (found : DsId × ℕ) → IsNoBuffer o → Ok found ≡ sized_at L p o → (o ≡ Some (Dataspace found.0)) × (found.1 ≡ pages_in (bytes_of p found.0.0))
-found_dataspace L p None found none h = cc
-found_dataspace L p (Some (Dataspace d)) found none h =
-    let same : found ≡ (d, pages_in (bytes_of p d.0)) = cc in
-    (ap (λ (f : DsId × ℕ). Some (Dataspace f.0)) (sym same), ap (λ (f : DsId × ℕ). f.1) same ∙ ap (λ (f : DsId × ℕ). pages_in (bytes_of p f.0.0)) (sym same))
-found_dataspace L p (Some AnRpcCap) found none h = cc
-found_dataspace L p (Some (Buffer space session)) found none h = absurd (none space session refl)
-found_dataspace L p (Some (Session server session)) found none h = cc
+sized : (L : Lent) (p : Part) (o : Option Cap) (found : DsId × ℕ) → ((ds : DsId) → o ≡ Some (Dataspace ds) → get p.spaces ds.0 ≡ Some (bytes_of p ds.0)) → Ok found ≡ sized_at L p o → IsSized L p o found
+sized L p None found has h = cc
+sized L p (Some (Dataspace d)) found has h =
+    let same : found ≡ (d, pages_in (bytes_of p d.0)) = cc in record {
+      bytes = bytes_of p d.0;
+      key = ap (λ (f : DsId × ℕ). Some f.0.0) (sym same);
+      there = λ sessions. ap (λ o. named_bytes (option_map ADataspace o)) (has d refl);
+      pages = ap (λ (f : DsId × ℕ). f.1) same;
+    }
+sized L p (Some AnRpcCap) found has h = cc
+sized L p (Some (Buffer space session)) found has h =
+    let same : found ≡ (space, pages_in (L space.0)) = cc in record {
+      bytes = L space.0;
+      key = ap (λ (f : DsId × ℕ). Some f.0.0) (sym same);
+      there = λ sessions. refl;
+      pages = ap (λ (f : DsId × ℕ). f.1) same;
+    }
+sized L p (Some (Session server session)) found has h = cc
 
--- what a look-up finds nothing for names no dataspace
-unsized : (L : Lent) (p : Part) (o : Option Cap) (refusal : Refusal) → Err refusal ≡ sized_at L p o → (refusal ≡ InvalidCap) × (dataspace_of o ≡ None)
-unsized L p None refusal h = (cc, refl)
+-- what a look-up finds nothing for names no dataspace, nor a buffer
+unsized : (L : Lent) (p : Part) (o : Option Cap) (refusal : Refusal) → Err refusal ≡ sized_at L p o → (refusal ≡ InvalidCap) × (dataspace_of o ≡ None) × (buffer_at o ≡ None)
+unsized L p None refusal h = (cc, refl, refl)
 unsized L p (Some (Dataspace d)) refusal h = cc
-unsized L p (Some AnRpcCap) refusal h = (cc, refl)
+unsized L p (Some AnRpcCap) refusal h = (cc, refl, refl)
 unsized L p (Some (Buffer space session)) refusal h = cc
-unsized L p (Some (Session server session)) refusal h = (cc, refl)
+unsized L p (Some (Session server session)) refusal h = (cc, refl, refl)
 
 module _ {L : Lent} (p : Part) (space : Space) (regions : Regions) (heap : OwnHeap) (sliced : NatMap (List ℕ)) (sound : IsScript L p space regions heap sliced) where
   -- the own state's regions have the starts and pages of the map's
@@ -68,7 +81,7 @@ module _ {L : Lent} (p : Part) (space : Space) (regions : Regions) (heap : OwnHe
         let un = unsized L p (get space.caps s) refusal none in
         let by : Option Object → Outcome = λ o. step (named_bytes o) in
         ap (refused b) un.0 ∙ refuses L by b nothing nothing (λ session. nothing) sessions p (get space.caps s)
-        (λ of session named. absurd (no_buffer p space regions heap sliced sound s of session named)) un.1 ∙ ap by (sym (object_is p space regions heap sliced sound sessions s))
+        (λ of session named. absurd (none-some (session.0, of.0) (sym un.2 ∙ ap buffer_at named))) un.1 ∙ ap by (sym (object_is p space regions heap sliced sound sessions s))
 
     -- so an attach is
     pub attach_unnamed : (sessions : Sessions) → refused (before p space regions heap sliced sound sessions) refusal ≡ script_step (Attach s) (before p space regions heap sliced sound sessions)
@@ -86,25 +99,19 @@ module _ {L : Lent} (p : Part) (space : Space) (regions : Regions) (heap : OwnHe
     abbrev pages : ℕ
     pages = found.1
 
-    -- the selector names it
-    named : get space.caps s ≡ Some (Dataspace ds)
-    named = (found_dataspace L p (get space.caps s) found (no_buffer p space regions heap sliced sound s) is).0
+    -- it has bytes
+    at : IsSized L p (get space.caps s) found
+    at = sized L p (get space.caps s) found (λ d names. has_bytes p space regions heap sliced sound s d names) is
 
-    -- its pages are those of its bytes
-    size : pages ≡ pages_in (bytes_of p ds.0)
-    size = (found_dataspace L p (get space.caps s) found (no_buffer p space regions heap sliced sound s) is).1
+    -- the selector names these
+    named : (sessions : Sessions) → named_bytes (get (before p space regions heap sliced sound sessions).selectors s) ≡ Some at.bytes
+    named sessions = ap named_bytes (object_is p space regions heap sliced sound sessions s) ∙ at.there sessions
 
-    -- what is attached is pages
-    whole : IsPages (bytes_of p ds.0)
-    whole = (sound.lawful all_sessions (λ q server session there. refl)).sound.whole s (bytes_of p ds.0) (ap named_bytes (names_object p space regions heap sliced sound all_sessions s ds named))
-
-    -- at least one
+    -- and they are pages, at least one
     pub some_pages : 1 ≤ pages
-    some_pages = omega (arith, whole.some, size)
-
-    -- and no more than the machine has
-    pub few_pages : pages ≤ regions.pages
-    few_pages = omega (arith, size, whole.whole, few_bytes p space regions heap sliced sound s ds named)
+    some_pages =
+        let whole : IsPages at.bytes = (sound.lawful all_sessions (λ q server session there. refl)).sound.whole s at.bytes (named all_sessions) in
+        omega (arith, whole.some, at.pages)
 
     -- an attach does to the own state what it does to the map
     first_is : (sessions : Sessions) → script_step (Attach s) (before p space regions heap sliced sound sessions)
@@ -112,8 +119,8 @@ module _ {L : Lent} (p : Part) (space : Space) (regions : Regions) (heap : OwnHe
         (with_region s pages (unwrap_or (first_gap user_low user_high regions.user pages) 0) (before p space regions heap sliced sound sessions))
     first_is sessions =
         let b = before p space regions heap sliced sound sessions in
-        ap (λ x. attached_first s (named_bytes x) b) (names_object p space regions heap sliced sound sessions s ds named)
-        ∙ ap (λ n. unless (attach_refusal most_regions b.regions n) b (with_region s n (user_gap b.regions n) b)) (sym size)
+        ap (λ x. attached_first s x b) (named sessions)
+        ∙ ap (λ n. unless (attach_refusal most_regions b.regions n) b (with_region s n (user_gap b.regions n) b)) (sym at.pages)
         ∙ ap (λ r. unless r b (with_region s pages (user_gap b.regions pages) b))
         (sym (attach_refusal_alike regions.user b.regions (alike sessions) most_regions pages) ∙ ap (λ m. attach_refusal m regions.user pages) (sym sound.most))
         ∙ ap (λ o. unless (attach_refusal regions.most regions.user pages) b (with_region s pages (unwrap_or o 0) b)) (sym (first_gap_alike regions.user b.regions (alike sessions) user_low user_high pages))
@@ -123,8 +130,8 @@ module _ {L : Lent} (p : Part) (space : Space) (regions : Regions) (heap : OwnHe
         ≡ unless (attach_at_refusal regions.most regions.user pages address) (before p space regions heap sliced sound sessions) (with_region s pages address (before p space regions heap sliced sound sessions))
     place_is address sessions =
         let b = before p space regions heap sliced sound sessions in
-        ap (λ x. attached_at s address (named_bytes x) b) (names_object p space regions heap sliced sound sessions s ds named)
-        ∙ ap (λ n. unless (attach_at_refusal most_regions b.regions n address) b (with_region s n address b)) (sym size)
+        ap (λ x. attached_at s address x b) (named sessions)
+        ∙ ap (λ n. unless (attach_at_refusal most_regions b.regions n address) b (with_region s n address b)) (sym at.pages)
         ∙ ap (λ r. unless r b (with_region s pages address b))
         (sym (attach_at_refusal_alike regions.user b.regions (alike sessions) most_regions pages address) ∙ ap (λ m. attach_at_refusal m regions.user pages address) (sym sound.most))
 
@@ -140,7 +147,7 @@ module _ {L : Lent} (p : Part) (space : Space) (regions : Regions) (heap : OwnHe
     -- a region more is named too
     attached_more : (address : ℕ) → AreNamed space.caps (attached regions ds.0 pages address).user
     attached_more address start region there = elim (after_insert regions.user address (record { of = ds.0; pages = pages }) start region there) [
-      | inl here ↦ ap (λ (r : Region). is_some (selector_of space.caps r.of)) here.1 ∙ ap is_some (named_is space.caps sound.named.one s ds.0 (ap key_at named))
+      | inl here ↦ ap (λ (r : Region). is_some (selector_of space.caps r.of)) here.1 ∙ ap is_some (named_is space.caps sound.named.one s ds.0 at.key)
       | inr old ↦ sound.attached start region old.1
     ]
 
@@ -149,7 +156,7 @@ module _ {L : Lent} (p : Part) (space : Space) (regions : Regions) (heap : OwnHe
         Settles L call p space regions heap sliced (Attached address) p space (attached regions ds.0 pages address)
     unfolding own_of regions_of
     attaches call address is =
-        let more = renamed-insert (selector_of space.caps) regions.user address ds.0 pages s (named_is space.caps sound.named.one s ds.0 (ap key_at named)) in
+        let more = renamed-insert (selector_of space.caps) regions.user address ds.0 pages s (named_is space.caps sound.named.one s ds.0 at.key) in
         remaps p space regions heap sliced sound call (attached regions ds.0 pages address) (Attached address) refl (record { heap = refl; tags = refl; most = refl; pages = refl }) (attached_more address)
         (λ sessions ready. (λ i. record { reply = Attached address; lines = []; next = record (before p space regions heap sliced sound sessions) { regions = more i } }) ∙ sym (is sessions))
 

@@ -12,7 +12,7 @@ use Rattle.dataspace_core.specs.Store.{Store}
 use Rattle.pd_core.specs.declared.script.Script.{Script}
 use Rattle.pd_core.specs.Does.{Does}
 use Rattle.pd_core.specs.Own.{object_of, own_at, own_heap_at, part_at, sliced_at, lent_in}
-use Rattle.pd_core.specs.Sound.{IsSoundScript, Keeps}
+use Rattle.pd_core.specs.Sound.{IsSoundScript, OthersStay, Keeps}
 use Rattle.pd_core.proofs.OwnLemmas.{all_sessions, object_is, names_object, selects}
 
 module _ {store : Store} {script : Script} (sound : IsSoundScript store script) where
@@ -56,4 +56,5 @@ module _ (s : ℕ) {old new : Store} {before after : Script} (sound : IsSoundScr
 -- what is left is behind so many places
 pub record ReleasesTo (place : ℕ) (old : Store) (before : Script) (new : Store) (after : Script) : Type 0 where
   pub keeps : Keeps old before new after
+  pub others : OthersStay before.account.0 old new
   pub behind : (selector : ℕ) → IsSome (get after.caps.caps selector) → (place < selector) × (selector ≤ before.caps.places)

@@ -17,7 +17,7 @@ use Rattle.slab_map.specs.SlabMap.{map_of}
 use Rattle.slab_map.proofs.SlabMap.{get-map_of, get-map_of_at}
 use Rattle.region_map.specs.Regions.{Regions}
 use Rattle.dataspace_core.specs.Share.{Share}
-use Rattle.dataspace_core.specs.Store.{Store, Part, part, account_of, ram_limits_in, caps_limits_in}
+use Rattle.dataspace_core.specs.Store.{Store, Part, part, account_of, space_at, ram_limits_in, caps_limits_in}
 use Rattle.server_frame.specs.Frame.{Row, row_of, sessions_of}
 use Rattle.server_frame.specs.declared.server.Session.{Session as Kept}
 use Rattle.server_frame.proofs.FrameLemmas.{Stays, row_stays}
@@ -25,14 +25,15 @@ use Rattle.server_frame.proofs.FrameLaws.{server_stays}
 use Rattle.pd_core.specs.Own.{Sessions, no_sessions, object_of, regions_of, own_of, own_at, own_heap_at, sliced_at, part_at, Lent, lent_in, no_lent}
 use Rattle.pd_core.specs.declared.script.Script.{Script}
 use Rattle.pd_core.specs.Sessions.{log_value, log_buffer, IsLogKept, files_value, files_buffer, IsFilesKept}
-use Rattle.pd_core.specs.Sound.{session_at}
+use Rattle.pd_core.specs.Sound.{session_at, buffer_at, IsSoundScript}
 use Rattle.pd_core.specs.Component.{Pays, caps_in, rows_in, own_in, IsSoundServer, IsSoundRole}
 use Rattle.pd_core.specs.declared.component.Role.{Role}
 use Rattle.pd_core.specs.declared.component.Role.TheVariants.{Script as AScript, Log as ALog, Files as AFiles, Gone as AGone}
-use Rattle.pd_core.specs.Core.{Roles, Owner, Owns}
+use Rattle.pd_core.specs.Core.{Roles, rows_at, Owner, Owns, IsSoundCore}
 use Rattle.pd_core.specs.Core.Owner.{Place, SessionAt}
 use Rattle.pd_core.proofs.ChangeLemmas.{AgreeOn, Follows}
-use Rattle.pd_core.proofs.ScriptLemmas.{stays_elsewhere}
+use Rattle.pd_core.proofs.HeldLemmas.{lender}
+use Rattle.pd_core.proofs.ScriptLemmas.{Stays as StaysScript, stays_elsewhere}
 
 -- ---- a script under other sessions
 
@@ -101,26 +102,36 @@ module _ (store store' : Store) (Beside : ℕ → Type 0) (stays : (regions : Re
   rows_stay (AFiles account server) beside = table_stays files_value files_buffer IsFilesKept server.sessions server.map beside
   rows_stay AGone beside = refl
 
+  -- who pays for what a role is lent is such an account
+  abbrev AreLentBeside : Role → Type 0
+  AreLentBeside role = (s q key : ℕ) → buffer_at (get (caps_in role) s) ≡ Some (q, key) → Beside (space_at store key).payer
+
+  -- so a script stays
+  script_stays : (script : Script) → IsSoundScript store script → Beside script.account.0 → AreLentBeside (AScript script) → StaysScript store script store'
+  script_stays script sound apart lent =
+      stays_elsewhere store script sound store' (stays script.regions script.account.0 apart).own limits
+      (λ s q key names. (stays script.regions (space_at store key).payer (lent s q key names)).own)
+
   -- it stays sound
-  pub role_sound : (role : Role) → IsSoundRole store role → ((account : ℕ) → Pays role account → Beside account) → AreBeside (rows_in store role) → IsSoundRole store' role
-  role_sound (AScript script) sound apart beside = (stays_elsewhere store script sound store' (stays script.regions script.account.0 (apart _ refl)).own limits).sound
-  role_sound (ALog account server) sound apart beside = table_sound log_value log_buffer IsLogKept server.sessions server.map beside account.0 (apart _ refl) sound
-  role_sound (AFiles account server) sound apart beside = table_sound files_value files_buffer IsFilesKept server.sessions server.map beside account.0 (apart _ refl) sound
-  role_sound AGone sound apart beside = tt
+  pub role_sound : (role : Role) → IsSoundRole store role → ((account : ℕ) → Pays role account → Beside account) → AreBeside (rows_in store role) → AreLentBeside role → IsSoundRole store' role
+  role_sound (AScript script) sound apart beside lent = (script_stays script sound (apart _ refl) lent).sound
+  role_sound (ALog account server) sound apart beside lent = table_sound log_value log_buffer IsLogKept server.sessions server.map beside account.0 (apart _ refl) sound
+  role_sound (AFiles account server) sound apart beside lent = table_sound files_value files_buffer IsFilesKept server.sessions server.map beside account.0 (apart _ refl) sound
+  role_sound AGone sound apart beside lent = tt
 
   -- the own state of a server
   server_own : (regions : Regions) (account : ℕ) → Beside account → own_of no_lent no_sessions (part account store') empty empty no_heap empty ≡ own_of no_lent no_sessions (part account store) empty empty no_heap empty
   server_own regions account apart = ap (λ p. own_of no_lent no_sessions p empty empty no_heap empty) (stays regions account apart).own
 
   -- and with the own state that it had, where the sessions that it names are the same
-  pub own_stays : (S S' : Sessions) (role : Role) → IsSoundRole store role → ((account : ℕ) → Pays role account → Beside account) →
+  pub own_stays : (S S' : Sessions) (role : Role) → IsSoundRole store role → ((account : ℕ) → Pays role account → Beside account) → AreLentBeside role →
       AgreeOn (caps_in role) S S' → own_in S' store' role ≡ own_in S store role
-  own_stays S S' (AScript script) sound apart agrees =
+  own_stays S S' (AScript script) sound apart lent agrees =
       own_alike S S' script (λ q server session is. agrees q server session (ap session_at is)) store'
-      ∙ (stays_elsewhere store script sound store' (stays script.regions script.account.0 (apart _ refl)).own limits).own S
-  own_stays S S' (ALog account server) sound apart agrees = server_own server.map account.0 (apart _ refl)
-  own_stays S S' (AFiles account server) sound apart agrees = server_own server.map account.0 (apart _ refl)
-  own_stays S S' AGone sound apart agrees = refl
+      ∙ (script_stays script sound (apart _ refl) lent).own S
+  own_stays S S' (ALog account server) sound apart lent agrees = server_own server.map account.0 (apart _ refl)
+  own_stays S S' (AFiles account server) sound apart lent agrees = server_own server.map account.0 (apart _ refl)
+  own_stays S S' AGone sound apart lent agrees = refl
 
 -- ---- the roles of a core
 
@@ -145,13 +156,17 @@ module _ {store store' : Store} {roles : Roles} {Touched : Owner → Type 0} (le
   pub rows_left : rows_in store' (roles k) ≡ rows_in store (roles k)
   rows_left = rows_stay store store' IsBeside stays_beside leaves.ram leaves.caps (roles k) rows_beside
 
-  -- and is what it was
-  pub role_left : (Touched (Place k) → ⊥) → IsSoundRole store (roles k) → Follows store (roles k) store' (roles k)
-  role_left other sound =
+  -- and is what it was, where none of its sessions is touched
+  pub role_left : IsSoundCore store roles → (Touched (Place k) → ⊥) →
+      ((server id : ℕ) (row : Row Labelled) → get (rows_at store roles server) id ≡ Some row → Pays (roles k) row.client → Touched (SessionAt server id) → ⊥) → Follows store (roles k) store' (roles k)
+  role_left core other others =
       let its : (account : ℕ) → Pays (roles k) account → IsBeside account = λ account pays. (Place k, (other, pays)) in
+      let lent : AreLentBeside store store' IsBeside stays_beside leaves.ram leaves.caps (roles k) = λ s q key names.
+      let by = lender core k s q key names in
+      (SessionAt by.server by.id, (others by.server by.id by.row by.there by.its, by.owns)) in
       record {
-        sound = role_sound store store' IsBeside stays_beside leaves.ram leaves.caps (roles k) sound its rows_beside;
-        own = λ S S'. own_stays store store' IsBeside stays_beside leaves.ram leaves.caps S S' (roles k) sound its;
+        sound = role_sound store store' IsBeside stays_beside leaves.ram leaves.caps (roles k) (core.sound k) its rows_beside lent;
+        own = λ S S'. own_stays store store' IsBeside stays_beside leaves.ram leaves.caps S S' (roles k) (core.sound k) its lent;
         caps = refl;
         places = refl;
         pays = λ account pays. pays;

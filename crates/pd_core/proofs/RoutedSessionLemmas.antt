@@ -31,7 +31,7 @@ use Rattle.pd_core.specs.declared.script.Script.{Script}
 use Rattle.pd_core.proofs.HeldLemmas.{names_open as all_open}
 use Rattle.pd_core.proofs.PlainLemmas.{face_is}
 use Rattle.pd_core.proofs.RouterLemmas.{led_to_service}
-use Rattle.pd_core.proofs.ClientServerLemmas.{payer_open, no_session, has_place, has_room, script_sound, names_open, new_alone, changes_opened}
+use Rattle.pd_core.proofs.ClientServerLemmas.{payer_open, no_session, has_place, has_room, script_sound, names_open, new_alone, open_alike, open_others, changes_opened}
 use Rattle.pd_core.proofs.SessionChangeLemmas.{AreTwo, ReplacesTwo, two_places, sessions_agree, now_there, step_goes}
 use Rattle.pd_core.proofs.SessionWorldLemmas.{kept_put}
 use Rattle.pd_core.proofs.SessionOpenLemmas.{OpensFor, opens_for, script_with, has_place as has_selector}
@@ -139,7 +139,8 @@ module _ {rules : Rules} {leads : Leads} {store : Store} {components : List Comp
       pub led_selector : HasSelectorLeft (get_or (set components s host') i d').role
       led_selector =
           subst HasSelectorLeft (sym same_role)
-          (has_selector store store' script (rows_in store (roles_of components s)) s session args.ram args.caps (script_sound led_two) (names_open led_two) opens.free stays.machine opens.parted (sym accepted))
+          (has_selector store store' script (rows_in store (roles_of components s)) s session args.ram args.caps (script_sound led_two) (names_open led_two) opens.free stays.machine opens.parted (sym accepted)
+          (open_alike led_two args.ram args.caps (sym accepted) store' opens) (open_others led_two args.ram args.caps (sym accepted) store' opens))
 
       -- it goes as the model's
       pub led_opened : (selector : Selector) (kept : Component) → selector.0 ≡ new_selector (caps_of (get_or (set components s host') i d')) →
@@ -151,7 +152,8 @@ module _ {rules : Rules} {leads : Leads} {store : Store} {components : List Comp
           let is_new : selector.0 ≡ new_selector script.caps.caps = least ∙ ap (λ r. new_selector (caps_in r)) same_role in
           let unused : get script.caps.caps selector.0 ≡ None = ap (get script.caps.caps) is_new ∙ new_selector_free script.caps.caps in
           let for_it : OpensFor selector.0 s session args.ram args.caps store store' script
-          = opens_for store store' script (rows_in store (roles_of components s)) s session args.ram args.caps (script_sound led_two) (names_open led_two) opens.free stays.machine opens.parted (sym accepted) selector.0 unused is_new in
+          = opens_for store store' script (rows_in store (roles_of components s)) s session args.ram args.caps (script_sound led_two) (names_open led_two) opens.free stays.machine opens.parted (sym accepted)
+          (open_alike led_two args.ram args.caps (sym accepted) store' opens) (open_others led_two args.ram args.caps (sym accepted) store' opens) selector.0 unused is_new in
           let changes = changes_opened led_two args.ram args.caps (sym accepted) store' opens selector.0 unused for_it.sound stays.machine in
           let alone = new_alone led_two args.ram args.caps (sym accepted) store' opens in
           let kept_role : kept.role ≡ AScript script' = ap (λ (c : Component). c.role) is ∙ ap (λ r. with_session r selector.0 s session) same_role in

@@ -15,7 +15,7 @@ use Rattle.own_model.proofs.NatMapLemmas.{some_of}
 use Rattle.cap_space.specs.Space.{Space}
 use Rattle.region_map.specs.Regions.{Regions}
 use Rattle.dataspace_core.specs.Share.{share_in, tags_of}
-use Rattle.dataspace_core.specs.Store.{Store, Part, part, account_in, ram_limits_in, IsOpenIn, PartBecomes}
+use Rattle.dataspace_core.specs.Store.{Store, Part, part, account_in, space_at, ram_limits_in, IsOpenIn, PartBecomes}
 use Rattle.dataspace_core.proofs.LimitLaws.{limits_after}
 use Rattle.dataspace_core.proofs.PartLaws.{account_of-part, open_after, open_in_part}
 use Rattle.heap_core.specs.Heap.{payer_of as heap_payer}
@@ -29,12 +29,12 @@ use Rattle.pd_core.specs.declared.answer.Answer.{Answer}
 use Rattle.pd_core.specs.Answer.{reply_of}
 use Rattle.pd_core.specs.Does.{Does}
 use Rattle.pd_core.specs.Own.{Sessions, own_of, own_at, part_at, own_heap_at, sliced_at, lent_in}
-use Rattle.pd_core.specs.Sound.{IsScript, IsSoundScript}
+use Rattle.pd_core.specs.Sound.{IsScript, AreOthers, HasHeaps, IsSoundScript}
 use Rattle.pd_core.specs.declared.script.Script.{Script}
 use Rattle.heap_window.proofs.BesideLemmas.{map_of, whole_share, whole_tags, stands_alike}
 use Rattle.heap_window.proofs.ShareLemmas.{region_of_block}
 use Rattle.heap_core.proofs.StayLemmas as heap_laws
-use Rattle.pd_core.proofs.LentLemmas.{own_lent, script_lent, none_seen}
+use Rattle.pd_core.proofs.LentLemmas.{LendAlike, LendersStay, own_lent, script_lent, others_still, lent_still}
 use Rattle.pd_core.proofs.OwnLemmas.{Settles}
 
 -- a refused call leaves all as it is
@@ -44,7 +44,7 @@ pub refuses : {call : Call} {refusal : Refusal} {store : Store} {script : Script
 refuses {call} {refusal} {store} {script} {new} {after} answered err sound memory same is =
     let told = err_from_is_err_and answered err in
     let replied : reply_of answered ≡ Refused refusal = ap reply_of told.1 ∙ ap Refused told.2 in
-    let here : Does call (Refused refusal) store script store script = record { outcome = λ sessions ready. is sessions; keeps = search (rules, sound) } in
+    let here : Does call (Refused refusal) store script store script = record { outcome = λ sessions ready. is sessions; keeps = search (rules, sound); others = λ other apart. refl } in
     subst (λ r. Does call r store script new after) (sym replied)
     (subst (λ m. Does call (Refused refusal) store script m after) (sym memory) (subst (λ x. Does call (Refused refusal) store script store x) (sym same) here))
 
@@ -98,6 +98,9 @@ module _ (store : Store) (script : Script) (sound : IsSoundScript store script) 
       let account = script.account.0 in
       let p' = part account store' in
       let made = done.makes in
+      let others : AreOthers account store space'.caps = λ s k key names. sound.lent s k key (sym (made.leaves.buffers s) ∙ names) in
+      let lenders : LendersStay store store' space'.caps = λ s k key names. becomes.others (space_at store key).payer (others s k key names).apart in
+      let seen : LendAlike (lent_in store) (lent_in store') space'.caps = lent_still account store store' space'.caps others lenders in
       let window = done.spares.window in
       let own : PartBecomes account p' store store' = record { own = refl; others = becomes.others; root = becomes.root; parents = becomes.parents; room = becomes.room } in
       let opens = open_in_part account store sound.own.paid.is_open in
@@ -126,12 +129,13 @@ module _ (store : Store) (script : Script) (sound : IsSoundScript store script) 
       (λ s k r h. done.spares.bytes s r (block_there s (r, k) h))) in record {
         outcome = λ sessions ready.
             (λ i. record { reply = reply; lines = []; next = own_of (lent_in store') sessions p' space'.caps regions'.user (heap.value i) (blocks i) })
-            ∙ ap {B = Outcome} (λ s. record { reply = reply; lines = []; next = s }) (own_lent (lent_in store) (lent_in store') p' space'.caps (none_seen (lent_in store') made.script) regions'.user (own_heap_at store script) (sliced_at store script) sessions)
+            ∙ ap {B = Outcome} (λ s. record { reply = reply; lines = []; next = s }) (own_lent (lent_in store) (lent_in store') p' space'.caps seen regions'.user (own_heap_at store script) (sliced_at store script) sessions)
             ∙ made.outcome sessions ready;
         keeps = record {
           sound = record {
             own = subst (λ h. IsScript (lent_in store') p' space' regions' h (blocks_at account store' regions')) (sym heap.value)
-                (subst (IsScript (lent_in store') p' space' regions' (own_heap_at store script)) (sym blocks) (script_lent (none_seen (lent_in store') made.script) made.script));
+                (subst (IsScript (lent_in store') p' space' regions' (own_heap_at store script)) (sym blocks) (script_lent seen made.script));
+            lent = others_still account store store' space'.caps others lenders;
             heaps = record {
               heap = heap.sound;
               sliced = sliced.sound;
@@ -145,20 +149,27 @@ module _ (store : Store) (script : Script) (sound : IsSoundScript store script) 
           caps_limit = made.leaves.caps_limit;
           places = made.leaves.places;
           sessions = made.leaves.sessions;
+          buffers = made.leaves.buffers;
           session_count = made.leaves.session_count;
           root = becomes.root;
           parents = becomes.parents;
           room = becomes.room;
-          others = becomes.others;
           limits = limits_after account p' store store' there.0 own there.1 opens limit;
         };
+        others = becomes.others;
       }
 
   -- ---- another's call
 
-  -- a call for another account that leaves the limits
-  pub stays_elsewhere : (store' : Store) → part_at store' script ≡ part_at store script → ram_limits_in store' ≡ ram_limits_in store → Stays store script store'
-  stays_elsewhere store' same limits =
+  -- what such a call leaves of its heaps
+  pub record HeapsStay (store' : Store) : Type 0 where
+    pub has : HasHeaps store' script
+    pub heap : own_heap_at store' script ≡ own_heap_at store script
+    pub sliced : sliced_at store' script ≡ sliced_at store script
+
+  -- where its part and the limits stay
+  pub heaps_elsewhere : (store' : Store) → part_at store' script ≡ part_at store script → ram_limits_in store' ≡ ram_limits_in store → HeapsStay store'
+  heaps_elsewhere store' same limits =
       let account = script.account.0 in
       let regions = script.regions in
       let sliced : HeapStays script.sliced store store' regions regions = heap_stays_elsewhere script.sliced store store' regions sound.heaps.sliced
@@ -174,19 +185,44 @@ module _ (store : Store) (script : Script) (sound : IsSoundScript store script) 
       (at_heap (λ a. (s : ℕ) → block_region (share_at a store' regions) s ≡ block_region (share_at a store regions) s) numbers)
       (at_heap (λ a. (s k : ℕ) (r : Region) → block_region (share_at a store regions) s ≡ Some (r, k) → get (part a store').spaces r.of ≡ get (part a store).spaces r.of)
       (λ s k r h. ap (λ (p : Part). get p.spaces r.of) same)) in record {
-        sound = record {
-          own = subst (λ p. IsScript (lent_in store') p script.caps regions (own_heap_at store' script) (sliced_at store' script)) (sym same)
-              (subst (λ h. IsScript (lent_in store') (part_at store script) script.caps regions h (sliced_at store' script)) (sym heap.value)
-              (subst (IsScript (lent_in store') (part_at store script) script.caps regions (own_heap_at store script)) (sym blocks) (script_lent (none_seen (lent_in store') sound.own) sound.own)));
-          heaps = record {
-            heap = heap.sound;
-            sliced = sliced.sound;
-            heap_pays = sound.heaps.heap_pays;
-            sliced_pays = sound.heaps.sliced_pays;
-            all = still_all store' regions refl stands numbers;
-          };
+        has = record {
+          heap = heap.sound;
+          sliced = sliced.sound;
+          heap_pays = sound.heaps.heap_pays;
+          sliced_pays = sound.heaps.sliced_pays;
+          all = still_all store' regions refl stands numbers;
         };
-        own = λ sessions.
-            (λ i. own_of (lent_in store') sessions (same i) script.caps.caps regions.user (heap.value i) (blocks i))
-            ∙ own_lent (lent_in store) (lent_in store') (part_at store script) script.caps.caps (none_seen (lent_in store') sound.own) regions.user (own_heap_at store script) (sliced_at store script) sessions;
+        heap = heap.value;
+        sliced = blocks;
       }
+
+  module _ (store' : Store) (same : part_at store' script ≡ part_at store script) (limits : ram_limits_in store' ≡ ram_limits_in store) where
+    abbrev stay : HeapsStay store'
+    stay = heaps_elsewhere store' same limits
+
+    -- what is a script with what it had is one with what it has
+    pub script_stays : IsScript (lent_in store') (part_at store script) script.caps script.regions (own_heap_at store script) (sliced_at store script) →
+        IsScript (lent_in store') (part_at store' script) script.caps script.regions (own_heap_at store' script) (sliced_at store' script)
+    script_stays is =
+        subst (λ p. IsScript (lent_in store') p script.caps script.regions (own_heap_at store' script) (sliced_at store' script)) (sym same)
+        (subst (λ h. IsScript (lent_in store') (part_at store script) script.caps script.regions h (sliced_at store' script)) (sym stay.heap)
+        (subst (IsScript (lent_in store') (part_at store script) script.caps script.regions (own_heap_at store script)) (sym stay.sliced) is))
+
+    -- and its own state goes by what it had
+    pub own_stays_but_lent : (sessions : Sessions) → own_at sessions store' script
+        ≡ own_of (lent_in store') sessions (part_at store script) script.caps.caps script.regions.user (own_heap_at store script) (sliced_at store script)
+    own_stays_but_lent sessions i = own_of (lent_in store') sessions (same i) script.caps.caps script.regions.user (stay.heap i) (stay.sliced i)
+
+    -- a call that leaves the parts of those who pay for what it is lent, too, leaves all of it
+    pub stays_elsewhere : LendersStay store store' script.caps.caps → Stays store script store'
+    stays_elsewhere lenders =
+        let seen = lent_still script.account.0 store store' script.caps.caps sound.lent lenders in record {
+          sound = record {
+            own = script_stays (script_lent seen sound.own);
+            lent = others_still script.account.0 store store' script.caps.caps sound.lent lenders;
+            heaps = stay.has;
+          };
+          own = λ sessions.
+              own_stays_but_lent sessions
+              ∙ own_lent (lent_in store) (lent_in store') (part_at store script) script.caps.caps seen script.regions.user (own_heap_at store script) (sliced_at store script) sessions;
+        }

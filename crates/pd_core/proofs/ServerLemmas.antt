@@ -16,15 +16,17 @@ use Rattle.slab_map.proofs.SlabMap.{get-map_of, get-map_of_at, ContainsKey-map_o
 use Rattle.region_map.specs.Regions.{Regions}
 use Rattle.dataspace_core.specs.Room.{HasRoom}
 use Rattle.dataspace_core.specs.Share.{Share}
-use Rattle.dataspace_core.specs.Store.{Store, part, account_in, root_in, caps_limits_in, IsOpenIn, IsChildIn}
+use Rattle.dataspace_core.specs.Store.{Store, part, space_at, account_in, root_in, caps_limits_in, IsOpenIn, IsChildIn}
 use Rattle.server_frame.specs.Frame.{Row, row_of, sessions_of, IsServer, IsNoSession}
 use Rattle.server_frame.specs.Lent.{key_of}
 use Rattle.server_frame.specs.declared.server.Session.{Session as Kept}
 use Rattle.server_frame.specs.declared.server.Server.{Server}
+use Rattle.server_frame.proofs.LentLaws.{lends_nothing, lent_are_paid}
 use Rattle.server_frame.proofs.PlaceLaws.{table_has_place}
 use Rattle.server_frame.proofs.RowLaws.{IsNoRows, no_session_by_rows}
 use Rattle.log_service.specs.declared.service.LogService.{LogService}
 use Rattle.log_service.specs.Session.{LabelledLine}
+use Rattle.file_service.specs.Aside.{lends_aside}
 use Rattle.file_service.specs.declared.service.FileService.{FileService}
 use Rattle.file_service.specs.declared.session.FileSession.{FileSession}
 use Rattle.pd_core.specs.Component.{payer_in, caps_in, places_in, rows_in, capacity_in, served_by, own_in, HasPlace, HasSession, Works, IsSoundRole}
@@ -78,6 +80,13 @@ paid_in store (AScript script) works id row there = absurd (none-some row (sym (
 paid_in store (ALog account server) works id row there = row_paid log_value log_buffer IsLogKept server.sessions store server.map works id row there
 paid_in store (AFiles account server) works id row there = row_paid files_value files_buffer IsFilesKept server.sessions store server.map works id row there
 paid_in store AGone works id row there = absurd (none-some row (sym (get-empty id) ∙ there))
+
+-- what a session lends is a dataspace that its account pays for
+pub lent_paid : (store : Store) (role : Role) → Works store role → (id key : ℕ) (row : Row Labelled) → get (rows_in store role) id ≡ Some row → row.buffer ≡ Some key → get (part row.key store).spaces key ≡ Some (space_at store key).bytes
+lent_paid store (AScript script) works id key row there lends = absurd (none-some row (sym (get-empty id) ∙ there))
+lent_paid store (ALog account server) works id key row there lends = lent_are_paid IsLogKept log_value log_buffer lends_nothing server.sessions store server.map id key works row there lends
+lent_paid store (AFiles account server) works id key row there lends = lent_are_paid IsFilesKept files_value files_buffer lends_aside server.sessions store server.map id key works row there lends
+lent_paid store AGone works id key row there lends = absurd (none-some row (sym (get-empty id) ∙ there))
 
 -- ---- servers
 

@@ -23,20 +23,22 @@ use Rattle.dataspace_core.proofs.PartLaws.{open_in_part, part_open}
 use Rattle.server_frame.specs.Frame.{Row}
 use Rattle.server_frame.specs.Session.{holding}
 use Rattle.server_frame.specs.Told.{Told}
-use Rattle.pd_core.specs.Component.{Pays, entry_of, kind_of, payer_in, payer_of, served_by, places_in, rows_in, own_in, NamesItsSessions, HasPlaces, IsSoundRole, StaysServer}
+use Rattle.pd_core.specs.Component.{Pays, caps_in, entry_of, kind_of, payer_in, payer_of, served_by, places_in, rows_in, own_in, lent_of, lent_by, NamesItsSessions, HasPlaces, IsSoundRole, StaysServer}
 use Rattle.pd_core.specs.Core.{Rules, Roles, roles_of, rows_at, sessions_in, Owner, Owns, NamesAccount, IsSoundCore}
 use Rattle.pd_core.specs.Core.Owner.{Init, Place, SessionAt}
-use Rattle.pd_core.specs.Own.{Sessions, no_sessions, own_of, own_at, no_lent}
-use Rattle.pd_core.specs.Sessions.{row_session, AgreeBut, DoesSession}
+use Rattle.pd_core.specs.Own.{Sessions, HasSessions, no_sessions, own_of, own_at, no_lent}
+use Rattle.pd_core.specs.Sessions.{row_session, AgreeBut, IsLentAt, DoesSession}
 use Rattle.pd_core.specs.SessionCalls.{Goes}
-use Rattle.pd_core.specs.Sound.{session_at, IsSoundScript}
+use Rattle.pd_core.specs.Sound.{session_at, buffer_at, lent_from, IsOne, IsSoundScript}
+use Rattle.cap_space.specs.declared.cap.Cap.TheVariants.{Session}
 use Rattle.pd_core.specs.declared.component.Component.{Component}
 use Rattle.pd_core.specs.declared.component.Role.{Role}
 use Rattle.pd_core.specs.declared.component.Role.TheVariants.{Script as AScript, Gone}
 use Rattle.pd_core.specs.declared.script.Script.{Script}
 use Rattle.pd_core.proofs.ChangeLemmas.{ChangesCore, Follows}
 use Rattle.pd_core.proofs.ComponentLemmas.{account_open, pays_is, pays_server}
-use Rattle.pd_core.proofs.HeldLemmas.{same_place, no_place, same_session, not_session, pays_alone, pays_no_init, held_by}
+use Rattle.pd_core.proofs.HeldLemmas.{names_open, same_place, no_place, same_session, not_session, pays_alone, pays_no_init, held_by}
+use Rattle.pd_core.proofs.NameLemmas.{buffer_key, lent_aside}
 use Rattle.pd_core.proofs.RoleLemmas.{Leaves, role_left, rows_left}
 use Rattle.pd_core.proofs.ServerLemmas.{caps_of_server, places_of_server, own_of_server, enough_places, sound_server}
 use Rattle.pd_core.proofs.SessionOwnLemmas.{is_step}
@@ -65,37 +67,70 @@ pub record MovesAccounts (payer account : ℕ) (old new : Store) : Type 0 where
   pub caps : caps_limits_in new ≡ caps_limits_in old
   pub room : HasRoom new
 
--- a selector names a session of a client on an account, where there is a row of it, which lends nothing, and else names none
-pub record IsTied (payer account s q : ℕ) (session : SessionId) (caps : NatMap Cap) (rows : NatMap (Row Labelled)) (row : Option (Row Labelled)) : Type 0 where
-  pub names : session_at (get caps q) ≡ option_map (λ _. (s, session)) row
+-- a selector has a session of a client on an account, where there is a row of it, and another has what it lends, where it lends
+-- something; else they have nothing of a session
+pub record IsTied (payer account s q k : ℕ) (session : SessionId) (caps : NatMap Cap) (rows : NatMap (Row Labelled)) (row : Option (Row Labelled)) : Type 0 where
+  pub has : get caps q ≡ option_map (λ _. Session s session) row
   pub there : get rows session.0 ≡ row
   pub client : (r : Row Labelled) → row ≡ Some r → r.client ≡ payer
   pub key : (r : Row Labelled) → row ≡ Some r → r.key ≡ account
-  pub unlent : (r : Row Labelled) → row ≡ Some r → r.buffer ≡ None
+  pub lent : IsLentAt caps q k (lent_of row)
 
--- a call of one session, from one row to another or none: no other selector and no other row changes
-pub record ChangesSession (account s q : ℕ) (session : SessionId) (old new : Store) (before after : Script) (rows rows' : NatMap (Row Labelled)) (was is : Option (Row Labelled)) : Type 0 where
+-- a script keeps its account, its places and what its selectors have but these two
+pub record KeepsBut (before after : Script) (q k : ℕ) : Type 0 where
+  pub account : after.account ≡ before.account
+  pub places : after.caps.places ≡ before.caps.places
+  pub caps : (p : ℕ) → p ≢ q → p ≢ k → get after.caps.caps p ≡ get before.caps.caps p
+
+-- a call of one session, from one row to another or none: no other selector than its own and its buffer's and no other row
+-- changes
+pub record ChangesSession (account s q k : ℕ) (session : SessionId) (old new : Store) (before after : Script) (rows rows' : NatMap (Row Labelled)) (was is : Option (Row Labelled)) : Type 0 where
   pub moves : MovesAccounts before.account.0 account old new
   pub ram : ram_limits_in new ≡ ram_limits_in old
   pub sound : IsSoundScript new after
-  pub pays : after.account ≡ before.account
-  pub places : after.caps.places ≡ before.caps.places
-  pub caps_stay : (p : ℕ) → p ≢ q → get after.caps.caps p ≡ get before.caps.caps p
+  pub stays : KeepsBut before after q k
   pub rows_stay : (id : ℕ) → id ≢ session.0 → get rows' id ≡ get rows id
-  pub tied : IsTied before.account.0 account s q session before.caps.caps rows was
-  pub tied_after : IsTied before.account.0 account s q session after.caps.caps rows' is
+  pub tied : IsTied before.account.0 account s q k session before.caps.caps rows was
+  pub tied_after : IsTied before.account.0 account s q k session after.caps.caps rows' is
   pub below : (other : ℕ) → IsChildIn new account other → IsSome is
 
--- the row of what a selector names
-tied_row : {payer account s q : ℕ} {session : SessionId} {caps : NatMap Cap} {rows : NatMap (Row Labelled)} (row : Option (Row Labelled)) → IsTied payer account s q session caps rows row →
-    (named : ℕ × SessionId) → session_at (get caps q) ≡ Some named → (r : Row Labelled) × ((row ≡ Some r) × (◌≡◌ {A = ℕ × SessionId} (s, session) named))
-tied_row None tied named is = absurd (none-some named (sym tied.names ∙ is))
-tied_row (Some r) tied named is = (r, (refl, same_Some _ _ (sym tied.names ∙ is)))
+-- what a selector has that is tied is a session and no buffer
+has_session : (s : ℕ) (session : SessionId) (row : Option (Row Labelled)) → session_at (option_map (λ _. Session s session) row) ≡ option_map (λ _. (s, session)) row
+has_session s session None = refl
+has_session s session (Some r) = refl
 
-tied_key : {payer account s q : ℕ} {session : SessionId} {caps : NatMap Cap} {rows : NatMap (Row Labelled)} (row : Option (Row Labelled)) → IsTied payer account s q session caps rows row →
+has_no_buffer : (s : ℕ) (session : SessionId) (row : Option (Row Labelled)) → buffer_at (option_map (λ _. Session s session) row) ≡ None
+has_no_buffer s session None = refl
+has_no_buffer s session (Some r) = refl
+
+-- what is told of a buffer of a session
+pub lent_pair : (o : Option ℕ) (q r key : ℕ) → lent_from q o ≡ Some (r, key) → (r ≡ q) × (o ≡ Some key)
+lent_pair None q r key is = absurd (none-some (r, key) is)
+lent_pair (Some one) q r key is = let same = same_Some (q, one) (r, key) is in (sym (ap (λ (x : ℕ × ℕ). x.0) same), ap (λ (x : ℕ × ℕ). Some x.1) same)
+
+module _ {payer account s q k : ℕ} {session : SessionId} {caps : NatMap Cap} {rows : NatMap (Row Labelled)} (row : Option (Row Labelled)) (tied : IsTied payer account s q k session caps rows row) where
+  pub tied_names : session_at (get caps q) ≡ option_map (λ _. (s, session)) row
+  tied_names = ap session_at tied.has ∙ has_session s session row
+
+  tied_no_buffer : buffer_at (get caps q) ≡ None
+  tied_no_buffer = ap buffer_at tied.has ∙ has_no_buffer s session row
+
+-- the row of what a selector names
+tied_row : {payer account s q k : ℕ} {session : SessionId} {caps : NatMap Cap} {rows : NatMap (Row Labelled)} (row : Option (Row Labelled)) → IsTied payer account s q k session caps rows row →
+    (named : ℕ × SessionId) → session_at (get caps q) ≡ Some named → (r : Row Labelled) × ((row ≡ Some r) × (◌≡◌ {A = ℕ × SessionId} (s, session) named))
+tied_row None tied named is = absurd (none-some named (sym (tied_names None tied) ∙ is))
+tied_row (Some r) tied named is = (r, (refl, same_Some _ _ (sym (tied_names (Some r) tied) ∙ is)))
+
+tied_key : {payer account s q k : ℕ} {session : SessionId} {caps : NatMap Cap} {rows : NatMap (Row Labelled)} (row : Option (Row Labelled)) → IsTied payer account s q k session caps rows row →
     (one : ℕ) → option_map (λ (r : Row Labelled). r.key) row ≡ Some one → one ≡ account
 tied_key None tied one is = absurd (none-some one is)
 tied_key (Some r) tied one is = same_Some _ _ (sym is) ∙ tied.key r refl
+
+-- what the session that is tied lends is its row's
+tied_lends : {payer account s q k : ℕ} {session : SessionId} {caps : NatMap Cap} (rows : ℕ → NatMap (Row Labelled)) {here : NatMap (Row Labelled)} (row : Option (Row Labelled)) → rows s ≡ here →
+    IsTied payer account s q k session caps here row → lent_by rows (session_at (get caps q)) ≡ lent_of row
+tied_lends rows None at tied = ap (lent_by rows) (tied_names None tied)
+tied_lends {s = s} {session = session} rows (Some r) at tied = ap (lent_by rows) (tied_names (Some r) tied) ∙ ap (λ (m : NatMap (Row Labelled)). lent_of (get m session.0)) at ∙ ap lent_of tied.there
 
 -- ---- the roles after it
 
@@ -116,10 +151,10 @@ module _ {store : Store} {roles : Roles} {i s : ℕ} {script : Script} (two : Ar
   pub at_script : (P : Role → Type 0) → P (roles i) → P (AScript script)
   at_script P its = subst P is_script its
 
-  module _ {store' : Store} {roles' : Roles} {script' : Script} {host host' : Component} {q account : ℕ} {session : SessionId} {was is : Option (Row Labelled)}
+  module _ {store' : Store} {roles' : Roles} {script' : Script} {host host' : Component} {q k account : ℕ} {session : SessionId} {was is : Option (Row Labelled)}
       (host_is : roles s ≡ host.role) (replaced : ReplacesTwo roles roles' i s (AScript script') host'.role)
       (alone : (owner : Owner) → Owns store roles owner account → owner ≡ SessionAt s session.0)
-      (changes : ChangesSession account s q session store store' script script' (rows_in store (roles s)) (rows_in store' host'.role) was is) (stays : StaysServer store host store' host') where
+      (changes : ChangesSession account s q k session store store' script script' (rows_in store (roles s)) (rows_in store' host'.role) was is) (stays : StaysServer store host store' host') where
     open changes.moves use {others, parents, parent, root}
 
     -- the client and the session are touched
@@ -156,6 +191,16 @@ module _ {store : Store} {roles : Roles} {i s : ℕ} {script : Script} (two : Ar
 
     other_server : (k : ℕ) → k ≢ s → (id : ℕ) → Touched (SessionAt k id) → ⊥
     other_server k other id touched = elim touched [ inl e ↦ no_place i k id e | inr e ↦ other (same_session k id s session.0 e).0 ]
+
+    -- the session is no other's
+    other_client : (k : ℕ) → k ≢ i → (server id : ℕ) (row : Row Labelled) → get (rows_at store roles server) id ≡ Some row → Pays (roles k) row.client → Touched (SessionAt server id) → ⊥
+    other_client k other server id row there its touched = elim touched [
+      | inl e ↦ no_place i server id e
+      | inr e ↦
+          let same = same_session server id s session.0 e in
+          let client = changes.tied.client row (sym changes.tied.there ∙ (λ j. get (rows_at store roles (sym same.0 j)) (sym same.1 j)) ∙ there) in
+          other (same_place k i (core.apart (Place k) (Place i) payer (subst (Pays (roles k)) client its) pays_client))
+    ]
 
     -- ---- the rows
 
@@ -219,7 +264,7 @@ module _ {store : Store} {roles : Roles} {i s : ℕ} {script : Script} (two : Ar
           (subst (λ r. Follows store (roles s) store' r) (sym replaced.host_at) (subst (λ r. Follows store r store' host'.role) (sym host_is) host_follows))
       | inr not_host ↦
           subst (Follows store (roles k) store') (sym (replaced.others k other not_host))
-          (role_left leaves k (other_server k not_host) (other_place k other) (core.sound k))
+          (role_left leaves k (other_server k not_host) core (other_place k other) (other_client k other))
     ]
 
     -- ---- the client's selectors
@@ -232,10 +277,19 @@ module _ {store : Store} {roles : Roles} {i s : ℕ} {script : Script} (two : Ar
     not_other p at one apart names e f =
         let its = was_named.its p at one names in
         let some : was ≡ Some its.row = sym changes.tied.there ∙ (λ j. get (rows_at store roles (sym e j)) (sym f j)) ∙ its.there in
-        apart (was_named.once p q s one session (names ∙ ap (λ k. Some (k, one)) e) (changes.tied.names ∙ ap (option_map (λ _. (s, session))) some) f)
+        apart (was_named.once p q s one session (names ∙ ap (λ n. Some (n, one)) e) (tied_names was changes.tied ∙ ap (option_map (λ _. (s, session))) some) f)
+
+    -- another selector names what it named
+    same_name : (p : ℕ) → p ≢ q → session_at (get script'.caps.caps p) ≡ session_at (get script.caps.caps p)
+    same_name p apart = elim (cases_eq p k) [
+      | inl at ↦
+          ap (λ n. session_at (get script'.caps.caps n)) at ∙ lent_aside changes.tied_after.lent
+          ∙ sym (ap (λ n. session_at (get script.caps.caps n)) at ∙ lent_aside changes.tied.lent)
+      | inr beside ↦ ap session_at (changes.stays.caps p apart beside)
+    ]
 
     before : (p : ℕ) → p ≢ q → (named : ℕ × SessionId) → session_at (get script'.caps.caps p) ≡ Some named → session_at (get script.caps.caps p) ≡ Some named
-    before p apart named is = ap session_at (sym (changes.caps_stay p apart)) ∙ is
+    before p apart named is = sym (same_name p apart) ∙ is
 
     -- a selector that names what the changed one does is that one
     same_as_it : (p at : ℕ) (a b : SessionId) → session_at (get script'.caps.caps q) ≡ Some (at, a) → session_at (get script'.caps.caps p) ≡ Some (at, b) → a.0 ≡ b.0 → p ≡ q
@@ -246,6 +300,57 @@ module _ {store : Store} {roles : Roles} {i s : ℕ} {script : Script} (two : Ar
           absurd (not_other p at b apart (before p apart (at, b) names) (ap (λ (x : ℕ × SessionId). x.0) (sym is_it)) (sym same ∙ ap (λ (x : ℕ × SessionId). x.1.0) (sym is_it)))
     ]
 
+    -- ---- what its sessions lend
+
+    -- the session lends what its row says
+    lent_before : lent_by (rows_at store roles) (session_at (get script.caps.caps q)) ≡ lent_of was
+    lent_before = tied_lends (rows_at store roles) was refl changes.tied
+
+    lent_now : lent_by (rows_at store' roles') (session_at (get script'.caps.caps q)) ≡ lent_of is
+    lent_now = tied_lends (rows_at store' roles') is rows_here changes.tied_after
+
+    -- every other one what it lent
+    by_name : (r : ℕ) → r ≢ q → (o : Option (ℕ × SessionId)) → session_at (get script.caps.caps r) ≡ o → lent_by (rows_at store' roles') o ≡ lent_by (rows_at store roles) o
+    by_name r apart None names = refl
+    by_name r apart (Some named) names = ap lent_of (other_row named.0 named.1.0 (not_other r named.0 named.1 apart names))
+
+    lent_beside : (r : ℕ) → r ≢ q → lent_by (rows_at store' roles') (session_at (get script'.caps.caps r)) ≡ lent_by (rows_at store roles) (session_at (get script.caps.caps r))
+    lent_beside r apart = ap (lent_by (rows_at store' roles')) (same_name r apart) ∙ by_name r apart (session_at (get script.caps.caps r)) refl
+
+    -- the selector of its buffer has what it lends
+    of_it : (r key : ℕ) → buffer_at (get script.caps.caps k) ≡ Some (r, key) → (r ≡ q) × (lent_of was ≡ Some key)
+    of_it r key has = lent_pair (lent_of was) q r key (sym changes.tied.lent.has ∙ has)
+
+    -- and no other selector a buffer of it
+    not_of_it : (p key : ℕ) → p ≢ k → buffer_at (get script.caps.caps p) ≡ Some (q, key) → ⊥
+    not_of_it p key apart has =
+        let lends = sym lent_before ∙ was_named.lent p q key has in
+        let one : IsOne script.caps.caps = (at_script (IsSoundRole store) (core.sound i)).own.named.one in
+        apart (one p k key (buffer_key (get script.caps.caps p) q key has) (buffer_key (get script.caps.caps k) q key (changes.tied.lent.has ∙ ap (lent_from q) lends)))
+
+    lent_after : (p r key : ℕ) → buffer_at (get script'.caps.caps p) ≡ Some (r, key) → lent_by (rows_at store' roles') (session_at (get script'.caps.caps r)) ≡ Some key
+    lent_after p r key has = elim (cases_eq p k) [
+      | inl at ↦
+          let its = lent_pair (lent_of is) q r key (sym changes.tied_after.lent.has ∙ ap (λ n. buffer_at (get script'.caps.caps n)) (sym at) ∙ has) in
+          ap (λ n. lent_by (rows_at store' roles') (session_at (get script'.caps.caps n))) its.0 ∙ lent_now ∙ its.1
+      | inr beside ↦
+          let apart : p ≢ q = λ e. none-some (r, key) (sym (tied_no_buffer is changes.tied_after) ∙ ap (λ n. buffer_at (get script'.caps.caps n)) (sym e) ∙ has) in
+          let had = ap buffer_at (sym (changes.stays.caps p apart beside)) ∙ has in
+          lent_beside r (λ e. not_of_it p key beside (had ∙ ap (λ n. Some (n, key)) e)) ∙ was_named.lent p r key had
+    ]
+
+    lends_after : (r key : ℕ) → lent_by (rows_at store' roles') (session_at (get script'.caps.caps r)) ≡ Some key → (p : ℕ) × (buffer_at (get script'.caps.caps p) ≡ Some (r, key))
+    lends_after r key lends = elim (cases_eq r q) [
+      | inl at ↦
+          let now = sym lent_now ∙ ap (λ n. lent_by (rows_at store' roles') (session_at (get script'.caps.caps n))) (sym at) ∙ lends in
+          (k, changes.tied_after.lent.has ∙ ap (lent_from q) now ∙ ap (λ n. Some (n, key)) (sym at))
+      | inr apart ↦
+          let had = was_named.lends r key (sym (lent_beside r apart) ∙ lends) in
+          let not_q : had.0 ≢ q = λ e. none-some (r, key) (sym (tied_no_buffer was changes.tied) ∙ ap (λ n. buffer_at (get script.caps.caps n)) (sym e) ∙ had.1) in
+          let not_k : had.0 ≢ k = λ e. apart (of_it r key (ap (λ n. buffer_at (get script.caps.caps n)) (sym e) ∙ had.1)).0 in
+          (had.0, ap buffer_at (changes.stays.caps had.0 not_q not_k) ∙ had.1)
+    ]
+
     named_after : NamesItsSessions (rows_at store' roles') (AScript script')
     named_after = record {
       its = λ p at one names. elim (cases_eq p q) [
@@ -254,7 +359,7 @@ module _ {store : Store} {roles : Roles} {i s : ℕ} {script : Script} (two : Ar
             record {
               row = row.0;
               there = (λ j. get (rows_at store' roles' (sym (row.1.1) j).0) (sym (row.1.1) j).1.0) ∙ now_there ∙ row.1.0;
-              client = ap (λ (a : AccountId). a.0) changes.pays ∙ sym (changes.tied_after.client row.0 row.1.0);
+              client = ap (λ (a : AccountId). a.0) changes.stays.account ∙ sym (changes.tied_after.client row.0 row.1.0);
             }
         | inr apart ↦
             let was = before p apart (at, one) names in
@@ -262,7 +367,7 @@ module _ {store : Store} {roles : Roles} {i s : ℕ} {script : Script} (two : Ar
             record {
               row = its.row;
               there = other_row at one.0 (not_other p at one apart was) ∙ its.there;
-              client = ap (λ (a : AccountId). a.0) changes.pays ∙ its.client;
+              client = ap (λ (a : AccountId). a.0) changes.stays.account ∙ its.client;
             }
       ];
       once = λ p r at a b one two same. elim (cases_eq p q) [
@@ -272,6 +377,8 @@ module _ {store : Store} {roles : Roles} {i s : ℕ} {script : Script} (two : Ar
           | inr beside ↦ was_named.once p r at a b (before p apart (at, a) one) (before r beside (at, b) two) same
         ]
       ];
+      lent = lent_after;
+      lends = lends_after;
     }
 
     -- each account below the client's is that of a session that a selector names
@@ -283,7 +390,7 @@ module _ {store : Store} {roles : Roles} {i s : ℕ} {script : Script} (two : Ar
             selector = q;
             server = s;
             session = session;
-            names = changes.tied_after.names ∙ ap (option_map (λ _. (s, session))) row.1;
+            names = tied_names is changes.tied_after ∙ ap (option_map (λ _. (s, session))) row.1;
             row = row.0;
             there = now_there ∙ row.1;
             key = changes.tied_after.key row.0 row.1 ∙ sym at;
@@ -299,7 +406,7 @@ module _ {store : Store} {roles : Roles} {i s : ℕ} {script : Script} (two : Ar
             selector = held.selector;
             server = held.server;
             session = held.session;
-            names = ap session_at (changes.caps_stay held.selector apart) ∙ held.names;
+            names = same_name held.selector apart ∙ held.names;
             row = held.row;
             there = other_row held.server held.session.0 (not_other held.selector held.server held.session apart held.names) ∙ held.there;
             key = held.key;
@@ -315,12 +422,11 @@ module _ {store : Store} {roles : Roles} {i s : ℕ} {script : Script} (two : Ar
     session_change placed = record {
       others = follows;
       sound = subst (IsSoundRole store') (sym replaced.client_at) changes.sound;
-      pays = λ one its. subst (λ r. Pays r one) (sym is_script) (ap (λ (a : AccountId). a.0) (sym changes.pays) ∙ subst (λ r. Pays r one) replaced.client_at its);
+      pays = λ one its. subst (λ r. Pays r one) (sym is_script) (ap (λ (a : AccountId). a.0) (sym changes.stays.account) ∙ subst (λ r. Pays r one) replaced.client_at its);
       rows = other_row;
       row = inr (record {
         was_its = λ row there. subst (λ r. Pays r row.client) (sym is_script) (sym (changes.tied.client row (sym changes.tied.there ∙ there)));
         is_its = λ row there. subst (λ r. Pays r row.client) (sym is_script) (sym (changes.tied_after.client row (sym now_there ∙ there)));
-        unlent = λ row there. changes.tied_after.unlent row (sym now_there ∙ there);
         alone = λ one its owner owns. alone owner (subst (Owns store roles owner) (tied_key is changes.tied_after one (ap (option_map (λ (r : Row Labelled). r.key)) (sym now_there) ∙ its)) owns);
       });
       named = subst (NamesItsSessions (rows_at store' roles')) (sym replaced.client_at) named_after;
@@ -340,10 +446,10 @@ module _ {store : Store} {roles : Roles} {i s : ℕ} {script : Script} (two : Ar
 
 -- so a call whose outcome is known goes as the model's
 module _ {store store' : Store} (components components' : List Component) {i s : ℕ} {script script' : Script} (two : AreTwo store (roles_of components) i s script) (d : Component)
-    {host host' : Component} {q account : ℕ} {session : SessionId} {was is : Option (Row Labelled)}
+    {host host' : Component} {q k account : ℕ} {session : SessionId} {was is : Option (Row Labelled)}
     (host_is : roles_of components s ≡ host.role) (replaced : ReplacesTwo (roles_of components) (roles_of components') i s (AScript script') host'.role) (faces : SameFaces components components')
     (alone : (owner : Owner) → Owns store (roles_of components) owner account → owner ≡ SessionAt s session.0)
-    (changes : ChangesSession account s q session store store' script script' (rows_in store (roles_of components s)) (rows_in store' host'.role) was is) (stays : StaysServer store host store' host')
+    (changes : ChangesSession account s q k session store store' script script' (rows_in store (roles_of components s)) (rows_in store' host'.role) was is) (stays : StaysServer store host store' host')
     (rules : Rules) (call : Call) (on : is_exit call ≡ false) (reply : Reply) (lines : List LogLine) (told : Told) (text : told.text ≡ reply_text reply) (finished : told.lines ≡ flat_map log_text lines) where
   abbrev roles : Roles
   roles = roles_of components
@@ -372,7 +478,7 @@ module _ {store store' : Store} (components components' : List Component) {i s :
       let own_after : own_in S' store' (roles_of components' i) ≡ own_at S' store' script' = ap (own_in S' store') replaced.client_at in
       let next = own_after ∙ ap (λ (o : Outcome). o.next) (sym step) ∙ ap (λ r. (own_step (entry_of (rules i) caller) call (own_in S store r)).next) (sym two.is_script) in
       let placed = places_kept S S' store store' (roles i) (roles_of components' i) (entry_of (rules i) caller) call on next
-      (ap places_in replaced.client_at ∙ ap Some changes.places ∙ ap places_in (sym two.is_script)) (two.core.placed i) in
+      (ap places_in replaced.client_at ∙ ap Some changes.stays.places ∙ ap places_in (sym two.is_script)) (two.core.placed i) in
       goes components components' two.core (session_change two host_is replaced alone changes stays placed) faces here d rules call on
       (same_init store store' changes.moves.root (same_root two host_is replaced alone changes stays)) told (record { reply = reply; lines = lines; next = own_at S' store' script' })
       (ap (λ r. own_step (entry_of (rules i) caller) call (own_in S store r)) caller_is ∙ step) text finished (sym own_after)
@@ -380,5 +486,6 @@ module _ {store store' : Store} (components components' : List Component) {i s :
   -- and so does one that is this to the model
   pub session_goes : DoesSession call reply lines s session.0 (option_map row_session was) (option_map row_session is) store script store' script' → Goes rules call i told store components store' components'
   session_goes does =
-      step_goes (does (entry_of (rules i) caller) S S' (ap kind_of caller_is) (sessions_agree two host_is replaced alone changes stays)
+      let ready : HasSessions S script.caps.caps = subst (λ r. HasSessions S (caps_in r)) two.is_script (names_open two.core i) in
+      step_goes (does (entry_of (rules i) caller) S S' ready (ap kind_of caller_is) (sessions_agree two host_is replaced alone changes stays)
       (ap (option_map row_session) changes.tied.there) (ap (option_map row_session) (now_there two host_is replaced alone changes stays)))

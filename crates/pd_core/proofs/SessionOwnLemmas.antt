@@ -1,7 +1,7 @@
 -- What calls of sessions do to a script's own state.
 use Rattle.std.proofs.Common.{cond, ◌≡◌, ◌≢◌, ℕ, ◌+◌, ◌*◌, ◌≤◌, false, List, [], ◌∷◌, Some, IsSome, unwrap_or, refl, sym, ap, subst, ◌∙◌, arith, inl, inr}
 use Rattle.std.proofs.lemmas.Bool.{cases_eq}
-use Rattle.std.proofs.lemmas.Option.{none-some}
+use Rattle.std.proofs.lemmas.Option.{none-some, same_Some}
 use Rattle.std.specs.Prelude.{Option, None}
 use Rattle.std.specs.Option.{option_map, option_and_then}
 use Rattle.std.specs.FinMap.{get, insert, remove, len}
@@ -15,12 +15,13 @@ use Rattle.own_model.specs.OwnHeap.{OwnHeap}
 use Rattle.own_model.specs.OwnState.{OwnState, named_bytes}
 use Rattle.own_model.specs.OwnState.Object.{Dataspace as ADataspace, OpenSession}
 use Rattle.own_model.specs.OwnStep.{Outcome, own_step, entry_step, unless, turned_away}
-use Rattle.own_model.specs.Region.{Region}
+use Rattle.own_model.specs.Region.{Region, without}
 use Rattle.own_model.specs.Session.{Session as AnOpenSession}
 use Rattle.own_model.specs.StartList.{Entry}
 use Rattle.own_model.specs.StartList.Kind.{Script as AScript}
 use Rattle.own_model.specs.Use.{object_size, object_caps}
-use Rattle.own_model.proofs.NatMapLemmas.{same, get-insert_same, get-insert_other, get-remove_same, get-remove_other, get-picked, get-picked_at}
+use Rattle.own_model.proofs.NatMapLemmas.{some_of, get-picked}
+use Rattle.own_model.proofs.RegionLemmas.{left_without}
 use Rattle.own_model.proofs.Totals.{total_same, total-picked}
 use Rattle.own_model.proofs.SoundLemmas.{step_sound}
 use Rattle.own_model.proofs.UseLemmas.{run_uses}
@@ -31,8 +32,9 @@ use Rattle.cap_space.specs.Space.{Space}
 use Rattle.region_map.specs.Regions.{Regions}
 use Rattle.dataspace_core.specs.Store.{Part, account_of}
 use Rattle.pd_core.specs.Own.{Sessions, object_of, selector_of, regions_of, own_of, Lent, key_at}
-use Rattle.pd_core.specs.Sound.{rpc_weight, session_weight, IsOne, AreNamed, IsLawful, IsScript}
-use Rattle.pd_core.proofs.NameLemmas.{is_named, regions_alike, attached_alike, Names}
+use Rattle.pd_core.specs.Sound.{rpc_weight, session_weight, buffer_at, IsOne, AreNamed, IsLawful, IsScript}
+use Rattle.pd_core.specs.Sessions.{IsLentAt}
+use Rattle.pd_core.proofs.NameLemmas.{is_named, buffer_key, regions_alike, attached_alike, Names}
 
 -- ---- which sessions there are makes no difference to what is lawful
 
@@ -120,78 +122,115 @@ lawful_step entry call s script here law =
       within = step_within entry call s law.within;
     })
 
--- ---- a selector's capability changes, and no dataspace does
+-- ---- what a call of a session makes of its client's tables
 
--- what a capability is to a component depends on the bytes of a dataspace, and on a session
-object_same : (L : Lent) (S S' : Sessions) (p p' : Part) (cap : Cap) → p'.spaces ≡ p.spaces → ((server : ℕ) (session : SessionId) → cap ≡ Session server session → S' server session.0 ≡ S server session.0) → object_of L S' p' cap ≡ object_of L S p cap
-object_same L S S' p p' (Dataspace ds) spaces agrees = ap (λ (m : NatMap (List ℕ)). option_map ADataspace (get m ds.0)) spaces
-object_same L S S' p p' RpcObject spaces agrees = refl
-object_same L S S' p p' (Buffer space session) spaces agrees = refl
-object_same L S S' p p' (Session server session) spaces agrees = ap (option_map OpenSession) (agrees server session refl)
+-- the user regions after it: those of what a session lent and lends no more go
+abbrev pub regions_after : Option ℕ → Option ℕ → NatMap Region → NatMap Region
+regions_after (Some key) None user = without key user
+regions_after (Some key) (Some other) user = user
+regions_after None lent user = user
 
-objects_same : (L : Lent) (S S' : Sessions) (p p' : Part) (o : Option Cap) → p'.spaces ≡ p.spaces → ((server : ℕ) (session : SessionId) → o ≡ Some (Session server session) → S' server session.0 ≡ S server session.0) → option_and_then (object_of L S' p') o ≡ option_and_then (object_of L S p) o
-objects_same L S S' p p' None spaces agrees = refl
-objects_same L S S' p p' (Some cap) spaces agrees = object_same L S S' p p' cap spaces (λ server session is. agrees server session (ap Some is))
-
-module _ (L : Lent) (S S' : Sessions) (p p' : Part) (spaces : p'.spaces ≡ p.spaces) (caps caps' : NatMap Cap) (selector : ℕ) (others : (q : ℕ) → q ≢ selector → get caps' q ≡ get caps q)
-    (agrees : (q server : ℕ) (session : SessionId) → q ≢ selector → get caps q ≡ Some (Session server session) → S' server session.0 ≡ S server session.0) where
-  -- another selector names what it named
-  elsewhere : (q : ℕ) → q ≢ selector → get (picked (object_of L S' p') caps') q ≡ get (picked (object_of L S p) caps) q
-  elsewhere q other =
-      get-picked (object_of L S' p') caps' q ∙ ap (option_and_then (object_of L S' p')) (others q other)
-      ∙ objects_same L S S' p p' (get caps q) spaces (λ server session is. agrees q server session other is) ∙ sym (get-picked (object_of L S p) caps q)
-
-  -- the selector names a session now
-  pub selectors_put : (server : ℕ) (session : SessionId) (x : AnOpenSession) → get caps' selector ≡ Some (Session server session) → S' server session.0 ≡ Some x →
-      picked (object_of L S' p') caps' ≡ insert (picked (object_of L S p) caps) selector (OpenSession x)
-  selectors_put server session x names is = same _ _ (λ q. elim (cases_eq q selector) [
-    | inl here ↦
-        ap (get (picked (object_of L S' p') caps')) here ∙ get-picked_at (object_of L S' p') caps' selector (Session server session) names
-        ∙ ap (option_map OpenSession) is ∙ sym (get-insert_same (picked (object_of L S p) caps) selector (OpenSession x) q here)
-    | inr other ↦ elsewhere q other ∙ sym (get-insert_other (picked (object_of L S p) caps) selector (OpenSession x) q other)
-  ])
-
-  -- or nothing
-  pub selectors_gone : get caps' selector ≡ None → picked (object_of L S' p') caps' ≡ remove (picked (object_of L S p) caps) selector
-  selectors_gone gone = same _ _ (λ q. elim (cases_eq q selector) [
-    | inl here ↦
-        ap (get (picked (object_of L S' p') caps')) here ∙ get-picked (object_of L S' p') caps' selector ∙ ap (option_and_then (object_of L S' p')) gone
-        ∙ sym (get-remove_same (picked (object_of L S p) caps) selector q here)
-    | inr other ↦ elsewhere q other ∙ sym (get-remove_other (picked (object_of L S p) caps) selector q other)
-  ])
+-- where as much is lent they stay
+pub regions_same : (lent : Option ℕ) (user : NatMap Region) → regions_after lent lent user ≡ user
+regions_same None user = refl
+regions_same (Some key) user = refl
 
 -- the selector named no dataspace, its own or lent, and names none
 pub record AreNoSpaces (caps caps' : NatMap Cap) (selector : ℕ) : Type 0 where
   pub before : key_at (get caps selector) ≡ None
   pub after : key_at (get caps' selector) ≡ None
 
-module _ (caps caps' : NatMap Cap) (selector : ℕ) (others : (q : ℕ) → q ≢ selector → get caps' q ≡ get caps q) (no_spaces : AreNoSpaces caps caps' selector) where
+-- two selectors change, that of a session and that of what it lends, and the regions of that: the session is no dataspace, what
+-- is lent still is what was lent, and what comes to be lent no other selector names
+pub record TurnsTables (caps caps' : NatMap Cap) (user user' : NatMap Region) (q k : ℕ) (lent lent' : Option ℕ) : Type 0 where
+  pub others : (s : ℕ) → s ≢ q → s ≢ k → get caps' s ≡ get caps s
+  pub no_spaces : AreNoSpaces caps caps' q
+  pub before : IsLentAt caps q k lent
+  pub after : IsLentAt caps' q k lent'
+  pub kept : (a b : ℕ) → lent ≡ Some a → lent' ≡ Some b → get caps' k ≡ get caps k
+  pub fresh : (s key : ℕ) → lent' ≡ Some key → s ≢ k → Names caps s key → ⊥
+  pub regions : user' ≡ regions_after lent lent' user
+
+-- what is at the selector of what is lent is a buffer of that, and no dataspace of the script's own
+pub lent_names : {caps : NatMap Cap} {q k : ℕ} (lent : Option ℕ) → IsLentAt caps q k lent → key_at (get caps k) ≡ lent
+lent_names None at = ap key_at (at.free refl)
+lent_names {caps} {q} {k} (Some key) at = buffer_key (get caps k) q key at.has
+
+not_own : (o : Option Cap) (q key : ℕ) (ds : DsId) → buffer_at o ≡ Some (q, key) → o ≢ Some (Dataspace ds)
+not_own o q key ds has is = none-some (q, key) (sym (ap buffer_at is) ∙ has)
+
+lent_own : {caps : NatMap Cap} {q k : ℕ} (lent : Option ℕ) → IsLentAt caps q k lent → (ds : DsId) → get caps k ≢ Some (Dataspace ds)
+lent_own None at ds is = none-some (Dataspace ds) (sym (at.free refl) ∙ is)
+lent_own {caps} {q} {k} (Some key) at ds is = not_own (get caps k) q key ds at.has is
+
+module _ {caps caps' : NatMap Cap} {user user' : NatMap Region} {q k : ℕ} {lent lent' : Option ℕ} (turns : TurnsTables caps caps' user user' q k lent lent') where
   -- another selector names the dataspace
-  pub not_it : (q key : ℕ) → Names caps' q key → q ≢ selector
-  not_it q key is here = none-some key (sym no_spaces.after ∙ ap (λ k. key_at (get caps' k)) (sym here) ∙ is)
+  not_it : (s key : ℕ) → Names caps' s key → s ≢ q
+  not_it s key is here = none-some key (sym turns.no_spaces.after ∙ ap (λ n. key_at (get caps' n)) (sym here) ∙ is)
 
-  pub was_named : (q : ℕ) (ds : DsId) → get caps' q ≡ Some (Dataspace ds) → get caps q ≡ Some (Dataspace ds)
-  was_named q ds is = sym (others q (not_it q ds.0 (ap key_at is))) ∙ is
+  -- one of the script's own was named before
+  pub was_named : (s : ℕ) (ds : DsId) → get caps' s ≡ Some (Dataspace ds) → get caps s ≡ Some (Dataspace ds)
+  was_named s ds is =
+      sym (turns.others s (not_it s ds.0 (ap key_at is)) (λ e. lent_own lent' turns.after ds (ap (get caps') (sym e) ∙ is))) ∙ is
 
-  -- and the buffer
-  pub lent_before : (q : ℕ) (of : DsId) (session : Selector) → get caps' q ≡ Some (Buffer of session) → get caps q ≡ Some (Buffer of session)
-  lent_before q of session is = sym (others q (not_it q of.0 (ap key_at is))) ∙ is
+  -- a key beside what is lent was a selector's before
+  named_before : (s key : ℕ) → s ≢ k → Names caps' s key → Names caps s key
+  named_before s key apart is = sym (ap key_at (turns.others s (not_it s key is) apart)) ∙ is
 
-  -- so each dataspace has one selector still
-  pub one_still : IsOne caps → IsOne caps'
-  one_still one s t key at bt = one s t key (sym (ap key_at (others s (not_it s key at))) ∙ at) (sym (ap key_at (others t (not_it t key bt))) ∙ bt)
+  -- what is at the selector of what is lent no other names
+  not_lent : (s t key : ℕ) → s ≡ k → t ≢ k → Names caps' s key → Names caps' t key → ⊥
+  not_lent s t key at apart one two =
+      turns.fresh t key (sym (lent_names lent' turns.after) ∙ ap (λ n. key_at (get caps' n)) (sym at) ∙ one) apart (named_before t key apart two)
 
-  module _ (user : NatMap Region) (one : IsOne caps) (attached : AreNamed caps user) where
-    same_names : (s start : ℕ) (region : Region) → get user start ≡ Some region → selector_of caps region.of ≡ Some s → get caps' s ≡ get caps s
-    same_names s start region there is =
-        others s (λ here. none-some region.of (sym no_spaces.before ∙ ap (λ k. key_at (get caps k)) (sym here) ∙ is_named caps region.of s is))
+  module _ (one : IsOne caps) where
+    -- each dataspace has one selector still
+    pub one_still : IsOne caps'
+    one_still s t key at bt = elim (cases_eq s k) [
+      | inl here ↦ elim (cases_eq t k) [
+        | inl too ↦ here ∙ sym too
+        | inr apart ↦ absurd (not_lent s t key here apart at bt)
+      ]
+      | inr apart ↦ elim (cases_eq t k) [
+        | inl here ↦ absurd (not_lent t s key here apart bt at)
+        | inr beside ↦ one s t key (named_before s key apart at) (named_before t key beside bt)
+      ]
+    ]
 
-    -- and each region its name
-    pub regions_still : regions_of caps' user ≡ regions_of caps user
-    regions_still = regions_alike caps caps' user (one_still one) attached same_names
+    -- a region that is left was there, and is of nothing that is lent no more
+    left_of : (lent lent' : Option ℕ) (start : ℕ) (region : Region) → get (regions_after lent lent' user) start ≡ Some region → get user start ≡ Some region
+    left_of None lent' start region there = there
+    left_of (Some key) (Some other) start region there = there
+    left_of (Some key) None start region there = (left_without key user start region there).0
 
-    pub attached_still : AreNamed caps' user
-    attached_still = attached_alike caps caps' user (one_still one) attached same_names
+    left_named : (lent lent' : Option ℕ) (start key : ℕ) (region : Region) → get (regions_after lent lent' user) start ≡ Some region → lent ≡ Some key → region.of ≡ key → IsSome lent'
+    left_named None lent' start key region there is same = absurd (none-some key is)
+    left_named (Some a) (Some b) start key region there is same = refl
+    left_named (Some a) None start key region there is same = absurd ((left_without a user start region there).1 (same ∙ sym (same_Some a key is)))
+
+    module _ (attached : AreNamed caps user) where
+      left : (start : ℕ) (region : Region) → get user' start ≡ Some region → get user start ≡ Some region
+      left start region there = left_of lent lent' start region (ap (λ (m : NatMap Region). get m start) (sym turns.regions) ∙ there)
+
+      left_attached : AreNamed caps user'
+      left_attached start region there = attached start region (left start region there)
+
+      -- the selector of such a region has what it had
+      same_names : (s start : ℕ) (region : Region) → get user' start ≡ Some region → selector_of caps region.of ≡ Some s → get caps' s ≡ get caps s
+      same_names s start region there is = elim (cases_eq s k) [
+        | inl at ↦
+            let lends = sym (lent_names lent turns.before) ∙ ap (λ n. key_at (get caps n)) (sym at) ∙ is_named caps region.of s is in
+            let still = some_of lent' (left_named lent lent' start region.of region (ap (λ (m : NatMap Region). get m start) (sym turns.regions) ∙ there) lends refl) in
+            ap (get caps') at ∙ turns.kept region.of still.0 lends still.1 ∙ ap (get caps) (sym at)
+        | inr apart ↦ turns.others s (λ here. none-some region.of (sym turns.no_spaces.before ∙ ap (λ n. key_at (get caps n)) (sym here) ∙ is_named caps region.of s is)) apart
+      ]
+
+      -- so each region has its name
+      pub attached_still : AreNamed caps' user'
+      attached_still = attached_alike caps caps' user' one_still left_attached same_names
+
+      -- and under the names they are those before, without those of what is lent no more
+      pub regions_turn : regions_of caps' user' ≡ regions_of caps (regions_after lent lent' user)
+      regions_turn = regions_alike caps caps' user' one_still left_attached same_names ∙ ap (regions_of caps) turns.regions
 
 -- ---- a script stays one
 
@@ -206,14 +245,13 @@ pub record AreCounted (p p' : Part) (space space' : Space) (regions : Regions) :
   pub placed : (account_of p').caps_limit + total session_weight space'.caps ≤ space'.places
   pub ram : (account_of p').ram_limit ≤ regions.pages * 4096
 
-pub script_with : {L : Lent} (p p' : Part) (space space' : Space) (regions : Regions) (heap : OwnHeap) (sliced : NatMap (List ℕ)) (selector : ℕ) → IsScript L p space regions heap sliced →
-    ((q : ℕ) → q ≢ selector → get space'.caps q ≡ get space.caps q) → AreNoSpaces space.caps space'.caps selector → AreCounted p p' space space' regions →
-    ((S : Sessions) → IsLawful (own_of L S p' space'.caps regions.user heap sliced)) → IsScript L p' space' regions heap sliced
-script_with p p' space space' regions heap sliced selector script others no_spaces counted lawful = record {
+pub script_with : {L L' : Lent} (p p' : Part) (space space' : Space) (regions : Regions) (user' : NatMap Region) (heap : OwnHeap) (sliced : NatMap (List ℕ)) {q k : ℕ} {lent lent' : Option ℕ} → IsScript L p space regions heap sliced →
+    TurnsTables space.caps space'.caps regions.user user' q k lent lent' → AreCounted p p' space space' regions →
+    ((S : Sessions) → IsLawful (own_of L' S p' space'.caps user' heap sliced)) → IsScript L' p' space' (record regions { user = user' }) heap sliced
+script_with p p' space space' regions user' heap sliced script turns counted lawful = record {
   named = record {
-    there = λ q ds is. subst (λ (m : NatMap (List ℕ)). IsSome (get m ds.0)) (sym counted.spaces) (script.named.there q ds (was_named space.caps space'.caps selector others no_spaces q ds is));
-    one = one_still space.caps space'.caps selector others no_spaces script.named.one;
-    unlent = λ q of session is. script.named.unlent q of session (lent_before space.caps space'.caps selector others no_spaces q of session is);
+    there = λ s ds is. subst (λ (m : NatMap (List ℕ)). IsSome (get m ds.0)) (sym counted.spaces) (script.named.there s ds (was_named turns s ds is));
+    one = one_still turns script.named.one;
   };
   paid = record {
     is_open = counted.open_still;
@@ -222,11 +260,11 @@ script_with p p' space space' regions heap sliced selector script others no_spac
     placed = counted.placed;
   };
   ram = counted.ram;
-  attached = attached_still space.caps space'.caps selector others no_spaces regions.user script.named.one script.attached;
+  attached = attached_still turns script.named.one script.attached;
   most = script.most;
   blocks = record {
     held = λ start region there. subst (λ (m : NatMap (List ℕ)). IsSome (get m region.of)) (sym counted.spaces) (script.blocks.held start region there);
-    unnamed = λ start q region ds there is. script.blocks.unnamed start q region ds there (was_named space.caps space'.caps selector others no_spaces q ds is);
+    unnamed = λ start s region ds there is. script.blocks.unnamed start s region ds there (was_named turns s ds is);
   };
   lawful = λ S ready. lawful S;
 }

@@ -1,4 +1,5 @@
--- A script over the memory after a call of a session, which changes the limits of its account and one of its selectors.
+-- A script over the memory after a call of a session, which changes the limits of its account, two of its selectors and the
+-- regions of one.
 use Rattle.std.proofs.Common.{◌≡◌, ◌≢◌, ℕ, List, Some, is_some, IsSome, length, refl, sym, ap, subst, ◌∙◌}
 use Rattle.std.specs.Prelude.{◌⊎◌, Option}
 use Rattle.std.specs.FinMap.{get}
@@ -7,6 +8,7 @@ use Rattle.own_model.specs.NatMap.{NatMap}
 use Rattle.own_model.specs.Region.{Region}
 use Rattle.own_model.proofs.NatMapLemmas.{value_at}
 use Rattle.cap_space.specs.Space.{Space}
+use Rattle.region_map.specs.Regions.{Regions}
 use Rattle.dataspace_core.specs.Store.{Store, Space as ASpace, Part, part, ram_limits_in}
 use Rattle.dataspace_core.specs.Share.{IsShown, share_in}
 use Rattle.dataspace_core.proofs.PartLaws.{open_in_part, paid_in_part}
@@ -20,10 +22,9 @@ use Rattle.sliced_heap.specs.Heap.{payer_of as sliced_payer, blocks_at, MapsMemo
 use Rattle.sliced_heap.specs.Laws.{HeapStays}
 use Rattle.sliced_heap.proofs.HeapLaws.{heap_stays_among}
 use Rattle.pd_core.specs.Own.{Sessions, own_of, own_at, own_heap_at, sliced_at, part_at, lent_in}
-use Rattle.pd_core.specs.Sound.{IsScript, IsLawful, IsSoundScript, HasHeaps}
+use Rattle.pd_core.specs.Sound.{IsScript, AreOthers, IsLawful, IsSoundScript, HasHeaps}
 use Rattle.pd_core.specs.declared.script.Script.{Script}
-use Rattle.pd_core.proofs.LentLemmas.{LendAlike, own_lent, script_lent}
-use Rattle.pd_core.proofs.SessionOwnLemmas.{AreNoSpaces, AreCounted, script_with, lent_before}
+use Rattle.pd_core.proofs.SessionOwnLemmas.{TurnsTables, AreCounted, script_with}
 
 -- ---- the account's numbers are no matter to what stands in the heap window
 
@@ -96,37 +97,46 @@ module _ (store store' : Store) (script : Script) (account : Option Account) (so
   sliced_own : part (sliced_payer script.sliced) store' ≡ record (part (sliced_payer script.sliced) store) { account = account }
   sliced_own = own_of_payer (sliced_payer script.sliced) sound.heaps.sliced_pays
 
-  heap_sound : IsSoundHeap script.heap store' script.regions
-  heap_sound = record {
-    opens = open_in_part (heap_payer script.heap) store' (ap (λ (q : Part). is_some q.account) heap_own ∙ there);
-    window = window;
-    laid = subst (λ q. IsLaid script.heap (share_in q script.regions.heap script.regions.tags)) (sym heap_own)
-        (laid_still (part (heap_payer script.heap) store) account script.regions.heap script.regions.tags script.heap sound.heaps.heap.laid);
-  }
-
   pub same_heap : heap_at script.heap store' script.regions ≡ heap_at script.heap store script.regions
   same_heap =
       ap (λ q. heap_in script.heap (share_in q script.regions.heap script.regions.tags)) heap_own
       ∙ heap_still (part (heap_payer script.heap) store) account script.regions.heap script.regions.tags script.heap
 
-  sliced_stays : HeapStays script.sliced store store' script.regions script.regions
-  sliced_stays =
-      heap_stays_among script.sliced store store' script.regions script.regions sound.heaps.sliced maps
-      (open_in_part (sliced_payer script.sliced) store' (ap (λ (q : Part). is_some q.account) sliced_own ∙ there))
-      (ap (λ q. block_regions (share_in q script.regions.heap script.regions.tags)) sliced_own
-      ∙ stands_still (part (sliced_payer script.sliced) store) account script.regions.heap script.regions.tags)
-      (λ s r _. ap (λ (q : Part). get q.spaces r.of) sliced_own)
+  -- with other capabilities and user regions
+  module _ (space' : Space) (user' : NatMap Region) where
+    abbrev regions' : Regions
+    regions' = record script.regions { user = user' }
 
-  pub same_sliced : sliced_at store' script ≡ sliced_at store script
-  same_sliced = subst (λ a. blocks_at a store' script.regions ≡ blocks_at a store script.regions) sound.heaps.sliced_pays sliced_stays.blocks
-
-  -- with other capabilities
-  module _ (space' : Space) where
     -- the script after the call
     abbrev script' : Script
-    script' = record script { caps = space' }
+    script' = record script { caps = space'; regions = record script.regions { user = user' } }
 
-    pub heaps_stay : HasHeaps store' script'
+    maps' : MapsMemory store' regions'
+    maps' = record { pages = maps.pages; most = maps.most; shown = maps.shown; once = maps.once }
+
+    window' : IsMapOf store' regions'
+    window' = record { size = window.size; few = window.few; lie = window.lie; most_is = window.most_is; shown_whole = window.shown_whole; once = window.once }
+
+    heap_sound : IsSoundHeap script.heap store' regions'
+    heap_sound = record {
+      opens = open_in_part (heap_payer script.heap) store' (ap (λ (q : Part). is_some q.account) heap_own ∙ there);
+      window = window';
+      laid = subst (λ q. IsLaid script.heap (share_in q script.regions.heap script.regions.tags)) (sym heap_own)
+          (laid_still (part (heap_payer script.heap) store) account script.regions.heap script.regions.tags script.heap sound.heaps.heap.laid);
+    }
+
+    sliced_stays : HeapStays script.sliced store store' script.regions regions'
+    sliced_stays =
+        heap_stays_among script.sliced store store' script.regions regions' sound.heaps.sliced maps'
+        (open_in_part (sliced_payer script.sliced) store' (ap (λ (q : Part). is_some q.account) sliced_own ∙ there))
+        (ap (λ q. block_regions (share_in q script.regions.heap script.regions.tags)) sliced_own
+        ∙ stands_still (part (sliced_payer script.sliced) store) account script.regions.heap script.regions.tags)
+        (λ s r _. ap (λ (q : Part). get q.spaces r.of) sliced_own)
+
+    same_sliced : sliced_at store' script' ≡ sliced_at store script
+    same_sliced = subst (λ a. blocks_at a store' regions' ≡ blocks_at a store script.regions) sound.heaps.sliced_pays sliced_stays.blocks
+
+    heaps_stay : HasHeaps store' script'
     heaps_stay = record {
       heap = heap_sound;
       sliced = sliced_stays.sound;
@@ -137,24 +147,18 @@ module _ (store store' : Store) (script : Script) (account : Option Account) (so
           (sym own) (all_still (part_at store script) account script.regions.heap script.regions.tags start region (sound.heaps.all start region at));
     }
 
-    -- nothing is seen of what sessions lend, where no selector comes to name a buffer
-    seen : (selector : ℕ) → ((q : ℕ) → q ≢ selector → get space'.caps q ≡ get script.caps.caps q) → AreNoSpaces script.caps.caps space'.caps selector → LendAlike (lent_in store) (lent_in store') space'.caps
-    seen selector others no_spaces q of session is = absurd (sound.own.named.unlent q of session (lent_before script.caps.caps space'.caps selector others no_spaces q of session is))
-
-    -- its own state is read out of what it had
-    pub own_still : (selector : ℕ) → ((q : ℕ) → q ≢ selector → get space'.caps q ≡ get script.caps.caps q) → AreNoSpaces script.caps.caps space'.caps selector →
-        (S : Sessions) → own_at S store' script' ≡ own_of (lent_in store) S (part script.account.0 store') space'.caps script.regions.user (own_heap_at store script) (sliced_at store script)
-    own_still selector others no_spaces S =
-        (λ i. own_of (lent_in store') S (part script.account.0 store') space'.caps script.regions.user (same_heap i) (same_sliced i))
-        ∙ own_lent (lent_in store) (lent_in store') (part script.account.0 store') space'.caps (seen selector others no_spaces) script.regions.user (own_heap_at store script) (sliced_at store script) S
+    -- its own state is read out of the heaps that it had
+    pub own_still : (S : Sessions) → own_at S store' script' ≡ own_of (lent_in store') S (part script.account.0 store') space'.caps user' (own_heap_at store script) (sliced_at store script)
+    own_still S i = own_of (lent_in store') S (part script.account.0 store') space'.caps user' (same_heap i) (same_sliced i)
 
     -- and it is sound
-    pub sound_still : (selector : ℕ) → ((q : ℕ) → q ≢ selector → get space'.caps q ≡ get script.caps.caps q) → AreNoSpaces script.caps.caps space'.caps selector →
+    pub sound_still : {q k : ℕ} {lent lent' : Option ℕ} → TurnsTables script.caps.caps space'.caps script.regions.user user' q k lent lent' → AreOthers script.account.0 store' space'.caps →
         AreCounted (part_at store script) (part script.account.0 store') script.caps space' script.regions →
-        ((S : Sessions) → IsLawful (own_of (lent_in store) S (part script.account.0 store') space'.caps script.regions.user (own_heap_at store script) (sliced_at store script))) → IsSoundScript store' script'
-    sound_still selector others no_spaces counted lawful = record {
-      own = subst (λ h. IsScript (lent_in store') (part script.account.0 store') space' script.regions h (sliced_at store' script)) (sym same_heap)
-          (subst (λ b. IsScript (lent_in store') (part script.account.0 store') space' script.regions (own_heap_at store script) b) (sym same_sliced)
-          (script_lent (seen selector others no_spaces) (script_with (part_at store script) (part script.account.0 store') script.caps space' script.regions (own_heap_at store script) (sliced_at store script) selector sound.own others no_spaces counted lawful)));
+        ((S : Sessions) → IsLawful (own_of (lent_in store') S (part script.account.0 store') space'.caps user' (own_heap_at store script) (sliced_at store script))) → IsSoundScript store' script'
+    sound_still turns others counted lawful = record {
+      own = subst (λ h. IsScript (lent_in store') (part script.account.0 store') space' regions' h (sliced_at store' script')) (sym same_heap)
+          (subst (IsScript (lent_in store') (part script.account.0 store') space' regions' (own_heap_at store script)) (sym same_sliced)
+          (script_with (part_at store script) (part script.account.0 store') script.caps space' script.regions user' (own_heap_at store script) (sliced_at store script) sound.own turns counted lawful));
+      lent = others;
       heaps = heaps_stay;
     }

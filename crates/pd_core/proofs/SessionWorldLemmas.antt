@@ -2,53 +2,48 @@
 use Rattle.std.proofs.Common.{◌≡◌, ◌≢◌, false, true, ℕ, ◌<◌, List, [], Option, None, Some, Ok, is_some, length, get_or, set, refl, sym, ap, subst, ◌∙◌}
 use Rattle.std.proofs.lemmas.List.{length-set}
 use Rattle.std.proofs.lemmas.Option.{none-some, same_Some}
-use Rattle.std.specs.FinMap.{get, insert, remove}
+use Rattle.std.specs.FinMap.{get, insert}
 use Rattle.std.specs.Option.{option_map}
 use Rattle.std.specs.Prelude.{IsSome}
 use Rattle.trade_base.specs.declared.id.DsId.{DsId}
 use Rattle.trade_base.specs.declared.id.SessionId.{SessionId}
 use Rattle.trade_base.specs.declared.refusal.Refusal.{Refusal}
 use Rattle.trade_base.specs.declared.refusal.Refusal.TheVariants.{BadArgs}
-use Rattle.own_model.specs.Account.{Account, shortage}
-use Rattle.own_model.specs.Call.Call.{Upgrade, CallSession, Close}
+use Rattle.own_model.specs.Account.{shortage}
+use Rattle.own_model.specs.Call.Call.{Upgrade}
 use Rattle.own_model.specs.Donation.{raised}
 use Rattle.own_model.specs.NatMap.{NatMap}
 use Rattle.own_model.specs.OwnStep.{own_step, entry_step, refused}
 use Rattle.own_model.specs.Reply.{reply_text}
-use Rattle.own_model.specs.Reply.Reply.{Done, Refused, Told as AnswerTold}
-use Rattle.own_model.specs.Session.{served, Labelled}
+use Rattle.own_model.specs.Reply.Reply.{Done, Refused}
+use Rattle.own_model.specs.Session.{Labelled}
 use Rattle.own_model.specs.SessionArgs.{Arguments, arguments_of}
 use Rattle.own_model.proofs.StepLemmas.{covers}
-use Rattle.own_model.proofs.LimitLemmas.{serve_keeps}
 use Rattle.own_model.proofs.NatMapLemmas.{get-empty, get-insert_same}
-use Rattle.cap_space.specs.Space.{without_cap}
 use Rattle.cap_space.specs.declared.cap.Cap.{Cap}
 use Rattle.cap_space.specs.declared.cap.Cap.TheVariants.{Dataspace, RpcObject, Session, Buffer}
-use Rattle.dataspace_core.specs.Store.{Store, account_in, ClosesPart, RaisesPart}
-use Rattle.server_frame.specs.Frame.{Row, row_served, ServesSession}
-use Rattle.server_frame.specs.Lent.{IsEffect, key_of, bytes_lent}
-use Rattle.server_frame.specs.declared.effect.Effect.TheVariants.{Buffer as MakesBuffer, Gone as GivesBuffer}
-use Rattle.server_frame.specs.declared.effect.Effect.{Effect}
-use Rattle.server_frame.specs.Session.{Served, service_step}
-use Rattle.server_frame.specs.Told.{Told}
+use Rattle.dataspace_core.specs.Store.{Store, Part, part, space_at, account_in, RaisesPart}
+use Rattle.dataspace_core.proofs.PartLaws.{paid_in_part}
+use Rattle.server_frame.specs.Frame.{Row}
+use Rattle.server_frame.specs.Lent.{key_of}
 use Rattle.pd_core.specs.Answer.{told_alone}
 use Rattle.pd_core.specs.Component.{entry_of, kind_of, served_by, caps_in, rows_in, rows_of, own_in, IsSoundRole, Serves, StaysServer}
 use Rattle.pd_core.specs.Core.{Rules, roles_of, sessions_in, IsCore}
-use Rattle.pd_core.specs.Own.{Sessions, own_of, own_at}
+use Rattle.pd_core.specs.Own.{Sessions, own_of, own_at, lent_in}
 use Rattle.pd_core.specs.Sessions.{row_session, NamesSession}
-use Rattle.pd_core.specs.SessionCalls.{Goes, named_in, without_selector}
-use Rattle.pd_core.specs.Sound.{session_at}
+use Rattle.pd_core.specs.SessionCalls.{Goes, named_in}
+use Rattle.pd_core.specs.Sound.{session_at, buffer_at}
 use Rattle.pd_core.specs.declared.component.Component.{Component}
 use Rattle.pd_core.specs.declared.component.Role.{Role}
 use Rattle.pd_core.specs.declared.component.Role.TheVariants.{Script as AScript, Log as ALog, Files as AFiles, Gone as AGone}
 use Rattle.pd_core.specs.declared.script.Script.{Script}
 use Rattle.pd_core.proofs.PlainLemmas.{face_is}
-use Rattle.pd_core.proofs.ServerLemmas.{paid_in}
-use Rattle.pd_core.proofs.ClientServerLemmas.{its as its_row, row_paid, names_session, row_alone, raise_moves, serve_moves, changes_written, changes_closed, script_sound}
-use Rattle.pd_core.proofs.SessionChangeLemmas.{AreTwo, ReplacesTwo, session_goes, two_places}
-use Rattle.pd_core.proofs.NamedSessionLemmas.{closes_done, upgrades_done, serves_done, upgrade_unread, upgrade_refused}
-use Rattle.pd_core.proofs.SessionStepLemmas.{none_lent}
-use Rattle.pd_core.proofs.SessionOwnLemmas.{is_step}
+use Rattle.pd_core.proofs.ServerLemmas.{lent_paid}
+use Rattle.pd_core.proofs.ClientServerLemmas.{its as its_row, under, holds_lent, its_lent, lent_alike, are_others, row_paid, names_session, row_alone, raise_moves, changes_written, script_sound}
+use Rattle.pd_core.proofs.SessionChangeLemmas.{AreTwo, ReplacesTwo, KeepsBut, session_goes, two_places}
+use Rattle.pd_core.proofs.NamedSessionLemmas.{upgrades_done, upgrade_unread, upgrade_refused}
+use Rattle.pd_core.proofs.SessionOwnLemmas.{is_step, regions_same}
+use Rattle.pd_core.proofs.SessionTurnLemmas.{turns_same}
 use Rattle.pd_core.proofs.SessionRefusedLemmas.{named_script}
 use Rattle.pd_core.proofs.WorldLemmas.{face_of, face_set, place_of, refused_goes, role_at, role_set, role_kept}
 
@@ -67,6 +62,13 @@ cap_of (Some RpcObject) named is = absurd (none-some named is)
 cap_of (Some (Buffer space session)) named is = absurd (none-some named is)
 cap_of (Some (Session server session)) named is =
     let same = same_Some (server, session) named is in ap (λ (p : ℕ × SessionId). Some (Session p.0 p.1)) same
+
+-- what a session lends is as it was where its account is given more
+lent_raised : {client key ram caps : ℕ} {store store' : Store} (lent : Option ℕ) → ((ds : ℕ) → lent ≡ Some ds → get (part key store).spaces ds ≡ Some (space_at store ds).bytes) →
+    RaisesPart client key ram caps store store' → option_map (lent_in store') lent ≡ option_map (lent_in store) lent
+lent_raised None paid raises = refl
+lent_raised {key = key} {store = store} {store' = store'} (Some ds) paid raises =
+    ap (λ bytes. Some bytes) ((paid_in_part key ds (space_at store ds).bytes store' (ap (λ (p : Part). get p.spaces ds) raises.raised_one ∙ paid ds refl)).bytes_are)
 
 -- ---- the components that a call is between
 
@@ -140,60 +142,28 @@ module _ {store : Store} {components : List Component} {i : ℕ} {d : Component}
 -- the server that is read at its place
 module _ {store : Store} (components : List Component) {i s : ℕ} {script : Script} (two : AreTwo store (roles_of components) i s script) (d host : Component) (host_is : roles_of components s ≡ host.role)
     (q : ℕ) (session : SessionId) (names : get script.caps.caps q ≡ Some (Session s session)) where
-  abbrev row : Row Labelled
+  abbrev pub row : Row Labelled
   row = (its_row two q session names).row
 
-  abbrev named : NamesSession script store (rows_in store (roles_of components s)) q s session
+  abbrev pub named : NamesSession script store (rows_in store (roles_of components s)) q s session
   named = names_session two q session names
 
-  there : get (rows_of store host) session.0 ≡ Some row
+  pub there : get (rows_of store host) session.0 ≡ Some row
   there = ap (λ r. get (rows_in store r) session.0) (sym host_is) ∙ (its_row two q session names).there
 
   -- it serves the session
   pub host_serves : Serves store host session.0
   host_serves = record { sound = subst (IsSoundRole store) host_is (two.core.sound s); row = ap is_some there }
 
-  pays : row.client ≡ script.account.0
+  pub pays : row.client ≡ script.account.0
   pays = sym (its_row two q session names).client
 
-  caller_is : (get_or components i d).role ≡ AScript script
+  pub caller_is : (get_or components i d).role ≡ AScript script
   caller_is = sym (role_at components i d (caller_within components two)) ∙ two.is_script
 
-  -- ---- what is lent: nothing
-
-  unlent : row.buffer ≡ None
-  unlent = two.core.unlent s session.0 row (its_row two q session names).there
-
-  -- so no buffer is told of
-  pub none_told : (told : Option DsId) → ((store : Store) (one : Row Labelled) → get (rows_of store host) session.0 ≡ Some one → key_of told ≡ one.buffer) → (space : DsId) → told ≡ Some space → ⊥
-  none_told told tells space is = none-some space.0 (sym unlent ∙ sym (tells store row there) ∙ ap key_of is)
-
-  module _ (store' : Store) (host' : Component) (request : List ℕ) (effect : Effect)
-      (served_by : (one : Row Labelled) → get (rows_of store host) session.0 ≡ Some one → ServesSession one session.0 effect (row_served service_step request store one) store store' (rows_of store host) (rows_of store' host')) where
-    -- the request is one of a session without a buffer, and leaves it without one
-    alone : row_served service_step request store row ≡ service_step request row.account None row.value
-    alone = ap (λ o. service_step request row.account (bytes_lent store o) row.value) unlent
-
-    still_unlent : {rows rows' : NatMap (Row Labelled)} (serves : ServesSession row session.0 effect (service_step request row.account None row.value) store store' rows rows') → serves.lent ≡ None
-    still_unlent serves = no_bytes serves.lent (serves.bytes ∙ none_lent (row_session row) request)
-      where
-        no_bytes : (lent : Option ℕ) → bytes_lent store' lent ≡ None → lent ≡ None
-        no_bytes None none = refl
-        no_bytes (Some key) none = absurd (none-some _ (sym none))
-
-    -- so none is made
-    pub none_made : (space : DsId) → effect ≡ MakesBuffer space → ⊥
-    none_made space is =
-        let serves = subst (λ o. ServesSession row session.0 effect o store store' (rows_of store host) (rows_of store' host')) alone (served_by row there) in
-        let does = subst (λ e. IsEffect e row.buffer serves.lent) is serves.effect_is in
-        none-some space.0 (sym (still_unlent serves) ∙ does.1)
-
-    -- and none is given back
-    pub none_given : (space : DsId) → effect ≡ GivesBuffer space → ⊥
-    none_given space is =
-        let serves = served_by row there in
-        let does = subst (λ e. IsEffect e row.buffer serves.lent) is serves.effect_is in
-        none-some space.0 (sym unlent ∙ does.0)
+  -- what a server tells that it lends is its row's
+  pub lent_told : (told : Option DsId) → ((store : Store) (one : Row Labelled) → get (rows_of store host) session.0 ≡ Some one → key_of told ≡ one.buffer) → row.buffer ≡ key_of told
+  lent_told told tells = sym (tells store row there)
 
   -- ---- refusals of an upgrade
 
@@ -225,24 +195,8 @@ module _ {store : Store} (components : List Component) {i s : ℕ} {script : Scr
   -- ---- the call is made
 
   module _ (store' : Store) (host' : Component) (stays : StaysServer store host store' host') (rules : Rules) where
-    face : face_of host' ≡ face_of host
+    pub face : face_of host' ≡ face_of host
     face = face_is host host' stays.entry stays.service
-
-    -- it is closed
-    pub close_goes : (client e : Component) → host ≡ get_or (set components i client) s e → client ≡ record (get_or components i d) { role = without_selector (get_or components i d).role q } →
-        ((one : Row Labelled) → get (rows_of store host) session.0 ≡ Some one → ClosesPart one.key one.client store store') → rows_of store' host' ≡ remove (rows_of store host) session.0 →
-        Goes rules (Close q) i (told_alone (reply_text Done)) store components store' (set (set components i client) s host')
-    close_goes client e read is closes written =
-        let script' : Script = record script { caps = without_cap script.caps q } in
-        let client_is : client.role ≡ AScript script' = ap (λ (c : Component). c.role) is ∙ ap (λ r. without_selector r q) caller_is in
-        let faces = face_set (set components i client) s host' e (face ∙ ap face_of read)
-        ∙ face_set components i client d (ap face_of is ∙ (λ j. record { name = (get_or components i d).name.items; kind = kind_of (without_selector (caller_is j) q); service = served_by (without_selector (caller_is j) q) })
-        ∙ (λ j. record { name = (get_or components i d).name.items; kind = kind_of (sym caller_is j); service = served_by (sym caller_is j) })) in
-        let done = closes_done store store' script (rows_in store (roles_of components s)) q s session (script_sound two) named stays.machine (row_paid two q session names).account (closes row there) in
-        session_goes components (set (set components i client) s host') two d host_is
-        (subst (λ r. ReplacesTwo (roles_of components) (roles_of (set (set components i client) s host')) i s r host'.role) client_is (both_put components two client host')) faces (row_alone two q session names)
-        (changes_closed two q session names store' (subst (λ k. ClosesPart row.key k store store') pays (closes row there)) (written ∙ ap (λ r. remove (rows_in store r) session.0) (sym host_is)) done.sound stays.machine) stays
-        rules (Close q) refl Done [] (told_alone (reply_text Done)) refl refl done.does
 
     -- more is donated for it
     pub upgrade_goes : (e : Component) → host ≡ get_or components s e → (text : List ℕ) {more : Arguments} → arguments_of text ≡ Some more →
@@ -255,31 +209,17 @@ module _ {store : Store} (components : List Component) {i s : ℕ} {script : Scr
         let enough = sym (accepted row there) in
         let raises = raised_by row there in
         let next : Row Labelled = record row { account = raised row.account more.ram more.caps } in
-        let done = upgrades_done store store' script (rows_in store (roles_of components s)) q s session (script_sound two) named stays.machine text more reads enough raises in
+        let written = written_by row there ∙ ap (λ r. insert (rows_in store r) session.0 next) (sym host_is) in
+        let now = ap (λ (m : NatMap (Row Labelled)). get m session.0) (written_by row there) ∙ get-insert_same (rows_of store host) session.0 next session.0 refl in
+        let others : (other : ℕ) → other ≢ script.account.0 → other ≢ row.key → part other store' ≡ part other store = λ other client account. raises.others other (λ e. client (e ∙ pays)) account in
+        let alike = lent_alike two q session names store' others in
+        let turns = turns_same script q (under two q session names) s session names row.buffer (holds_lent two q session names).at (script_sound two).own.named.one in
+        let keeps : KeepsBut script script q (under two q session names) = record { account = refl; places = refl; caps = λ p _ _. refl } in
+        let paid = are_others two q session names store' others row.buffer (λ key is. lent_paid store' host'.role stays.works session.0 key next now is) keeps (ap buffer_at names) (holds_lent two q session names).at in
+        let done = upgrades_done store store' script script (rows_in store (roles_of components s)) q s session (script_sound two) named stays.machine row.buffer turns alike paid names text more reads enough raises
+        (lent_raised row.buffer (its_lent two q session names) raises) (regions_same row.buffer script.regions.user) refl in
         let moves = raise_moves two q session names store' more.ram more.caps (subst (λ k. RaisesPart k row.key more.ram more.caps store store') pays raises)
         (covers (account_in store script.account.0) more.ram more.caps (ap (λ k. shortage (account_in store k) more.ram more.caps) (sym pays) ∙ enough)) in
         session_goes components (set components s host') two d host_is (host_put components two host') (face_set components s host' e (face ∙ ap face_of read)) (row_alone two q session names)
-        (changes_written two q session names store' refl refl unlent (written_by row there ∙ ap (λ r. insert (rows_in store r) session.0 next) (sym host_is)) moves done.sound stays.machine) stays
+        (changes_written two q session names store' keeps names (holds_lent two q session names).at refl refl written moves done.sound stays.machine) stays
         rules (Upgrade q text) refl Done [] (told_alone (reply_text Done)) refl refl done.does
-
-    -- a request is served on it
-    pub call_goes : (e : Component) → host ≡ get_or components s e → (request : List ℕ) (effect : Effect) (written : Told) →
-        ((one : Row Labelled) → get (rows_of store host) session.0 ≡ Some one → ServesSession one session.0 effect (row_served service_step request store one) store store' (rows_of store host) (rows_of store' host')) →
-        ((one : Row Labelled) → get (rows_of store host) session.0 ≡ Some one → written.text ≡ (row_served service_step request store one).text) →
-        ((one : Row Labelled) → get (rows_of store host) session.0 ≡ Some one → written.lines ≡ (row_served service_step request store one).lines) →
-        Goes rules (CallSession q request) i written store components store' (set components s host')
-    call_goes e read request effect written served_by text lines =
-        let step = service_step request row.account None row.value in
-        let alone : row_served service_step request store row ≡ step = alone store' host' request effect served_by in
-        let serves_at = subst (λ o. ServesSession row session.0 effect o store store' (rows_of store host) (rows_of store' host')) alone (served_by row there) in
-        let serves = subst (λ r. ServesSession row session.0 effect step store store' (rows_in store r) (rows_of store' host')) (sym host_is) serves_at in
-        let next : Row Labelled = record row { account = step.account; value = step.value; buffer = serves.lent } in
-        let now : get (rows_of store' host') session.0 ≡ Some next
-        = ap (λ (m : NatMap (Row Labelled)). get m session.0) serves.sessions ∙ get-insert_same (rows_in store (roles_of components s)) session.0 next session.0 refl in
-        let paid = paid_in store' host'.role stays.works session.0 next now in
-        let limit = (serve_keeps (row_session row).state None (row_session row) request).1 in
-        let done = serves_done store store' script (rows_in store (roles_of components s)) q s session (script_sound two) named stays.machine request
-        (serves.others script.account.0 (λ same. (row_paid two q session names).apart (pays ∙ same))) in
-        session_goes components (set components s host') two d host_is (host_put components two host') (face_set components s host' e (face ∙ ap face_of read)) (row_alone two q session names)
-        (changes_written two q session names store' refl refl (still_unlent store' host' request effect served_by serves) serves.sessions (serve_moves two q session names store' serves paid.opens (ap (λ (a : Account). a.caps_limit) paid.account ∙ limit)) done.sound stays.machine) stays
-        rules (CallSession q request) refl (AnswerTold (served None (row_session row) request).reply) (served None (row_session row) request).lines written (text row there ∙ ap (λ (o : Served Labelled). o.text) alone) (lines row there ∙ ap (λ (o : Served Labelled). o.lines) alone) done.does

@@ -26,7 +26,7 @@ use Rattle.own_model.proofs.RegionLemmas.{first_gap_alike}
 use Rattle.region_map.proofs.FoundLaws.{told_from}
 use Rattle.region_map.specs.Regions.{Regions}
 use Rattle.cap_space.specs.declared.cap.Cap.TheVariants.{Dataspace}
-use Rattle.dataspace_core.specs.Store.{Store, part, account_in, account_of, root_in, parents_in, room_in, IsOpenIn}
+use Rattle.dataspace_core.specs.Store.{Store, part, account_in, account_of, space_at, root_in, parents_in, room_in, IsOpenIn}
 use Rattle.dataspace_core.specs.Share.{Share, share_in}
 use Rattle.dataspace_core.proofs.PartLaws.{account_of-part, part_open}
 use Rattle.dataspace_core.proofs.PartLemmas.{part-fresh}
@@ -44,7 +44,7 @@ use Rattle.pd_core.specs.declared.script.Script.{Script}
 use Rattle.heap_window.proofs.BesideLemmas.{map_of, standing, whole_standing, sliced_no_block, stands_beside_more, stands_beside_less, ranges_alike, gap_is_free, lie_with, lie_without}
 use Rattle.heap_core.proofs.StayLemmas.{heap_stays}
 use Rattle.heap_core.proofs.BlockRangeLemmas.{blocks_are_regions as heap_blocks_are_regions}
-use Rattle.pd_core.proofs.LentLemmas.{own_lent, script_lent, none_seen}
+use Rattle.pd_core.proofs.LentLemmas.{LendAlike, LendersStay, own_lent, script_lent, others_still, lent_still}
 use Rattle.pd_core.proofs.OwnLemmas.{slices}
 use Rattle.pd_core.specs.Does.{Does}
 use Rattle.pd_core.proofs.ScriptLemmas.{at_heap, block_there, is_region}
@@ -101,27 +101,34 @@ module _ (store : Store) (script : Script) (sound : IsSoundScript store script) 
       let account = script.account.0 in
       let p' = part account store' in
       let has = changes.has in
+      let lenders : LendersStay store store' script.caps.caps = λ s k key names. changes.others (space_at store key).payer (sound.lent s k key names).apart in
+      let seen : LendAlike (lent_in store) (lent_in store') script.caps.caps = lent_still account store store' script.caps.caps sound.lent lenders in
       let user : after.user ≡ script.regions.user = ap (λ (r : Regions). r.user) changes.rest in
       let most : after.most ≡ script.regions.most = ap (λ (r : Regions). r.most) changes.rest in
       let pages : after.pages ≡ script.regions.pages = ap (λ (r : Regions). r.pages) changes.rest in
       let is_open = part_open account store' (subst (IsOpenIn store') has.sliced_pays has.sliced.opens) in
       let made = slices (part_at store script) script.caps script.regions (own_heap_at store script) (sliced_at store script) sound.own call p' after (heap_at heap' store' after) (blocks_at account store' after) reply
       changes.still user most pages is_open changes.ram_limit changes.caps_limit changes.spare (record { held = changes.held; unnamed = changes.unnamed }) is in record {
-        outcome = λ sessions ready. ap {B = Outcome} (λ s. record { reply = reply; lines = []; next = s }) (own_lent (lent_in store) (lent_in store') p' script.caps.caps (none_seen (lent_in store') made.script) after.user (heap_at heap' store' after) (blocks_at account store' after) sessions) ∙ made.outcome sessions ready;
+        outcome = λ sessions ready. ap {B = Outcome} (λ s. record { reply = reply; lines = []; next = s }) (own_lent (lent_in store) (lent_in store') p' script.caps.caps seen after.user (heap_at heap' store' after) (blocks_at account store' after) sessions) ∙ made.outcome sessions ready;
         keeps = record {
-          sound = record { own = script_lent (none_seen (lent_in store') made.script) made.script; heaps = has };
+          sound = record {
+            own = script_lent seen made.script;
+            lent = others_still account store store' script.caps.caps sound.lent lenders;
+            heaps = has;
+          };
           account = refl;
           ram_limit = changes.ram_limit;
           caps_limit = changes.caps_limit;
           places = refl;
           sessions = λ selector. refl;
+          buffers = λ selector. refl;
           session_count = refl;
           root = changes.root;
           parents = changes.parents;
           room = changes.room;
-          others = changes.others;
           limits = sym has.sliced.maps.pages ∙ ap (λ n. n * 4096) pages ∙ sound.heaps.sliced.maps.pages;
         };
+        others = changes.others;
       }
 
   -- no selector names a sliced block

@@ -24,7 +24,7 @@ use Rattle.server_frame.specs.Frame.{Row, sessions_of, IsServer}
 use Rattle.server_frame.specs.declared.server.Session.{Session as Kept}
 use Rattle.pd_core.specs.Own.{Sessions, no_sessions, no_lent, own_of, own_at}
 use Rattle.pd_core.specs.Sessions.{log_value, log_buffer, IsLogKept, files_value, files_buffer, IsFilesKept}
-use Rattle.pd_core.specs.Sound.{session_at, IsNewHeap, IsNewSliced, IsSoundScript}
+use Rattle.pd_core.specs.Sound.{session_at, buffer_at, IsNewHeap, IsNewSliced, IsSoundScript, SparesOthers}
 use Rattle.pd_core.specs.declared.component.Role.{Role}
 use Rattle.pd_core.specs.declared.component.Role.TheVariants.{Script, Log, Files, Gone}
 use Rattle.pd_core.specs.declared.component.Component.{Component}
@@ -157,12 +157,27 @@ pub record IsSessionOf (role : Role) (session : Option (Row Labelled)) : Type 0 
   pub there : session ≡ Some row
   pub client : Pays role row.client
 
--- each session that a selector of a role names is the role's, and no other selector names it
+-- the key of what a session lends, where there is a row of it and it lends something
+abbrev pub lent_of : Option (Row Labelled) → Option ℕ
+lent_of (Some row) = row.buffer
+lent_of None = None
+
+-- the same of the session that a selector names, if it names one
+abbrev pub lent_by : (ℕ → NatMap (Row Labelled)) → Option (ℕ × SessionId) → Option ℕ
+lent_by rows (Some named) = lent_of (get (rows named.0) named.1.0)
+lent_by rows None = None
+
+-- each session that a selector of a role names is the role's, and no other selector names it; and the role's buffers are what
+-- its sessions lend: each is of the one under its session's selector, and each that is lent has a selector
 pub record NamesItsSessions (rows : ℕ → NatMap (Row Labelled)) (role : Role) : Type 0 where
   pub its : (selector server : ℕ) (session : SessionId) → session_at (get (caps_in role) selector) ≡ Some (server, session) →
       IsSessionOf role (get (rows server) session.0)
   pub once : (p q server : ℕ) (a b : SessionId) →
       session_at (get (caps_in role) p) ≡ Some (server, a) → session_at (get (caps_in role) q) ≡ Some (server, b) → a.0 ≡ b.0 → p ≡ q
+  pub lent : (selector q key : ℕ) → buffer_at (get (caps_in role) selector) ≡ Some (q, key) →
+      lent_by rows (session_at (get (caps_in role) q)) ≡ Some key
+  pub lends : (q key : ℕ) → lent_by rows (session_at (get (caps_in role) q)) ≡ Some key →
+      (selector : ℕ) × (buffer_at (get (caps_in role) selector) ≡ Some (q, key))
 
 -- ---- the own state
 
@@ -223,8 +238,9 @@ pub record Admits (store : Store) (component : Component) (client ram caps : ℕ
   pub room : donation_refusal (account_in store client) ram caps ≡ None → 0 < room_in store
 
 -- what a script's call that is none of a session and no exit keeps: the component is sound after it; its entry, service and account, its limit of
--- capabilities and its places for them, what sessions its selectors name and what it serves, the root's key, who is whose
--- parent, the places for accounts, the parts of all other accounts and the sum of all limits of RAM stay
+-- capabilities and its places for them, what sessions and buffers its selectors name and what it serves, the root's key, who is whose
+-- parent, the places for accounts and the sum of all limits of RAM stay, and so do the parts of all other accounts, but for what a
+-- session lends and the call writes into
 pub record Keeps (old : Store) (before : Component) (new : Store) (after : Component) : Type 0 where
   pub sound : IsSound new after
   pub entry : (rules : List Rule) → entry_of rules after ≡ entry_of rules before
@@ -235,9 +251,10 @@ pub record Keeps (old : Store) (before : Component) (new : Store) (after : Compo
   pub caps_limit : (account_of (part (payer_of before) new)).caps_limit ≡ (account_of (part (payer_of before) old)).caps_limit
   pub places : places_of after ≡ places_of before
   pub sessions : (selector : ℕ) → session_at (get (caps_of after) selector) ≡ session_at (get (caps_of before) selector)
+  pub buffers : (selector : ℕ) → buffer_at (get (caps_of after) selector) ≡ buffer_at (get (caps_of before) selector)
   pub rows : rows_of new after ≡ rows_of old before
   pub root : root_in new ≡ root_in old
   pub parents : parents_in new ≡ parents_in old
   pub room : room_in new ≡ room_in old
-  pub others : (other : ℕ) → other ≢ payer_of before → part other new ≡ part other old
+  pub others : SparesOthers (payer_of before) (caps_of before) old new
   pub limits : ram_limits_in new ≡ ram_limits_in old

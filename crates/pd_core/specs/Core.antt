@@ -81,15 +81,14 @@ AreHeld store roles =
     (place : ℕ) × NamesAccount (rows_at store roles) (roles place) child parent
 
 -- init's account is open; each component is sound, and its accounts are below init's; no account has two owners, and init is
--- no session's client; no session lends anything, as no text asks for it yet; each session that a component names is its own, and its capabilities find places; each session is
--- named; and the memory has room for those still to be opened
+-- no session's client; each session that a component names is its own, and so is what that lends; its capabilities find places;
+-- each session is named; and the memory has room for those still to be opened
 pub record IsSoundCore (store : Store) (roles : Roles) : Type 0 where
   pub init : IsOpenIn store (root_in store)
   pub sound : (place : ℕ) → IsSoundRole store (roles place)
   pub children : (place account : ℕ) → Pays (roles place) account → IsChildIn store account (root_in store)
   pub apart : (one other : Owner) (account : ℕ) → Owns store roles one account → Owns store roles other account → one ≡ other
   pub clients : (server id : ℕ) (row : Row Labelled) → get (rows_at store roles server) id ≡ Some row → row.client ≢ root_in store
-  pub unlent : (server id : ℕ) (row : Row Labelled) → get (rows_at store roles server) id ≡ Some row → row.buffer ≡ None
   pub named : (place : ℕ) → NamesItsSessions (rows_at store roles) (roles place)
   pub placed : (place : ℕ) → HasPlaces (sessions_in store roles) store (roles place)
   pub held : AreHeld store roles

@@ -1,6 +1,7 @@
 -- What is true of a script between calls, and what a call keeps.
-use Rattle.std.specs.Prelude.{◌≡◌, ◌≢◌, ◌⊎◌, ℕ, ◌+◌, ◌*◌, ◌≤◌, List, Option, Some, None, IsSome}
+use Rattle.std.specs.Prelude.{◌≡◌, ◌≢◌, ◌⊎◌, ℕ, ◌+◌, ◌*◌, ◌≤◌, List, length, Option, Some, None, IsSome}
 use Rattle.std.specs.FinMap.{get, len}
+use Rattle.std.specs.Option.{option_map}
 use Rattle.trade_base.specs.declared.id.DsId.{DsId}
 use Rattle.trade_base.specs.declared.id.Selector.{Selector}
 use Rattle.trade_base.specs.declared.id.SessionId.{SessionId}
@@ -16,7 +17,7 @@ use Rattle.cap_space.specs.declared.cap.Cap.{Cap}
 use Rattle.cap_space.specs.declared.cap.Cap.TheVariants.{Dataspace, RpcObject, Session, Buffer}
 use Rattle.region_map.specs.Regions.{Regions}
 use Rattle.dataspace_core.specs.Share.{Share, IsWindowOf}
-use Rattle.dataspace_core.specs.Store.{Store, Part, part, account_of, root_in, parents_in, room_in, ram_limits_in, IsOpenIn}
+use Rattle.dataspace_core.specs.Store.{Store, Part, part, part_with_bytes, account_of, space_at, root_in, parents_in, room_in, ram_limits_in, Exists, IsOpenIn, PartBecomes}
 use Rattle.heap_core.specs.declared.heap.Heap.{Heap}
 use Rattle.heap_core.specs.Heap.{payer_of as heap_payer, heap_in, HasNoBlocks as HasNoHeapBlocks, IsSound as IsSoundHeap}
 use Rattle.heap_core.specs.Laws.{block_region}
@@ -33,12 +34,12 @@ rpc_weight RpcObject = 1
 rpc_weight (Session server session) = 0
 rpc_weight (Buffer space session) = 0
 
--- what counts the sessions
+-- what counts the selectors that sessions' accounts pay for: the sessions' and their buffers'
 abbrev pub session_weight : Cap → ℕ
 session_weight (Dataspace ds) = 0
 session_weight RpcObject = 0
 session_weight (Session server session) = 1
-session_weight (Buffer space session) = 0
+session_weight (Buffer space session) = 1
 
 -- the session that what a selector has is a capability of, by its server's entry and its key there
 abbrev pub session_at : Option Cap → Option (ℕ × SessionId)
@@ -47,6 +48,24 @@ session_at (Some RpcObject) = None
 session_at (Some (Session server session)) = Some (server, session)
 session_at (Some (Buffer space session)) = None
 session_at None = None
+
+-- what counts what is lent
+abbrev pub lent_weight : Option ℕ → ℕ
+lent_weight None = 0
+lent_weight (Some key) = 1
+
+-- the buffer that what a selector has is a capability of, by the selector of the session that lends it and by its dataspace's
+-- key
+abbrev pub buffer_at : Option Cap → Option (ℕ × ℕ)
+buffer_at (Some (Dataspace ds)) = None
+buffer_at (Some RpcObject) = None
+buffer_at (Some (Session server session)) = None
+buffer_at (Some (Buffer space session)) = Some (session.0, space.0)
+buffer_at None = None
+
+-- what the session under a selector lends, if it lends anything, as a capability of it tells that
+abbrev pub lent_from : ℕ → Option ℕ → Option (ℕ × ℕ)
+lent_from q lent = option_map (λ key. (q, key)) lent
 
 -- a dataspace has one selector at most, be it its own or lent
 abbrev pub IsOne : NatMap Cap → Type 0
@@ -57,11 +76,10 @@ IsOne caps = (s t key : ℕ) → key_at (get caps s) ≡ Some key → key_at (ge
 pub record IsNamed (part : Part) (caps : NatMap Cap) : Type 0 where
   pub there : (selector : ℕ) (ds : DsId) → get caps selector ≡ Some (Dataspace ds) → IsSome (get part.spaces ds.0)
   pub one : IsOne caps
-  pub unlent : (selector : ℕ) (space : DsId) (session : Selector) → get caps selector ≡ Some (Buffer space session) → ⊥
 
--- the account is open; it uses a capability for each selector but the sessions', each sliced block, each chunk and each
--- large block, and one for each dataspace and each RPC object, where blocks and chunks are dataspaces without a selector;
--- and there is a place for as many selectors as it can pay for beside the sessions
+-- the account is open; it uses a capability for each selector but those of sessions and of buffers, each sliced block, each
+-- chunk and each large block, and one for each dataspace and each RPC object, where blocks and chunks are dataspaces without a
+-- selector; and there is a place for as many selectors as it can pay for beside those
 pub record IsPaid (part : Part) (space : Space) (heap : OwnHeap) (sliced : NatMap (List ℕ)) : Type 0 where
   pub is_open : IsSome part.account
   pub named : len space.caps + len sliced + heap_count heap ≤ (account_of part).caps_used + total session_weight space.caps
@@ -120,13 +138,45 @@ pub record HasHeaps (store : Store) (script : Script) : Type 0 where
       (get (block_regions (share_at script.account.0 store script.regions)) start ≡ Some region)
       ⊎ IsSome (block_region (share_at script.account.0 store script.regions) start)
 
+-- a dataspace is there, and another account than this pays for it
+pub record IsOthers (account : ℕ) (store : Store) (key : ℕ) : Type 0 where
+  pub there : Exists store key
+  pub apart : (space_at store key).payer ≢ account
+
+-- so is the dataspace of each buffer that a selector names
+abbrev pub AreOthers : ℕ → Store → NatMap Cap → Type 0
+AreOthers account store caps =
+    (selector q key : ℕ) → buffer_at (get caps selector) ≡ Some (q, key) → IsOthers account store key
+
 -- what is true of a script between calls
 pub record IsSoundScript (store : Store) (script : Script) : Type 0 where
   pub own : IsScript (lent_in store) (part_at store script) script.caps script.regions (own_heap_at store script) (sliced_at store script)
+  pub lent : AreOthers script.account.0 store script.caps.caps
   pub heaps : HasHeaps store script
 
--- the script is sound after a call; its account, its limits, its places for capabilities and its sessions, the root's key,
--- who is whose parent, the places for accounts, the parts of all other accounts and the sum of all limits of RAM stay
+-- the part of each account but this stays
+abbrev pub OthersStay : ℕ → Store → Store → Type 0
+OthersStay account old new = (other : ℕ) → other ≢ account → part other new ≡ part other old
+
+-- bytes are put over those of the dataspace of a buffer that a selector names, within it: the part of who pays for it has them, and
+-- every other part stays
+pub record WritesLent (caps : NatMap Cap) (old new : Store) : Type 0 where
+  pub selector : ℕ
+  pub session : ℕ
+  pub key : ℕ
+  pub names : buffer_at (get caps selector) ≡ Some (session, key)
+  pub offset : ℕ
+  pub bytes : List ℕ
+  pub within : offset + length bytes ≤ length (space_at old key).bytes
+  pub becomes : let payer = (space_at old key).payer in
+      PartBecomes payer (part_with_bytes (part payer old) key offset bytes) old new
+
+-- a call for an account leaves what isn't the account's, or it writes into what a session lends
+abbrev pub SparesOthers : ℕ → NatMap Cap → Store → Store → Type 0
+SparesOthers account caps old new = OthersStay account old new ⊎ WritesLent caps old new
+
+-- the script is sound after a call; its account, its limits, its places for capabilities, its sessions and their buffers, the
+-- root's key, who is whose parent, the places for accounts and the sum of all limits of RAM stay
 pub record Keeps (old : Store) (before : Script) (new : Store) (after : Script) : Type 0 where
   pub sound : IsSoundScript new after
   pub account : after.account ≡ before.account
@@ -134,9 +184,9 @@ pub record Keeps (old : Store) (before : Script) (new : Store) (after : Script) 
   pub caps_limit : (account_of (part_at new after)).caps_limit ≡ (account_of (part_at old before)).caps_limit
   pub places : after.caps.places ≡ before.caps.places
   pub sessions : (selector : ℕ) → session_at (get after.caps.caps selector) ≡ session_at (get before.caps.caps selector)
+  pub buffers : (selector : ℕ) → buffer_at (get after.caps.caps selector) ≡ buffer_at (get before.caps.caps selector)
   pub session_count : total session_weight after.caps.caps ≡ total session_weight before.caps.caps
   pub root : root_in new ≡ root_in old
   pub parents : parents_in new ≡ parents_in old
   pub room : room_in new ≡ room_in old
-  pub others : (other : ℕ) → other ≢ before.account.0 → part other new ≡ part other old
   pub limits : ram_limits_in new ≡ ram_limits_in old

@@ -50,7 +50,7 @@ impl Component {
     ghost use Rattle.pd_core.specs.Call.{model_call, IsPlain, IsWellFormed};
     ghost use Rattle.dataspace_core.specs.Store.{Store, root_in, ram_limits_in, caps_limits_in, IsChildIn, IsLeafIn, ClosesPart};
     ghost use Rattle.pd_core.specs.Exit.{places_told, refusal_of, IsScriptRole, HasSelectorsTo};
-    ghost use Rattle.pd_core.specs.Sound.{session_at};
+    ghost use Rattle.pd_core.specs.Sound.{session_at, buffer_at};
     ghost use Rattle.pd_core.specs.declared.component.Role.TheVariants.{Gone as GoneRole};
     ghost use Rattle.pd_core.specs.Component.{entry_of, payer_of, service_of, tables_of, caps_of, HasNewHeap, own, IsSound, Keeps};
     ghost use Rattle.pd_core.specs.Fresh.{HasNoSessions, IsNewServer};
@@ -120,13 +120,17 @@ impl Component {
     /// The session that a selector names, by its server's place and its key there, or why not: `NotAScript`, then
     /// `Gone`, then `InvalidSession`.
     pub(crate) fn session(&self, selector: u64) -> Result<(usize, SessionId), Refusal>
-        ensures { result ≡ named_in self.now.role selector }
+        ensures named { result ≡ named_in self.now.role selector }
+        ensures small { IfOk result (λ _. selector ≤ 4096) }
     {
         match &self.role {
-            Role::Script(script) => match script.caps.get(selector) {
-                Some(Cap::Session { server, session }) => Ok((server, session)),
-                _ => Err(Refusal::InvalidSession),
-            },
+            Role::Script(script) => {
+                let _places = script.caps.places();
+                match script.caps.get(selector) {
+                    Some(Cap::Session { server, session }) => Ok((server, session)),
+                    _ => Err(Refusal::InvalidSession),
+                }
+            }
             Role::Log(..) | Role::Files(..) => Err(Refusal::NotAScript),
             Role::Gone => Err(Refusal::Gone),
         }
@@ -211,11 +215,12 @@ impl Component {
         }
     }
 
-    /// A script without a session exits: all that it holds goes, its account closes, and its limits go back to init's.
+    /// A script without a session and without a buffer exits: all that it holds goes, its account closes, and its limits go back to init's.
     pub(crate) fn end(&mut self, memory: &mut Memory)
         requires sound { IsSound memory.old self.old }
         requires script { IsScriptRole self.old.role }
         requires none { (selector : ℕ) → session_at (get (caps_of self.old) selector) ≡ None }
+        requires unlent { (selector : ℕ) → buffer_at (get (caps_of self.old) selector) ≡ None }
         requires child { IsChildIn memory.old (payer_of self.old) (root_in memory.old) }
         requires leaf { IsLeafIn memory.old (payer_of self.old) }
         ensures gone { self.new ≡ record self.old { role = GoneRole } }

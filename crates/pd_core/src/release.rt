@@ -9,13 +9,14 @@ impl Script {
     ghost use Rattle.std.specs.FinMap.{get};
     ghost use Rattle.dataspace_core.specs.Store.{parents_in, parent_in, IsLeafIn, AreRelatedIn, ClosesPart, ram_limits_in, caps_limits_in};
     ghost use Rattle.pd_core.specs.Release.{IsCleared};
-    ghost use Rattle.pd_core.specs.Sound.{session_at, IsSoundScript, Keeps};
+    ghost use Rattle.pd_core.specs.Sound.{session_at, buffer_at, IsSoundScript, OthersStay, Keeps};
 
-    /// All that a script without a session holds goes: its dataspaces with their regions, its RPC objects and its heaps.
+    /// All that a script without a session and without a buffer holds goes: its dataspaces with their regions, its RPC objects and its heaps.
     /// Then its account closes, and its limits go back to the account above.
     pub(crate) fn end(mut self, memory: &mut Memory)
         requires sound { IsSoundScript memory.old self }
         requires none { (selector : ℕ) → session_at (get self.caps.caps selector) ≡ None }
+        requires unlent { (selector : ℕ) → buffer_at (get self.caps.caps selector) ≡ None }
         requires child { IsSome (get (parents_in memory.old) self.account.0) }
         requires leaf { IsLeafIn memory.old self.account.0 }
         ensures closes { ClosesPart self.account.0 (parent_in memory.old self.account.0) memory.old
@@ -34,7 +35,9 @@ impl Script {
     fn release_all(&mut self, memory: &mut Memory)
         requires sound { IsSoundScript memory.old self.old }
         requires none { (selector : ℕ) → session_at (get self.old.caps.caps selector) ≡ None }
+        requires unlent { (selector : ℕ) → buffer_at (get self.old.caps.caps selector) ≡ None }
         ensures keeps { Keeps memory.old self.old memory.new self.new }
+        ensures others { OthersStay self.old.account.0 memory.old memory.new }
         ensures none { (selector : ℕ) → get self.new.caps.caps selector ≡ None }
     {
         for place in 0..self.caps.places() {
@@ -42,11 +45,13 @@ impl Script {
         }
     }
 
-    // What a selector names goes, where that is no session.
+    // What a selector names goes, where that is no session and no buffer.
     fn release(&mut self, memory: &mut Memory, selector: u64)
         requires sound { IsSoundScript memory.old self.old }
         requires plain { session_at (get self.old.caps.caps selector) ≡ None }
+        requires own { buffer_at (get self.old.caps.caps selector) ≡ None }
         ensures keeps { Keeps memory.old self.old memory.new self.new }
+        ensures others { OthersStay self.old.account.0 memory.old memory.new }
         ensures gone { get self.new.caps.caps selector ≡ None }
         ensures fewer { (other : ℕ) → IsSome (get self.new.caps.caps other) →
             IsSome (get self.old.caps.caps other) }
@@ -59,9 +64,8 @@ impl Script {
                 let _ = self.capfree(memory, selector);
             }
             None => {}
-            // Sessions are closed before, and no call gives a buffer.
-            Some(Cap::Session { .. }) => unreachable!(),
-            Some(Cap::Buffer { .. }) => unreachable!(),
+            // Sessions are closed before, and their buffers go with them.
+            Some(Cap::Session { .. } | Cap::Buffer { .. }) => unreachable!(),
         }
     }
 

@@ -11,7 +11,7 @@ use region_map::RegionMap;
 use server_frame::Reply;
 use sliced_heap::SlicedHeap;
 use text_read::decode_hex;
-use trade_base::{AccountId, DsId, PAGE, Refusal};
+use trade_base::{AccountId, DsId, Refusal};
 
 /// A script: the account that it is charged on, its capabilities, its regions, its heap and the heap of its sliced blocks.
 #[derive(Drop)]
@@ -24,20 +24,20 @@ pub(crate) struct Script {
 }
 
 impl Script {
-    ghost use Rattle.std.specs.Prelude.{◌≡◌, Some, IfOk, IsSome};
+    ghost use Rattle.std.specs.Prelude.{◌≡◌, ◌*◌, ◌≤◌, Some, IfOk, IsSome};
     ghost use Rattle.std.specs.Result.{result_err};
     ghost use Rattle.std.specs.FinMap.{get};
     ghost use Rattle.own_model.specs.Call.Call.{Alloc as ModelledAlloc, Free as ModelledFree, Attach as ModelledAttach};
     ghost use Rattle.own_model.specs.Call.Call.{AttachAt as ModelledAttachAt, Detach as ModelledDetach, Peek as ModelledPeek};
-    ghost use Rattle.own_model.specs.Call.Call.{Poke as ModelledPoke, Capalloc as ModelledCapalloc, Capfree as ModelledCapfree};
+    ghost use Rattle.own_model.specs.Call.Call.{Capalloc as ModelledCapalloc, Capfree as ModelledCapfree};
     ghost use Rattle.own_model.specs.Call.Call.{New as ModelledNew, Del as ModelledDel, Snew as ModelledSnew, Sdel as ModelledSdel};
     ghost use Rattle.own_model.specs.Text.{bytes_of_hex};
-    ghost use Rattle.dataspace_core.specs.Store.{account_in};
+    ghost use Rattle.dataspace_core.specs.Store.{account_in, ram_limits_in};
     ghost use Rattle.pd_core.specs.Answer.{quotas_account, reply_of};
     ghost use Rattle.pd_core.specs.Call.{model_call, bytes_in};
-    ghost use Rattle.pd_core.specs.Does.{Does, DoesTold, CanDo};
+    ghost use Rattle.pd_core.specs.Does.{Does, DoesPoke, DoesTold, CanDo};
     ghost use Rattle.pd_core.specs.Own.{part_at, own_heap_at, sliced_at, lent_in, sized_at, range_refusal, IsFound};
-    ghost use Rattle.pd_core.specs.Sound.{IsSoundScript, Keeps};
+    ghost use Rattle.pd_core.specs.Sound.{IsSoundScript, SparesOthers, Keeps};
 
     /// Carries a call out that is none of a session and no exit, and writes what it is answered in place of what the reply was.
     /// Its arms share one place for their outcomes, which a function clears as it is entered.
@@ -46,6 +46,7 @@ impl Script {
         ensures outcome { DoesTold (model_call call.entry) reply.new
             memory.old self.old memory.new self.new }
         ensures keeps { Keeps memory.old self.old memory.new self.new }
+        ensures others { SparesOthers self.old.account.0 self.old.caps.caps memory.old memory.new }
     {
         let outcome = match call {
             Call::Alloc(bytes) => self.alloc(memory, bytes),
@@ -165,14 +166,14 @@ impl Script {
         }
     }
 
-    /// The bytes that a text of hexadecimal digits stands for are put from an address on, or why not, as with `peek`. It
-    /// stands alone, since who takes it in would clear its buffer at each call.
+    /// The bytes that a text of hexadecimal digits stands for are put from an address on, or why not, as with `peek`. They may be
+    /// put into what a session lends. It stands alone, since who takes it in would clear its buffer at each call.
     #[inline(never)]
     fn poke(&self, memory: &mut Memory, address: u64, hex: &[u8]) -> Result<Answer, Refusal>
         requires hex { IsSome (bytes_of_hex hex.now) }
         requires sound { IsSoundScript memory.old self.now }
-        ensures { Does (ModelledPoke address (bytes_in hex.now)) (reply_of result)
-            memory.old self.now memory.new self.now }
+        ensures { DoesPoke address (bytes_in hex.now) (reply_of result)
+            memory.old self.now memory.new }
     {
         let count = hex.len() / 2;
         let (space, offset) = self.range(memory, address, count as u64)?;
@@ -235,13 +236,14 @@ impl Script {
     /// The dataspace that a selector names, its own or a buffer's, and its pages, or `InvalidCap` where it names none.
     fn dataspace(&self, memory: &Memory, selector: u64) -> Result<(DsId, u64), Refusal>
         requires { IsSoundScript memory.now self.now }
-        ensures { result
+        ensures sized { result
             ≡ sized_at (lent_in memory.now) (part_at memory.now self.now)
             (get self.now.caps.caps selector) }
+        ensures few { IfOk result (λ found. found.1 * 4096 ≤ ram_limits_in memory.now) }
     {
         match self.caps.get(selector) {
-            Some(Cap::Dataspace(space)) => Ok((space, memory.size(space) / PAGE)),
-            Some(Cap::Buffer { space, .. }) => Ok((space, memory.size(space) / PAGE)),
+            Some(Cap::Dataspace(space)) => Ok((space, memory.pages(space))),
+            Some(Cap::Buffer { space, .. }) => Ok((space, memory.pages(space))),
             _ => Err(Refusal::InvalidCap),
         }
     }

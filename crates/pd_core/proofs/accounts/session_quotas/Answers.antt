@@ -16,16 +16,16 @@ use Rattle.pd_core.proofs.accounts.session_quotas.Goals as goal
 
 pub bounds-components-server : goal.bounds-components-server
 bounds-components-server c =
-    (served_where c.args.selector c.requires.core c.requires.caller c.index-components-place.is (sym c.session.ensures ∙ c.in-Ok.is)).within
+    (served_where c.args.selector c.requires.core c.requires.caller c.index-components-place.is (sym c.session.ensures.named ∙ c.in-Ok.is)).within
 
 pub offset_bounds-components-server : goal.offset_bounds-components-server
 offset_bounds-components-server c =
-    let served = served_where c.args.selector c.requires.core c.requires.caller c.index-components-place.is (sym c.session.ensures ∙ c.in-Ok.is) in
+    let served = served_where c.args.selector c.requires.core c.requires.caller c.index-components-place.is (sym c.session.ensures.named ∙ c.in-Ok.is) in
     let within = served.within in search rules
 
 pub session_quotas-requires : goal.session_quotas-requires
 session_quotas-requires c =
-    let served = served_where c.args.selector c.requires.core c.requires.caller c.index-components-place.is (sym c.session.ensures ∙ c.in-Ok.is) in
+    let served = served_where c.args.selector c.requires.core c.requires.caller c.index-components-place.is (sym c.session.ensures.named ∙ c.in-Ok.is) in
     let at = c.index-components-server in
     record {
       sound = subst (IsSoundRole c.args.memory.now) (role_read c.args.components.now c.in-Ok.server at.result served.within at.is) (c.requires.core.sound c.in-Ok.server);
@@ -38,11 +38,11 @@ returns-in-Ok c = λ rules.
     let components = c.args.components.now in
     let caller = c.index-components-place in
     let at = c.index-components-server in
-    let served = served_where c.args.selector c.requires.core c.requires.caller caller.is (sym c.session.ensures ∙ c.in-Ok.is) in
+    let served = served_where c.args.selector c.requires.core c.requires.caller caller.is (sym c.session.ensures.named ∙ c.in-Ok.is) in
     let state = session_at_place rules memory components c.args.place caller.result c.args.selector c.requires.caller ∙ ap (λ (d : Component). found_in (sessions_in memory (roles_of components)) (named_in d.role c.args.selector)) (sym caller.is) in
     ap Some (c.session_quotas.ensures served.row (ap (λ d. get (rows_of memory d) c.in-Ok.session.0) at.is ∙ served.its at.result))
     ∙ sym (ap (λ (o : Option (Row Labelled)). option_map (λ (s : AnOpenSession). s.account) (option_map row_session o)) served.there)
-    ∙ sym (ap (option_map (λ (s : AnOpenSession). s.account)) (state ∙ ap (found_in (sessions_in memory (roles_of components))) (sym c.session.ensures ∙ c.in-Ok.is)))
+    ∙ sym (ap (option_map (λ (s : AnOpenSession). s.account)) (state ∙ ap (found_in (sessions_in memory (roles_of components))) (sym c.session.ensures.named ∙ c.in-Ok.is)))
 
 pub returns-in-Err : goal.returns-in-Err
 returns-in-Err c = λ rules.
@@ -50,4 +50,4 @@ returns-in-Err c = λ rules.
     let components = c.args.components.now in
     let caller = c.index-components-place in
     let state = session_at_place rules memory components c.args.place caller.result c.args.selector c.requires.caller ∙ ap (λ (d : Component). found_in (sessions_in memory (roles_of components)) (named_in d.role c.args.selector)) (sym caller.is) in
-    sym (ap (option_map (λ (s : AnOpenSession). s.account)) (state ∙ ap (found_in (sessions_in memory (roles_of components))) (sym c.session.ensures ∙ c.in-Err.is)))
+    sym (ap (option_map (λ (s : AnOpenSession). s.account)) (state ∙ ap (found_in (sessions_in memory (roles_of components))) (sym c.session.ensures.named ∙ c.in-Err.is)))

@@ -2,7 +2,7 @@
 use Rattle.std.proofs.Common.{subst}
 use Rattle.pd_core.specs.Component.{IsSoundRole}
 use Rattle.pd_core.proofs.ExitCallLemmas.{alone_after, exit_goes, exit_refused_goes}
-use Rattle.pd_core.proofs.ExitLemmas.{alone_child, alone_leaf}
+use Rattle.pd_core.proofs.ExitLemmas.{alone_child, alone_leaf, alone_unlent}
 use Rattle.pd_core.proofs.SessionRefusedLemmas.{passed_on}
 use Rattle.pd_core.proofs.WorldLemmas.{role_at}
 use Rattle.pd_core.proofs.exiting.exit.Goals as goal
@@ -23,6 +23,7 @@ end-requires c =
       sound = subst (IsSoundRole c.close_all.new.memory) (role_at c.close_all.new.components c.args.caller e alone.here) (closes.core.sound c.args.caller);
       script = alone.is_script;
       none = alone.none;
+      unlent = alone_unlent alone;
       child = alone_child alone;
       leaf = alone_leaf alone;
     }

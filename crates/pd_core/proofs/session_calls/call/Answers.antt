@@ -1,9 +1,10 @@
 -- A refused call changes nothing; else a session serves.
-use Rattle.std.proofs.Common.{rules, get_or, refl, sym, subst, ◌∙◌}
+use Rattle.std.proofs.Common.{[], rules, get_or, refl, sym, subst, ◌∙◌}
 use Rattle.own_model.specs.Call.Call.{CallSession}
 use Rattle.pd_core.specs.SessionCalls.{Goes}
 use Rattle.pd_core.proofs.SessionRefusedLemmas.{call_asks, unnamed_goes}
-use Rattle.pd_core.proofs.SessionWorldLemmas.{Names, named_two, named_cap, host_within, host_serves, none_made, none_given, call_goes}
+use Rattle.pd_core.proofs.SessionWorldLemmas.{its as named_role, Names, named_two, named_cap, host_within, host_serves}
+use Rattle.pd_core.proofs.ServedSessionLemmas.{nothing_goes, has_left, has_room, made_goes, given_named, given_goes}
 use Rattle.pd_core.proofs.WorldLemmas.{role_at}
 use Rattle.pd_core.proofs.session_calls.call.Goals as goal
 
@@ -12,12 +13,12 @@ returns-in-Err c = λ rules.
     let components = c.args.components.now in
     subst (λ told. Goes rules (CallSession c.args.selector c.args.request.now) c.args.caller told c.args.memory.now components c.args.memory.now components) (sym c.refuse.ensures)
     (unnamed_goes rules components c.index-components-caller.result c.requires.core c.requires.caller (CallSession c.args.selector c.args.request.now) c.args.selector (call_asks c.args.selector c.args.request.now)
-    c.in-Err.refusal c.session.ensures c.in-Err.is)
+    c.in-Err.refusal c.session.ensures.named c.in-Err.is)
 
 pub bounds-components-entry : goal.bounds-components-entry
 bounds-components-entry c =
     let names : Names c.args.memory.now c.args.components.now c.args.caller c.index-components-caller.result c.args.selector c.in-Ok.named
-    = record { core = c.requires.core; here = c.requires.caller; is = sym c.session.ensures ∙ c.in-Ok.is } in
+    = record { core = c.requires.core; here = c.requires.caller; is = sym c.session.ensures.named ∙ c.in-Ok.is } in
     host_within c.args.components.now c.in-Ok.named.0 (named_two names).serving
 
 pub offset_bounds-components-entry : goal.offset_bounds-components-entry
@@ -28,86 +29,82 @@ pub serve_session-requires-clause-serves : goal.serve_session-requires-clause-se
 serve_session-requires-clause-serves c =
     let components = c.args.components.now in
     let names : Names c.args.memory.now components c.args.caller c.index-components-caller.result c.args.selector c.in-Ok.named
-    = record { core = c.requires.core; here = c.requires.caller; is = sym c.session.ensures ∙ c.in-Ok.is } in
+    = record { core = c.requires.core; here = c.requires.caller; is = sym c.session.ensures.named ∙ c.in-Ok.is } in
     let two = named_two names in
     let e = c.index-components-entry.result in
     host_serves components two c.index-components-caller.result (get_or components c.in-Ok.named.0 e) (role_at components c.in-Ok.named.0 e (host_within components c.in-Ok.named.0 two.serving)) c.args.selector c.in-Ok.named.1 (named_cap names)
-
--- no session makes a buffer
-pub overflow_cast-selector : goal.overflow_cast-selector
-overflow_cast-selector c =
-    let components = c.args.components.now in
-    let names : Names c.args.memory.now components c.args.caller c.index-components-caller.result c.args.selector c.in-Ok.named
-    = record { core = c.requires.core; here = c.requires.caller; is = sym c.session.ensures ∙ c.in-Ok.is } in
-    let two = named_two names in
-    let e = c.index-components-entry.result in
-    let done = c.serve_session in
-    absurd (none_made components two c.index-components-caller.result (get_or components c.in-Ok.named.0 e) (role_at components c.in-Ok.named.0 e (host_within components c.in-Ok.named.0 two.serving)) c.args.selector c.in-Ok.named.1
-    (named_cap names) done.new.memory done.new.self c.args.request.now done.result done.ensures.serves c.in-Buffer.space c.in-Buffer.is)
-
-pub keep_buffer-kept-requires : goal.keep_buffer-kept-requires
-keep_buffer-kept-requires c =
-    let components = c.args.components.now in
-    let names : Names c.args.memory.now components c.args.caller c.index-components-caller.result c.args.selector c.in-Ok.named
-    = record { core = c.requires.core; here = c.requires.caller; is = sym c.session.ensures ∙ c.in-Ok.is } in
-    let two = named_two names in
-    let e = c.index-components-entry.result in
-    let done = c.serve_session in
-    absurd (none_made components two c.index-components-caller.result (get_or components c.in-Ok.named.0 e) (role_at components c.in-Ok.named.0 e (host_within components c.in-Ok.named.0 two.serving)) c.args.selector c.in-Ok.named.1
-    (named_cap names) done.new.memory done.new.self c.args.request.now done.result done.ensures.serves c.in-Buffer.space c.in-Buffer.is)
-
-pub add_number-requires : goal.add_number-requires
-add_number-requires c =
-    let components = c.args.components.now in
-    let names : Names c.args.memory.now components c.args.caller c.index-components-caller.result c.args.selector c.in-Ok.named
-    = record { core = c.requires.core; here = c.requires.caller; is = sym c.session.ensures ∙ c.in-Ok.is } in
-    let two = named_two names in
-    let e = c.index-components-entry.result in
-    let done = c.serve_session in
-    absurd (none_made components two c.index-components-caller.result (get_or components c.in-Ok.named.0 e) (role_at components c.in-Ok.named.0 e (host_within components c.in-Ok.named.0 two.serving)) c.args.selector c.in-Ok.named.1
-    (named_cap names) done.new.memory done.new.self c.args.request.now done.result done.ensures.serves c.in-Buffer.space c.in-Buffer.is)
-
-pub returns-in-Buffer : goal.returns-in-Buffer
-returns-in-Buffer c = λ rules.
-    let components = c.args.components.now in
-    let names : Names c.args.memory.now components c.args.caller c.index-components-caller.result c.args.selector c.in-Ok.named
-    = record { core = c.requires.core; here = c.requires.caller; is = sym c.session.ensures ∙ c.in-Ok.is } in
-    let two = named_two names in
-    let e = c.index-components-entry.result in
-    let done = c.serve_session in
-    absurd (none_made components two c.index-components-caller.result (get_or components c.in-Ok.named.0 e) (role_at components c.in-Ok.named.0 e (host_within components c.in-Ok.named.0 two.serving)) c.args.selector c.in-Ok.named.1
-    (named_cap names) done.new.memory done.new.self c.args.request.now done.result done.ensures.serves c.in-Buffer.space c.in-Buffer.is)
-
--- nor gives one back
-pub drop_buffer-requires : goal.drop_buffer-requires
-drop_buffer-requires c =
-    let components = c.args.components.now in
-    let names : Names c.args.memory.now components c.args.caller c.index-components-caller.result c.args.selector c.in-Ok.named
-    = record { core = c.requires.core; here = c.requires.caller; is = sym c.session.ensures ∙ c.in-Ok.is } in
-    let two = named_two names in
-    let e = c.index-components-entry.result in
-    let done = c.serve_session in
-    absurd (none_given components two c.index-components-caller.result (get_or components c.in-Ok.named.0 e) (role_at components c.in-Ok.named.0 e (host_within components c.in-Ok.named.0 two.serving)) c.args.selector c.in-Ok.named.1
-    (named_cap names) done.new.memory done.new.self c.args.request.now done.result done.ensures.serves c.in-Gone.space c.in-Gone.is)
-
-pub returns-in-Gone : goal.returns-in-Gone
-returns-in-Gone c = λ rules.
-    let components = c.args.components.now in
-    let names : Names c.args.memory.now components c.args.caller c.index-components-caller.result c.args.selector c.in-Ok.named
-    = record { core = c.requires.core; here = c.requires.caller; is = sym c.session.ensures ∙ c.in-Ok.is } in
-    let two = named_two names in
-    let e = c.index-components-entry.result in
-    let done = c.serve_session in
-    absurd (none_given components two c.index-components-caller.result (get_or components c.in-Ok.named.0 e) (role_at components c.in-Ok.named.0 e (host_within components c.in-Ok.named.0 two.serving)) c.args.selector c.in-Ok.named.1
-    (named_cap names) done.new.memory done.new.self c.args.request.now done.result done.ensures.serves c.in-Gone.space c.in-Gone.is)
 
 pub returns-in-Nothing : goal.returns-in-Nothing
 returns-in-Nothing c = λ rules.
     let components = c.args.components.now in
     let names : Names c.args.memory.now components c.args.caller c.index-components-caller.result c.args.selector c.in-Ok.named
-    = record { core = c.requires.core; here = c.requires.caller; is = sym c.session.ensures ∙ c.in-Ok.is } in
+    = record { core = c.requires.core; here = c.requires.caller; is = sym c.session.ensures.named ∙ c.in-Ok.is } in
     let two = named_two names in
     let e = c.index-components-entry.result in
     let done = c.serve_session in
-    call_goes components two c.index-components-caller.result (get_or components c.in-Ok.named.0 e) (role_at components c.in-Ok.named.0 e (host_within components c.in-Ok.named.0 two.serving)) c.args.selector c.in-Ok.named.1
-    (named_cap names) done.new.memory done.new.self done.ensures.stays rules e refl c.args.request.now done.result done.new.reply done.ensures.serves done.ensures.text done.ensures.lines
+    nothing_goes components two c.index-components-caller.result (get_or components c.in-Ok.named.0 e) (role_at components c.in-Ok.named.0 e (host_within components c.in-Ok.named.0 two.serving)) c.args.selector c.in-Ok.named.1
+    (named_cap names) done.new.memory done.new.self done.ensures.stays c.args.request.now done.result done.ensures.serves e refl rules c.in-Nothing.is done.new.reply done.ensures.text done.ensures.lines
+
+-- a buffer that it makes comes under a selector
+pub keep_buffer-kept-requires : goal.keep_buffer-kept-requires
+keep_buffer-kept-requires c =
+    let components = c.args.components.now in
+    let names : Names c.args.memory.now components c.args.caller c.index-components-caller.result c.args.selector c.in-Ok.named
+    = record { core = c.requires.core; here = c.requires.caller; is = sym c.session.ensures.named ∙ c.in-Ok.is } in
+    let two = named_two names in
+    let e = c.index-components-entry.result in
+    let done = c.serve_session in
+    record {
+      room = has_left components two c.index-components-caller.result (get_or components c.in-Ok.named.0 e) (role_at components c.in-Ok.named.0 e (host_within components c.in-Ok.named.0 two.serving)) c.args.selector c.in-Ok.named.1
+          (named_cap names) done.new.memory done.new.self done.ensures.stays c.args.request.now done.result done.ensures.serves e refl (λ _. []) c.requires.caller (named_role names).1 c.index-components-caller-in-Buffer.result c.in-Buffer.space c.in-Buffer.is;
+    }
+
+pub add_number-requires : goal.add_number-requires
+add_number-requires c =
+    let components = c.args.components.now in
+    let names : Names c.args.memory.now components c.args.caller c.index-components-caller.result c.args.selector c.in-Ok.named
+    = record { core = c.requires.core; here = c.requires.caller; is = sym c.session.ensures.named ∙ c.in-Ok.is } in
+    let two = named_two names in
+    let e = c.index-components-entry.result in
+    let done = c.serve_session in
+    has_room components two c.index-components-caller.result (get_or components c.in-Ok.named.0 e) (role_at components c.in-Ok.named.0 e (host_within components c.in-Ok.named.0 two.serving)) c.args.selector c.in-Ok.named.1
+    (named_cap names) done.new.memory done.new.self done.ensures.stays c.args.request.now done.result done.ensures.serves e refl (λ _. []) c.requires.caller (named_role names).1 c.index-components-caller-in-Buffer.result c.in-Buffer.space c.in-Buffer.is done.new.reply done.ensures.text
+
+pub returns-in-Buffer : goal.returns-in-Buffer
+returns-in-Buffer c = λ rules.
+    let components = c.args.components.now in
+    let names : Names c.args.memory.now components c.args.caller c.index-components-caller.result c.args.selector c.in-Ok.named
+    = record { core = c.requires.core; here = c.requires.caller; is = sym c.session.ensures.named ∙ c.in-Ok.is } in
+    let two = named_two names in
+    let e = c.index-components-entry.result in
+    let done = c.serve_session in
+    let kept = c.keep_buffer-kept in
+    made_goes components two c.index-components-caller.result (get_or components c.in-Ok.named.0 e) (role_at components c.in-Ok.named.0 e (host_within components c.in-Ok.named.0 two.serving)) c.args.selector c.in-Ok.named.1
+    (named_cap names) done.new.memory done.new.self done.ensures.stays c.args.request.now done.result done.ensures.serves e refl rules c.requires.caller (named_role names).1 c.index-components-caller-in-Buffer.result c.in-Buffer.space c.in-Buffer.is
+    _ refl kept.result kept.new.self kept.ensures.least kept.ensures.kept done.new.reply c.add_number.new.self done.ensures.text done.ensures.lines c.add_number.ensures.added
+
+-- one that it gives back goes, with its regions
+pub drop_buffer-requires : goal.drop_buffer-requires
+drop_buffer-requires c =
+    let components = c.args.components.now in
+    let names : Names c.args.memory.now components c.args.caller c.index-components-caller.result c.args.selector c.in-Ok.named
+    = record { core = c.requires.core; here = c.requires.caller; is = sym c.session.ensures.named ∙ c.in-Ok.is } in
+    let two = named_two names in
+    let e = c.index-components-entry.result in
+    let done = c.serve_session in
+    record {
+      lent = given_named components two c.index-components-caller.result (get_or components c.in-Ok.named.0 e) (role_at components c.in-Ok.named.0 e (host_within components c.in-Ok.named.0 two.serving)) c.args.selector c.in-Ok.named.1
+          (named_cap names) done.new.memory done.new.self done.ensures.stays c.args.request.now done.result done.ensures.serves e refl (λ _. []) c.requires.caller (named_role names).1 c.index-components-caller-in-Gone.result c.in-Gone.space c.in-Gone.is;
+    }
+
+pub returns-in-Gone : goal.returns-in-Gone
+returns-in-Gone c = λ rules.
+    let components = c.args.components.now in
+    let names : Names c.args.memory.now components c.args.caller c.index-components-caller.result c.args.selector c.in-Ok.named
+    = record { core = c.requires.core; here = c.requires.caller; is = sym c.session.ensures.named ∙ c.in-Ok.is } in
+    let two = named_two names in
+    let e = c.index-components-entry.result in
+    let done = c.serve_session in
+    given_goes components two c.index-components-caller.result (get_or components c.in-Ok.named.0 e) (role_at components c.in-Ok.named.0 e (host_within components c.in-Ok.named.0 two.serving)) c.args.selector c.in-Ok.named.1
+    (named_cap names) done.new.memory done.new.self done.ensures.stays c.args.request.now done.result done.ensures.serves e refl rules c.requires.caller (named_role names).1 c.index-components-caller-in-Gone.result c.in-Gone.space c.in-Gone.is
+    c.drop_buffer.new.self c.drop_buffer.ensures done.new.reply done.ensures.text done.ensures.lines

@@ -1,8 +1,9 @@
 -- A refused call changes nothing; else a session goes.
-use Rattle.std.proofs.Common.{rules, get_or, set, length-set, refl, sym, ◌∙◌, arith}
+use Rattle.std.proofs.Common.{[], rules, get_or, set, length-set, refl, sym, ◌∙◌, arith}
 use Rattle.own_model.specs.Call.Call.{Close}
 use Rattle.pd_core.proofs.SessionRefusedLemmas.{close_asks, unnamed_goes, passed_on, unchanged}
-use Rattle.pd_core.proofs.SessionWorldLemmas.{Names, named_two, named_cap, host_within, host_read, host_serves, none_told, close_goes}
+use Rattle.pd_core.proofs.SessionWorldLemmas.{Names, named_two, named_cap, host_within, host_read, host_serves}
+use Rattle.pd_core.proofs.ClosedSessionLemmas.{closed_goes, lent_named, ended_goes}
 use Rattle.pd_core.proofs.ServerLemmas.{has_session}
 use Rattle.pd_core.proofs.session_calls.close.Goals as goal
 
@@ -46,27 +47,6 @@ buffer_of_session-lent-requires c =
     let serves = host_serves components two c.index-components-caller.result (get_or (set components c.args.caller client) c.in_ok-entry.entry e) (host_read components two client e) c.args.selector c.in_ok-entry.session (named_cap names) in
     has_session c.args.memory.now host.role c.in_ok-entry.session.0 serves.row
 
--- no session lends a buffer
-pub drop_buffer-requires : goal.drop_buffer-requires
-drop_buffer-requires c =
-    let components = c.args.components.now in
-    let names : Names c.args.memory.now components c.args.caller c.index-components-caller.result c.args.selector (c.in_ok-entry.entry, c.in_ok-entry.session)
-    = record { core = c.requires.core; here = c.requires.caller; is = sym c.take_session.ensures.named ∙ c.in_ok-entry.was } in
-    let two = named_two names in
-    let client = c.take_session.new.self in
-    let e = c.index-components-entry.result in
-    absurd (none_told components two c.index-components-caller.result (get_or (set components c.args.caller client) c.in_ok-entry.entry e) (host_read components two client e) c.args.selector c.in_ok-entry.session (named_cap names) c.buffer_of_session-lent.result c.buffer_of_session-lent.ensures c.in-Some.space c.in-Some.is)
-
-pub returns-in-Some : goal.returns-in-Some
-returns-in-Some c = λ rules.
-    let components = c.args.components.now in
-    let names : Names c.args.memory.now components c.args.caller c.index-components-caller.result c.args.selector (c.in_ok-entry.entry, c.in_ok-entry.session)
-    = record { core = c.requires.core; here = c.requires.caller; is = sym c.take_session.ensures.named ∙ c.in_ok-entry.was } in
-    let two = named_two names in
-    let client = c.take_session.new.self in
-    let e = c.index-components-entry.result in
-    absurd (none_told components two c.index-components-caller.result (get_or (set components c.args.caller client) c.in_ok-entry.entry e) (host_read components two client e) c.args.selector c.in_ok-entry.session (named_cap names) c.buffer_of_session-lent.result c.buffer_of_session-lent.ensures c.in-Some.space c.in-Some.is)
-
 pub returns-in_default : goal.returns-in_default
 returns-in_default c = λ rules.
     let components = c.args.components.now in
@@ -76,5 +56,33 @@ returns-in_default c = λ rules.
     let client = c.take_session.new.self in
     let e = c.index-components-entry.result in
     let done = c.close_session in
-    close_goes components two c.index-components-caller.result (get_or (set components c.args.caller client) c.in_ok-entry.entry e) (host_read components two client e) c.args.selector c.in_ok-entry.session (named_cap names)
-    done.new.memory done.new.self done.ensures.stays rules client e refl c.in_ok-entry.ensures.gone done.ensures.closes done.ensures.sessions
+    closed_goes components two c.index-components-caller.result (get_or (set components c.args.caller client) c.in_ok-entry.entry e) (host_read components two client e) c.args.selector c.in_ok-entry.session (named_cap names)
+    done.new.memory done.new.self done.ensures.stays done.ensures.closes done.ensures.sessions client e refl c.in_ok-entry.ensures.gone rules c.buffer_of_session-lent.result c.buffer_of_session-lent.ensures c.in_default.is
+
+-- its buffer goes after it
+pub drop_buffer-requires : goal.drop_buffer-requires
+drop_buffer-requires c =
+    let components = c.args.components.now in
+    let names : Names c.args.memory.now components c.args.caller c.index-components-caller.result c.args.selector (c.in_ok-entry.entry, c.in_ok-entry.session)
+    = record { core = c.requires.core; here = c.requires.caller; is = sym c.take_session.ensures.named ∙ c.in_ok-entry.was } in
+    let two = named_two names in
+    let client = c.take_session.new.self in
+    let e = c.index-components-entry.result in
+    let done = c.close_session in
+    record {
+      lent = lent_named components two c.index-components-caller.result (get_or (set components c.args.caller client) c.in_ok-entry.entry e) (host_read components two client e) c.args.selector c.in_ok-entry.session (named_cap names)
+          done.new.memory done.new.self done.ensures.stays done.ensures.closes done.ensures.sessions client e refl c.in_ok-entry.ensures.gone (λ _. []) c.buffer_of_session-lent.result c.buffer_of_session-lent.ensures c.in-Some.space c.in-Some.is c.index-components-caller-in-Some.result;
+    }
+
+pub returns-in-Some : goal.returns-in-Some
+returns-in-Some c = λ rules.
+    let components = c.args.components.now in
+    let names : Names c.args.memory.now components c.args.caller c.index-components-caller.result c.args.selector (c.in_ok-entry.entry, c.in_ok-entry.session)
+    = record { core = c.requires.core; here = c.requires.caller; is = sym c.take_session.ensures.named ∙ c.in_ok-entry.was } in
+    let two = named_two names in
+    let client = c.take_session.new.self in
+    let e = c.index-components-entry.result in
+    let done = c.close_session in
+    ended_goes components two c.index-components-caller.result (get_or (set components c.args.caller client) c.in_ok-entry.entry e) (host_read components two client e) c.args.selector c.in_ok-entry.session (named_cap names)
+    done.new.memory done.new.self done.ensures.stays done.ensures.closes done.ensures.sessions client e refl c.in_ok-entry.ensures.gone rules c.buffer_of_session-lent.result c.buffer_of_session-lent.ensures c.in-Some.space c.in-Some.is c.index-components-caller-in-Some.result
+    c.drop_buffer.new.self c.drop_buffer.ensures

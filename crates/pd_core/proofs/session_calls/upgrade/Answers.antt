@@ -12,13 +12,13 @@ pub returns-in_err-entry : goal.returns-in_err-entry
 returns-in_err-entry c = λ rules.
     passed_on c.in_err-entry.field-0.0 c.from_residual.result c.from_residual.ensures.1
     (unnamed_goes rules c.args.components.now c.index-components-caller.result c.requires.core c.requires.caller (Upgrade c.args.selector c.args.text.now) c.args.selector (upgrade_asks c.args.selector c.args.text.now)
-    c.in_err-entry.field-0.0 c.session.ensures c.in_err-entry.was)
+    c.in_err-entry.field-0.0 c.session.ensures.named c.in_err-entry.was)
 
 pub returns-in_err-more : goal.returns-in_err-more
 returns-in_err-more c = λ rules.
     let components = c.args.components.now in
     let names : Names c.args.memory.now components c.args.caller c.index-components-caller.result c.args.selector (c.in_ok-entry.entry, c.in_ok-entry.session)
-    = record { core = c.requires.core; here = c.requires.caller; is = sym c.session.ensures ∙ c.in_ok-entry.was } in
+    = record { core = c.requires.core; here = c.requires.caller; is = sym c.session.ensures.named ∙ c.in_ok-entry.was } in
     let two = named_two names in
     let d = c.index-components-caller.result in
     let host = get_or components c.in_ok-entry.entry d in
@@ -30,7 +30,7 @@ pub bounds-components-entry : goal.bounds-components-entry
 bounds-components-entry c =
     let components = c.args.components.now in
     let names : Names c.args.memory.now components c.args.caller c.index-components-caller.result c.args.selector (c.in_ok-entry.entry, c.in_ok-entry.session)
-    = record { core = c.requires.core; here = c.requires.caller; is = sym c.session.ensures ∙ c.in_ok-entry.was } in
+    = record { core = c.requires.core; here = c.requires.caller; is = sym c.session.ensures.named ∙ c.in_ok-entry.was } in
     let two = named_two names in
     host_within components c.in_ok-entry.entry two.serving
 
@@ -42,7 +42,7 @@ pub raise_session-requires : goal.raise_session-requires
 raise_session-requires c =
     let components = c.args.components.now in
     let names : Names c.args.memory.now components c.args.caller c.index-components-caller.result c.args.selector (c.in_ok-entry.entry, c.in_ok-entry.session)
-    = record { core = c.requires.core; here = c.requires.caller; is = sym c.session.ensures ∙ c.in_ok-entry.was } in
+    = record { core = c.requires.core; here = c.requires.caller; is = sym c.session.ensures.named ∙ c.in_ok-entry.was } in
     let two = named_two names in
     let d = c.index-components-caller.result in
     let e = c.index-components-entry.result in
@@ -54,7 +54,7 @@ pub returns-in_err-raise_session : goal.returns-in_err-raise_session
 returns-in_err-raise_session c = λ rules.
     let components = c.args.components.now in
     let names : Names c.args.memory.now components c.args.caller c.index-components-caller.result c.args.selector (c.in_ok-entry.entry, c.in_ok-entry.session)
-    = record { core = c.requires.core; here = c.requires.caller; is = sym c.session.ensures ∙ c.in_ok-entry.was } in
+    = record { core = c.requires.core; here = c.requires.caller; is = sym c.session.ensures.named ∙ c.in_ok-entry.was } in
     let two = named_two names in
     let d = c.index-components-caller.result in
     let e = c.index-components-entry.result in
@@ -70,7 +70,7 @@ pub returns : goal.returns
 returns c = λ rules.
     let components = c.args.components.now in
     let names : Names c.args.memory.now components c.args.caller c.index-components-caller.result c.args.selector (c.in_ok-entry.entry, c.in_ok-entry.session)
-    = record { core = c.requires.core; here = c.requires.caller; is = sym c.session.ensures ∙ c.in_ok-entry.was } in
+    = record { core = c.requires.core; here = c.requires.caller; is = sym c.session.ensures.named ∙ c.in_ok-entry.was } in
     let two = named_two names in
     let d = c.index-components-caller.result in
     let e = c.index-components-entry.result in

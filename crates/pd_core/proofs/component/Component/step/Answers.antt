@@ -12,4 +12,4 @@ returns-in-Script-clause-outcome c = λ rules sessions ready.
     ∙ ap told_of (sym (script_outcome rules sessions c.args.memory.now c.args.self.now c.in-Script.script c.args.call c.in-Script.is c.requires.plain))
 
 pub returns-in-Script-clause-keeps : goal.returns-in-Script-clause-keeps
-returns-in-Script-clause-keeps c = λ script. script_keeps c.args.self.now c.in-Script.script c.step.new.self c.in-Script.is c.step.ensures.keeps
+returns-in-Script-clause-keeps c = λ script. script_keeps c.args.self.now c.in-Script.script c.step.new.self c.in-Script.is c.step.ensures.keeps c.step.ensures.others

@@ -1,5 +1,6 @@
 -- A dataspace over the memory and the tables.
 use Rattle.std.proofs.Common.{refl}
+use Rattle.own_model.proofs.NatMapLemmas.{apart_from_free}
 use Rattle.dataspace_core.specs.Store.{part}
 use Rattle.dataspace_core.proofs.PartLaws.{open_in_part}
 use Rattle.dataspace_core.proofs.PartLemmas.{part-fresh}
@@ -26,4 +27,5 @@ unfolding part
 returns c =
     finishes _ _ c.requires c.in_ok-space.ensures.part
     (settled c.in_ok-space.ensures.part.own c.insert.ensures.taken refl
-    (alloc_settles _ _ _ _ _ c.requires.own c.args.bytes c.in_ok-space.ensures.refusal _ (part-fresh c.args.memory.now _ _ c.in_ok-space.ensures.fresh) _ c.insert.ensures.least))
+    (alloc_settles _ _ _ _ _ c.requires.own c.args.bytes c.in_ok-space.ensures.refusal _ (part-fresh c.args.memory.now _ _ c.in_ok-space.ensures.fresh)
+    (λ q of key names. apart_from_free c.args.memory.now.spaces _ key c.in_ok-space.ensures.fresh (c.requires.lent q of key names).there) _ c.insert.ensures.least))

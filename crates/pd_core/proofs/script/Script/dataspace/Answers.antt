@@ -1,26 +1,28 @@
--- A dataspace that a selector names has its pages, and no selector names a buffer.
+-- A dataspace that a selector names has its pages, be it the script's own or one that a session lends.
 use Rattle.std.proofs.Common.{ap, sym, ◌∙◌, ◌/◌, Some}
 use Rattle.std.specs.Prelude.{Ok}
 use Rattle.dataspace_core.specs.Store.{part}
 use Rattle.dataspace_core.proofs.PartLaws.{paid_in_part}
 use Rattle.pd_core.specs.Own.{lent_in, sized_at}
-use Rattle.pd_core.proofs.OwnLemmas.{has_bytes, pages_are, no_buffer}
+use Rattle.pd_core.specs.Sound.{buffer_at}
+use Rattle.pd_core.proofs.OwnLemmas.{has_bytes, pages_are}
 use Rattle.pd_core.proofs.script.Script.dataspace.Goals as goal
 
-pub size-requires : goal.size-requires
-size-requires c =
+pub pages-requires : goal.pages-requires
+pages-requires c =
     (paid_in_part _ _ _ _ (has_bytes _ _ _ _ _ c.requires.own _ _ (sym c.in-Some-Dataspace.ensures.found ∙ ap (λ cap. Some cap) c.in-Some-Dataspace.field-0-is))).exists
 
-pub returns-in-Some-Dataspace : goal.returns-in-Some-Dataspace
-returns-in-Some-Dataspace c =
+pub returns-in-Some-Dataspace-clause-sized : goal.returns-in-Some-Dataspace-clause-sized
+returns-in-Some-Dataspace-clause-sized c =
     let named = sym c.in-Some-Dataspace.ensures.found ∙ ap (λ cap. Some cap) c.in-Some-Dataspace.field-0-is in
-    let pages = pages_are _ _ _ (has_bytes _ _ _ _ _ c.requires.own _ _ named) _ c.size.ensures in
+    let pages = pages_are _ _ _ (has_bytes _ _ _ _ _ c.requires.own _ _ named) _ c.pages.ensures.pages in
     ap (λ n. Ok (c.in-Some-Dataspace.space, n)) pages ∙ ap (sized_at (lent_in c.args.memory.now) (part c.args.self.now.account.0 c.args.memory.now)) (sym named)
 
-pub size-requires-in-Some-Buffer : goal.size-requires-in-Some-Buffer
-size-requires-in-Some-Buffer c = absurd (no_buffer _ _ _ _ _ c.requires.own _ _ _ (sym c.in-Some-Buffer.ensures.found ∙ ap (λ cap. Some cap) c.in-Some-Buffer.field-0-is))
+pub pages-requires-in-Some-Buffer : goal.pages-requires-in-Some-Buffer
+pages-requires-in-Some-Buffer c =
+    (c.requires.lent _ _ _ (ap buffer_at (sym c.in-Some-Buffer.ensures.found ∙ ap (λ cap. Some cap) c.in-Some-Buffer.field-0-is))).there
 
-pub returns-in-Some-Buffer : goal.returns-in-Some-Buffer
-returns-in-Some-Buffer c =
+pub returns-in-Some-Buffer-clause-sized : goal.returns-in-Some-Buffer-clause-sized
+returns-in-Some-Buffer-clause-sized c =
     let named = sym c.in-Some-Buffer.ensures.found ∙ ap (λ cap. Some cap) c.in-Some-Buffer.field-0-is in
-    ap (λ n. Ok (c.in-Some-Buffer.space, n / 4096)) c.size-in-Some-Buffer.ensures ∙ ap (sized_at (lent_in c.args.memory.now) (part c.args.self.now.account.0 c.args.memory.now)) (sym named)
+    ap (λ n. Ok (c.in-Some-Buffer.space, n)) c.pages-in-Some-Buffer.ensures.pages ∙ ap (sized_at (lent_in c.args.memory.now) (part c.args.self.now.account.0 c.args.memory.now)) (sym named)

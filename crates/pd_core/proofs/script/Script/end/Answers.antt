@@ -13,14 +13,14 @@ close-requires-clause-unused c =
 
 pub returns-clause-related : goal.returns-clause-related
 returns-clause-related c =
-    let cleared = clears_after c.release_all.ensures.keeps c.end_heaps.ensures.cleared in
+    let cleared = clears_after c.release_all.ensures.keeps c.release_all.ensures.others c.end_heaps.ensures.cleared in
     let same = c.end_heaps.ensures.account ∙ c.release_all.ensures.keeps.account in
     was_related cleared (open_in_part _ _ c.requires.sound.own.paid.is_open)
     (subst (λ (a : AccountId). AreRelatedIn c.end_heaps.new.memory a.0 (parent_in c.end_heaps.new.memory a.0)) same c.close.ensures.related)
 
 pub returns-clause-caps : goal.returns-clause-caps
 returns-clause-caps c =
-    let cleared = clears_after c.release_all.ensures.keeps c.end_heaps.ensures.cleared in
+    let cleared = clears_after c.release_all.ensures.keeps c.release_all.ensures.others c.end_heaps.ensures.cleared in
     let same = c.end_heaps.ensures.account ∙ c.release_all.ensures.keeps.account in
     c.close.ensures.caps_moved
     ∙ same_caps cleared (open_in_part _ _ c.requires.sound.own.paid.is_open)

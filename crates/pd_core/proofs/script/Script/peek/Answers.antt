@@ -2,27 +2,23 @@
 use Rattle.std.proofs.Common.{ap, ◌∙◌, ◌+◌, ◌++◌, length, subst, sym, slice_range}
 use Rattle.std.specs.Prelude.{codes, ◌≤◌}
 use Rattle.own_model.specs.Reply.{hex_text}
-use Rattle.dataspace_core.proofs.PartLaws.{paid_in_part}
 use Rattle.dataspace_core.specs.Store.{Exists, space_at}
 use Rattle.pd_core.specs.Answer.{told, told_of, told_alone}
 use Rattle.pd_core.specs.Own.{own_at}
 use Rattle.pd_core.proofs.BytesLemmas.{few, few_bytes, peek_refused}
-use Rattle.pd_core.proofs.PlaceLemmas.{found_has, found_fits, peek_found}
+use Rattle.pd_core.proofs.PlaceLemmas.{found_there, found_fits, peek_found}
 use Rattle.pd_core.proofs.script.Script.peek.Goals as goal
 
 pub tell_range-requires-clause-exists : goal.tell_range-requires-clause-exists
 tell_range-requires-clause-exists c =
     let some = few _ _ _ _ _ c.requires.own c.args.address c.args.count c.in-Ok.ensures.refusal in
-    subst (λ m. Exists m c.in-Ok.space.0) (sym c.in-Ok.ensures.memory)
-    (paid_in_part _ _ _ _ (found_has _ _ c.requires c.args.address _ _ c.args.count some c.in-Ok.ensures.found)).exists
+    subst (λ m. Exists m c.in-Ok.space.0) (sym c.in-Ok.ensures.memory) (found_there _ _ c.requires c.args.address _ _ c.args.count some c.in-Ok.ensures.found)
 
 pub tell_range-requires-clause-range : goal.tell_range-requires-clause-range
 tell_range-requires-clause-range c =
     let some = few _ _ _ _ _ c.requires.own c.args.address c.args.count c.in-Ok.ensures.refusal in
-    let paid = paid_in_part _ _ _ _ (found_has _ _ c.requires c.args.address _ _ c.args.count some c.in-Ok.ensures.found) in
     subst (λ m. c.in-Ok.offset + c.args.count ≤ length (space_at m c.in-Ok.space.0).bytes) (sym c.in-Ok.ensures.memory)
-    (subst (λ l. c.in-Ok.offset + c.args.count ≤ length l) (sym paid.bytes_are)
-    (found_fits _ _ c.requires c.args.address _ _ c.args.count some c.in-Ok.ensures.found))
+    (found_fits _ _ c.requires c.args.address _ _ c.args.count some c.in-Ok.ensures.found)
 
 pub tell_range-requires-clause-few : goal.tell_range-requires-clause-few
 tell_range-requires-clause-few c = few_bytes _ _ _ _ _ c.requires.own c.args.address c.args.count c.in-Ok.ensures.refusal
@@ -30,12 +26,10 @@ tell_range-requires-clause-few c = few_bytes _ _ _ _ _ c.requires.own c.args.add
 pub returns-in-Ok-clause-outcome : goal.returns-in-Ok-clause-outcome
 returns-in-Ok-clause-outcome c sessions ready =
     let some = few _ _ _ _ _ c.requires.own c.args.address c.args.count c.in-Ok.ensures.refusal in
-    let paid = paid_in_part _ _ _ _ (found_has _ _ c.requires c.args.address _ _ c.args.count some c.in-Ok.ensures.found) in
     ap (λ m. told c.tell_range.new.reply (own_at sessions m c.args.self.now)) c.in-Ok.ensures.memory
     ∙ ap (λ reply. told reply (own_at sessions c.args.memory.now c.args.self.now))
     (c.tell_range.ensures
-    ∙ ap (λ m. told_alone (codes "data " ++ hex_text (slice_range (space_at m c.in-Ok.space.0).bytes c.in-Ok.offset (c.in-Ok.offset + c.args.count)))) c.in-Ok.ensures.memory
-    ∙ ap (λ l. told_alone (codes "data " ++ hex_text (slice_range l c.in-Ok.offset (c.in-Ok.offset + c.args.count)))) paid.bytes_are)
+    ∙ ap (λ m. told_alone (codes "data " ++ hex_text (slice_range (space_at m c.in-Ok.space.0).bytes c.in-Ok.offset (c.in-Ok.offset + c.args.count)))) c.in-Ok.ensures.memory)
     ∙ ap told_of (peek_found _ _ c.requires c.args.address _ _ c.args.count some c.in-Ok.ensures.found sessions)
 
 pub returns-in-Err-clause-outcome : goal.returns-in-Err-clause-outcome

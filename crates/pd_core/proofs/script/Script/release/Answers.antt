@@ -1,6 +1,5 @@
 -- A dataspace or an RPC object is taken out, and nothing else is there.
 use Rattle.std.proofs.Common.{Some, sym, ap, ◌∙◌}
-use Rattle.pd_core.proofs.OwnLemmas.{no_buffer}
 use Rattle.pd_core.proofs.ReleaseLemmas.{free_takes_out, capfree_takes_out}
 use Rattle.pd_core.proofs.script.Script.release.Goals as goal
 
@@ -15,6 +14,3 @@ returns-in-Some-RpcObject-clause-gone c = (capfree_takes_out _ c.requires.sound 
 
 pub returns-in-Some-RpcObject-clause-fewer : goal.returns-in-Some-RpcObject-clause-fewer
 returns-in-Some-RpcObject-clause-fewer c = (capfree_takes_out _ c.requires.sound (sym c.in-Some-RpcObject.ensures.found ∙ ap (λ cap. Some cap) c.in-Some-RpcObject.field-0-is) c.capfree.ensures).fewer
-
-pub unreachable-requires-in-Some-Buffer : goal.unreachable-requires-in-Some-Buffer
-unreachable-requires-in-Some-Buffer c = no_buffer _ _ _ _ _ c.requires.sound.own _ _ _ (sym c.in-Some-Buffer.ensures.found ∙ ap (λ cap. Some cap) c.in-Some-Buffer.field-0-is)
