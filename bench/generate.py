@@ -5,7 +5,7 @@ A shape `NAME:SIZE` is one in steady state, on the machine `largest.json`: first
 aren't among the LINES, and then one of them, at random, is given back and one taken in turn. NAME is live (dataspaces of
 a page), selectors (of RPC objects), blocks (sliced blocks of a page), open (sessions of the log service), holes (of the
 least size, in a heap), small (blocks of 1 to 128 bytes), named (files of a session, on the machine `files.json`) or sized (the
-same, of which the size of one is asked).
+same, of which the size of one is asked). `moves:SIZE`, on the machine `lender.json`, puts and gets so many bytes in turn.
 
 Shapes: quota (quota alone, both scripts in turn), churn (an allocation and its release, one dataspace at a time),
 limit (allocations and releases at the account's limit), bytes (pokes and peeks of 1 to 1,024 bytes in turn), short (the
@@ -14,7 +14,8 @@ same of 1 to 16 bytes), regions (attaches and detaches, up to 128 regions), full
 16), heap (small blocks of the heap taken and given back, up to 64), turns (a block of the heap and its release in turn, one
 at a time), holes (blocks taken and given back among 48 holes), sessions (sessions of the log service opened, written to and
 closed, up to 8), log (log lines of 1 to 200 bytes), files (small files made, written, read and dropped), contents (the same
-with writes of up to 1,000 bytes), eight (eight clients of the machine `eight.json` that use everything at once), hostile
+with writes of up to 1,000 bytes), buffers (puts and gets of up to 512 bytes, pokes and peeks of the buffer, which is made anew
+now and then), lent (pokes and peeks of a buffer, of 1 to 180 bytes), eight (eight clients of the machine `eight.json` that use everything at once), hostile
 (lines that are refused, of all kinds), every (rounds of every call, by both scripts in turn, some refused; at the end both
 hold something of each kind, and exit).
 """
@@ -317,6 +318,56 @@ def contents(lines, rng):
 CLIENTS = ["anna", "bert", "cleo", "dora", "emil", "fred", "gina", "mallory"]
 
 
+def buffers(lines, rng, most=512):
+    """A buffer of two pages that is attached: of twenty lines nine put, six get, and four poke or peek; one makes it anew."""
+    yield "alice open File_system ram_quota=56K, cap_quota=12"
+    yield "alice call 1 CREATE f"
+    yield "alice call 1 BUFFER 8192"
+    yield "alice attach 2"
+    size, number = 0, 4
+    while number < lines:
+        chance = rng.random()
+        count = rng.randint(1, most)
+        place = rng.randint(0, 8192 - count)
+        if chance < 0.45:
+            offset = rng.randint(0, size) if size + count < 6000 else rng.randint(0, 6000 - count)
+            size = max(size, offset + count)
+            yield f"alice call 1 PUT f {offset} {place} {count}"
+        elif chance < 0.75:
+            yield f"alice call 1 GET f {rng.randint(0, size)} {place} {count}"
+        elif chance < 0.95:
+            few = min(count, 32)
+            address = USER_WINDOW + place
+            yield f"alice poke {address:#x} {rng.randbytes(few).hex()}" if chance < 0.85 else f"alice peek {address:#x} {few}"
+        else:
+            yield "alice call 1 UNBUFFER"
+            yield "alice call 1 BUFFER 8192"
+            yield "alice attach 2"
+            number += 2
+        number += 1
+
+
+def lent(lines, rng):
+    """Pokes and peeks of a buffer that a session lends, of 1 to 180 bytes in turn."""
+    yield "alice open File_system ram_quota=56K, cap_quota=12"
+    yield "alice call 1 BUFFER 8192"
+    yield "alice attach 2"
+    for number in range(lines - 3):
+        count = rng.randint(1, 180)
+        address = USER_WINDOW + rng.randint(0, 8192 - count)
+        yield f"alice poke {address:#x} {rng.randbytes(count).hex()}" if number % 2 == 0 else f"alice peek {address:#x} {count}"
+
+
+def moves(lines, _, size):
+    """Puts and gets in turn of so many bytes, over a file that has as many."""
+    yield "alice open File_system ram_quota=8M, cap_quota=8"
+    yield "alice call 1 CREATE f"
+    yield f"alice call 1 BUFFER {size}"
+    yield f"alice call 1 PUT f 0 0 {size}"
+    for number in range(lines):
+        yield f"alice call 1 {'PUT' if number % 2 == 0 else 'GET'} f 0 0 {size}"
+
+
 def eight(lines, rng):
     """Each client has dataspaces, a heap, sliced blocks, a session of each service, and asks at random."""
     streams = []
@@ -401,6 +452,7 @@ ROUND = [
     'open LOG ram_quota=4K, cap_quota=2, label="main"', "call 2 WRITE 68690a", "call 2 WRITE 6869", "call 2 FROB",
     "open File_system ram_quota=20K, cap_quota=3", "upgrade 3 ram_quota=8K, cap_quota=2",
     "call 3 CREATE a", "call 3 WRITE a 0 6869", "call 3 WRITE a 2 00", "call 3 READ a 0 9", "call 3 SIZE a", "call 3 NAME 0",
+    "call 3 BUFFER 4096", "attach 4", "poke 0x10000000 6162", "call 3 PUT a 0 0 2", "call 3 GET a 0 9 9", "free 4", "call 3 UNBUFFER",
     "call 3 STAT", "call 3 CREATE a", "call 3 CLEAR a", "call 3 DROP a", "call 3 NAME 0",
     "open Nic", "open LOG x", "upgrade 1", "close 2", "close 3", "close 3", "free 1", "free 1", "frob",
 ]
@@ -408,7 +460,7 @@ ROUND = [
 HELD = [
     "alloc 5000", "attach 1", "new 100", "snew 256", "capalloc",
     "open LOG ram_quota=4K, cap_quota=2", "call 3 WRITE 6869",
-    "open File_system ram_quota=24K, cap_quota=4", "call 4 CREATE a", "call 4 WRITE a 0 68",
+    "open File_system ram_quota=28K, cap_quota=5", "call 4 CREATE a", "call 4 WRITE a 0 68", "call 4 BUFFER 1", "attach 5",
 ]
 
 ENDS = ["bob exit", "bob quota", "carol quota", "log quota", "alice exit", "alice quota"]
@@ -507,6 +559,7 @@ STEADY = {
     "live": steady("alice alloc 4096", lambda n: f"alice free {n + 1}"),
     "selectors": steady("alice capalloc", lambda n: f"alice capfree {n + 1}"),
     "blocks": steady("alice snew 256", lambda n: f"alice sdel {HEAP_WINDOW + n * PAGE + SLICED_HEADER:#x}"),
+    "moves": moves,
     "open": steady("alice open LOG ram_quota=4K, cap_quota=2", lambda n: f"alice close {n + 1}"),
 }
 
@@ -530,6 +583,8 @@ SHAPES = {
     "bulk": bulk,
     "files": files,
     "contents": contents,
+    "buffers": buffers,
+    "lent": lent,
     "eight": eight,
     "hostile": hostile,
     "every": every,

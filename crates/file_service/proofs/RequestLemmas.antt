@@ -1,11 +1,11 @@
 -- How long the bytes of a request are, and what the text of a request for a name is told.
-use Rattle.std.proofs.Common.{◌≡◌, ◌++◌, ℕ, ◌≤◌, List, [], length, Option, Some, None, refl, sym, ap, ◌∙◌, arith}
+use Rattle.std.proofs.Common.{◌≡◌, ◌++◌, ℕ, ◌≤◌, Bool, true, false, true≢false, List, [], length, Option, Some, None, refl, sym, ap, ◌∙◌, arith}
 use Rattle.std.specs.Prelude.{IsSome, slice_get}
-use Rattle.std.specs.Option.{option_map, unwrap_or}
+use Rattle.std.specs.Option.{option_map, option_or, unwrap_or}
 use Rattle.own_model.specs.Account.{Account}
-use Rattle.own_model.specs.BufferService.{session_request}
-use Rattle.std.proofs.lemmas.Option.{none-some}
-use Rattle.own_model.specs.BufferService.SessionRequest.{OfFiles}
+use Rattle.own_model.specs.BufferService.{BufferRequest, SessionRequest, buffer_request, session_request}
+use Rattle.std.proofs.lemmas.Option.{none-some, same_Some}
+use Rattle.own_model.specs.BufferService.SessionRequest.{OfFiles, OfBuffer}
 use Rattle.own_model.specs.FileService.{File, Files, named, told}
 use Rattle.own_model.specs.FileText as model
 use Rattle.own_model.specs.FileText.{file_request, file_reply}
@@ -25,17 +25,24 @@ use Rattle.file_service.specs.Session.{files_in, served_in, HasFiles, Serves}
 use Rattle.file_service.proofs.ServeLemmas.{serves_same}
 use Rattle.file_service.specs.declared.session.FileSession.{FileSession}
 
--- what is mapped is something
-of_files : (o : Option model.FileRequest) (r : model.FileRequest) → option_map OfFiles o ≡ Some (OfFiles r) → o ≡ Some r
-of_files None r is = absurd (none-some (OfFiles r) is)
-of_files (Some x) r is = cc
+-- a request of files is none of the buffer
+of_files : (o : Option model.FileRequest) (p : Option BufferRequest) (r : model.FileRequest) → option_or (option_map OfFiles o) (option_map OfBuffer p) ≡ Some (OfFiles r) → o ≡ Some r
+of_files None None r is = absurd (none-some (OfFiles r) is)
+of_files None (Some b) r is = absurd (not_files b (same_Some _ _ is)) where
+  is_files : SessionRequest → Bool
+  is_files (OfFiles q) = true
+  is_files (OfBuffer q) = false
+
+  not_files : (b : BufferRequest) → OfBuffer b ≡ OfFiles r → ⊥
+  not_files b e = true≢false (sym (ap is_files e))
+of_files (Some x) p r is = cc
 
 -- the hexadecimal digits of a request are no more than a request has bytes
 pub hex_is_short : (text file : List ℕ) (offset : ℕ) (hex : List ℕ) → session_request text ≡ Some (OfFiles (Write file offset (hex_bytes hex))) → IsSome (bytes_of_hex hex) → length hex ≤ 8192
 hex_is_short text file offset hex is some =
     let read = some_of (bytes_of_hex hex) some in
     let same : length (hex_bytes hex) ≡ length read.0 = ap (λ o. length (unwrap_or o [])) read.1 in
-    omega (arith, write_is_short text file offset (hex_bytes hex) (of_files (file_request text) _ is), same, bytes_of_digits hex read.0 read.1)
+    omega (arith, write_is_short text file offset (hex_bytes hex) (of_files (file_request text) (buffer_request text) _ is), same, bytes_of_digits hex read.0 read.1)
 
 -- what is told is the reply and nothing else
 pub told_text : (new old : Told) (reply : model.FileReply) (text : List ℕ) → new ≡ record old { text = old.text ++ file_reply reply } → old ≡ nothing_told → file_reply reply ≡ text → new ≡ record nothing_told { text = text }

@@ -1,5 +1,6 @@
 //! Worked requests, and random ones.
 
+mod buffers;
 mod machine;
 mod random;
 

@@ -1,11 +1,15 @@
 -- The buffer that a client shares with its session of the file service: its requests, and what they do.
-use Rattle.std.specs.Prelude.{ℕ, ◌+◌, not, List, [], length, take, drop, slice_range, nat_lt, if◌then◌else◌, Option, Some, None, is_some}
-use Rattle.std.specs.Option.{option_map, option_or, unwrap_or}
+use Rattle.std.specs.Prelude.{ℕ, ◌+◌, ◌&&◌, not, List, [], length, take, drop, slice_range, codes, nat_lt, nat_le, if◌then◌else◌, Option, Some, None, is_some, is_none}
+use Rattle.std.specs.Option.{option_map, option_or, option_and_then, unwrap_or}
+use Rattle.std.specs.Str.{bytes_eq}
+use Rattle.trade_base.specs.Amount.{number_of}
 use Rattle.trade_base.specs.Bytes.{with_bytes}
 use Rattle.trade_base.specs.Page.{page_of, is_valid_size}
 use Rattle.own_model.specs.Account.{Account, shortage, charged, credited}
 use Rattle.own_model.specs.FileService.{Files, File, FileServed, file_named, error_of, gap_refusal, told, written, request_served}
-use Rattle.own_model.specs.FileText.{FileRequest, FileError, file_request, file_reply}
+use Rattle.own_model.specs.LogText.{longest_request}
+use Rattle.own_model.specs.Text.{first_word}
+use Rattle.own_model.specs.FileText.{of_file, FileRequest, FileError, file_request, file_reply}
 use Rattle.own_model.specs.FileText.FileError.{BadRequest, Exists, NotFound, InvalidSize, NoBuffer, BadRange}
 use Rattle.own_model.specs.FileText.FileReply.{Done, Count, Lent, Refused}
 use Rattle.own_model.specs.Zeros.{zeros}
@@ -23,9 +27,37 @@ pub data SessionRequest : Type 0 where
   OfFiles : FileRequest → SessionRequest
   OfBuffer : BufferRequest → SessionRequest
 
--- the request that a text is. No text is one of the buffer
+-- ---- the texts of requests
+
+-- a number, a space, and more
+abbrev pub after_number : {R : Type 0} → (ℕ → List ℕ → Option R) → List ℕ → Option R
+after_number request arguments =
+    option_and_then (λ n. option_and_then (request n) (first_word arguments).rest) (number_of (first_word arguments).word)
+
+-- an offset, a place and a length, parted by spaces
+abbrev pub move_of : (List ℕ → ℕ → ℕ → ℕ → BufferRequest) → List ℕ → List ℕ → Option BufferRequest
+move_of request file =
+    after_number (λ offset. after_number (λ place len. option_map (request file offset place) (number_of len)))
+
+-- the request of a form and its arguments, which are what stands after the form and a space
+abbrev pub buffer_request_of : List ℕ → Option (List ℕ) → Option BufferRequest
+buffer_request_of form arguments =
+    if bytes_eq form (codes "BUFFER") then option_map Make (option_and_then number_of arguments)
+    else (if bytes_eq form (codes "UNBUFFER") && is_none arguments then Some GiveBack
+    else (if bytes_eq form (codes "PUT") then option_and_then (of_file (move_of Put)) arguments
+    else (if bytes_eq form (codes "GET") then option_and_then (of_file (move_of Get)) arguments
+    else None)))
+
+abbrev pub buffer_request : List ℕ → Option BufferRequest
+buffer_request text =
+    if nat_le (length text) longest_request then buffer_request_of (first_word text).word (first_word text).rest
+    else None
+
+-- the request that a text is
 abbrev pub session_request : List ℕ → Option SessionRequest
-session_request text = option_map OfFiles (file_request text)
+session_request text = option_or (option_map OfFiles (file_request text)) (option_map OfBuffer (buffer_request text))
+
+-- ---- what is answered
 
 -- what a request is answered, and the account, the files and the buffer's bytes after it, if there is a buffer then
 pub record BufferServed : Type 0 where

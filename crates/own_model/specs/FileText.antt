@@ -25,7 +25,7 @@ abbrev pub file_word : List ℕ → Option (List ℕ)
 file_word word = if nat_lt 0 (length word) && list_all (λ b. not (b == 32)) word then Some word else None
 
 -- a file word, a space, and more
-abbrev pub of_file : (List ℕ → List ℕ → Option FileRequest) → List ℕ → Option FileRequest
+abbrev pub of_file : {R : Type 0} → (List ℕ → List ℕ → Option R) → List ℕ → Option R
 of_file request arguments =
     option_and_then (λ file. option_and_then (request file) (first_word arguments).rest) (file_word (first_word arguments).word)
 

@@ -1,8 +1,9 @@
 //! Laws of the buffer that a client shares with its session of the file service, and worked inputs that compute.
-ghost use Rattle.std.specs.Prelude.{◌≡◌, [], ◌∷◌, codes};
+ghost use Rattle.std.specs.Prelude.{◌≡◌, [], ◌∷◌, true, Some, codes};
 ghost use Rattle.own_model.specs.BufferLaws.{BufferErrorsComeInOrder, OtherBuffersAreServed, PutsAreWrites, GetsCopy, AllKeepFiles, AllKeepCharges, AllKeepLimits, AllKeepWithinLimits, AllFitBuffers};
-ghost use Rattle.own_model.specs.BufferRows.{turns_of};
+ghost use Rattle.own_model.specs.BufferRows.{turns_of, none_read};
 ghost use Rattle.own_model.specs.BufferRows.Turn.{Asks, Pokes, Peeks};
+ghost use Rattle.own_model.specs.BufferService.{session_request};
 ghost use Rattle.own_model.specs.BufferService.BufferRequest.{Make, GiveBack, Put, Get};
 ghost use Rattle.own_model.specs.BufferService.SessionRequest.{OfFiles, OfBuffer};
 ghost use Rattle.own_model.specs.FileText.FileRequest.{Create, Read, Write, Size, Stat};
@@ -29,6 +30,20 @@ pub fn buffers_are_charged()
     ensures limits { AllKeepLimits }
     ensures within { AllKeepWithinLimits }
     ensures long { AllFitBuffers }
+{}
+
+/// A request of the buffer is told by its word, with numbers and a file's word parted by exactly one space.
+pub fn buffer_requests_are_read()
+    ensures make { session_request (codes "BUFFER 05000") ≡ Some (OfBuffer (Make 5000)) }
+    ensures back { session_request (codes "UNBUFFER") ≡ Some (OfBuffer GiveBack) }
+    ensures put { session_request (codes "PUT a 0 8190 2")
+        ≡ Some (OfBuffer (Put (codes "a") 0 8190 2)) }
+    ensures get { session_request (codes "GET a/b 1 18446744073709551615 0")
+        ≡ Some (OfBuffer (Get (codes "a/b") 1 18446744073709551615 0)) }
+    ensures file { session_request (codes "SIZE a") ≡ Some (OfFiles (Size (codes "a"))) }
+    ensures none { none_read
+        (codes "BUFFER\nBUFFER \nBUFFER 1 \nBUFFER -1\nBUFFER 18446744073709551616\nUNBUFFER \nUNBUFFER 1\nPUT\nPUT a\nPUT a 0 0\nPUT a 0 0 \nPUT a 0  0 1\nPUT  0 0 1\nPUT a 0 0 1 \nGET a 0 0\nGET a 0x0 0 1\nput a 0 0 1\nBUFFERS 1\n")
+        ≡ true }
 {}
 
 /// A buffer is made, filled by its client, put into a file and filled from one, given back and made again: then it is zero.

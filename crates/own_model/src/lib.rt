@@ -29,7 +29,7 @@ pub use answers::{
 };
 pub use buffers::{
     buffer_bytes_are_moved, buffer_errors_come_in_order, buffer_is_shared_with_its_session,
-    buffers_are_charged,
+    buffer_requests_are_read, buffers_are_charged,
 };
 pub use calls::{
     addresses_are_read_back, calls_are_refused_in_order, hex_is_read_back,

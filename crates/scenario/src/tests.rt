@@ -2,6 +2,7 @@
 mod alone;
 mod boots;
 mod bounds;
+mod buffers;
 mod configs;
 mod devices;
 mod exits;

@@ -7,6 +7,7 @@ ghost use Rattle.own_model.specs.BufferService.SessionRequest.{OfFiles};
 ghost use Rattle.own_model.specs.FileText.{file_word, of_file, read_of, write_of, request_of};
 ghost use Rattle.session_proto.specs.File.{model_request, HasHex};
 
+use crate::buffer::buffer_request_from;
 use crate::hex_text::hex_or_nothing;
 use crate::log::LONGEST_REQUEST;
 use text_read::split_first_word;
@@ -61,7 +62,7 @@ pub enum FileRequest<'a> {
 }
 
 impl<'a> FileRequest<'a> {
-    /// The request that a text is, or `None` where it is none. No text is one of the buffer.
+    /// The request that a text is, or `None` where it is none.
     pub fn read(text: &'a [u8]) -> Option<FileRequest<'a>>
         ensures request { option_map model_request result ≡ session_request text.now }
         ensures hex { IfSome result HasHex }
@@ -70,11 +71,14 @@ impl<'a> FileRequest<'a> {
             return None;
         }
         let (form, arguments) = split_first_word(text);
-        request_from(form, arguments)
+        match request_from(form, arguments) {
+            None => buffer_request_from(form, arguments),
+            request => request,
+        }
     }
 }
 
-/// The request of a form, with what stands after the form and a space as its arguments.
+/// The request of files of a form, with what stands after the form and a space as its arguments.
 fn request_from<'a>(form: &[u8], arguments: Option<&'a [u8]>) -> Option<FileRequest<'a>>
     ensures request { option_map model_request result
         ≡ option_map OfFiles (request_of form.now (option_copied arguments.entry)) }
@@ -102,7 +106,7 @@ fn request_from<'a>(form: &[u8], arguments: Option<&'a [u8]>) -> Option<FileRequ
 }
 
 /// A file word, if a text is one: one or more bytes without a space.
-fn file_word(text: &[u8]) -> Option<&[u8]>
+pub(crate) fn file_word(text: &[u8]) -> Option<&[u8]>
     ensures { option_copied result ≡ file_word text.now }
 {
     if !text.is_empty() && has_no_space(text) {

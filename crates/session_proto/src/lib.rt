@@ -2,6 +2,7 @@
 #![tactic(auto)]
 
 mod args;
+mod buffer;
 mod file;
 mod file_reply;
 mod hex_text;

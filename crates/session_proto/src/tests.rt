@@ -194,6 +194,44 @@ fn file_requests_are_read(rt: HostRuntime) {
 }
 
 #[test]
+fn buffer_requests_are_read(rt: HostRuntime) {
+    assert!(rt;
+        matches!(
+            FileRequest::read(b"BUFFER 05000"),
+            Some(FileRequest::Buffer(5000))
+        )
+    );
+    assert!(rt; matches!(FileRequest::read(b"BUFFER 0"), Some(FileRequest::Buffer(0))));
+    assert!(rt; matches!(FileRequest::read(b"UNBUFFER"), Some(FileRequest::Unbuffer)));
+    assert!(rt;
+        matches!(
+            FileRequest::read(b"PUT a 1 8190 2"),
+            Some(FileRequest::Put {
+                file: b"a",
+                offset: 1,
+                place: 8190,
+                len: 2
+            })
+        )
+    );
+    assert!(rt;
+        matches!(
+            FileRequest::read(b"GET a/b 0 18446744073709551615 9"),
+            Some(FileRequest::Get {
+                file: b"a/b",
+                offset: 0,
+                place: 18446744073709551615,
+                len: 9
+            })
+        )
+    );
+    assert!(rt; LogRequest::read(b"BUFFER 1").is_none());
+    assert!(rt; LogRequest::read(b"UNBUFFER").is_none());
+    assert!(rt; LogRequest::read(b"PUT a 0 0 1").is_none());
+    assert!(rt; LogRequest::read(b"GET a 0 0 1").is_none());
+}
+
+#[test]
 fn other_file_requests_are_none(rt: HostRuntime) {
     for text in [
         b"".as_slice(),
@@ -217,10 +255,24 @@ fn other_file_requests_are_none(rt: HostRuntime) {
         b"NAME",
         b"NAME -1",
         b"SIZE  a",
-        b"BUFFER 1",
-        b"UNBUFFER",
-        b"PUT a 0 0 1",
-        b"GET a 0 0 1",
+        b"BUFFER",
+        b"BUFFER ",
+        b"BUFFER 1 ",
+        b"BUFFER -1",
+        b"BUFFER 18446744073709551616",
+        b"UNBUFFER ",
+        b"UNBUFFER 1",
+        b"PUT",
+        b"PUT a",
+        b"PUT a 0 0",
+        b"PUT a 0 0 ",
+        b"PUT a 0  0 1",
+        b"PUT  0 0 1",
+        b"PUT a 0 0 1 ",
+        b"PUT a 0 0 18446744073709551616",
+        b"GET a 0 0",
+        b"GET a 0x0 0 1",
+        b"get a 0 0 1",
     ] {
         assert!(rt; FileRequest::read(text).is_none());
     }

@@ -160,7 +160,7 @@ fn next(seed: u64) -> u64 {
 
 const CALLERS: [&[u8]; 4] = [b"alice ", b"bob ", b"al ", b"log "];
 
-const CALLS: [&[u8]; 20] = [
+const CALLS: [&[u8]; 26] = [
     b"alloc 5000",
     b"alloc 4096",
     b"attach 1",
@@ -177,6 +177,12 @@ const CALLS: [&[u8]; 20] = [
     b"open File_system ram_quota=16K, cap_quota=4",
     b"call 1 WRITE 610a",
     b"call 2 CREATE a",
+    b"call 2 BUFFER 4096",
+    b"call 2 PUT a 0 0 9",
+    b"call 2 GET a 0 4000 96",
+    b"call 2 UNBUFFER",
+    b"attach 3",
+    b"poke 0x10001000 62",
     b"close 1",
     b"close 2",
     b"quotas",
@@ -191,7 +197,7 @@ fn mixed(alloc: Global, seed: u64, lines: u64) -> Result<Vec<u8>, Fail> {
         state = next(state);
         input.extend_from_slice(CALLERS[(state >> 33) as usize % 4])?;
         state = next(state);
-        input.extend_from_slice(CALLS[(state >> 33) as usize % 39 % 20])?;
+        input.extend_from_slice(CALLS[(state >> 33) as usize % 51 % 26])?;
         input.push(b'\n')?;
     }
     Ok(input)

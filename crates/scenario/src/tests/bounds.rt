@@ -16,20 +16,37 @@ fn machine(alloc: Global, ram: u32, caps: u32) -> Result<String, AllocError> {
     )
 }
 
+// Alice's lines of these calls.
+pub(super) fn lines_of_calls(alloc: Global, calls: &[(&str, &str)]) -> Result<String, AllocError> {
+    let mut lines = String::new(alloc);
+    for (call, _) in calls {
+        lines.push_str(format!(in alloc; "alice {call}\n")?.as_str())?;
+    }
+    Ok(lines)
+}
+
+// And what they are answered.
+pub(super) fn answers_of_calls(
+    alloc: Global,
+    calls: &[(&str, &str)],
+) -> Result<String, AllocError> {
+    let mut lines = String::new(alloc);
+    for (_, answer) in calls {
+        lines.push_str(format!(in alloc; "alice: {answer}\n")?.as_str())?;
+    }
+    Ok(lines)
+}
+
 // On an account of so much, the calls are answered so: each call in turn is alice's, and each answer to alice.
-fn answered<R: Abort + AllocGlobal>(
+pub(super) fn answered<R: Abort + AllocGlobal>(
     rt: &R,
     ram: u32,
     caps: u32,
     calls: &[(&str, &str)],
 ) -> Result<(), Fail> {
     let text = machine(rt.alloc(), ram, caps)?;
-    let mut input = String::new(rt.alloc());
-    let mut transcript = String::new(rt.alloc());
-    for (call, answer) in calls {
-        input.push_str(format!(in rt.alloc(); "alice {call}\n")?.as_str())?;
-        transcript.push_str(format!(in rt.alloc(); "alice: {answer}\n")?.as_str())?;
-    }
+    let input = lines_of_calls(rt.alloc(), calls)?;
+    let transcript = answers_of_calls(rt.alloc(), calls)?;
     check_on(
         rt,
         text.as_str().as_bytes(),

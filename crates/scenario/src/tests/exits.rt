@@ -58,7 +58,7 @@ const EXITS_LISTED: &[u8] =
     account carol ram 0/0 caps 0/0\naccount dave ram 0/0 caps 0/0\ntotal ram 1048576 caps 256\n";
 
 // What a scenario is told on the machine of a text, with the account list behind it.
-fn told_with_list(alloc: Global, text: &str, input: &[u8]) -> Result<Vec<u8>, Fail> {
+pub(super) fn told_with_list(alloc: Global, text: &str, input: &[u8]) -> Result<Vec<u8>, Fail> {
     let told = run_bytes(
         alloc,
         text.as_bytes(),
