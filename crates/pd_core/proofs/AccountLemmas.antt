@@ -30,7 +30,8 @@ use Rattle.dataspace_core.specs.Store.{Part, account_of, part_with_space, part_w
 use Rattle.pd_core.specs.Own.{Sessions, object_of, selector_of, regions_of, own_of, Lent, key_at}
 use Rattle.pd_core.specs.Sound.{rpc_weight, buffer_at, IsScript}
 use Rattle.pd_core.proofs.NameLemmas.{is_named, named_is}
-use Rattle.pd_core.proofs.OwnLemmas.{Settles, same_window, before, object_is, has_bytes, names_object, grows, shrinks}
+use Rattle.pd_core.proofs.OwnLemmas.{before, object_is, has_bytes, names_object, grows, shrinks}
+use Rattle.pd_core.proofs.SettleLemmas.{Settles, same_window}
 
 -- what is taken as a dataspace is that dataspace's capability
 pub taken_dataspace : (o : Option Cap) (ds : DsId) → Some ds ≡ dataspace_of o → o ≡ Some (Dataspace ds)

@@ -30,7 +30,8 @@ use Rattle.dataspace_core.specs.Store.{Part, bytes_of, part_with_bytes}
 use Rattle.pd_core.specs.Own.{Sessions, selector_of, regions_of, own_of, range_refusal, Lent}
 use Rattle.pd_core.specs.Sound.{IsScript}
 use Rattle.pd_core.proofs.NameLemmas.{Names, IsOwn, is_named}
-use Rattle.pd_core.proofs.OwnLemmas.{Settles, all_sessions, before, names_object, rewrites}
+use Rattle.pd_core.proofs.OwnLemmas.{all_sessions, before, names_object, rewrites}
+use Rattle.pd_core.proofs.SettleLemmas.{Settles}
 
 -- what refuses a range refuses a call that looks at the count and then at what is found
 ranges_refused : (b : OwnState) (step : Option Place → Outcome) (rename : ℕ × ℕ → Option (ℕ × ℕ)) → step None ≡ refused b PageFault → (refusal : Refusal) (count : Option Refusal) (region sliced block : Option (ℕ × ℕ)) →

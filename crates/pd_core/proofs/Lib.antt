@@ -24,6 +24,7 @@ pub mod SessionWorldLemmas
 pub mod ServedSessionLemmas
 pub mod ClosedSessionLemmas
 pub mod SessionOpenLemmas
+pub mod SettleLemmas
 pub mod OwnLemmas
 pub mod ScriptLemmas
 pub mod SlicedLemmas

@@ -36,49 +36,8 @@ use Rattle.dataspace_core.proofs.PartLaws.{paid_in_part}
 use Rattle.sliced_heap.specs.Laws.{KeepsHeapWindow}
 use Rattle.pd_core.specs.Own.{Sessions, HasSessions, object_of, selector_of, regions_of, own_of, Lent, key_at}
 use Rattle.pd_core.specs.Sound.{rpc_weight, session_weight, session_at, buffer_at, IsOne, AreNamed, AreBlocks, IsLawful, IsScript}
+use Rattle.pd_core.proofs.SettleLemmas.{Spares, Leaves, DoesOwn, Makes, Settles, same_window}
 use Rattle.pd_core.proofs.NameLemmas.{Names, is_named, regions_alike, attached_alike, cap_named, key_before, own_or_lent, lent_key}
-
--- what a call leaves to the heaps: the heap window, and what their dataspaces hold
-pub record Spares (p p' : Part) (regions regions' : Regions) : Type 0 where
-  pub window : KeepsHeapWindow regions regions'
-  pub bytes : (start : ℕ) (region : Region) → get regions.heap start ≡ Some region → get p'.spaces region.of ≡ get p.spaces region.of
-
--- what a call leaves of the limits, of the sessions and of their buffers
-pub record Leaves (p p' : Part) (space space' : Space) : Type 0 where
-  pub ram_limit : (account_of p').ram_limit ≡ (account_of p).ram_limit
-  pub caps_limit : (account_of p').caps_limit ≡ (account_of p).caps_limit
-  pub places : space'.places ≡ space.places
-  pub sessions : (q : ℕ) → session_at (get space'.caps q) ≡ session_at (get space.caps q)
-  pub buffers : (q : ℕ) → buffer_at (get space'.caps q) ≡ buffer_at (get space.caps q)
-  pub session_count : total session_weight space'.caps ≡ total session_weight space.caps
-
--- a call answers this and makes the own state of this part and these tables of what it was, whatever the sessions are
-abbrev pub DoesOwn : Lent → Call → Part → Space → Regions → OwnHeap → NatMap (List ℕ) → Reply → Part → Space → Regions → OwnHeap → NatMap (List ℕ) → Type 0
-DoesOwn L call p space regions heap sliced reply p' space' regions' heap' sliced' =
-    (sessions : Sessions) → HasSessions sessions space.caps →
-    ◌≡◌ {A = Outcome} (record { reply = reply; lines = []; next = own_of L sessions p' space'.caps regions'.user heap' sliced' }) (script_step call (own_of L sessions p space.caps regions.user heap sliced))
-
--- what a call makes of a script's part, capabilities, regions and heaps: the model's outcome, and a sound script
-pub record Makes (L : Lent) (call : Call) (p : Part) (space : Space) (regions : Regions) (heap : OwnHeap) (sliced : NatMap (List ℕ)) (reply : Reply) (p' : Part) (space' : Space) (regions' : Regions) (heap' : OwnHeap) (sliced' : NatMap (List ℕ)) : Type 0 where
-  pub outcome : DoesOwn L call p space regions heap sliced reply p' space' regions' heap' sliced'
-  pub script : IsScript L p' space' regions' heap' sliced'
-  pub leaves : Leaves p p' space space'
-
--- the same of a call that leaves the heaps
-pub record Settles (L : Lent) (call : Call) (p : Part) (space : Space) (regions : Regions) (heap : OwnHeap) (sliced : NatMap (List ℕ)) (reply : Reply) (p' : Part) (space' : Space) (regions' : Regions) : Type 0 where
-  pub makes : Makes L call p space regions heap sliced reply p' space' regions' heap sliced
-  pub spares : Spares p p' regions regions'
-
--- the same of what they are equal to
-pub settled : {L : Lent} {call : Call} {p q p' : Part} {space t space' : Space} {regions r regions' : Regions} {heap : OwnHeap} {sliced : NatMap (List ℕ)} {reply : Reply} → q ≡ p' → t ≡ space' → r ≡ regions' →
-    Settles L call p space regions heap sliced reply p' space' regions' → Settles L call p space regions heap sliced reply q t r
-settled {L} {call} {p} {q} {p'} {space} {t} {space'} {regions} {r} {heap = heap} {sliced} {reply} part caps map done =
-    subst (λ x. Settles L call p space regions heap sliced reply x t r) (sym part)
-    (subst (λ x. Settles L call p space regions heap sliced reply p' x r) (sym caps) (subst (λ x. Settles L call p space regions heap sliced reply p' space' x) (sym map) done))
-
--- a map that stays
-pub same_window : {regions : Regions} → KeepsHeapWindow regions regions
-same_window = record { heap = refl; tags = refl; most = refl; pages = refl }
 
 -- what holds of a capability's object, by kinds: a dataspace's depends on its bytes alone
 object_alike : (L : Lent) (sessions : Sessions) (p p' : Part) (cap : Cap) → ((ds : DsId) → cap ≡ Dataspace ds → get p'.spaces ds.0 ≡ get p.spaces ds.0) → object_of L sessions p' cap ≡ object_of L sessions p cap
@@ -167,13 +126,6 @@ module _ {L : Lent} (p : Part) (space : Space) (regions : Regions) (heap : OwnHe
           new_selector_is _ _ (new_selector_positive space.caps)
           (none_at _ _ (selects _ ∙ ap is_some (new_selector_free space.caps)))
           (λ t positive below. selects t ∙ new_selector_least space.caps t positive below)
-
-  -- the bytes of a dataspace that a selector names are no more than the machine's
-  pub few_bytes : (s : ℕ) (ds : DsId) → get space.caps s ≡ Some (Dataspace ds) → length (bytes_of p ds.0) ≤ regions.pages * 4096
-  unfolding own_of
-  few_bytes s ds names =
-      let law = sound.lawful all_sessions (λ q server session there. refl) in
-      omega (arith, total_at_le object_size (before all_sessions).selectors s (ADataspace (bytes_of p ds.0)) (names_object all_sessions s ds names), law.uses.ram, law.within.ram, sound.ram)
 
   module _ (call : Call) where
     -- what the call makes of the own state is lawful, as it was before

@@ -37,9 +37,10 @@ use Rattle.pd_core.proofs.HeapCallLemmas.{own_in, parts, finishes_parts}
 use Rattle.heap_core.proofs.StayLemmas.{heap_stays}
 use Rattle.pd_core.proofs.HeapPlaceLemmas.{block_fits, block_peeked, block_poked_ends}
 use Rattle.pd_core.proofs.NameLemmas.{Names, IsOwn, own_or_lent}
-use Rattle.pd_core.proofs.OwnLemmas.{settled, for_payer, has_bytes, object_is, names_object}
+use Rattle.pd_core.proofs.OwnLemmas.{for_payer, has_bytes, object_is, names_object}
+use Rattle.pd_core.proofs.SettleLemmas.{settled}
 use Rattle.pd_core.specs.Does.{Does, DoesPoke}
-use Rattle.pd_core.proofs.ScriptLemmas.{finishes, at_heap, block_there, is_region}
+use Rattle.pd_core.proofs.ScriptLemmas.{leaves_others, finishes, at_heap, block_there, is_region}
 use Rattle.pd_core.proofs.SlicedLemmas.{ChangesHeaps, no_block, finishes_heaps}
 use Rattle.heap_window.proofs.WindowLemmas.{IsPut, is_put}
 
@@ -277,10 +278,6 @@ module _ (store : Store) (script : Script) (sound : IsSoundScript store script) 
         | inr at ↦ heap_peeked count at few sessions
       ]
     ]
-
-  -- a poke of a script's own leaves all that isn't the script's
-  leaves_others : {put : List ℕ} {store' : Store} → Does (Poke address put) Done store script store' script → DoesPoke address put Done store script store'
-  leaves_others does = record { outcome = does.outcome; keeps = does.keeps; others = inl does.others }
 
   -- a poke puts its bytes over those that the range finds
   pub poke_finishes : (count : ℕ) (bytes : List ℕ) {store' : Store} → count ≡ length bytes → count_refusal count ≡ None → are_bytes bytes ≡ true → IsFound store script address count ds offset →

@@ -27,15 +27,15 @@ use Rattle.heap_window.proofs.ShareLemmas.{shown_block}
 use Rattle.sliced_heap.proofs.HeapLaws.{map_stays_for_payer, heap_stays, heap_stays_elsewhere}
 use Rattle.pd_core.specs.declared.answer.Answer.{Answer}
 use Rattle.pd_core.specs.Answer.{reply_of}
-use Rattle.pd_core.specs.Does.{Does}
+use Rattle.pd_core.specs.Does.{Does, DoesBeside}
 use Rattle.pd_core.specs.Own.{Sessions, own_of, own_at, part_at, own_heap_at, sliced_at, lent_in}
-use Rattle.pd_core.specs.Sound.{IsScript, AreOthers, HasHeaps, IsSoundScript}
+use Rattle.pd_core.specs.Sound.{IsScript, AreOthers, HasHeaps, IsSoundScript, SparesOthers}
 use Rattle.pd_core.specs.declared.script.Script.{Script}
 use Rattle.heap_window.proofs.BesideLemmas.{map_of, whole_share, whole_tags, stands_alike}
 use Rattle.heap_window.proofs.ShareLemmas.{region_of_block}
 use Rattle.heap_core.proofs.StayLemmas as heap_laws
 use Rattle.pd_core.proofs.LentLemmas.{LendAlike, LendersStay, own_lent, script_lent, others_still, lent_still}
-use Rattle.pd_core.proofs.OwnLemmas.{Settles}
+use Rattle.pd_core.proofs.SettleLemmas.{Settles}
 
 -- a refused call leaves all as it is
 pub refuses : {call : Call} {refusal : Refusal} {store : Store} {script : Script} {new : Store} {after : Script} (answered : Result Answer Refusal) → IsErrAnd answered (λ y. y ≡ refusal) →
@@ -47,6 +47,11 @@ refuses {call} {refusal} {store} {script} {new} {after} answered err sound memor
     let here : Does call (Refused refusal) store script store script = record { outcome = λ sessions ready. is sessions; keeps = search (rules, sound); others = λ other apart. refl } in
     subst (λ r. Does call r store script new after) (sym replied)
     (subst (λ m. Does call (Refused refusal) store script m after) (sym memory) (subst (λ x. Does call (Refused refusal) store script store x) (sym same) here))
+
+-- a call that leaves all that isn't the script's spares others
+pub leaves_others : {call : Call} {reply : Reply} {old : Store} {before : Script} {new : Store} {after : Script} → Does call reply old before new after →
+    DoesBeside (SparesOthers before.account.0 before.caps.caps old new) call reply old before new after
+leaves_others does = record { outcome = does.outcome; keeps = does.keeps; others = inl does.others }
 
 -- a script that stays as it is while another's call changes the memory
 pub record Stays (store : Store) (script : Script) (store' : Store) : Type 0 where

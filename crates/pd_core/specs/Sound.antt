@@ -71,8 +71,7 @@ lent_from q lent = option_map (λ key. (q, key)) lent
 abbrev pub IsOne : NatMap Cap → Type 0
 IsOne caps = (s t key : ℕ) → key_at (get caps s) ≡ Some key → key_at (get caps t) ≡ Some key → s ≡ t
 
--- each dataspace that a selector names is one of its own that the account pays for; no selector names a buffer, as no text
--- asks for one yet
+-- each dataspace that a selector names and that is no buffer is one that the account pays for; each has one selector
 pub record IsNamed (part : Part) (caps : NatMap Cap) : Type 0 where
   pub there : (selector : ℕ) (ds : DsId) → get caps selector ≡ Some (Dataspace ds) → IsSome (get part.spaces ds.0)
   pub one : IsOne caps

@@ -215,7 +215,8 @@ impl Component {
         }
     }
 
-    /// A script without a session and without a buffer exits: all that it holds goes, its account closes, and its limits go back to init's.
+    /// A script without a session and without a buffer exits: all that it holds goes, its account closes, and its limits go
+    /// back to init's.
     pub(crate) fn end(&mut self, memory: &mut Memory)
         requires sound { IsSound memory.old self.old }
         requires script { IsScriptRole self.old.role }

@@ -11,8 +11,8 @@ impl Script {
     ghost use Rattle.pd_core.specs.Release.{IsCleared};
     ghost use Rattle.pd_core.specs.Sound.{session_at, buffer_at, IsSoundScript, OthersStay, Keeps};
 
-    /// All that a script without a session and without a buffer holds goes: its dataspaces with their regions, its RPC objects and its heaps.
-    /// Then its account closes, and its limits go back to the account above.
+    /// All that a script without a session and without a buffer holds goes: its dataspaces with their regions, its RPC objects
+    /// and its heaps. Then its account closes, and its limits go back to the account above.
     pub(crate) fn end(mut self, memory: &mut Memory)
         requires sound { IsSoundScript memory.old self }
         requires none { (selector : ℕ) → session_at (get self.caps.caps selector) ≡ None }

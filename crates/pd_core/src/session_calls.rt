@@ -13,9 +13,8 @@ use server_frame::{Effect, Reply};
 use session_proto::SessionArgs;
 use trade_base::{Refusal, Selector};
 
-/// The session that a selector of the component at a place names goes, with the capability and the regions of its buffer, or why
-/// not: `NotAScript`, then `Gone`, then
-/// `InvalidSession`.
+/// The session that a selector of the component at a place names goes, with the capability and the regions of its buffer, or
+/// why not: `NotAScript`, then `Gone`, then `InvalidSession`.
 pub(crate) fn close(
     memory: &mut Memory,
     components: &mut [Component],

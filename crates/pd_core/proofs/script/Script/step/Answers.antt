@@ -17,6 +17,7 @@ use Rattle.pd_core.specs.Call.{model_call}
 use Rattle.pd_core.specs.Does.{Does, DoesBeside, DoesTold}
 use Rattle.pd_core.specs.Own.{own_of, own_at}
 use Rattle.pd_core.specs.Sound.{SparesOthers, Keeps}
+use Rattle.pd_core.proofs.ScriptLemmas.{leaves_others}
 use Rattle.pd_core.proofs.script.Script.step.Goals.{in-Alloc, in-Free, in-Attach, in-AttachAt, in-Detach, in-Poke, in-Capalloc, in-Capfree, in-New, in-Del, in-Snew, in-Sdel, in-Quota}
 use Rattle.pd_core.proofs.script.Script.step.Goals as goal
 
@@ -35,11 +36,6 @@ tells {made} {call} {said} {given} {answered} {old} {before} {new} {after} is sa
   keeps = does.keeps;
   others = does.others;
 }
-
--- one that leaves all that isn't the script's
-leaves_others : {call : Call} {reply : Reply} {old : Store} {before : Script} {new : Store} {after : Script} → Does call reply old before new after →
-    DoesBeside (SparesOthers before.account.0 before.caps.caps old new) call reply old before new after
-leaves_others does = record { outcome = does.outcome; keeps = does.keeps; others = inl does.others }
 
 -- quotas that are those of the account
 does_quota : {store : Store} {script : Script} {given : QuotasTold} → quotas_account given ≡ account_in store script.account.0 → Keeps store script store script →
