@@ -189,24 +189,68 @@ const CALLS: [&[u8]; 26] = [
     b"exit",
 ];
 
-// So many lines of these, in an order by the seed. The last call is picked half as often as the others.
-fn mixed(alloc: Global, seed: u64, lines: u64) -> Result<Vec<u8>, Fail> {
-    let mut input = Vec::new(alloc);
+// Adds so many lines of these calls, in an order by the seed. The last call is picked half as often as the others.
+fn mix(input: &mut Vec<u8>, seed: u64, lines: u64, calls: &[&[u8]; 26]) -> Result<(), Fail> {
     let mut state = seed;
     for _ in 0..lines {
         state = next(state);
         input.extend_from_slice(CALLERS[(state >> 33) as usize % 4])?;
         state = next(state);
-        input.extend_from_slice(CALLS[(state >> 33) as usize % 51 % 26])?;
+        input.extend_from_slice(calls[(state >> 33) as usize % 51 % 26])?;
         input.push(b'\n')?;
     }
-    Ok(input)
+    Ok(())
 }
 
 #[test]
 fn mixes_are_told_alone_as_among_others(rt: HostRuntime) -> Result<(), Fail> {
     for seed in 1..5 {
-        let input = mixed(rt.alloc(), seed, 100)?;
+        let mut input = Vec::new(rt.alloc());
+        mix(&mut input, seed, 100, &CALLS)?;
+        compare(&rt, MACHINE_A, &["alice", "bob", "al", "log"], &input)?;
+    }
+    Ok(())
+}
+
+// Both scripts have a session that lends a buffer, which they see at the same address.
+const LENT: &[u8] = b"alice open File_system ram_quota=40K, cap_quota=6\n\
+    bob open File_system ram_quota=36K, cap_quota=5\nalice call 1 CREATE a\nbob call 1 CREATE a\n\
+    bob call 1 BUFFER 8192\nalice call 1 BUFFER 8192\nalice attach 2\nbob attach 2\n";
+
+const BUFFER_CALLS: [&[u8]; 26] = [
+    b"poke 0x10000000 61",
+    b"poke 0x10000ffe 62636465",
+    b"poke 0x10001ffe 6667",
+    b"poke 0x10002000 68",
+    b"peek 0x10000000 8",
+    b"peek 0x10000ffc 8",
+    b"peek 0x10001ff8 8",
+    b"call 1 PUT a 0 0 9",
+    b"call 1 PUT a 1 4094 4",
+    b"call 1 PUT a 5 8190 2",
+    b"call 1 PUT a 0 8190 3",
+    b"call 1 PUT a 0 0 8192",
+    b"call 1 GET a 0 4090 9",
+    b"call 1 GET a 2 8188 4",
+    b"call 1 READ a 0 16",
+    b"call 1 WRITE a 0 7172",
+    b"call 1 CLEAR a",
+    b"call 1 STAT",
+    b"call 1 UNBUFFER",
+    b"call 1 BUFFER 8192",
+    b"attach 2",
+    b"attach 2",
+    b"detach 0x10000000",
+    b"alloc 4096",
+    b"free 2",
+    b"close 1",
+];
+
+#[test]
+fn mixes_of_buffers_are_told_alone_as_among_others(rt: HostRuntime) -> Result<(), Fail> {
+    for seed in 1..5 {
+        let mut input = Vec::from_slice(rt.alloc(), LENT)?;
+        mix(&mut input, seed, 100, &BUFFER_CALLS)?;
         compare(&rt, MACHINE_A, &["alice", "bob", "al", "log"], &input)?;
     }
     Ok(())

@@ -2,7 +2,7 @@
 
 use super::bounds::{answered, answers_of_calls, lines_of_calls};
 use super::exits::told_with_list;
-use super::rows::check_on;
+use super::rows::{check, check_on};
 use super::*;
 
 // On the account of a script of the built-in machine.
@@ -390,5 +390,36 @@ fn buffer_of_thousands_of_pages(rt: HostRuntime) -> Result<(), Fail> {
         LARGEST.as_bytes(),
         input.as_str().as_bytes(),
         transcript.as_str().as_bytes(),
+    )
+}
+
+// The scenario `examples/streams`.
+#[test]
+fn streams_example(rt: HostRuntime) -> Result<(), Fail> {
+    check(
+        &rt,
+        b"alice open File_system ram_quota=52K, cap_quota=6\nalice call 1 CREATE song\n\
+          alice call 1 BUFFER 8192\nalice attach 2\nalice attach_at 2 0x10010000\nalice call 1 STAT\n\
+          alice poke 0x10000000 766572736520310a\nalice poke 0x10001ff8 766572736520320a\n\
+          alice call 1 PUT song 0 0 8192\nalice call 1 SIZE song\nalice poke 0x10000000 766572736520330a\n\
+          alice call 1 PUT song 8192 0 8\nalice call 1 READ song 8184 16\nalice call 1 STAT\n\
+          alice call 1 PUT song 8200 8190 8\nalice call 1 PUT other 0 0 8\n\
+          alice poke 0x10010000 2e2e2e2e2e2e2e2e\nalice peek 0x10000000 8\nalice call 1 GET song 8184 4 4096\n\
+          alice peek 0x10010000 24\nalice call 1 GET song 0 8184 9\nalice free 2\n\
+          bob open File_system ram_quota=48K, cap_quota=6\nbob call 1 BUFFER 8192\nbob attach 2\n\
+          bob peek 0x10000000 8\nalice call 1 UNBUFFER\nalice peek 0x10000000 8\nalice peek 0x10010000 8\n\
+          alice call 1 READ song 0 8\nalice alloc 8192\nalice attach 2\nalice peek 0x10000000 8\nalice quota\n\
+          bob peek 0x10000000 8\nalice close 1\nbob exit\nalice quota\n",
+        38,
+        b"alice: cap 1\nalice: OK\nalice: OK cap 2\nalice: at 0x10000000\nalice: at 0x10010000\n\
+          alice: OK ram 28672/53248 caps 4/6\nalice: ok\nalice: ok\nalice: OK 8192\nalice: OK 8192\n\
+          alice: ok\nalice: OK 8\nalice: OK 766572736520320a766572736520330a\n\
+          alice: OK ram 40960/53248 caps 5/6\nalice: ERR BAD_RANGE\nalice: ERR NOT_FOUND\nalice: ok\n\
+          alice: data 2e2e2e2e2e2e2e2e\nalice: OK 16\n\
+          alice: data 2e2e2e2e766572736520320a766572736520330a00000000\nalice: ERR BAD_RANGE\n\
+          alice: Invalid_cap\nbob: cap 1\nbob: OK cap 2\nbob: at 0x10000000\nbob: data 0000000000000000\n\
+          alice: OK\nalice: Page_fault\nalice: Page_fault\nalice: OK 766572736520310a\nalice: cap 2\n\
+          alice: at 0x10000000\nalice: data 0000000000000000\nalice: ram 8192/12288 caps 1/10\n\
+          bob: data 0000000000000000\nalice: ok\nbob: ok\nalice: ram 8192/65536 caps 1/16\n",
     )
 }

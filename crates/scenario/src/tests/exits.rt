@@ -147,7 +147,7 @@ impl Random {
 fn some_call(alloc: Global, random: &mut Random) -> Result<String, AllocError> {
     let selector = random.next() % 5;
     let size = SIZES[random.next() % 4];
-    match random.next() % 16 {
+    match random.next() % 22 {
         0 | 1 => format!(in alloc; "alloc {size}"),
         2 => format!(in alloc; "free {selector}"),
         3 => format!(in alloc; "attach {selector}"),
@@ -156,12 +156,18 @@ fn some_call(alloc: Global, random: &mut Random) -> Result<String, AllocError> {
         6 => String::from_str(alloc, "capalloc"),
         7 => format!(in alloc; "capfree {selector}"),
         8 => String::from_str(alloc, "open LOG ram_quota=4K, cap_quota=2"),
-        9 => String::from_str(alloc, "open File_system ram_quota=12K, cap_quota=4"),
+        9 => String::from_str(alloc, "open File_system ram_quota=32K, cap_quota=6"),
         10 => format!(in alloc; "call {selector} CREATE a"),
         11 => format!(in alloc; "call {selector} WRITE a 0 6869"),
         12 => format!(in alloc; "call {selector} WRITE 68690a"),
         13 => format!(in alloc; "upgrade {selector} ram_quota=4K"),
         14 => format!(in alloc; "close {selector}"),
+        15 => format!(in alloc; "call {selector} BUFFER {size}"),
+        16 => format!(in alloc; "call {selector} PUT a 0 0 {size}"),
+        17 => format!(in alloc; "call {selector} GET a 0 0 {size}"),
+        18 => format!(in alloc; "call {selector} UNBUFFER"),
+        19 => String::from_str(alloc, "poke 0x10000000 6162"),
+        20 => String::from_str(alloc, "peek 0x10000000 4"),
         _ => String::from_str(alloc, "quota"),
     }
 }
