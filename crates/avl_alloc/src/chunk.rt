@@ -1,11 +1,11 @@
 //! The blocks of a chunk, by their headers.
-ghost use Rattle.std.specs.Prelude.{◌≡◌, ℕ, ◌+◌, ◌*◌, ◌<◌, ◌≤◌, ◌==◌, if◌then◌else◌, List, length};
+ghost use Rattle.std.specs.Prelude.{◌≡◌, ℕ, ◌+◌, ◌*◌, ◌%◌, ◌<◌, ◌≤◌, ◌==◌, if◌then◌else◌, List, length};
 ghost use Rattle.own_model.specs.Heap.{Block as ModelBlock, bytes_in};
 ghost use Rattle.avl_alloc.specs.Words.{IsNode, place_at, with_word};
 ghost use Rattle.avl_alloc.specs.Layout.{Laid, IsRoom};
 ghost use Rattle.avl_alloc.specs.Walk.{block_over};
 
-use super::memory::{WordMemory, load, store};
+use super::memory::{WordMemory, load, load_of, store};
 
 /// The bytes of a header. The payload of a block is what follows.
 pub const HEADER: u64 = 16;
@@ -66,7 +66,7 @@ pub fn hole_at<M: WordMemory>(memory: &mut M, place: u64) -> u64
     ensures rest { M.rest memory.new ≡ M.rest memory.old }
     ensures loads { M.loads memory.new ≤ M.loads memory.old + 2 }
 {
-    if load(memory, place + STATE) == HOLE {
+    if load_of(memory, place, STATE) == HOLE {
         load(memory, place)
     } else {
         0
@@ -74,7 +74,8 @@ pub fn hole_at<M: WordMemory>(memory: &mut M, place: u64) -> u64
 }
 
 /// The block in which an offset of a chunk lies, found by walking the headers from the chunk's first byte. It loads by chunk
-/// and offset, not by place, so that where the chunk's words are is looked up once.
+/// and offset, not by place, so that where the chunk's words are is looked up once, and by an offset that is told to be whole,
+/// so that both words of a header are seen to lie in one page.
 pub fn walk<M: WordMemory>(memory: &mut M, chunk: usize, target: u64) -> Block
     requires { (blocks : List ModelBlock) × Laid (M.word memory.old) (place_at chunk 0) blocks ×
         IsRoom (M.bytes (M.rest memory.old)) (place_at chunk 0) (bytes_in blocks) ×
@@ -92,8 +93,9 @@ pub fn walk<M: WordMemory>(memory: &mut M, chunk: usize, target: u64) -> Block
     let mut offset = 0;
     let mut before = 0;
     'steps: loop {
-        let size = memory.load(chunk, offset);
-        let used = memory.load(chunk, offset + STATE) == USED;
+        let header = whole(offset);
+        let size = memory.load(chunk, header);
+        let used = memory.load(chunk, header + STATE) == USED;
         if target < offset + size {
             return Block {
                 offset,
@@ -105,4 +107,12 @@ pub fn walk<M: WordMemory>(memory: &mut M, chunk: usize, target: u64) -> Block
         before = if used { 0 } else { size };
         offset += size;
     }
+}
+
+/// The same offset. Where it is taken in, the compiler knows that its lowest bits are 0.
+fn whole(offset: u64) -> u64
+    requires { offset % HEADER ≡ 0 }
+    ensures { result ≡ offset }
+{
+    offset / HEADER * HEADER
 }

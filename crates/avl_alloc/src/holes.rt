@@ -2,7 +2,7 @@
 ghost use Rattle.std.specs.Prelude.{◌≡◌, nat_lt};
 ghost use Rattle.avl_alloc.specs.Holes.{key};
 
-use super::memory::{WordMemory, load, store};
+use super::memory::{WordMemory, load, load_of, store};
 use avl_tree::{Links, Nodes, Step};
 use std::marker::PhantomData;
 
@@ -71,23 +71,23 @@ impl<M: WordMemory> Nodes for Holes<M> {
     fn step(&self, memory: &mut M, key: HoleKey, node: u64) -> Step {
         let size = load(memory, node);
         if comes_before(key.size, key.place, size, node) {
-            Step::Left(load(memory, node + LEFT))
+            Step::Left(load_of(memory, node, LEFT))
         } else if comes_before(size, node, key.size, key.place) {
-            Step::Right(load(memory, node + RIGHT))
+            Step::Right(load_of(memory, node, RIGHT))
         } else {
             Step::Here
         }
     }
 
     fn links(&self, memory: &mut M, node: u64) -> Links {
-        let left = load(memory, node + LEFT);
-        let right = load(memory, node + RIGHT);
-        let high = load(memory, node + HIGH);
+        let left = load_of(memory, node, LEFT);
+        let right = load_of(memory, node, RIGHT);
+        let high = load_of(memory, node, HIGH);
         Links { left, right, high }
     }
 
     fn high(&self, memory: &mut M, node: u64) -> u64 {
-        load(memory, node + HIGH)
+        load_of(memory, node, HIGH)
     }
 
     fn set_links(&self, memory: &mut M, node: u64, links: Links) {

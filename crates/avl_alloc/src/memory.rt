@@ -1,6 +1,6 @@
 //! The words under the heap, named by their places.
-ghost use Rattle.std.specs.Prelude.{◌≡◌, ℕ, ◌+◌, ◌<◌};
-ghost use Rattle.avl_alloc.specs.Words.{IsWord, IsPlace, place_at, with_word};
+ghost use Rattle.std.specs.Prelude.{◌≡◌, ℕ, ◌+◌, ◌%◌, ◌<◌, ◌≤◌};
+ghost use Rattle.avl_alloc.specs.Words.{IsWord, IsPlace, IsNode, place_at, with_word};
 
 /// Words of eight bytes at the multiples of 8 of numbered chunks.
 ///
@@ -57,6 +57,20 @@ pub fn load<M: WordMemory>(memory: &mut M, place: u64) -> u64
     ensures loads { M.loads memory.new ≡ M.loads memory.old + 1 }
 {
     memory.load((place / SPAN - 1) as usize, place % SPAN)
+}
+
+/// The word of a hole's node so many bytes behind its place. Where it is taken in, the compiler sees by this form that all
+/// words of a node lie in one chunk, and those of the same 16 bytes in one page.
+pub fn load_of<M: WordMemory>(memory: &mut M, node: u64, field: u64) -> u64
+    requires node { IsNode (M.bytes (M.rest memory.old)) node }
+    requires aligned { field % 8 ≡ 0 }
+    requires within { field ≤ 40 }
+    ensures value { result ≡ M.word memory.old (node + field) }
+    ensures words { M.word memory.new ≡ M.word memory.old }
+    ensures rest { M.rest memory.new ≡ M.rest memory.old }
+    ensures loads { M.loads memory.new ≡ M.loads memory.old + 1 }
+{
+    memory.load((node / SPAN - 1) as usize, node % SPAN / 16 * 16 + field)
 }
 
 /// Puts a word at a place.

@@ -17,7 +17,7 @@ load-size-requires g c =
     let q = c.requires in
     let at = inv.2 q.0 q.1 q.3 in
     let read = ahead-read (g.M.WordMemory.word c.args.memory.now) (place_at c.args.chunk 0) c.steps.offset c.steps.before c.args.target q.0 _ _ q.3 (g.M.WordMemory.bytes (g.M.WordMemory.rest c.args.memory.now)) q.2 at.0 at.1 in
-    rw inv.1 (subst (λ k. IsWord (g.M.WordMemory.bytes (g.M.WordMemory.rest c.args.memory.now)) k c.steps.offset) (of_chunk c.args.chunk) read.size_word)
+    rw (c.whole-header.ensures, inv.1) (subst (λ k. IsWord (g.M.WordMemory.bytes (g.M.WordMemory.rest c.args.memory.now)) k c.steps.offset) (of_chunk c.args.chunk) read.size_word)
 
 pub load-used-requires : goal.load-used-requires
 load-used-requires g c =
@@ -25,7 +25,15 @@ load-used-requires g c =
     let q = c.requires in
     let at = inv.2 q.0 q.1 q.3 in
     let read = ahead-read (g.M.WordMemory.word c.args.memory.now) (place_at c.args.chunk 0) c.steps.offset c.steps.before c.args.target q.0 _ _ q.3 (g.M.WordMemory.bytes (g.M.WordMemory.rest c.args.memory.now)) q.2 at.0 at.1 in
-    rw (c.load-size.ensures.rest, inv.1) (subst (λ k. IsWord (g.M.WordMemory.bytes (g.M.WordMemory.rest c.args.memory.now)) k (c.steps.offset + 8)) (of_chunk c.args.chunk) read.state_word)
+    rw (c.whole-header.ensures, c.load-size.ensures.rest, inv.1) (subst (λ k. IsWord (g.M.WordMemory.bytes (g.M.WordMemory.rest c.args.memory.now)) k (c.steps.offset + 8)) (of_chunk c.args.chunk) read.state_word)
+
+pub overflow_add-header : goal.overflow_add-header
+overflow_add-header g c =
+    let inv = c.steps.invariant in
+    let q = c.requires in
+    let at = inv.2 q.0 q.1 q.3 in
+    let read = ahead-read (g.M.WordMemory.word c.args.memory.now) (place_at c.args.chunk 0) c.steps.offset c.steps.before c.args.target q.0 _ _ q.3 (g.M.WordMemory.bytes (g.M.WordMemory.rest c.args.memory.now)) q.2 at.0 at.1 in
+    omega (arith, read.short, c.whole-header.ensures)
 
 pub overflow_add-offset : goal.overflow_add-offset
 overflow_add-offset g c =
@@ -33,15 +41,7 @@ overflow_add-offset g c =
     let q = c.requires in
     let at = inv.2 q.0 q.1 q.3 in
     let read = ahead-read (g.M.WordMemory.word c.args.memory.now) (place_at c.args.chunk 0) c.steps.offset c.steps.before c.args.target q.0 _ _ q.3 (g.M.WordMemory.bytes (g.M.WordMemory.rest c.args.memory.now)) q.2 at.0 at.1 in
-    omega (arith, read.short)
-
-pub overflow_add-offset-in-steps : goal.overflow_add-offset-in-steps
-overflow_add-offset-in-steps g c =
-    let inv = c.steps.invariant in
-    let q = c.requires in
-    let at = inv.2 q.0 q.1 q.3 in
-    let read = ahead-read (g.M.WordMemory.word c.args.memory.now) (place_at c.args.chunk 0) c.steps.offset c.steps.before c.args.target q.0 _ _ q.3 (g.M.WordMemory.bytes (g.M.WordMemory.rest c.args.memory.now)) q.2 at.0 at.1 in
-    let size : c.load-size.result ≡ g.M.WordMemory.word c.args.memory.now (place_at c.args.chunk 0 + c.steps.offset) = c.load-size.ensures.value ∙ ap (g.M.WordMemory.word c.steps.memory) (at_start c.args.chunk c.steps.offset) ∙ ap (λ w. w (place_at c.args.chunk 0 + c.steps.offset)) inv.0 in
+    let size : c.load-size.result ≡ g.M.WordMemory.word c.args.memory.now (place_at c.args.chunk 0 + c.steps.offset) = c.load-size.ensures.value ∙ ap (λ o. g.M.WordMemory.word c.steps.memory (place_at c.args.chunk o)) c.whole-header.ensures ∙ ap (g.M.WordMemory.word c.steps.memory) (at_start c.args.chunk c.steps.offset) ∙ ap (λ w. w (place_at c.args.chunk 0 + c.steps.offset)) inv.0 in
     let short = read.short in
     omega arith
 
@@ -56,16 +56,16 @@ returns-then-target-offset-clause-reached g c =
 pub returns-then-target-offset-clause-found : goal.returns-then-target-offset-clause-found
 returns-then-target-offset-clause-found g c blocks laid within =
     let inv = c.steps.invariant in
-    let size : c.load-size.result ≡ g.M.WordMemory.word c.args.memory.now (place_at c.args.chunk 0 + c.steps.offset) = c.load-size.ensures.value ∙ ap (g.M.WordMemory.word c.steps.memory) (at_start c.args.chunk c.steps.offset) ∙ ap (λ w. w (place_at c.args.chunk 0 + c.steps.offset)) inv.0 in
-    let state : eqb c.load-used.result 1 ≡ eqb (g.M.WordMemory.word c.args.memory.now (place_at c.args.chunk 0 + c.steps.offset + 8)) 1 = ap (λ v. eqb v 1) (c.load-used.ensures.value ∙ ap (g.M.WordMemory.word c.load-size.new.self) (at_start_more c.args.chunk c.steps.offset 8) ∙ ap (λ w. w (place_at c.args.chunk 0 + c.steps.offset + 8)) (c.load-size.ensures.words ∙ inv.0)) in
+    let size : c.load-size.result ≡ g.M.WordMemory.word c.args.memory.now (place_at c.args.chunk 0 + c.steps.offset) = c.load-size.ensures.value ∙ ap (λ o. g.M.WordMemory.word c.steps.memory (place_at c.args.chunk o)) c.whole-header.ensures ∙ ap (g.M.WordMemory.word c.steps.memory) (at_start c.args.chunk c.steps.offset) ∙ ap (λ w. w (place_at c.args.chunk 0 + c.steps.offset)) inv.0 in
+    let state : eqb c.load-used.result 1 ≡ eqb (g.M.WordMemory.word c.args.memory.now (place_at c.args.chunk 0 + c.steps.offset + 8)) 1 = ap (λ v. eqb v 1) (c.load-used.ensures.value ∙ ap (λ o. g.M.WordMemory.word c.load-size.new.self (place_at c.args.chunk (o + 8))) c.whole-header.ensures ∙ ap (g.M.WordMemory.word c.load-size.new.self) (at_start_more c.args.chunk c.steps.offset 8) ∙ ap (λ w. w (place_at c.args.chunk 0 + c.steps.offset + 8)) (c.load-size.ensures.words ∙ inv.0)) in
     let at = inv.2 blocks laid within in
     ahead-here (g.M.WordMemory.word c.args.memory.now) (place_at c.args.chunk 0) c.steps.offset c.steps.before c.args.target blocks _ _ within c.load-size.result _ size state c.if-target-offset.true at.0 at.1
 
 pub returns-then-target-offset-clause-loads : goal.returns-then-target-offset-clause-loads
 returns-then-target-offset-clause-loads g c blocks laid within =
     let inv = c.steps.invariant in
-    let size : c.load-size.result ≡ g.M.WordMemory.word c.args.memory.now (place_at c.args.chunk 0 + c.steps.offset) = c.load-size.ensures.value ∙ ap (g.M.WordMemory.word c.steps.memory) (at_start c.args.chunk c.steps.offset) ∙ ap (λ w. w (place_at c.args.chunk 0 + c.steps.offset)) inv.0 in
-    let state : eqb c.load-used.result 1 ≡ eqb (g.M.WordMemory.word c.args.memory.now (place_at c.args.chunk 0 + c.steps.offset + 8)) 1 = ap (λ v. eqb v 1) (c.load-used.ensures.value ∙ ap (g.M.WordMemory.word c.load-size.new.self) (at_start_more c.args.chunk c.steps.offset 8) ∙ ap (λ w. w (place_at c.args.chunk 0 + c.steps.offset + 8)) (c.load-size.ensures.words ∙ inv.0)) in
+    let size : c.load-size.result ≡ g.M.WordMemory.word c.args.memory.now (place_at c.args.chunk 0 + c.steps.offset) = c.load-size.ensures.value ∙ ap (λ o. g.M.WordMemory.word c.steps.memory (place_at c.args.chunk o)) c.whole-header.ensures ∙ ap (g.M.WordMemory.word c.steps.memory) (at_start c.args.chunk c.steps.offset) ∙ ap (λ w. w (place_at c.args.chunk 0 + c.steps.offset)) inv.0 in
+    let state : eqb c.load-used.result 1 ≡ eqb (g.M.WordMemory.word c.args.memory.now (place_at c.args.chunk 0 + c.steps.offset + 8)) 1 = ap (λ v. eqb v 1) (c.load-used.ensures.value ∙ ap (λ o. g.M.WordMemory.word c.load-size.new.self (place_at c.args.chunk (o + 8))) c.whole-header.ensures ∙ ap (g.M.WordMemory.word c.load-size.new.self) (at_start_more c.args.chunk c.steps.offset 8) ∙ ap (λ w. w (place_at c.args.chunk 0 + c.steps.offset + 8)) (c.load-size.ensures.words ∙ inv.0)) in
     let at = inv.2 blocks laid within in
     let few = ahead-some (g.M.WordMemory.word c.args.memory.now) (place_at c.args.chunk 0) c.steps.offset c.steps.before c.args.target blocks _ _ within at.0 at.1 in
     omega (arith, few, c.load-used.ensures.loads, c.load-size.ensures.loads)
@@ -77,7 +77,7 @@ steps-smaller g c =
     let q = c.requires in
     let at = inv.2 q.0 q.1 q.3 in
     let read = ahead-read (g.M.WordMemory.word c.args.memory.now) (place_at c.args.chunk 0) c.steps.offset c.steps.before c.args.target q.0 _ _ q.3 (g.M.WordMemory.bytes (g.M.WordMemory.rest c.args.memory.now)) q.2 at.0 at.1 in
-    let size : c.load-size.result ≡ g.M.WordMemory.word c.args.memory.now (place_at c.args.chunk 0 + c.steps.offset) = c.load-size.ensures.value ∙ ap (g.M.WordMemory.word c.steps.memory) (at_start c.args.chunk c.steps.offset) ∙ ap (λ w. w (place_at c.args.chunk 0 + c.steps.offset)) inv.0 in
+    let size : c.load-size.result ≡ g.M.WordMemory.word c.args.memory.now (place_at c.args.chunk 0 + c.steps.offset) = c.load-size.ensures.value ∙ ap (λ o. g.M.WordMemory.word c.steps.memory (place_at c.args.chunk o)) c.whole-header.ensures ∙ ap (g.M.WordMemory.word c.steps.memory) (at_start c.args.chunk c.steps.offset) ∙ ap (λ w. w (place_at c.args.chunk 0 + c.steps.offset)) inv.0 in
     let some = read.some in
     let reached = at.1.reached in
     let on = c.if-target-offset.false in
@@ -86,8 +86,8 @@ steps-smaller g c =
 pub steps-preserved : goal.steps-preserved
 steps-preserved g c =
     let inv = c.steps.invariant in
-    let size : c.load-size.result ≡ g.M.WordMemory.word c.args.memory.now (place_at c.args.chunk 0 + c.steps.offset) = c.load-size.ensures.value ∙ ap (g.M.WordMemory.word c.steps.memory) (at_start c.args.chunk c.steps.offset) ∙ ap (λ w. w (place_at c.args.chunk 0 + c.steps.offset)) inv.0 in
-    let state : eqb c.load-used.result 1 ≡ eqb (g.M.WordMemory.word c.args.memory.now (place_at c.args.chunk 0 + c.steps.offset + 8)) 1 = ap (λ v. eqb v 1) (c.load-used.ensures.value ∙ ap (g.M.WordMemory.word c.load-size.new.self) (at_start_more c.args.chunk c.steps.offset 8) ∙ ap (λ w. w (place_at c.args.chunk 0 + c.steps.offset + 8)) (c.load-size.ensures.words ∙ inv.0)) in
+    let size : c.load-size.result ≡ g.M.WordMemory.word c.args.memory.now (place_at c.args.chunk 0 + c.steps.offset) = c.load-size.ensures.value ∙ ap (λ o. g.M.WordMemory.word c.steps.memory (place_at c.args.chunk o)) c.whole-header.ensures ∙ ap (g.M.WordMemory.word c.steps.memory) (at_start c.args.chunk c.steps.offset) ∙ ap (λ w. w (place_at c.args.chunk 0 + c.steps.offset)) inv.0 in
+    let state : eqb c.load-used.result 1 ≡ eqb (g.M.WordMemory.word c.args.memory.now (place_at c.args.chunk 0 + c.steps.offset + 8)) 1 = ap (λ v. eqb v 1) (c.load-used.ensures.value ∙ ap (λ o. g.M.WordMemory.word c.load-size.new.self (place_at c.args.chunk (o + 8))) c.whole-header.ensures ∙ ap (g.M.WordMemory.word c.load-size.new.self) (at_start_more c.args.chunk c.steps.offset 8) ∙ ap (λ w. w (place_at c.args.chunk 0 + c.steps.offset + 8)) (c.load-size.ensures.words ∙ inv.0)) in
     let few : g.M.WordMemory.loads c.load-used.new.self ≡ g.M.WordMemory.loads c.steps.memory + 2 = omega (arith, c.load-used.ensures.loads, c.load-size.ensures.loads) in
     let behind : (if eqb c.load-used.result 1 then 0 else c.load-size.result) ≡ c.if-used.before =
     elim c.if-used.branch [
