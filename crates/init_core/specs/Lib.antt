@@ -6,3 +6,4 @@ pub mod StartText
 pub mod View
 pub mod Range
 pub mod Boot
+pub mod Misread

@@ -1,8 +1,9 @@
 //! Entries of a start list.
 ghost use Rattle.std.specs.Prelude.{◌≡◌, ◌≢◌, ◌≤◌, [], length, map, vec_len, IfOk, IfErr};
-ghost use Rattle.std.specs.Option.{option_map};
+ghost use Rattle.std.specs.Option.{option_copied, option_map};
 ghost use Rattle.std.specs.Result.{result_map_both};
 ghost use Rattle.own_model.specs.Listed.{offers, serves};
+ghost use Rattle.init_core.specs.Misread.{first_misread, service_name};
 ghost use Rattle.serde_json.specs.View.{view};
 ghost use Rattle.init_core.specs.Entries.{binary_of, binary_told, entries_after, entry_of, is_service_of, is_taken, new_name, no_binary, own_route, provided, provided_in};
 ghost use Rattle.init_core.specs.Mark.{mark_of};
@@ -43,6 +44,28 @@ impl Binary {
             Ok(Binary::Files)
         } else {
             Err(no_binary(text))
+        }
+    }
+
+    /// The service that it can provide, if it can provide one.
+    pub fn service(self) -> Option<&'static str>
+        ensures { option_copied result ≡ service_name (model_binary self) }
+    {
+        match self {
+            Binary::Script => None,
+            Binary::Log => Some("LOG"),
+            Binary::Files => Some("File_system"),
+        }
+    }
+
+    /// Its name, as a start list has it.
+    pub fn as_str(self) -> &'static str
+        ensures { binary_of result.now ≡ Ok (model_binary self) }
+    {
+        match self {
+            Binary::Script => "script",
+            Binary::Log => "log",
+            Binary::Files => "files",
         }
     }
 
@@ -133,6 +156,13 @@ impl Entry {
         self.name.as_bytes()
     }
 
+    /// The component's name once more, as a value of its own.
+    pub fn to_name(&self) -> Name
+        ensures { result ≡ self.now.name }
+    {
+        self.name.copy()
+    }
+
     /// The mark of its name.
     pub(crate) fn mark(&self) -> Mark
         ensures { result.0 ≡ mark_of self.now.name }
@@ -176,6 +206,13 @@ impl Entry {
             Some(rules) => Some(rules.as_slice()),
             None => None,
         }
+    }
+
+    /// Whether it provides the service of its binary.
+    pub fn provides(&self) -> bool
+        ensures { result ≡ self.now.provides }
+    {
+        self.provides
     }
 
     /// Whether it provides a service.
@@ -279,6 +316,22 @@ fn read_route(alloc: Global, member: Option<&Value>) -> Result<Option<Vec<Rule>>
         },
         None => Ok(None),
     }
+}
+
+/// The place of the first value that is no entry after those before it, if there is one.
+pub(crate) fn first_misread(alloc: Global, values: &[Value]) -> Result<Option<usize>, BootFault>
+    ensures place { IfOk result (λ place. place ≡ first_misread 0 [] (map view values.now)) }
+    ensures memory { IfErr result (λ fault. fault ≡ NoMemory) }
+{
+    let mut entries = Vec::new(alloc);
+    for (place, value) in values.iter().enumerate() {
+        match Entry::read(alloc, entries.as_slice(), value) {
+            Ok(entry) => entries.push(entry)?,
+            Err(BootFault::NoMemory) => return Err(BootFault::NoMemory),
+            Err(_) => return Ok(Some(place)),
+        }
+    }
+    Ok(None)
 }
 
 /// The entries that a list of values is.

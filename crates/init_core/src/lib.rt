@@ -17,10 +17,10 @@ mod tests;
 
 pub use entry::{Binary, Entry};
 pub use fault::{BootFault, Field};
-pub use list::StartList;
+pub use list::{StartList, entry_at_fault};
 pub use machine_a::{MACHINE_A, machine_a_is_read};
 pub use name::Name;
-pub use routing::route;
+pub use routing::{providers, route, target_child};
 pub use rule::{Rule, Target};
 pub use startup::boot;
 pub use table::RouteTable;

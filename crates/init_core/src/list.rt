@@ -1,5 +1,6 @@
 //! Start lists, read of JSON.
-ghost use Rattle.std.specs.Prelude.{◌≡◌, ◌≢◌, ◌<◌, ◌≤◌, length, IfOk, IfErr, Some, None};
+ghost use Rattle.std.specs.Prelude.{◌≡◌, ◌≢◌, ◌<◌, ◌≤◌, length, map, IfOk, IfErr, Ok, Some, None};
+ghost use Rattle.init_core.specs.Misread.{entry_at_fault, first_misread, starts_of};
 ghost use Rattle.std.specs.Option.{option_map};
 ghost use Rattle.std.specs.List.{position, slice_get};
 ghost use Rattle.std.specs.Result.{result_map_both};
@@ -11,7 +12,7 @@ ghost use Rattle.own_model.specs.Transcript.{entry_at};
 ghost use Rattle.init_core.specs.StartText.{default_route, json_in, list_in, list_of, machine_of};
 ghost use Rattle.init_core.specs.declared.fault.BootFault.TheVariants.{NoMemory, BadConfig, BadJson};
 
-use crate::entry::{Entry, read_entries};
+use crate::entry::{Entry, first_misread, read_entries};
 use crate::fault::{BootFault, Field};
 use crate::member::{short_list, whole_at};
 use crate::name::Mark;
@@ -69,8 +70,8 @@ impl StartList {
         StartList::of_value(alloc, &value)
     }
 
-    /// The start list that a value is, or why it is none.
-    fn of_value(alloc: Global, value: &Value) -> Result<StartList, BootFault>
+    /// The start list that a value is, or why it is none. Wherever the host has no room, that is told instead.
+    pub fn of_value(alloc: Global, value: &Value) -> Result<StartList, BootFault>
         ensures ok { IfOk result (λ list. list_of (view value.now) ≡ Ok list) }
         ensures err { IfErr result
             (λ fault. fault ≢ NoMemory → list_of (view value.now) ≡ Err fault) }
@@ -151,6 +152,13 @@ impl StartList {
         place_of(self.entries.as_slice(), name)
     }
 
+    /// The rules for those without a route of their own.
+    pub fn default_route(&self) -> &[Rule]
+        ensures { result.now ≡ self.now.default_route }
+    {
+        self.default_route.as_slice()
+    }
+
     /// The rules for a client by its number: its own route, or else the default route.
     pub fn rules_for(&self, client: usize) -> &[Rule]
         requires { client < length self.now.entries }
@@ -187,6 +195,35 @@ fn read_json(alloc: Global, text: &[u8]) -> Result<Value, BootFault>
             Err(BootFault::BadJson)
         },
     }
+}
+
+/// The place of the entry whose fault is told of a value that is no start list. It is `None` where it isn't an entry's.
+/// `NoMemory` is told where the host has no room.
+pub fn entry_at_fault(alloc: Global, value: &Value) -> Result<Option<usize>, BootFault>
+    ensures place { IfOk result (λ place. place ≡ entry_at_fault (view value.now)) }
+    ensures memory { IfErr result (λ fault. fault ≡ NoMemory) }
+{
+    match starts_of(alloc, value) {
+        Ok(starts) => first_misread(alloc, starts.as_slice()),
+        Err(BootFault::NoMemory) => Err(BootFault::NoMemory),
+        Err(_) => Ok(None),
+    }
+}
+
+/// The values of a start list's entries, where nothing before them has a fault.
+fn starts_of(alloc: Global, value: &Value) -> Result<&Vec<Value>, BootFault>
+    ensures ok { IfOk result (λ starts. starts_of (view value.now) ≡ Ok (map view starts.now.items)) }
+    ensures err { IfErr result
+        (λ fault. fault ≢ NoMemory → starts_of (view value.now) ≡ Err fault) }
+{
+    let machine = machine_of(value)?;
+    whole_at(machine, "pages", SMALLEST, LARGEST).ok_or(BootFault::BadConfig(Field::Pages))?;
+    whole_at(machine, "caps", SMALLEST, LARGEST).ok_or(BootFault::BadConfig(Field::Caps))?;
+    read_default_route(alloc, value.get("default-route"))?;
+    let start = value
+        .get("start")
+        .ok_or(BootFault::BadConfig(Field::Start))?;
+    short_list(start).ok_or(BootFault::BadConfig(Field::Start))
 }
 
 /// The machine of a start list.

@@ -72,7 +72,7 @@ impl Name {
     }
 
     /// The same name once more.
-    pub(crate) fn copy(&self) -> Name
+    pub fn copy(&self) -> Name
         ensures { result ≡ self.now }
     {
         Name { text: self.text }

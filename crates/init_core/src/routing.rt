@@ -28,6 +28,13 @@ fn child_by(entries: &[Entry], rules: &[Rule], service: &[u8], label: &[u8]) -> 
     None
 }
 
+/// The number of the child that a target leads to for a service, if it leads to one.
+pub fn target_child(list: &StartList, target: &Target, service: &[u8]) -> Option<usize>
+    ensures { result ≡ child_at list.now.entries (model_target target.now) service.now }
+{
+    child_at(list.entries(), target, service)
+}
+
 /// The child that a target leads to for a service.
 fn child_at(entries: &[Entry], target: &Target, service: &[u8]) -> Option<usize>
     ensures { result ≡ child_at entries.now (model_target target.now) service.now }
@@ -60,6 +67,13 @@ fn only_provider(entries: &[Entry], service: &[u8]) -> Option<usize>
 }
 
 /// How many children provide a service.
+pub fn providers(list: &StartList, service: &[u8]) -> usize
+    ensures { result ≡ count_by (offers service.now) list.now.entries }
+{
+    provider_count(list.entries(), service)
+}
+
+/// The same of entries.
 fn provider_count(entries: &[Entry], service: &[u8]) -> usize
     ensures { result ≡ count_by (offers service.now) entries.now }
 {

@@ -78,11 +78,52 @@ impl Rule {
             && ends_with(&self.label_suffix, label)
     }
 
+    /// The name of the service that it asks for, or none where it asks for any.
+    pub fn service(&self) -> Option<&Name>
+        ensures { option_copied result ≡ self.now.service }
+    {
+        match &self.service {
+            Some(service) => Some(service),
+            None => None,
+        }
+    }
+
+    /// The label that it asks for, if it asks for one.
+    pub fn label(&self) -> Option<&str>
+        ensures { option_copied result ≡ self.now.label }
+    {
+        text_of(&self.label)
+    }
+
+    /// How a label has to begin, if that is asked.
+    pub fn label_prefix(&self) -> Option<&str>
+        ensures { option_copied result ≡ self.now.label_prefix }
+    {
+        text_of(&self.label_prefix)
+    }
+
+    /// How a label has to end, if that is asked.
+    pub fn label_suffix(&self) -> Option<&str>
+        ensures { option_copied result ≡ self.now.label_suffix }
+    {
+        text_of(&self.label_suffix)
+    }
+
     /// Where it leads.
     pub fn target(&self) -> &Target
         ensures { model_target result.now ≡ self.now.target }
     {
         &self.target
+    }
+}
+
+/// The text, if there is one.
+fn text_of(text: &Option<String>) -> Option<&str>
+    ensures { option_copied result ≡ option_map string_bytes text.now }
+{
+    match text {
+        Some(text) => Some(text.as_str()),
+        None => None,
     }
 }
 
