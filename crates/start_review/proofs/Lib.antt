@@ -1,0 +1,2 @@
+mod HidingLemmas
+mod LeftLemmas

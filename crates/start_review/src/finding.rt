@@ -1,0 +1,113 @@
+//! What a start list says that its writer can hardly have meant.
+use crate::part::Part;
+use crate::quoted::Quoted;
+use init_core::Name;
+use std::fmt;
+
+/// Something that a start list says, and where.
+#[derive(Debug, Drop)]
+pub struct Finding {
+    /// The part of the list.
+    pub part: Part,
+    /// What is to be told of it.
+    pub remark: Remark,
+}
+
+impl fmt::Display for Finding {
+    fn fmt<W: fmt::Write>(&self, f: &mut fmt::Formatter<W>) -> fmt::Result {
+        write!(f, "{}: {}", self.part, self.remark)
+    }
+}
+
+/// What is to be told of a part of a start list.
+#[derive(Debug, Drop)]
+pub enum Remark {
+    /// Nothing reads a member; the nearest that is read, if one is near.
+    Unread(String, Option<&'static str>),
+    /// No entry has the name of a rule's child; the nearest name, if one is near.
+    NoChild(Name, Option<Name>),
+    /// A rule's child, which doesn't provide a service that the rule is asked for.
+    NotProvided(Name, Name),
+    /// No entry provides the service that a rule leads to any child for.
+    NoProvider(Name),
+    /// Several entries provide the service that a rule leads to any child for.
+    SeveralProviders(Name),
+    /// An earlier rule of the same list, at this place, matches whatever the rule does.
+    Hidden(usize),
+    /// No script's route leads to the server.
+    Unreached,
+    /// A route leads to a server, but the RAM pays for no session.
+    LowRam(u64),
+    /// A route leads to a server, but the capabilities pay for no session.
+    LowCaps(u32),
+    /// The RAM isn't whole pages.
+    PartPages(u64),
+}
+
+impl fmt::Display for Remark {
+    fn fmt<W: fmt::Write>(&self, f: &mut fmt::Formatter<W>) -> fmt::Result {
+        match self {
+            Remark::Unread(member, near) => {
+                show_unread(f, member)?;
+                show_near(f, *near)
+            }
+            Remark::NoChild(child, near) => {
+                write!(f, "child: no entry has the name \"{child}\"")?;
+                show_near(f, text_of(near))
+            }
+            Remark::NotProvided(child, service) => {
+                write!(f, "child: \"{child}\" doesn't provide {service}")
+            }
+            Remark::NoProvider(service) => write!(f, "any-child: no entry provides {service}"),
+            Remark::SeveralProviders(service) => {
+                write!(
+                    f,
+                    "any-child: several entries provide {service}, so it is denied"
+                )
+            }
+            Remark::Hidden(rule) => {
+                write!(
+                    f,
+                    "hidden: rule [{rule}] of the same list matches whatever this one does"
+                )
+            }
+            Remark::Unreached => f.write_str("no script's route leads to this server"),
+            Remark::LowRam(ram) => write!(
+                f,
+                "quantum: {ram} bytes pay for no session, which takes at least 4096"
+            ),
+            Remark::LowCaps(caps) => write!(
+                f,
+                "caps: {caps} capabilities pay for no session, which takes at least 2"
+            ),
+            Remark::PartPages(ram) => {
+                write!(f, "quantum: {ram} bytes aren't whole pages of 4096 bytes")
+            }
+        }
+    }
+}
+
+// That nothing reads a member.
+fn show_unread<W: fmt::Write>(f: &mut fmt::Formatter<W>, member: &String) -> fmt::Result {
+    let member = Quoted {
+        text: member.as_str(),
+        in_graph: false,
+    };
+    write!(f, "{member}: nothing reads this member")
+}
+
+// What may have been meant, if something may.
+fn show_near<W: fmt::Write>(f: &mut fmt::Formatter<W>, near: Option<&str>) -> fmt::Result {
+    match near {
+        Some(near) => write!(f, "; did you mean \"{near}\"?"),
+        None => Ok(()),
+    }
+}
+
+// A name's text, if there is one.
+fn text_of(name: &Option<Name>) -> Option<&str> {
+    match name {
+        Some(name) => Some(name.as_str()),
+        None => None,
+    }
+}

@@ -1,0 +1,29 @@
+//! Start lists for people who write them: the place of a fault, what a list says that its writer can't have meant, and where
+//! the wishes of each script lead.
+#![tactic(auto)]
+
+mod fault;
+mod finding;
+mod findings;
+mod flaw;
+mod graph;
+mod hiding;
+mod left;
+mod members;
+mod part;
+mod quoted;
+mod review;
+#[cfg(test)]
+mod tests;
+mod tree;
+mod wishes;
+
+pub use fault::{Fault, Whereabouts};
+pub use finding::{Finding, Remark};
+pub use flaw::{Expected, Flaw, Sort};
+pub use graph::Graph;
+pub use hiding::hidden_rules_never_decide;
+pub use left::Lack;
+pub use part::Part;
+pub use review::Review;
+pub use tree::Tree;

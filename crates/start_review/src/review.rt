@@ -1,0 +1,126 @@
+//! A start list with the value that it was read of.
+ghost use Rattle.std.specs.Prelude.{◌≡◌, ◌≢◌, IfErr, IfOk, None, Ok, Some};
+ghost use Rattle.serde_json.specs.View.{view};
+ghost use Rattle.init_core.specs.Boot.{quota_fault};
+ghost use Rattle.init_core.specs.StartText.{json_in, list_in};
+ghost use Rattle.init_core.specs.declared.fault.BootFault.TheVariants.{BadJson, NoMemory};
+ghost use Rattle.start_review.specs.Places.{fault_of};
+
+use crate::fault::{Fault, Whereabouts};
+use crate::finding::Finding;
+use crate::findings::Subject;
+use crate::flaw::Flaw;
+use crate::graph::Graph;
+use crate::left::first_lack;
+use crate::tree::Tree;
+use init_core::{BootFault, Field, StartList};
+use serde_json::Value;
+use std::alloc::Global;
+
+/// The most bytes of a start list's text.
+const LONGEST_TEXT: usize = 65_536;
+
+/// A start list that boots, and what is to be told of it.
+#[derive(Debug, Drop)]
+pub struct Review {
+    list: StartList,
+    findings: Vec<Finding>,
+}
+
+impl Review {
+    /// What is to be told of the start list that a text is, or why it is none or doesn't boot. Wherever the host has no room,
+    /// that is told instead.
+    pub fn read(alloc: Global, text: &[u8]) -> Result<Review, Fault>
+        ensures list { IfOk result (λ review. list_in text.now ≡ Ok review.list) }
+        ensures boots { IfOk result (λ review. quota_fault review.list ≡ None) }
+        ensures fault { IfErr result
+            (λ fault. fault.fault ≢ NoMemory → fault_of text.now ≡ Some fault.fault) }
+    {
+        if text.len() > LONGEST_TEXT {
+            return Err(Fault {
+                fault: BootFault::BadConfig(Field::Size),
+                place: Whereabouts::Size(text.len()),
+            });
+        }
+        let value = read_json(alloc, text)?;
+        let list = match StartList::of_value(alloc, &value) {
+            Ok(list) => list,
+            Err(fault) => return Err(placed(alloc, &value, fault)),
+        };
+        if let Some(lack) = first_lack(&list) {
+            return Err(Fault {
+                fault: BootFault::QuotaExceeded(lack.name.copy()),
+                place: Whereabouts::Budget(lack),
+            });
+        }
+        let subject = Subject {
+            alloc,
+            list: &list,
+            value: &value,
+        };
+        let findings = subject.findings()?;
+        Ok(Review { list, findings })
+    }
+
+    /// The list.
+    pub fn list(&self) -> &StartList {
+        &self.list
+    }
+
+    /// What it says that its writer can hardly have meant, in the order of its parts.
+    pub fn findings(&self) -> &[Finding] {
+        self.findings.as_slice()
+    }
+
+    /// Its components, and where their wishes lead, as text.
+    pub fn tree(&self) -> Tree<'_> {
+        Tree::new(&self.list)
+    }
+
+    /// The same as a graph.
+    pub fn graph(&self) -> Graph<'_> {
+        Graph::new(&self.list)
+    }
+}
+
+// The value that a text is.
+fn read_json(alloc: Global, text: &[u8]) -> Result<Value, Fault>
+    ensures ok { IfOk result (λ value. json_in text.now ≡ Some (view value)) }
+    ensures refused { IfErr result (λ fault. fault.fault ≢ NoMemory → fault.fault ≡ BadJson) }
+    ensures none { IfErr result (λ fault. fault.fault ≢ NoMemory → json_in text.now ≡ None) }
+{
+    match Value::from_slice(alloc, text) {
+        Ok(value) => Ok(value),
+        Err(error) => if error.is_memory() {
+            Err(Fault {
+                fault: BootFault::NoMemory,
+                place: Whereabouts::Nowhere,
+            })
+        } else {
+            Err(Fault {
+                fault: BootFault::BadJson,
+                place: Whereabouts::Text(error.line(), error.column()),
+            })
+        },
+    }
+}
+
+// A fault of a value with its place.
+fn placed(alloc: Global, value: &Value, fault: BootFault) -> Fault
+    ensures { result.fault ≢ NoMemory → result.fault ≡ fault }
+{
+    match Flaw::of(alloc, value, &fault) {
+        Ok(Some(flaw)) => Fault {
+            fault,
+            place: Whereabouts::List(flaw),
+        },
+        Ok(None) => Fault {
+            fault,
+            place: Whereabouts::Nowhere,
+        },
+        Err(want) => Fault {
+            fault: want,
+            place: Whereabouts::Nowhere,
+        },
+    }
+}
