@@ -56,7 +56,8 @@ pub mod LentKeptLemmas
 pub mod ChargeLemmas
 pub mod DonationLemmas
 pub mod SessionSoundLemmas
-pub mod RouteLemmas
+pub mod ReserveLemmas
+mod RouteLemmas
 pub mod AloneLemmas
 pub mod LentAloneLemmas
 pub mod LentServedLemmas
