@@ -144,6 +144,9 @@ module _ (selector : ℕ) where
   of_session entry (Snew n) sum s h is = absurd (true≢false (sym is))
   of_session entry (Sdel address) sum s h is = absurd (true≢false (sym is))
   of_session entry Quota sum s h is = absurd (true≢false (sym is))
+  of_session entry Reserve sum s h is = absurd (true≢false (sym is))
+  of_session entry (Request text) sum s h is = absurd (true≢false (sym is))
+  of_session entry (Yield text) sum s h is = absurd (true≢false (sym is))
   of_session entry Exit sum s h is = absurd (true≢false (sym is))
 
   -- others count nothing

@@ -1,14 +1,11 @@
--- What calls leave of a reserve, and that yields and requests undo one another.
-use Rattle.std.proofs.lemmas.Bool.Decides.{nat_tests}
-use Rattle.std.proofs.Common.{rules, ◌≡◌, ℕ, ◌+◌, true, false, cond, List, refl, sym, ◌∙◌, true≢false, arith}
-use Rattle.std.specs.Prelude.{Option, Some, None}
+-- What calls leave of a reserve.
+use Rattle.std.proofs.Common.{rules, ◌≡◌, ◌+◌, cond, refl, sym, ◌∙◌, true≢false}
 use Rattle.own_model.proofs.ExitLemmas.{by_exit}
 use Rattle.own_model.proofs.StepLemmas.{KeptByEffects, KeptByReserve, KeptBySessions, covers}
 use Rattle.own_model.proofs.TableLemmas.{others_go_on, goes_on}
 use Rattle.own_model.specs.OwnState.{OwnState}
-use Rattle.own_model.specs.OwnStep.{own_step}
 use Rattle.own_model.specs.Reserve.{no_reserve}
-use Rattle.own_model.specs.ReserveLaws.{OthersKeepReserve, LimitsAreMoved, YieldsAreRequested, RequestsAreYielded}
+use Rattle.own_model.specs.ReserveLaws.{OthersKeepReserve, LimitsAreMoved}
 
 -- a state with the reserve of another
 abbrev SameReserve : OwnState → OwnState → Type 0

@@ -17,12 +17,14 @@ use Rattle.own_model.specs.BestFit.{Spot, block_size}
 use Rattle.own_model.specs.Call.{Call}
 use Rattle.own_model.specs.Call.Call.{Alloc, Free, Attach, AttachAt, Detach, Peek, Poke, Capalloc, Capfree, New, Del, Snew, Sdel, Quota, Reserve, Request, Yield, Open, Upgrade, CallSession, Close, Exit}
 use Rattle.own_model.specs.Amounts.{Amounts}
+use Rattle.own_model.specs.Donated.{donation_in}
 use Rattle.own_model.specs.Growth.{is_large, hole_for, least_growth, larger_growth}
 use Rattle.own_model.specs.HeapWindow.{largest_machine}
 use Rattle.own_model.specs.Laws.{RefusalsHaveReason}
 use Rattle.own_model.specs.OwnState.{OwnState}
 use Rattle.own_model.specs.OwnStep.{own_heap_gap, gone_state, own_run}
 use Rattle.own_model.specs.Shortage.{asked_of, NoHiddenShortage, asked, asked_with, bytes_and_cap, NoHiddenShortageAfterLines}
+use Rattle.own_model.specs.Reserve.{reserve_account}
 use Rattle.own_model.specs.Sliced.{sliced_size}
 use Rattle.own_model.specs.Sound.{IsSound}
 use Rattle.own_model.specs.StartList.{Entry, Kind, StartEntry, StartList, entries_of, start_state, start_states}
