@@ -57,7 +57,7 @@ pub mod ChargeLemmas
 pub mod DonationLemmas
 pub mod SessionSoundLemmas
 pub mod ReserveLemmas
-mod RouteLemmas
+pub mod RouteLemmas
 pub mod AloneLemmas
 pub mod LentAloneLemmas
 pub mod LentServedLemmas
