@@ -3,4 +3,4 @@ use Rattle.pd_core.proofs.QuotaLemmas.{no_reserve_of_role}
 use Rattle.pd_core.proofs.component.Component.reserve.Goals as goal
 
 pub returns : goal.returns
-returns c = λ sessions. no_reserve_of_role sessions c.args.memory.now c.args.self.now.role
+returns c = λ sessions store. no_reserve_of_role sessions store c.args.self.now.role
