@@ -13,7 +13,7 @@ use Rattle.own_model.proofs.StepLemmas.{KeptByEffects}
 use Rattle.own_model.proofs.TableLemmas.{others_go_on}
 use Rattle.own_model.specs.Account.{shortage}
 use Rattle.own_model.specs.Call.{Call, is_of_session, is_exit}
-use Rattle.own_model.specs.Call.Call.{Alloc, Free, Attach, AttachAt, Detach, Peek, Poke, Capalloc, Capfree, New, Del, Snew, Sdel, Quota, Open, Upgrade, CallSession, Close, Exit}
+use Rattle.own_model.specs.Call.Call.{Alloc, Free, Attach, AttachAt, Detach, Peek, Poke, Capalloc, Capfree, New, Del, Snew, Sdel, Quota, Reserve, Request, Yield, Open, Upgrade, CallSession, Close, Exit}
 use Rattle.own_model.specs.OwnState.{OwnState, Object, new_selector, object_with, buffer_of, bytes_of_buffer}
 use Rattle.own_model.specs.OwnState.Object.{Dataspace, RpcObject, OpenSession, Buffer}
 use Rattle.own_model.specs.OwnStep.{Outcome, own_step, unless, turned_away, opened_by, session_opened, upgraded_by, session_upgraded, session_called, session_closed, selectors_lent}
@@ -116,6 +116,9 @@ module _ (selector : ℕ) (session : Session) where
   stays_by entry (Snew n) s there is other = absurd (true≢false (sym is))
   stays_by entry (Sdel address) s there is other = absurd (true≢false (sym is))
   stays_by entry Quota s there is other = absurd (true≢false (sym is))
+  stays_by entry Reserve s there is other = absurd (true≢false (sym is))
+  stays_by entry (Request text) s there is other = absurd (true≢false (sym is))
+  stays_by entry (Yield text) s there is other = absurd (true≢false (sym is))
   stays_by entry Exit s there is other = absurd (true≢false (sym is))
 
   -- what is of no session goes on
@@ -126,7 +129,7 @@ module _ (selector : ℕ) (session : Session) where
   -- and so do all others
   stays : (of_session : Bool) (entry : Entry) (call : Call) (s : OwnState) → IsThere s → is_of_session call ≡ of_session → is_of selector call ≡ false → IsThere (own_step entry call s).next
   stays true entry call s there is other = stays_by entry call s there is other
-  stays false entry call s there is other = others_go_on IsThere s there (effects_leave s there) entry call is (no_exit call other)
+  stays false entry call s there is other = others_go_on IsThere s there (effects_leave s there) entry call (λ _. record { requests = λ _ _. there; yields = λ _ _. there }) is (no_exit call other)
 
 pub stand_alone : SessionsStandAlone
 stand_alone entry call s selector session there other = stays selector session (is_of_session call) entry call s there refl other

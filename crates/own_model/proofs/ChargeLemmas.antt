@@ -13,7 +13,7 @@ use Rattle.own_model.proofs.LentLemmas.{is_buffer, buffer_is, buffer_there, no_b
 use Rattle.own_model.proofs.NatMapLemmas.{get-empty, get-insert_same, get-insert_other, get-remove_same, before_remove, alike_insert, alike_remove}
 use Rattle.own_model.proofs.NewSelector.{new_selector_free}
 use Rattle.own_model.proofs.SessionLemmas.{named_there, each_lent}
-use Rattle.own_model.proofs.StepLemmas.{KeptByEffects, KeptBySessions}
+use Rattle.own_model.proofs.StepLemmas.{KeptByEffects, KeptByReserve, KeptBySessions}
 use Rattle.own_model.proofs.TableLemmas.{run_keeps}
 use Rattle.own_model.specs.BufferService.{session_request, buffer_ram, buffer_caps}
 use Rattle.own_model.specs.FileService.{IsCharged}
@@ -255,6 +255,9 @@ module _ (m : NatMap Object) (lent : AreLent m) (q : ℕ) (x : Session) (there :
       (lengths_alike p n (remove n q) (lent_closed m lent q x there old refl) (alike_remove (lent_length p) n q (ap (lent_length p) (sym still))))
       (others_charged old None refl h p z apart (before_remove n q p (OpenSession z) is))
 
+reserve_pays : (s : OwnState) → Pays s → KeptByReserve Pays s
+reserve_pays s h = record { requests = λ _ _. h; yields = λ _ _. h }
+
 sessions_pay : (s : OwnState) → Pays s → KeptBySessions Pays s
 sessions_pay s h =
     let m = s.selectors in
@@ -274,4 +277,4 @@ gone_pays = (gone_lent, λ q x is. absurd (none-some (OpenSession x) (sym (get-e
 
 -- calls leave each session using what it is charged for
 pub run_charges : RunKeepsCharges
-run_charges entry calls s lent h = (run_keeps Pays effects_pay sessions_pay gone_pays entry calls s (lent, h)).1
+run_charges entry calls s lent h = (run_keeps Pays effects_pay reserve_pays sessions_pay gone_pays entry calls s (lent, h)).1

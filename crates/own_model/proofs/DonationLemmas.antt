@@ -7,14 +7,15 @@ use Rattle.std.specs.Prelude.{Option, None}
 use Rattle.std.specs.FinMap.{get, insert}
 use Rattle.own_model.proofs.LimitLemmas.{serve_keeps}
 use Rattle.own_model.proofs.NatMapLemmas.{get-insert_same, get-insert_other, before_remove}
-use Rattle.own_model.proofs.SessionLemmas.{EachNamed, effects_named, each_lent, named_there, gone_named}
+use Rattle.own_model.proofs.SessionLemmas.{EachNamed, effects_named, reserve_named, each_lent, named_there, gone_named}
 use Rattle.own_model.proofs.TableLemmas.{others_keep}
 use Rattle.trade_base.specs.declared.refusal.Refusal.{Refusal}
 use Rattle.trade_base.specs.declared.refusal.Refusal.TheVariants.{InvalidSession}
 use Rattle.own_model.specs.Account.{Account, shortage, parted_with}
 use Rattle.own_model.specs.Call.{Call, is_of_session}
-use Rattle.own_model.specs.Call.Call.{Alloc, Free, Attach, AttachAt, Detach, Peek, Poke, Capalloc, Capfree, New, Del, Snew, Sdel, Quota, Open, Upgrade, CallSession, Close, Exit}
-use Rattle.own_model.specs.Donated.{Donation, donation_in, more_of, counted, donated_after}
+use Rattle.own_model.specs.Call.Call.{Alloc, Free, Attach, AttachAt, Detach, Peek, Poke, Capalloc, Capfree, New, Del, Snew, Sdel, Quota, Reserve, Request, Yield, Open, Upgrade, CallSession, Close, Exit}
+use Rattle.own_model.specs.Amounts.{Amounts, more_of}
+use Rattle.own_model.specs.Donated.{donation_in, counted, donated_after}
 use Rattle.own_model.specs.Donation.{raised}
 use Rattle.own_model.specs.OwnState.{OwnState, new_selector, session_named, buffer_of, bytes_of_buffer}
 use Rattle.own_model.specs.OwnState.Object.{OpenSession}
@@ -29,32 +30,32 @@ use Rattle.own_model.specs.StartList.{Entry}
 
 module _ (selector : ℕ) where
   -- a session that the selector names has these limits
-  abbrev HasLimits : Donation → ℕ → Session → Type 0
+  abbrev HasLimits : Amounts → ℕ → Session → Type 0
   HasLimits sum q x = q ≡ selector → (x.account.ram_limit ≡ sum.ram) × (x.account.caps_limit ≡ sum.caps)
 
   -- if it names one
-  abbrev AreCounted : Donation → OwnState → Type 0
+  abbrev AreCounted : Amounts → OwnState → Type 0
   AreCounted sum = EachNamed (HasLimits sum)
 
   -- what a call leaves is counted by what it is answered
-  abbrev IsCounted : Call → Donation → Outcome → Type 0
+  abbrev IsCounted : Call → Amounts → Outcome → Type 0
   IsCounted call sum o = AreCounted (counted selector call o.reply sum) o.next
 
   -- a session under a key counts so much, if the key is the selector
-  puts : (t : Bool) (k : ℕ) → (k == selector) ≡ t → (there sum : Donation) (s : OwnState) (account : Account) (x : Session) →
+  puts : (t : Bool) (k : ℕ) → (k == selector) ≡ t → (there sum : Amounts) (s : OwnState) (account : Account) (x : Session) →
       (k ≡ selector → (x.account.ram_limit ≡ there.ram) × (x.account.caps_limit ≡ there.caps)) → AreCounted sum s →
       AreCounted (cond t there sum) (record s { account = account; selectors = insert s.selectors k (OpenSession x) })
   puts true k e there sum s account x limits h q y is at = grind (arith, nat_tests, eqb-true, same_Some, get-insert_same)
   puts false k e there sum s account x limits h q y is at = grind (arith, nat_tests, eqb-false, get-insert_other)
 
   -- the same donation, whether the key is the selector or not
-  either : (t : Bool) (sum : Donation) → cond t sum sum ≡ sum
+  either : (t : Bool) (sum : Amounts) → cond t sum sum ≡ sum
   either true sum = refl
   either false sum = refl
 
   -- ---- calls of sessions
 
-  module _ (sum : Donation) (s : OwnState) (h : AreCounted sum s) where
+  module _ (sum : Amounts) (s : OwnState) (h : AreCounted sum s) where
     -- an open of which the client covers enough or not
     opens_by : (service text : List ℕ) (asked : Wish) → (asked.ram ≡ (donation_in text).ram) × (asked.caps ≡ (donation_in text).caps) → (why : Option Refusal) →
         IsCounted (Open service text) sum (unless why s (session_opened asked s))
@@ -116,13 +117,13 @@ module _ (selector : ℕ) where
   -- ---- all calls
 
   -- one that is turned away, or not
-  turned : (call : Call) (sum : Donation) (s : OwnState) (why : Option Refusal) (o : Outcome) → ((refusal : Refusal) → counted selector call (Refused refusal) sum ≡ sum) → AreCounted sum s →
+  turned : (call : Call) (sum : Amounts) (s : OwnState) (why : Option Refusal) (o : Outcome) → ((refusal : Refusal) → counted selector call (Refused refusal) sum ≡ sum) → AreCounted sum s →
       IsCounted call sum o → IsCounted call sum (unless why s o)
   turned call sum s (Some refusal) o none h after = subst (λ d. AreCounted d s) (sym (none refusal)) h
   turned call sum s None o none h after = after
 
   -- one of a session
-  of_session : (entry : Entry) (call : Call) (sum : Donation) (s : OwnState) → AreCounted sum s → is_of_session call ≡ true → IsCounted call sum (own_step entry call s)
+  of_session : (entry : Entry) (call : Call) (sum : Amounts) (s : OwnState) → AreCounted sum s → is_of_session call ≡ true → IsCounted call sum (own_step entry call s)
   of_session entry (Open service text) sum s h is = grind (arith, nat_tests, turned, opens)
   of_session entry (Upgrade of text) sum s h is = grind (arith, nat_tests, turned, upgrades, named_there)
   of_session entry (CallSession of request) sum s h is =
@@ -143,10 +144,13 @@ module _ (selector : ℕ) where
   of_session entry (Snew n) sum s h is = absurd (true≢false (sym is))
   of_session entry (Sdel address) sum s h is = absurd (true≢false (sym is))
   of_session entry Quota sum s h is = absurd (true≢false (sym is))
+  of_session entry Reserve sum s h is = absurd (true≢false (sym is))
+  of_session entry (Request text) sum s h is = absurd (true≢false (sym is))
+  of_session entry (Yield text) sum s h is = absurd (true≢false (sym is))
   of_session entry Exit sum s h is = absurd (true≢false (sym is))
 
   -- others count nothing
-  others_count : (call : Call) (reply : Reply) (sum : Donation) → is_of_session call ≡ false → counted selector call reply sum ≡ sum
+  others_count : (call : Call) (reply : Reply) (sum : Amounts) → is_of_session call ≡ false → counted selector call reply sum ≡ sum
   others_count (Alloc n) reply sum other = refl
   others_count (Free of) reply sum other = refl
   others_count (Attach of) reply sum other = refl
@@ -161,6 +165,9 @@ module _ (selector : ℕ) where
   others_count (Snew n) reply sum other = refl
   others_count (Sdel address) reply sum other = refl
   others_count Quota reply sum other = refl
+  others_count Reserve reply sum other = refl
+  others_count (Request text) reply sum other = refl
+  others_count (Yield text) reply sum other = refl
   others_count Exit reply sum other = refl
   others_count (Open service text) reply sum other = absurd (true≢false other)
   others_count (Upgrade of text) reply sum other = absurd (true≢false other)
@@ -168,14 +175,14 @@ module _ (selector : ℕ) where
   others_count (Close of) reply sum other = absurd (true≢false other)
 
   -- any call
-  step : (session : Bool) (entry : Entry) (call : Call) (sum : Donation) (s : OwnState) → AreCounted sum s → is_of_session call ≡ session → IsCounted call sum (own_step entry call s)
+  step : (session : Bool) (entry : Entry) (call : Call) (sum : Amounts) (s : OwnState) → AreCounted sum s → is_of_session call ≡ session → IsCounted call sum (own_step entry call s)
   step true entry call sum s h is = of_session entry call sum s h is
   step false entry call sum s h is =
       subst (λ d. AreCounted d (own_step entry call s).next) (sym (others_count call (own_step entry call s).reply sum is))
-      (others_keep (AreCounted sum) s h (effects_named (HasLimits sum) s h) (gone_named (HasLimits sum)) entry call is)
+      (others_keep (AreCounted sum) s h (effects_named (HasLimits sum) s h) (reserve_named (HasLimits sum) s h) (gone_named (HasLimits sum)) entry call is)
 
   -- and calls
-  run : (entry : Entry) (calls : List Call) (sum : Donation) (s : OwnState) → AreCounted sum s → AreCounted (donated_after entry selector calls s sum) (own_run entry calls s)
+  run : (entry : Entry) (calls : List Call) (sum : Amounts) (s : OwnState) → AreCounted sum s → AreCounted (donated_after entry selector calls s sum) (own_run entry calls s)
   run entry [] sum s h = h
   run entry (call ∷ calls) sum s h =
       run entry calls (counted selector call (own_step entry call s).reply sum) (own_step entry call s).next (step (is_of_session call) entry call sum s h refl)
@@ -190,7 +197,7 @@ not_done : (refusal : Refusal) → ¬ (Refused refusal ≡ Done)
 not_done refusal e = cc
 
 -- a close that is done returns the limits of the session that was there
-closed : (s : OwnState) (selector : ℕ) (sum : Donation) (why : Option Refusal) (found : Option Session) →
+closed : (s : OwnState) (selector : ℕ) (sum : Amounts) (why : Option Refusal) (found : Option Session) →
     ((x : Session) → found ≡ Some x → (x.account.ram_limit ≡ sum.ram) × (x.account.caps_limit ≡ sum.caps)) →
     (unless why s (session_closed selector found s)).reply ≡ Done → (unless why s (session_closed selector found s)).next.account ≡ raised s.account sum.ram sum.caps
 closed s selector sum (Some refusal) found limits done = absurd (not_done refusal done)

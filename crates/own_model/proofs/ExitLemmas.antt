@@ -4,7 +4,7 @@ use Rattle.std.proofs.Common.{arith, rules, ◌≡◌, Bool, true, false, cond, 
 use Rattle.std.specs.Prelude.{Option, Some, None, is_none}
 use Rattle.trade_base.specs.declared.refusal.Refusal.{Refusal}
 use Rattle.trade_base.specs.declared.refusal.Refusal.TheVariants.{Gone}
-use Rattle.own_model.proofs.StepLemmas.{KeptByEffects, KeptBySessions}
+use Rattle.own_model.proofs.StepLemmas.{KeptByEffects, KeptByReserve, KeptBySessions}
 use Rattle.own_model.proofs.TableLemmas.{goes_on}
 use Rattle.own_model.specs.Call.{Call, is_exit}
 use Rattle.own_model.specs.Call.Call.{Exit}
@@ -70,9 +70,12 @@ effects_alike s = search rules
 sessions_alike : (s : OwnState) → KeptBySessions (GoneAlike s) s
 sessions_alike s = search rules
 
+reserve_alike : (s : OwnState) → KeptByReserve (GoneAlike s) s
+reserve_alike s = search rules
+
 -- a call that isn't an exit makes nobody gone
 pub alike_on : (entry : Entry) (call : Call) (s : OwnState) → is_exit call ≡ false → (own_step entry call s).next.gone ≡ s.gone
-alike_on entry call s on = goes_on (GoneAlike s) s refl (effects_alike s) (sessions_alike s) entry call on
+alike_on entry call s on = goes_on (GoneAlike s) s refl (effects_alike s) entry call (λ _. reserve_alike s) (sessions_alike s) on
 
 -- nor does one that is turned away
 pub exits_alone : ExitsAlone

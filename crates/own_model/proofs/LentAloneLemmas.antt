@@ -16,17 +16,18 @@ use Rattle.own_model.proofs.SessionLemmas.{named_there}
 use Rattle.own_model.specs.Account.{shortage, alloc_refusal}
 use Rattle.own_model.specs.BestFit.{Spot}
 use Rattle.own_model.specs.Call.{Call}
-use Rattle.own_model.specs.Call.Call.{Alloc, Free, Attach, AttachAt, Detach, Peek, Poke, Capalloc, Capfree, New, Del, Snew, Sdel, Quota, Open, Upgrade, CallSession, Close, Exit}
+use Rattle.own_model.specs.Call.Call.{Alloc, Free, Attach, AttachAt, Detach, Peek, Poke, Capalloc, Capfree, New, Del, Snew, Sdel, Quota, Reserve, Request, Yield, Open, Upgrade, CallSession, Close, Exit}
 use Rattle.own_model.specs.Growth.{Growth, is_large, hole_for, growth_of, heap_refusal}
 use Rattle.own_model.specs.LentLaws.{IsPoked, BuffersStandAlone, GoneBuffersHaveNoRegions}
 use Rattle.own_model.specs.NatMap.{NatMap}
 use Rattle.own_model.specs.OwnState.{OwnState, Object, NamedBuffer, is_buffer_of, buffer_of, bytes_of_buffer, new_selector, pages_in, zeros, with_part, object_with, named_bytes, session_named}
 use Rattle.own_model.specs.OwnState.Object.{Dataspace, RpcObject, OpenSession, Buffer}
-use Rattle.own_model.specs.OwnStep.{Outcome, entry_step, unless, turned_away, allocated, freed, with_region, attached_first, attached_at, region_detached, count_refusal, peeked, poked, poked_at, cap_allocated, cap_freed, large_in, small_new, grown_in, newed, given_back, deleted, sliced_in, sliced_freed, own_heap_gap, payload_poked, block_poked, opened_by, session_opened, upgraded_by, session_upgraded, session_called, session_closed, selectors_lent, regions_lent}
+use Rattle.own_model.specs.OwnStep.{Outcome, entry_step, unless, turned_away, allocated, freed, with_region, attached_first, attached_at, region_detached, count_refusal, peeked, poked, poked_at, cap_allocated, cap_freed, large_in, small_new, grown_in, newed, given_back, deleted, sliced_in, sliced_freed, own_heap_gap, payload_poked, block_poked, reserve_requested, requested_by, reserve_yielded, yielded_by, opened_by, session_opened, upgraded_by, session_upgraded, session_called, session_closed, selectors_lent, regions_lent}
 use Rattle.own_model.specs.Place.{Place, found}
 use Rattle.own_model.specs.Place.Place.{InDataspace, InPayload, InBlock}
 use Rattle.own_model.specs.Region.{Region, without, most_regions, user_gap, attach_refusal, attach_at_refusal, detach_refusal, resolved}
 use Rattle.own_model.specs.Session.{Session, Wish, wish, donation_refusal, new_session, upgraded, served}
+use Rattle.own_model.specs.Reserve.{reserve_account}
 use Rattle.own_model.specs.SessionArgs.{Arguments, arguments_of}
 use Rattle.own_model.specs.SessionLaws.{is_of}
 use Rattle.own_model.specs.Sliced.{sliced_size, sliced_refusal, block_found}
@@ -203,6 +204,16 @@ module _ (selector q : ℕ) (bytes : List ℕ) (s : OwnState) (there : get s.sel
     pokes (Some refusal) o after = inl there
     pokes None o after = after
 
+  -- ---- the reserve
+
+  requests : (arguments : Option Arguments) → IsThere (requested_by arguments s)
+  requests (Some more) = unless_leaves (shortage (reserve_account s.reserve) more.ram more.caps) (reserve_requested more s) there
+  requests None = there
+
+  yields : (arguments : Option Arguments) → IsThere (yielded_by arguments s)
+  yields (Some more) = unless_leaves (shortage s.account more.ram more.caps) (reserve_yielded more s) there
+  yields None = there
+
   -- ---- any call
 
   -- a call that isn't of its session, by what it is
@@ -221,6 +232,9 @@ module _ (selector q : ℕ) (bytes : List ℕ) (s : OwnState) (there : get s.sel
   leaves entry (Snew n) other = inl (unless_leaves (sliced_refusal n s.account) (sliced_in n (own_heap_gap (sliced_size n) s) s) (slices n (own_heap_gap (sliced_size n) s)))
   leaves entry (Sdel address) other = inl (unslices address (get s.sliced address))
   leaves entry Quota other = inl there
+  leaves entry Reserve other = inl there
+  leaves entry (Request text) other = inl (requests (arguments_of text))
+  leaves entry (Yield text) other = inl (yields (arguments_of text))
   leaves entry (Open service text) other = inl (opens (wish entry.name entry.routes service text))
   leaves entry (Upgrade of text) other = inl (upgrades of (session_named (get s.selectors of)) refl (arguments_of text))
   leaves entry (CallSession of request) other = inl (serves of (session_named (get s.selectors of)) refl request other)

@@ -7,7 +7,7 @@ use Rattle.own_model.proofs.LentLemmas.{buffer_is, buffer_there, no_buffer, lent
 use Rattle.own_model.proofs.NatMapLemmas.{get-empty, get-insert_same, get-insert_other, get-remove_same, get-remove_other, alike_insert, alike_remove, apart_from_free, some_of}
 use Rattle.own_model.proofs.SessionLemmas.{named_there}
 use Rattle.own_model.proofs.NewSelector.{new_selector_free}
-use Rattle.own_model.proofs.StepLemmas.{KeptByEffects, KeptBySessions}
+use Rattle.own_model.proofs.StepLemmas.{KeptByEffects, KeptByReserve, KeptBySessions}
 use Rattle.own_model.proofs.TableLemmas.{run_keeps}
 use Rattle.own_model.specs.NatMap.{NatMap}
 use Rattle.own_model.specs.OwnState.{OwnState, Object, NamedBuffer, is_buffer_of, buffer_of, bytes_of_buffer, new_selector, zeros, object_with, session_named}
@@ -217,4 +217,4 @@ pub gone_lent : AreLent gone_state.selectors
 gone_lent = none_lent gone_state.selectors get-empty
 
 pub run_lent : RunKeepsLent
-run_lent = run_keeps Lent effects_lent sessions_lent gone_lent
+run_lent = run_keeps Lent effects_lent (λ s h. record { requests = λ _ _. h; yields = λ _ _. h }) sessions_lent gone_lent

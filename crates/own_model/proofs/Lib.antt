@@ -56,6 +56,7 @@ pub mod LentKeptLemmas
 pub mod ChargeLemmas
 pub mod DonationLemmas
 pub mod SessionSoundLemmas
+pub mod ReserveLemmas
 pub mod RouteLemmas
 pub mod AloneLemmas
 pub mod LentAloneLemmas

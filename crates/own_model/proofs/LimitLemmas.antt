@@ -1,12 +1,12 @@
 -- What a call leaves of limits.
 use Rattle.std.proofs.lemmas.Bool.Decides.{nat_tests}
-use Rattle.std.proofs.Common.{rules, ◌≡◌, ℕ, false, cond, lit≤, Option, Some, None, List, [], ◌∷◌, refl, arith}
+use Rattle.std.proofs.Common.{rules, ◌≡◌, ℕ, false, cond, lit≤, Option, Some, None, List, [], ◌∷◌, refl, sym, ◌∙◌, true≢false, arith}
 use Rattle.own_model.proofs.BufferKeptLemmas.{all_keep_limits, all_keep_within}
 use Rattle.std.specs.FinMap.{get, insert}
 use Rattle.own_model.proofs.LentLemmas.{lent_still, total_lent}
 use Rattle.trade_base.specs.declared.refusal.Refusal.{Refusal}
 use Rattle.trade_base.specs.declared.refusal.Refusal.TheVariants.{OutOfCaps}
-use Rattle.own_model.proofs.StepLemmas.{KeptBySessions, KeptByEffects, covers, short_of_caps, accepted_size, accepted_block, accepted_growth}
+use Rattle.own_model.proofs.StepLemmas.{KeptBySessions, KeptByEffects, KeptByReserve, covers, short_of_caps, accepted_size, accepted_block, accepted_growth}
 use Rattle.own_model.specs.Account.{Account, WithinLimits, shortage}
 use Rattle.own_model.specs.BufferService.{session_request}
 use Rattle.own_model.specs.Call.{Call, is_exit}
@@ -17,7 +17,7 @@ use Rattle.own_model.specs.Laws.{StepKeepsLimits, OthersKeepOwnLimits, ExitsRetu
 use Rattle.own_model.specs.Donation.{raised}
 use Rattle.own_model.specs.Reply.Reply.{Refused}
 use Rattle.own_model.proofs.NewSelector.{new_selector_free}
-use Rattle.own_model.proofs.SessionLemmas.{donation_covered, large_enough, effects_each, sessions_each, gone_each}
+use Rattle.own_model.proofs.SessionLemmas.{donation_covered, large_enough, effects_each, reserve_each, sessions_each, gone_each}
 use Rattle.own_model.proofs.Totals.{total-empty, total-insert_new, total-insert_same, total-insert_at, total-remove}
 use Rattle.own_model.specs.Limits.{ram_with, caps_with, ram_limits, caps_limits, init_after, AreWithinLimits}
 use Rattle.own_model.specs.NatMap.{total}
@@ -52,13 +52,17 @@ effects_within s within = search (rules, covers, accepted_size, accepted_growth,
 pub sessions_within : (s : OwnState) → WithinLimits s.account → KeptBySessions (λ t. WithinLimits t.account) s
 sessions_within s within = search (rules, donation_covered, covers)
 
+-- nor can a request or a yield
+reserve_within : (s : OwnState) → WithinLimits s.account → KeptByReserve (λ t. WithinLimits t.account) s
+reserve_within s within = search (rules, covers)
+
 -- who has exited has nothing to overdraw
 gone_within : WithinLimits gone_state.account
 gone_within = record { ram = lit≤ tt; caps = lit≤ tt }
 
 -- no call overdraws an account
 pub step_within : (entry : Entry) (call : Call) (s : OwnState) → WithinLimits s.account → WithinLimits (own_step entry call s).next.account
-step_within entry call s within = step_keeps (λ t. WithinLimits t.account) s within (effects_within s within) (sessions_within s within) gone_within entry call
+step_within entry call s within = step_keeps (λ t. WithinLimits t.account) s within (effects_within s within) (reserve_within s within) (sessions_within s within) gone_within entry call
 
 -- an account of a session is within its limits
 abbrev IsWithin : Session → Type 0
@@ -82,7 +86,7 @@ sessions_each_within = search (rules, sessions_each, large_enough, serve_within)
 pub step_all_within : (entry : Entry) (call : Call) (s : OwnState) → AreWithinLimits s → AreWithinLimits (own_step entry call s).next
 step_all_within entry call s h = record {
   own = step_within entry call s h.own;
-  sessions = step_keeps (EachSession IsWithin) s h.sessions (effects_each IsWithin s h.sessions) (sessions_each_within s h.sessions) (gone_each IsWithin) entry call;
+  sessions = step_keeps (EachSession IsWithin) s h.sessions (effects_each IsWithin s h.sessions) (reserve_each IsWithin s h.sessions) (sessions_each_within s h.sessions) (gone_each IsWithin) entry call;
 }
 
 -- nor are those of who has nothing
@@ -97,11 +101,11 @@ SameLimits s t = (t.account.ram_limit ≡ s.account.ram_limit) × (t.account.cap
 effects_stay : (s : OwnState) → KeptByEffects (SameLimits s) s
 effects_stay s = search rules
 
--- the limits after a call that is of no session
+-- the limits after a call that is of no session, nor a request or a yield
 pub limits_stay : OthersKeepOwnLimits
-limits_stay entry call s other =
+limits_stay entry call s other left =
     by_exit (λ ends t. (t.account.ram_limit ≡ cond ends 0 s.account.ram_limit) × (t.account.caps_limit ≡ cond ends 0 s.account.caps_limit)) entry call s
-    (others_go_on (SameLimits s) s (refl, refl) (effects_stay s) entry call other) (refl, refl) (refl, refl)
+    (others_go_on (SameLimits s) s (refl, refl) (effects_stay s) entry call (λ is. absurd (true≢false (sym is ∙ left))) other) (refl, refl) (refl, refl)
 
 -- ---- limits with those of sessions
 
@@ -159,9 +163,13 @@ close_moves s q x there =
 sessions_move : (s : OwnState) → KeptBySessions (SameInAll s) s
 sessions_move s = search (rules, new_selector_free, donation_covered, total-insert_new, covers, total-insert_at, serve_moves, close_moves)
 
+-- and so do requests and yields
+reserve_moves : (s : OwnState) → KeptByReserve (SameInAll s) s
+reserve_moves s = search (rules, covers)
+
 -- a call that isn't an exit changes no limits, or moves some
 pub limits_move : (entry : Entry) (call : Call) (s : OwnState) → is_exit call ≡ false → SameInAll s (own_step entry call s).next
-limits_move entry call s on = goes_on (SameInAll s) s (refl, refl) (effects_in_all s) (sessions_move s) entry call on
+limits_move entry call s on = goes_on (SameInAll s) s (refl, refl) (effects_in_all s) entry call (λ _. reserve_moves s) (sessions_move s) on
 
 -- who has exited has none
 pub none_left : (ram_limits gone_state ≡ 0) × (caps_limits gone_state ≡ 0)

@@ -27,7 +27,7 @@ use Rattle.own_model.specs.Place.{Place, found, in_dataspace, in_payload, in_blo
 use Rattle.own_model.specs.Place.Place.{InDataspace, InPayload, InBlock}
 use Rattle.own_model.specs.Region.{overlap, resolved}
 use Rattle.own_model.specs.Reply.{Reply}
-use Rattle.own_model.specs.Reply.Reply.{Selected, Attached, Bytes, Done, Quotas, Told, Refused}
+use Rattle.own_model.specs.Reply.Reply.{Selected, Attached, Bytes, Done, Quotas, Reserved, Told, Refused}
 use Rattle.own_model.specs.Sliced.{sliced_header, block_pages, block_found, holds_in_payload, ranges_of_blocks}
 use Rattle.own_model.specs.Sound.{IsSound}
 
@@ -139,6 +139,7 @@ is_done (Attached address) = false
 is_done (Bytes bytes) = false
 is_done Done = true
 is_done (Quotas account) = false
+is_done (Reserved reserve) = false
 is_done (Told text) = false
 is_done (Refused refusal) = false
 

@@ -1,7 +1,7 @@
 -- Calls that are of no session lead along no route.
 use Rattle.std.proofs.Common.{◌≡◌, false, refl, true≢false}
 use Rattle.own_model.specs.Call.{Call, is_of_session}
-use Rattle.own_model.specs.Call.Call.{Alloc, Free, Attach, AttachAt, Detach, Peek, Poke, Capalloc, Capfree, New, Del, Snew, Sdel, Quota, Open, Upgrade, CallSession, Close, Exit}
+use Rattle.own_model.specs.Call.Call.{Alloc, Free, Attach, AttachAt, Detach, Peek, Poke, Capalloc, Capfree, New, Del, Snew, Sdel, Quota, Reserve, Request, Yield, Open, Upgrade, CallSession, Close, Exit}
 use Rattle.own_model.specs.OwnState.{OwnState}
 use Rattle.own_model.specs.OwnStep.{entry_step, script_step}
 use Rattle.own_model.specs.StartList.{Entry}
@@ -22,6 +22,9 @@ routes_alike entry (Del address) s other = refl
 routes_alike entry (Snew n) s other = refl
 routes_alike entry (Sdel address) s other = refl
 routes_alike entry Quota s other = refl
+routes_alike entry Reserve s other = refl
+routes_alike entry (Request text) s other = refl
+routes_alike entry (Yield text) s other = refl
 routes_alike entry Exit s other = refl
 routes_alike entry (Open service text) s other = absurd (true≢false other)
 routes_alike entry (Upgrade of text) s other = absurd (true≢false other)

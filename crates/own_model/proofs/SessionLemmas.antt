@@ -6,7 +6,7 @@ use Rattle.std.specs.Prelude.{Option, None}
 use Rattle.std.specs.Option.{option_or}
 use Rattle.std.specs.FinMap.{get, insert}
 use Rattle.own_model.proofs.NatMapLemmas.{each_after_insert, before_remove, get-empty}
-use Rattle.own_model.proofs.StepLemmas.{KeptByEffects, KeptBySessions, covers}
+use Rattle.own_model.proofs.StepLemmas.{KeptByEffects, KeptByReserve, KeptBySessions, covers}
 use Rattle.own_model.specs.Account.{Account, Fits}
 use Rattle.own_model.specs.NatMap.{NatMap}
 use Rattle.own_model.specs.OwnState.{OwnState, Object, NamedBuffer, EachSession, session_named, new_selector, object_with, buffer_of, bytes_of_buffer}
@@ -91,6 +91,10 @@ module _ (Q : ℕ → Session → Type 0) where
   pub effects_named : (s : OwnState) → EachNamed s → KeptByEffects EachNamed s
   effects_named s h = search (rules, after_one, before_remove, of_poked, of_objects)
 
+  -- nor do requests and yields
+  pub reserve_named : (s : OwnState) → EachNamed s → KeptByReserve EachNamed s
+  reserve_named s h = record { requests = λ _ _. h; yields = λ _ _. h }
+
   -- who has exited has none
   pub gone_named : EachNamed gone_state
   gone_named selector session is = absurd (none-some (OpenSession session) (sym (get-empty selector) ∙ is))
@@ -102,6 +106,9 @@ module _ (Q : Session → Type 0) where
   -- the same of each session
   pub effects_each : (s : OwnState) → EachSession Q s → KeptByEffects (EachSession Q) s
   effects_each s h = effects_named Named s h
+
+  pub reserve_each : (s : OwnState) → EachSession Q s → KeptByReserve (EachSession Q) s
+  reserve_each s h = reserve_named Named s h
 
   pub gone_each : EachSession Q gone_state
   gone_each = gone_named Named

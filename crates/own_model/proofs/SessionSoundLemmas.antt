@@ -4,7 +4,7 @@ use Rattle.std.proofs.lemmas.List.Elements.{All-nil}
 use Rattle.own_model.proofs.BufferKeptLemmas.{all_keep_files}
 use Rattle.own_model.proofs.FileServiceLemmas.{no_files_are}
 use Rattle.own_model.proofs.LogLemmas.{writes_lines}
-use Rattle.own_model.proofs.SessionLemmas.{effects_each, sessions_each, gone_each}
+use Rattle.own_model.proofs.SessionLemmas.{effects_each, reserve_each, sessions_each, gone_each}
 use Rattle.own_model.proofs.TableLemmas.{run_keeps}
 use Rattle.own_model.specs.BufferService.{session_request}
 use Rattle.own_model.specs.LogService.{IsUnbroken, IsPartial, log_served_bytes}
@@ -36,5 +36,5 @@ kept_after (Filing files) buffer x request h = all_keep_files (session_request r
 -- and after calls
 pub run_kept : RunKeepsKept
 run_kept =
-    run_keeps (EachSession Keeps) (effects_each Keeps)
+    run_keeps (EachSession Keeps) (effects_each Keeps) (reserve_each Keeps)
     (sessions_each Keeps (λ wish enough. kept_at_first wish.service) (λ x ram caps h. h) (λ x buffer request h. kept_after x.state buffer x request h)) (gone_each Keeps)

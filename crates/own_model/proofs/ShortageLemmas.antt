@@ -7,7 +7,7 @@ use Rattle.std.specs.List.{AllByRecursion}
 use Rattle.std.specs.Prelude.{Option, None, is_none}
 use Rattle.trade_base.specs.Page.{page_of}
 use Rattle.trade_base.specs.declared.refusal.Refusal.{Refusal}
-use Rattle.trade_base.specs.declared.refusal.Refusal.TheVariants.{NotAScript, Gone, InvalidSize, InvalidCap, OutOfRam, OutOfCaps, RegionConflict, TooManyRegions, PageFault, InvalidSession}
+use Rattle.trade_base.specs.declared.refusal.Refusal.TheVariants.{NotAScript, Gone, InvalidSize, InvalidCap, OutOfRam, OutOfCaps, RegionConflict, TooManyRegions, PageFault, InvalidSession, BadArgs}
 use Rattle.own_model.proofs.ListLemmas.{all_then, all_at, all_map}
 use Rattle.own_model.proofs.MachineLemmas.{machine_gap}
 use Rattle.own_model.proofs.StepLemmas.{covers}
@@ -15,14 +15,16 @@ use Rattle.own_model.proofs.TableLemmas.{refused_in_order}
 use Rattle.own_model.specs.Account.{Account, shortage}
 use Rattle.own_model.specs.BestFit.{Spot, block_size}
 use Rattle.own_model.specs.Call.{Call}
-use Rattle.own_model.specs.Call.Call.{Alloc, Free, Attach, AttachAt, Detach, Peek, Poke, Capalloc, Capfree, New, Del, Snew, Sdel, Quota, Open, Upgrade, CallSession, Close, Exit}
-use Rattle.own_model.specs.Donated.{Donation}
+use Rattle.own_model.specs.Call.Call.{Alloc, Free, Attach, AttachAt, Detach, Peek, Poke, Capalloc, Capfree, New, Del, Snew, Sdel, Quota, Reserve, Request, Yield, Open, Upgrade, CallSession, Close, Exit}
+use Rattle.own_model.specs.Amounts.{Amounts}
+use Rattle.own_model.specs.Donated.{donation_in}
 use Rattle.own_model.specs.Growth.{is_large, hole_for, least_growth, larger_growth}
 use Rattle.own_model.specs.HeapWindow.{largest_machine}
 use Rattle.own_model.specs.Laws.{RefusalsHaveReason}
 use Rattle.own_model.specs.OwnState.{OwnState}
 use Rattle.own_model.specs.OwnStep.{own_heap_gap, gone_state, own_run}
-use Rattle.own_model.specs.Shortage.{NoHiddenShortage, asked, asked_with, bytes_and_cap, NoHiddenShortageAfterLines}
+use Rattle.own_model.specs.Shortage.{asked_of, NoHiddenShortage, asked, asked_with, bytes_and_cap, NoHiddenShortageAfterLines}
+use Rattle.own_model.specs.Reserve.{reserve_account}
 use Rattle.own_model.specs.Sliced.{sliced_size}
 use Rattle.own_model.specs.Sound.{IsSound}
 use Rattle.own_model.specs.StartList.{Entry, Kind, StartEntry, StartList, entries_of, start_state, start_states}
@@ -67,7 +69,7 @@ first_gives Q refusal (test ∷ tests) each is =
     ] refl is
 
 -- a test fails for want of RAM or of capabilities only where the account doesn't cover what is asked
-record IsTold (a : Account) (more : Donation) (test : Test) : Type 0 where
+record IsTold (a : Account) (more : Amounts) (test : Test) : Type 0 where
   ram : test.refusal ≡ OutOfRam → test.fails ≡ true → a.ram_limit < a.ram_used + more.ram
   caps : test.refusal ≡ OutOfCaps → test.fails ≡ true → a.caps_limit < a.caps_used + more.caps
 
@@ -91,20 +93,20 @@ no_reason : (o : Option Refusal) → is_none o ≡ true → o ≡ None
 no_reason None is = refl
 no_reason (Some refusal) is = absurd (true≢false (sym is))
 
-module _ (s : OwnState) (more : Donation) where
+module _ (a : Account) (more : Amounts) where
   -- tests for other causes
-  other : (refusal : Refusal) (fails : Bool) → of_shortage refusal ≡ false → IsTold s.account more (when fails refusal)
+  other : (refusal : Refusal) (fails : Bool) → of_shortage refusal ≡ false → IsTold a more (when fails refusal)
   other refusal fails apart = search (rules, true≢false)
 
   -- those of the account
-  ram_told : IsTold s.account more (when (lacks_ram s.account more.ram) OutOfRam)
-  ram_told = record { ram = λ _ fails. ltb-true s.account.ram_limit (s.account.ram_used + more.ram) fails; caps = λ is _. absurd (ram_or_caps is) }
+  ram_told : IsTold a more (when (lacks_ram a more.ram) OutOfRam)
+  ram_told = record { ram = λ _ fails. ltb-true a.ram_limit (a.ram_used + more.ram) fails; caps = λ is _. absurd (ram_or_caps is) }
 
-  caps_told : IsTold s.account more (when (lacks_caps s.account more.caps) OutOfCaps)
-  caps_told = record { ram = λ is _. absurd (ram_or_caps (sym is)); caps = λ _ fails. ltb-true s.account.caps_limit (s.account.caps_used + more.caps) fails }
+  caps_told : IsTold a more (when (lacks_caps a more.caps) OutOfCaps)
+  caps_told = record { ram = λ is _. absurd (ram_or_caps (sym is)); caps = λ _ fails. ltb-true a.caps_limit (a.caps_used + more.caps) fails }
 
   -- and that of a gap, which is there for what is covered
-  gap_told : (gap : Option ℕ) → (s.account.ram_used + more.ram ≤ s.account.ram_limit → IsSome gap) → IsTold s.account more (when (is_none gap) OutOfRam)
+  gap_told : (gap : Option ℕ) → (a.ram_used + more.ram ≤ a.ram_limit → IsSome gap) → IsTold a more (when (is_none gap) OutOfRam)
   gap_told gap there = search (rules, cases_lt, not_none, ram_or_caps)
 
 module _ (s : OwnState) (sound : IsSound s) (uses : UsesWhatItHolds s) (small : s.account.ram_limit ≤ largest_machine * 4096) where
@@ -112,8 +114,11 @@ module _ (s : OwnState) (sound : IsSound s) (uses : UsesWhatItHolds s) (small : 
   gap_there : (bytes : ℕ) → s.account.ram_used + bytes ≤ s.account.ram_limit → IsSome (own_heap_gap bytes s)
   gap_there bytes covered = (machine_gap largest_machine s (bytes / 4096) sound uses (omega arith) (omega arith) (omega arith)).0
 
-  abbrev AreTold : Donation → List Test → Type 0
+  abbrev AreTold : Amounts → List Test → Type 0
   AreTold more line = AllByRecursion (IsTold s.account more) line
+
+  abbrev AreToldOf : Call → List Test → Type 0
+  AreToldOf call line = AllByRecursion (IsTold (asked_of call s) (asked call s)) line
 
   -- what takes so many bytes, at a gap for as many or others that are covered too
   memory_told : (bytes wanted : ℕ) → (s.account.ram_used + bytes ≤ s.account.ram_limit → s.account.ram_used + wanted ≤ s.account.ram_limit) →
@@ -140,38 +145,43 @@ module _ (s : OwnState) (sound : IsSound s) (uses : UsesWhatItHolds s) (small : 
   new_told n false = small_told n (hole_for n s.heap.shape)
 
   -- each call
-  line_told : (entry : Entry) (call : Call) → AreTold (asked call s) (line_of entry call s)
-  line_told entry (Alloc n) = (other s _ InvalidSize _ refl, (ram_told s (bytes_and_cap (page_of n)), (caps_told s (bytes_and_cap (page_of n)), tt)))
-  line_told entry (Free selector) = (other s _ InvalidCap _ refl, tt)
-  line_told entry (Attach selector) = (other s _ InvalidCap _ refl, (other s _ TooManyRegions _ refl, (other s _ RegionConflict _ refl, tt)))
-  line_told entry (AttachAt selector address) = (other s _ InvalidCap _ refl, (other s _ TooManyRegions _ refl, (other s _ RegionConflict _ refl, tt)))
-  line_told entry (Detach address) = (other s _ PageFault _ refl, tt)
-  line_told entry (Peek address count) = (other s _ InvalidSize _ refl, (other s _ PageFault _ refl, tt))
-  line_told entry (Poke address bytes) = (other s _ InvalidSize _ refl, (other s _ PageFault _ refl, tt))
-  line_told entry Capalloc = (caps_told s (bytes_and_cap 0), tt)
-  line_told entry (Capfree selector) = (other s _ InvalidCap _ refl, tt)
-  line_told entry (New n) = (other s _ InvalidSize _ refl, new_told n (is_large n))
-  line_told entry (Del address) = (other s _ PageFault _ refl, tt)
-  line_told entry (Snew n) = (other s _ InvalidSize _ refl, memory_told (sliced_size n) (sliced_size n) (λ covered. covered))
-  line_told entry (Sdel address) = (other s _ PageFault _ refl, tt)
+  line_told : (entry : Entry) (call : Call) → AreToldOf call (line_of entry call s)
+  line_told entry (Alloc n) = (other s.account _ InvalidSize _ refl, (ram_told s.account (bytes_and_cap (page_of n)), (caps_told s.account (bytes_and_cap (page_of n)), tt)))
+  line_told entry (Free selector) = (other s.account _ InvalidCap _ refl, tt)
+  line_told entry (Attach selector) = (other s.account _ InvalidCap _ refl, (other s.account _ TooManyRegions _ refl, (other s.account _ RegionConflict _ refl, tt)))
+  line_told entry (AttachAt selector address) = (other s.account _ InvalidCap _ refl, (other s.account _ TooManyRegions _ refl, (other s.account _ RegionConflict _ refl, tt)))
+  line_told entry (Detach address) = (other s.account _ PageFault _ refl, tt)
+  line_told entry (Peek address count) = (other s.account _ InvalidSize _ refl, (other s.account _ PageFault _ refl, tt))
+  line_told entry (Poke address bytes) = (other s.account _ InvalidSize _ refl, (other s.account _ PageFault _ refl, tt))
+  line_told entry Capalloc = (caps_told s.account (bytes_and_cap 0), tt)
+  line_told entry (Capfree selector) = (other s.account _ InvalidCap _ refl, tt)
+  line_told entry (New n) = (other s.account _ InvalidSize _ refl, new_told n (is_large n))
+  line_told entry (Del address) = (other s.account _ PageFault _ refl, tt)
+  line_told entry (Snew n) = (other s.account _ InvalidSize _ refl, memory_told (sliced_size n) (sliced_size n) (λ covered. covered))
+  line_told entry (Sdel address) = (other s.account _ PageFault _ refl, tt)
   line_told entry (Open service text) = grind (arith, nat_tests, other, ram_told, caps_told)
   line_told entry (Upgrade selector text) = grind (arith, nat_tests, other, ram_told, caps_told)
-  line_told entry (CallSession selector request) = (other s _ InvalidSession _ refl, tt)
-  line_told entry (Close selector) = (other s _ InvalidSession _ refl, tt)
+  line_told entry (CallSession selector request) = (other s.account _ InvalidSession _ refl, tt)
+  line_told entry (Close selector) = (other s.account _ InvalidSession _ refl, tt)
   line_told entry Quota = tt
+  line_told entry Reserve = tt
+  line_told entry (Request text) =
+      let reserve = reserve_account s.reserve in
+      (other reserve _ BadArgs _ refl, (ram_told reserve (donation_in text), (caps_told reserve (donation_in text), tt)))
+  line_told entry (Yield text) = (other s.account _ BadArgs _ refl, (ram_told s.account (donation_in text), (caps_told s.account (donation_in text), tt)))
   line_told entry Exit = tt
 
   -- of each component
-  whole_told : (kind : Kind) (entry : Entry) (call : Call) → AreTold (asked call s) (line_by kind entry call s)
-  whole_told Server entry call = (other s _ NotAScript _ refl, tt)
-  whole_told Script entry call = (other s _ Gone _ refl, line_told entry call)
+  whole_told : (kind : Kind) (entry : Entry) (call : Call) → AreToldOf call (line_by kind entry call s)
+  whole_told Server entry call = (other (asked_of call s) _ NotAScript _ refl, tt)
+  whole_told Script entry call = (other (asked_of call s) _ Gone _ refl, line_told entry call)
 
 -- so there is no shortage but of what is asked
 pub no_hidden_shortage : NoHiddenShortage
 no_hidden_shortage entry call s within sound uses small =
     let line : List Test = whole_line entry call s in
-    let a : Account = s.account in
-    let more : Donation = asked call s in
+    let a : Account = asked_of call s in
+    let more : Amounts = asked call s in
     let told = whole_told s sound uses small entry.kind entry call in
     let order = refused_in_order entry call s within sound in
     record {

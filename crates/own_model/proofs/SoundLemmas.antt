@@ -12,13 +12,14 @@ use Rattle.own_model.proofs.NewSelector.{new_selector_free}
 use Rattle.own_model.proofs.RegionLemmas.{place, left_without, len-without, free_place}
 use Rattle.own_model.specs.Account.{Account, credited, parted_with, alloc_refusal}
 use Rattle.own_model.specs.Donation.{raised}
+use Rattle.own_model.specs.Reserve.{no_reserve}
 use Rattle.own_model.specs.Session.{Session, ServiceState, new_session, upgraded, served, served_by}
 use Rattle.own_model.specs.Session.ServiceState.{Logging, Filing}
 use Rattle.own_model.specs.BufferLaws.{FitsBuffer}
 use Rattle.own_model.specs.BufferService.{session_request}
 use Rattle.own_model.proofs.BufferKeptLemmas.{all_fit, same_fits, none_fits}
 use Rattle.own_model.proofs.LentLemmas.{buffer_there, lent_still}
-use Rattle.own_model.proofs.StepLemmas.{KeptBySessions, KeptByEffects, valid_some}
+use Rattle.own_model.proofs.StepLemmas.{KeptBySessions, KeptByEffects, KeptByReserve, valid_some}
 use Rattle.own_model.proofs.TableLemmas.{step_keeps, run_keeps}
 use Rattle.own_model.proofs.Totals.{len-insert_new, len-remove_le}
 use Rattle.own_model.proofs.UseLemmas.{length-zeros, length-with_part, block_size-new}
@@ -413,12 +414,16 @@ sessions_sound s h = record {
       (λ region before. named_left t.selectors selector region (not_named t.selectors selector (OpenSession session) region still refl before) before) sound;
 }
 
+-- limits that are moved leave all that
+reserve_sound : (s : OwnState) → IsSound s → KeptByReserve IsSound s
+reserve_sound s h = search rules
+
 -- no blocks stand nowhere
 no_ranges : (q : ℕ) → get (ranges_of_blocks empty) q ≡ get (empty {R = nat_cmp}) q
 no_ranges q = get-ranges empty q ∙ ap (option_and_then (λ payload. Some (range_of payload))) (get-empty (q + sliced_header)) ∙ sym (get-empty q)
 
 -- who has nothing but an account
-none_sound : (account : Account) (gone : Bool) → IsSound (record { account = account; selectors = empty; regions = empty; heap = no_heap; sliced = empty; gone = gone })
+none_sound : (account : Account) (gone : Bool) → IsSound (record { account = account; reserve = no_reserve; selectors = empty; regions = empty; heap = no_heap; sliced = empty; gone = gone })
 none_sound account gone = record {
   whole = λ selector bytes is. absurd (none-some bytes (sym (ap named_bytes (get-empty selector)) ∙ is));
   mapped = record {
@@ -441,11 +446,11 @@ gone_sound = none_sound gone_state.account true
 
 -- a call keeps it so
 pub step_sound : (entry : Entry) (call : Call) (s : OwnState) → IsSound s → IsSound (own_step entry call s).next
-step_sound entry call s h = step_keeps IsSound s h (effects_sound s h) (sessions_sound s h) gone_sound entry call
+step_sound entry call s h = step_keeps IsSound s h (effects_sound s h) (reserve_sound s h) (sessions_sound s h) gone_sound entry call
 
 -- and so do calls
 pub run_sound : (entry : Entry) (calls : List Call) (s : OwnState) → IsSound s → IsSound (own_run entry calls s)
-run_sound = run_keeps IsSound effects_sound sessions_sound gone_sound
+run_sound = run_keeps IsSound effects_sound reserve_sound sessions_sound gone_sound
 
 -- what is freed has no region left
 pub freed_has_none : (s : OwnState) (selector : ℕ) (bytes : List ℕ) → get s.selectors selector ≡ Some (Dataspace bytes) →

@@ -14,8 +14,9 @@ use Rattle.own_model.specs.Growth.{Shape, Growth, most_chunks, is_large, hole_fo
 use Rattle.own_model.specs.NatMap.{NatMap}
 use Rattle.own_model.specs.OwnState.{OwnState, Object, named_bytes, pages_in}
 use Rattle.own_model.specs.OwnState.Object.{Dataspace, RpcObject, OpenSession}
-use Rattle.own_model.specs.OwnStep.{allocated, freed, with_region, region_detached, poked_at, payload_poked, block_poked, block_taken, grown_at, large_at, given_back, sliced_at, sliced_freed, own_heap_gap, cap_allocated, cap_freed, session_opened, session_upgraded, session_called, session_closed}
+use Rattle.own_model.specs.OwnStep.{allocated, freed, with_region, region_detached, poked_at, payload_poked, block_poked, block_taken, grown_at, large_at, given_back, sliced_at, sliced_freed, own_heap_gap, cap_allocated, cap_freed, reserve_requested, reserve_yielded, session_opened, session_upgraded, session_called, session_closed}
 use Rattle.own_model.specs.Region.{Region, most_regions, user_low, user_high, can_stand, first_gap, user_gap, attach_refusal, attach_at_refusal}
+use Rattle.own_model.specs.Reserve.{reserve_account}
 use Rattle.own_model.specs.Session.{Session, Wish, donation_refusal}
 use Rattle.own_model.specs.SessionArgs.{Arguments}
 use Rattle.own_model.specs.Sliced.{sliced_header, sliced_size, sliced_refusal}
@@ -58,6 +59,13 @@ pub record KeptByEffects (P : OwnState → Type 0) (s : OwnState) : Type 0 where
   pub allocates_cap : shortage s.account 0 1 ≡ None → P (cap_allocated s).next
   -- a free of an RPC object
   pub frees_cap : (selector : ℕ) → get s.selectors selector ≡ Some RpcObject → P (cap_freed selector (Some RpcObject) s).next
+
+-- and after limits are moved between its account and its reserve
+pub record KeptByReserve (P : OwnState → Type 0) (s : OwnState) : Type 0 where
+  -- a request that the reserve covers
+  pub requests : (more : Arguments) → shortage (reserve_account s.reserve) more.ram more.caps ≡ None → P (reserve_requested more s).next
+  -- a yield that the account covers
+  pub yields : (more : Arguments) → shortage s.account more.ram more.caps ≡ None → P (reserve_yielded more s).next
 
 -- and after each thing that a call of a session can do to it
 pub record KeptBySessions (P : OwnState → Type 0) (s : OwnState) : Type 0 where

@@ -10,20 +10,21 @@ use Rattle.trade_base.specs.declared.refusal.Refusal.{Refusal}
 use Rattle.trade_base.specs.declared.refusal.Refusal.TheVariants.{NotAScript, Gone, InvalidSize, InvalidCap, OutOfRam, OutOfCaps, RegionConflict, TooManyRegions, PageFault, TooManyChunks, BadArgs, ServiceDenied, InvalidSession, InsufficientRamQuota, InsufficientCapQuota}
 use Rattle.own_model.proofs.PayloadLemmas.{payload_fits, block_fits, region_parts}
 use Rattle.own_model.proofs.RangeLemmas.{range_fits}
-use Rattle.own_model.proofs.StepLemmas.{KeptByEffects, KeptBySessions, attach_place, attach_at_place, size_tested}
+use Rattle.own_model.proofs.StepLemmas.{KeptByEffects, KeptByReserve, KeptBySessions, attach_place, attach_at_place, size_tested}
 use Rattle.own_model.proofs.SessionLemmas.{named_there}
 use Rattle.own_model.specs.Account.{WithinLimits, shortage, alloc_refusal}
-use Rattle.own_model.specs.Call.{Call, is_of_session, is_exit}
-use Rattle.own_model.specs.Call.Call.{Alloc, Free, Attach, AttachAt, Detach, Peek, Poke, Capalloc, Capfree, New, Del, Snew, Sdel, Quota, Open, Upgrade, CallSession, Close, Exit}
+use Rattle.own_model.specs.Call.{Call, is_of_session, moves_reserve, is_exit}
+use Rattle.own_model.specs.Call.Call.{Alloc, Free, Attach, AttachAt, Detach, Peek, Poke, Capalloc, Capfree, New, Del, Snew, Sdel, Quota, Reserve, Request, Yield, Open, Upgrade, CallSession, Close, Exit}
 use Rattle.own_model.specs.BestFit.{Spot, block_size}
 use Rattle.own_model.specs.Growth.{Growth, most_chunks, is_large, hole_for, growth_of, growth_refusal, small_refusal}
 use Rattle.own_model.specs.OwnState.{OwnState, Object, named_bytes, pages_in, session_named}
 use Rattle.own_model.specs.OwnState.Object.{Dataspace, RpcObject, OpenSession, Buffer}
-use Rattle.own_model.specs.OwnStep.{Outcome, own_step, own_run, entry_step, refused, unless, turned_away, allocated, freed, with_region, attached_first, attached_at, region_detached, count_refusal, peeked, poked, poked_at, payload_poked, block_poked, most_bytes, block_taken, grown_at, grown_in, large_at, large_in, small_new, given_back, deleted, sliced_at, sliced_in, sliced_freed, own_heap_gap, cap_allocated, cap_freed, told_quota, opened_by, session_opened, upgraded_by, session_upgraded, session_called, session_closed, exited, gone_state}
+use Rattle.own_model.specs.OwnStep.{Outcome, own_step, own_run, entry_step, refused, unless, turned_away, allocated, freed, with_region, attached_first, attached_at, region_detached, count_refusal, peeked, poked, poked_at, payload_poked, block_poked, most_bytes, block_taken, grown_at, grown_in, large_at, large_in, small_new, given_back, deleted, sliced_at, sliced_in, sliced_freed, own_heap_gap, cap_allocated, cap_freed, told_quota, told_reserve, reserve_requested, requested_by, reserve_yielded, yielded_by, opened_by, session_opened, upgraded_by, session_upgraded, session_called, session_closed, exited, gone_state}
 use Rattle.own_model.specs.Place.{Place, found}
 use Rattle.own_model.specs.Place.Place.{InDataspace, InPayload, InBlock}
 use Rattle.own_model.specs.Region.{Region, most_regions, user_low, user_high, can_stand, first_gap, user_gap, resolved, attach_refusal, attach_at_refusal}
 use Rattle.own_model.specs.Reply.Reply.{Refused}
+use Rattle.own_model.specs.Reserve.{reserve_account}
 use Rattle.own_model.specs.Routes.{Service, provider}
 use Rattle.own_model.specs.Session.{Session, Wish, wish_of, wish_in, label_with, too_small, donation_refusal, session_ram, session_caps}
 use Rattle.own_model.specs.SessionArgs.{Arguments, arguments_of}
@@ -31,7 +32,7 @@ use Rattle.own_model.specs.Sliced.{sliced_header, sliced_size, sliced_refusal, b
 use Rattle.own_model.specs.Sound.{IsSound}
 use Rattle.own_model.specs.StartList.{Entry, Kind}
 use Rattle.own_model.specs.StartList.Kind.{Script, Server}
-use Rattle.own_model.specs.Table.{Test, when, first_failed, lacks_ram, lacks_caps, is_dataspace, is_rpc_object, is_bad_count, memory_line, small_line, open_line, upgrade_line, line_of, line_by, whole_line, refusal_in}
+use Rattle.own_model.specs.Table.{Test, when, first_failed, lacks_ram, lacks_caps, is_dataspace, is_rpc_object, is_bad_count, memory_line, small_line, open_line, moved_line, upgrade_line, line_of, line_by, whole_line, refusal_in}
 
 -- an outcome is a refusal, or else one that tells none; for an account within its limits and a sound state the refusal
 -- is the first on the line for which there is reason, and P holds after what is accepted
@@ -68,7 +69,7 @@ module _ (s : OwnState) where
   leaves None accepted refusal told is = absurd (none-some refusal (sym told ∙ ap refusal_in is))
 
 -- what holds of a state, after each thing that a call can do to it, and of who has exited
-module _ (session ends : Bool) (P : OwnState → Type 0) (s : OwnState) (h : P s) (k : KeptByEffects P s) (q : session ≡ true → KeptBySessions P s) (g : ends ≡ true → P gone_state) where
+module _ (session moves ends : Bool) (P : OwnState → Type 0) (s : OwnState) (h : P s) (k : KeptByEffects P s) (m : moves ≡ true → KeptByReserve P s) (q : session ≡ true → KeptBySessions P s) (g : ends ≡ true → P gone_state) where
   -- a refusal for which nothing else has to be looked at
   refused_for : (refusal : Refusal) (line : List Test) → Some refusal ≡ first_failed line → Explained session P s (refused s refusal) line
   refused_for refusal line first = record { why = Some refusal; accepted = told_quota s; told = refl; quiet = λ _. refl; is = refl; right = λ _ _. first; kept = λ _. h }
@@ -304,6 +305,31 @@ module _ (session ends : Bool) (P : OwnState → Type 0) (s : OwnState) (h : P s
   in_order false true o = refl
   in_order false false o = refl
 
+  -- limits that are moved from an account, or are refused for what it doesn't cover
+  requests : (arguments : Option Arguments) → moves ≡ true → Explained session P s (requested_by arguments s) (moved_line arguments (reserve_account s.reserve))
+  requests (Some more) is = record {
+    why = shortage (reserve_account s.reserve) more.ram more.caps;
+    accepted = reserve_requested more s;
+    told = refl;
+    quiet = λ _. refl;
+    is = refl;
+    right = λ _ _. refl;
+    kept = λ accepted. (m is).requests more accepted;
+  }
+  requests None is = refused_for BadArgs _ refl
+
+  yields : (arguments : Option Arguments) → moves ≡ true → Explained session P s (yielded_by arguments s) (moved_line arguments s.account)
+  yields (Some more) is = record {
+    why = shortage s.account more.ram more.caps;
+    accepted = reserve_yielded more s;
+    told = refl;
+    quiet = λ _. refl;
+    is = refl;
+    right = λ _ _. refl;
+    kept = λ accepted. (m is).yields more accepted;
+  }
+  yields None is = refused_for BadArgs _ refl
+
   -- an open, where the route leads somewhere or not
   opens_to : (name : List ℕ) (arguments : Arguments) (to : Option Service) → session ≡ true → Explained session P s (opened_by (wish_of name arguments to) s)
       (when false BadArgs ∷ when (is_none to) ServiceDenied ∷ when (lacks_ram s.account arguments.ram) OutOfRam ∷ when (lacks_caps s.account arguments.caps) OutOfCaps
@@ -363,8 +389,8 @@ module _ (session ends : Bool) (P : OwnState → Type 0) (s : OwnState) (h : P s
     closes None at of = refused_for InvalidSession _ refl
 
   -- any call of a script
-  explained : (entry : Entry) (call : Call) → is_of_session call ≡ session → is_exit call ≡ ends → Explained session P s (entry_step entry call s) (line_of entry call s)
-  explained entry (Alloc n) of end = record {
+  explained : (entry : Entry) (call : Call) → is_of_session call ≡ session → moves_reserve call ≡ moves → is_exit call ≡ ends → Explained session P s (entry_step entry call s) (line_of entry call s)
+  explained entry (Alloc n) of move end = record {
     why = alloc_refusal n s.account;
     accepted = allocated n s;
     told = refl;
@@ -373,13 +399,13 @@ module _ (session ends : Bool) (P : OwnState → Type 0) (s : OwnState) (h : P s
     right = λ _ _. flip (is_valid_size n) (shortage s.account (page_of n) 1) (Some InvalidSize);
     kept = k.allocates n;
   }
-  explained entry (Free selector) of end = frees selector (get s.selectors selector) refl
-  explained entry (Attach selector) of end = attaches selector (named_bytes (get s.selectors selector)) refl
-  explained entry (AttachAt selector address) of end = attaches_at selector address (named_bytes (get s.selectors selector)) refl
-  explained entry (Detach address) of end = detaches address (get s.regions address)
-  explained entry (Peek address count) of end = peeks count (found s address count)
-  explained entry (Poke address bytes) of end = pokes address bytes (found s address (length bytes)) refl
-  explained entry Capalloc of end = record {
+  explained entry (Free selector) of move end = frees selector (get s.selectors selector) refl
+  explained entry (Attach selector) of move end = attaches selector (named_bytes (get s.selectors selector)) refl
+  explained entry (AttachAt selector address) of move end = attaches_at selector address (named_bytes (get s.selectors selector)) refl
+  explained entry (Detach address) of move end = detaches address (get s.regions address)
+  explained entry (Peek address count) of move end = peeks count (found s address count)
+  explained entry (Poke address bytes) of move end = pokes address bytes (found s address (length bytes)) refl
+  explained entry Capalloc of move end = record {
     why = shortage s.account 0 1;
     accepted = cap_allocated s;
     told = refl;
@@ -388,17 +414,20 @@ module _ (session ends : Bool) (P : OwnState → Type 0) (s : OwnState) (h : P s
     right = λ within _. ap (λ b. cond b (Some OutOfRam) (cond (lacks_caps s.account 1) (Some OutOfCaps) None)) (no_ram within);
     kept = k.allocates_cap;
   }
-  explained entry (Capfree selector) of end = frees_cap selector (get s.selectors selector) refl
-  explained entry (New n) of end = news n (is_large n) refl
-  explained entry (Del address) of end = deletes address (get s.heap.payloads address) refl
-  explained entry (Snew n) of end = slices n (own_heap_gap (sliced_size n) s) refl
-  explained entry (Sdel address) of end = frees_block address (get s.sliced address) refl
-  explained entry Quota of end = does (told_quota s) _ refl refl refl h
-  explained entry (Open service text) of end = opens entry service (arguments_of text) (sym of)
-  explained entry (Upgrade selector text) of end = upgrades selector (session_named (get s.selectors selector)) (named_there (get s.selectors selector)) (arguments_of text) (sym of)
-  explained entry (CallSession selector request) of end = serves selector (session_named (get s.selectors selector)) (named_there (get s.selectors selector)) request (sym of)
-  explained entry (Close selector) of end = closes selector (session_named (get s.selectors selector)) (named_there (get s.selectors selector)) (sym of)
-  explained entry Exit of end = does exited _ refl refl refl (g (sym end))
+  explained entry (Capfree selector) of move end = frees_cap selector (get s.selectors selector) refl
+  explained entry (New n) of move end = news n (is_large n) refl
+  explained entry (Del address) of move end = deletes address (get s.heap.payloads address) refl
+  explained entry (Snew n) of move end = slices n (own_heap_gap (sliced_size n) s) refl
+  explained entry (Sdel address) of move end = frees_block address (get s.sliced address) refl
+  explained entry Quota of move end = does (told_quota s) _ refl refl refl h
+  explained entry Reserve of move end = does (told_reserve s) _ refl refl refl h
+  explained entry (Request text) of move end = requests (arguments_of text) (sym move)
+  explained entry (Yield text) of move end = yields (arguments_of text) (sym move)
+  explained entry (Open service text) of move end = opens entry service (arguments_of text) (sym of)
+  explained entry (Upgrade selector text) of move end = upgrades selector (session_named (get s.selectors selector)) (named_there (get s.selectors selector)) (arguments_of text) (sym of)
+  explained entry (CallSession selector request) of move end = serves selector (session_named (get s.selectors selector)) (named_there (get s.selectors selector)) request (sym of)
+  explained entry (Close selector) of move end = closes selector (session_named (get s.selectors selector)) (named_there (get s.selectors selector)) (sym of)
+  explained entry Exit of move end = does exited _ refl refl refl (g (sym end))
 
   -- one that has exited does no call
   by_gone : (gone : Bool) (o : Outcome) (line : List Test) → Explained session P s o line → Explained session P s (unless (cond gone (Some Gone) None) s o) (when gone Gone ∷ line)
@@ -406,10 +435,10 @@ module _ (session ends : Bool) (P : OwnState → Type 0) (s : OwnState) (h : P s
   by_gone false o line e = record { why = e.why; accepted = e.accepted; told = e.told; quiet = e.quiet; is = e.is; right = e.right; kept = e.kept }
 
   -- any call of a component
-  by_kind : (kind : Kind) (entry : Entry) (call : Call) → is_of_session call ≡ session → is_exit call ≡ ends →
+  by_kind : (kind : Kind) (entry : Entry) (call : Call) → is_of_session call ≡ session → moves_reserve call ≡ moves → is_exit call ≡ ends →
       Explained session P s (unless (turned_away kind s) s (entry_step entry call s)) (line_by kind entry call s)
-  by_kind Server entry call of end = refused_for NotAScript _ refl
-  by_kind Script entry call of end = by_gone s.gone (entry_step entry call s) (line_of entry call s) (explained entry call of end)
+  by_kind Server entry call of move end = refused_for NotAScript _ refl
+  by_kind Script entry call of move end = by_gone s.gone (entry_step entry call s) (line_of entry call s) (explained entry call of move end)
 
   -- what is accepted or refused keeps it
   unless_keeps : (why : Option Refusal) (accepted : Outcome) → (why ≡ None → P accepted.next) → P (unless why s accepted).next
@@ -417,30 +446,32 @@ module _ (session ends : Bool) (P : OwnState → Type 0) (s : OwnState) (h : P s
   unless_keeps None accepted after = after refl
 
   -- so any such call keeps it
-  step_keeps_by : (entry : Entry) (call : Call) → is_of_session call ≡ session → is_exit call ≡ ends → P (own_step entry call s).next
-  step_keeps_by entry call of end = let e = by_kind entry.kind entry call of end in subst (λ o. P o.next) (sym e.is) (unless_keeps e.why e.accepted e.kept)
+  step_keeps_by : (entry : Entry) (call : Call) → is_of_session call ≡ session → moves_reserve call ≡ moves → is_exit call ≡ ends → P (own_step entry call s).next
+  step_keeps_by entry call of move end = let e = by_kind entry.kind entry call of move end in subst (λ o. P o.next) (sym e.is) (unless_keeps e.why e.accepted e.kept)
 
 module _ (P : OwnState → Type 0) (s : OwnState) (h : P s) (k : KeptByEffects P s) where
   -- any call but one of a session and an exit keeps what all other effects keep
-  pub others_go_on : (entry : Entry) (call : Call) → is_of_session call ≡ false → is_exit call ≡ false → P (own_step entry call s).next
-  others_go_on entry call other on = step_keeps_by false false P s h k (λ e. absurd (true≢false (sym e))) (λ e. absurd (true≢false (sym e))) entry call other on
+  pub others_go_on : (entry : Entry) (call : Call) → (moves_reserve call ≡ true → KeptByReserve P s) → is_of_session call ≡ false → is_exit call ≡ false → P (own_step entry call s).next
+  others_go_on entry call m other on = step_keeps_by false (moves_reserve call) false P s h k m (λ e. absurd (true≢false (sym e))) (λ e. absurd (true≢false (sym e))) entry call other refl on
 
   -- any call but one of a session, where it holds of who has exited
-  pub others_keep : P gone_state → (entry : Entry) (call : Call) → is_of_session call ≡ false → P (own_step entry call s).next
-  others_keep gone entry call other = step_keeps_by false (is_exit call) P s h k (λ e. absurd (true≢false (sym e))) (λ _. gone) entry call other refl
+  pub others_keep : KeptByReserve P s → P gone_state → (entry : Entry) (call : Call) → is_of_session call ≡ false → P (own_step entry call s).next
+  others_keep m gone entry call other = step_keeps_by false (moves_reserve call) (is_exit call) P s h k (λ _. m) (λ e. absurd (true≢false (sym e))) (λ _. gone) entry call other refl refl
 
   -- any call but an exit
-  pub goes_on : KeptBySessions P s → (entry : Entry) (call : Call) → is_exit call ≡ false → P (own_step entry call s).next
-  goes_on q entry call on = step_keeps_by (is_of_session call) false P s h k (λ _. q) (λ e. absurd (true≢false (sym e))) entry call refl on
+  pub goes_on : (entry : Entry) (call : Call) → (moves_reserve call ≡ true → KeptByReserve P s) → KeptBySessions P s → is_exit call ≡ false → P (own_step entry call s).next
+  goes_on entry call m q on = step_keeps_by (is_of_session call) (moves_reserve call) false P s h k m (λ _. q) (λ e. absurd (true≢false (sym e))) entry call refl refl on
 
   -- and any call
-  pub step_keeps : KeptBySessions P s → P gone_state → (entry : Entry) (call : Call) → P (own_step entry call s).next
-  step_keeps q gone entry call = step_keeps_by (is_of_session call) (is_exit call) P s h k (λ _. q) (λ _. gone) entry call refl refl
+  pub step_keeps : KeptByReserve P s → KeptBySessions P s → P gone_state → (entry : Entry) (call : Call) → P (own_step entry call s).next
+  step_keeps m q gone entry call = step_keeps_by (is_of_session call) (moves_reserve call) (is_exit call) P s h k (λ _. m) (λ _. q) (λ _. gone) entry call refl refl refl
 
 -- and so do calls, where what a call can do keeps it in each state
-pub run_keeps : (P : OwnState → Type 0) → ((s : OwnState) → P s → KeptByEffects P s) → ((s : OwnState) → P s → KeptBySessions P s) → P gone_state → (entry : Entry) (calls : List Call) (s : OwnState) → P s → P (own_run entry calls s)
-run_keeps P each sessions gone entry [] s h = h
-run_keeps P each sessions gone entry (call ∷ calls) s h = run_keeps P each sessions gone entry calls (own_step entry call s).next (step_keeps P s h (each s h) (sessions s h) gone entry call)
+pub run_keeps : (P : OwnState → Type 0) → ((s : OwnState) → P s → KeptByEffects P s) → ((s : OwnState) → P s → KeptByReserve P s) → ((s : OwnState) → P s → KeptBySessions P s) → P gone_state →
+    (entry : Entry) (calls : List Call) (s : OwnState) → P s → P (own_run entry calls s)
+run_keeps P each reserve sessions gone entry [] s h = h
+run_keeps P each reserve sessions gone entry (call ∷ calls) s h =
+    run_keeps P each reserve sessions gone entry calls (own_step entry call s).next (step_keeps P s h (each s h) (reserve s h) (sessions s h) gone entry call)
 
 -- ---- refusals
 
@@ -451,9 +482,12 @@ anything s = search (rules, frees, attaches, detaches, pokes, pokes_payload, pok
 anything_of_sessions : (s : OwnState) → KeptBySessions (λ _. Unit {0}) s
 anything_of_sessions s = search (rules, opens, upgrades, serves, closes)
 
+anything_of_reserve : (s : OwnState) → KeptByReserve (λ _. Unit {0}) s
+anything_of_reserve s = record { requests = λ _ _. tt; yields = λ _ _. tt }
+
 -- what a call is refused for, and what it does else
 why_call : (entry : Entry) (call : Call) (s : OwnState) → Explained (is_of_session call) (λ _. Unit {0}) s (own_step entry call s) (whole_line entry call s)
-why_call entry call s = by_kind (is_of_session call) (is_exit call) (λ _. Unit {0}) s tt (anything s) (λ _. anything_of_sessions s) (λ _. tt) entry.kind entry call refl refl
+why_call entry call s = by_kind (is_of_session call) (moves_reserve call) (is_exit call) (λ _. Unit {0}) s tt (anything s) (λ _. anything_of_reserve s) (λ _. anything_of_sessions s) (λ _. tt) entry.kind entry call refl refl refl
 
 -- what is refused finishes no lines, nor does what is accepted where it finishes none
 unless_quiet : (why : Option Refusal) (s : OwnState) (accepted : Outcome) → accepted.lines ≡ [] → (unless why s accepted).lines ≡ []

@@ -15,7 +15,7 @@ use Rattle.own_model.specs.NatMap.{NatMap}
 use Rattle.own_model.specs.OwnHeap.{chunk_with, offset_of, no_heap}
 use Rattle.std.proofs.lemmas.List.{length-set, length-append}
 use Rattle.std.proofs.lemmas.List.Sums.{sum_by-append}
-use Rattle.own_model.proofs.StepLemmas.{KeptBySessions, KeptByEffects, valid_some}
+use Rattle.own_model.proofs.StepLemmas.{KeptBySessions, KeptByEffects, KeptByReserve, valid_some}
 use Rattle.own_model.proofs.TableLemmas.{run_keeps}
 pub use Rattle.own_model.proofs.ByteLemmas.{length-zeros, length-with_part}
 use Rattle.own_model.proofs.Totals.{total-empty, total-insert_new, total-insert_same, total-remove, len-insert_new, len-insert_at, len-remove_at}
@@ -24,6 +24,7 @@ use Rattle.own_model.specs.OwnState.{OwnState, Object, zeros, new_selector, obje
 use Rattle.own_model.specs.OwnState.Object.{Dataspace, RpcObject, OpenSession, Buffer}
 use Rattle.own_model.specs.OwnStep.{gone_state, own_run, allocated, freed, poked_at, payload_poked, block_taken, chunk_added, large_at, given_back, sliced_at, sliced_freed, own_heap_gap, cap_allocated, cap_freed, with_buffer}
 use Rattle.own_model.specs.Account.{Account, opened, parted_with, alloc_refusal}
+use Rattle.own_model.specs.Reserve.{no_reserve}
 use Rattle.own_model.specs.Session.{Session, new_session, upgraded, served}
 use Rattle.own_model.specs.Sliced.{sliced_header, sliced_size, block_size}
 use Rattle.own_model.proofs.HeapRangeLemmas.{gap_free, gap_free_large, new_page}
@@ -31,7 +32,7 @@ use Rattle.own_model.specs.StartList.{Entry, StartEntry, start_state}
 use Rattle.own_model.specs.Use.{UsesWhatItHolds, object_size, object_caps}
 
 -- where nothing is held, nothing is used
-none_uses : (ram caps : ℕ) (gone : Bool) → UsesWhatItHolds (record { account = opened ram caps; selectors = empty; regions = empty; heap = no_heap; sliced = empty; gone = gone })
+none_uses : (ram caps : ℕ) (gone : Bool) → UsesWhatItHolds (record { account = opened ram caps; reserve = no_reserve; selectors = empty; regions = empty; heap = no_heap; sliced = empty; gone = gone })
 none_uses ram caps gone = search (rules, total-empty, len-empty)
 
 -- as at the start, and after an exit
@@ -180,6 +181,10 @@ sessions_use s h = record {
       };
 }
 
+-- nothing is ever used of a reserve
+reserve_uses : (s : OwnState) → UsesWhatItHolds s → KeptByReserve UsesWhatItHolds s
+reserve_uses s h = search rules
+
 -- calls keep what is used equal to what is held
 pub run_uses : (entry : Entry) (calls : List Call) (s : OwnState) → UsesWhatItHolds s → UsesWhatItHolds (own_run entry calls s)
-run_uses = run_keeps UsesWhatItHolds effects_use sessions_use gone_uses
+run_uses = run_keeps UsesWhatItHolds effects_use reserve_uses sessions_use gone_uses

@@ -4,7 +4,8 @@ use Rattle.std.specs.Option.{option_map, option_and_then, unwrap_or}
 use Rattle.std.specs.Str.{bytes_eq}
 use Rattle.own_model.specs.Text.{first_word, is_name, number_of, address_of, bytes_of_hex}
 
--- a call: one case a form. A session is opened and upgraded by the text of arguments, and called by the text of a request
+-- a call: one case a form. A session is opened and upgraded by the text of arguments, and called by the text of a request.
+-- What is requested of the reserve or yielded to it is told by the text of arguments, of which the label is ignored
 pub data Call : Type 0 where
   Alloc : ℕ → Call
   Free : ℕ → Call
@@ -20,6 +21,9 @@ pub data Call : Type 0 where
   Snew : ℕ → Call
   Sdel : ℕ → Call
   Quota : Call
+  Reserve : Call
+  Request : List ℕ → Call
+  Yield : List ℕ → Call
   Open : List ℕ → List ℕ → Call
   Upgrade : ℕ → List ℕ → Call
   CallSession : ℕ → List ℕ → Call
@@ -33,6 +37,12 @@ is_of_session (Upgrade selector text) = true
 is_of_session (CallSession selector request) = true
 is_of_session (Close selector) = true
 is_of_session call = false
+
+-- a call moves limits between its caller's account and its reserve
+abbrev pub moves_reserve : Call → Bool
+moves_reserve (Request text) = true
+moves_reserve (Yield text) = true
+moves_reserve call = false
 
 -- a call ends its caller, where that isn't turned away
 abbrev pub is_exit : Call → Bool

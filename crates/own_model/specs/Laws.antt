@@ -5,7 +5,7 @@ use Rattle.std.specs.List.{AllByRecursion}
 use Rattle.trade_base.specs.declared.refusal.Refusal.{Refusal}
 use Rattle.trade_base.specs.declared.refusal.Refusal.TheVariants.{Gone, InvalidCap, OutOfCaps, TooManyRegions}
 use Rattle.own_model.specs.Account.{Account, WithinLimits}
-use Rattle.own_model.specs.Call.{Call, is_of_session}
+use Rattle.own_model.specs.Call.{Call, is_of_session, moves_reserve}
 use Rattle.own_model.specs.Call.Call.{Free, Attach, AttachAt, Peek, Poke, Capalloc, Exit}
 use Rattle.own_model.specs.Donation.{raised}
 use Rattle.own_model.specs.Limits.{ram_limits, caps_limits, init_after, AreWithinLimits}
@@ -123,21 +123,23 @@ ServersStay =
     (name : List ℕ) (routes : List Rule) (calls : List Call) (s : OwnState) →
     own_run (record { name = name; kind = Server; routes = routes }) calls s ≡ s
 
--- a call leaves the limits of its caller and of the caller's open sessions together, and an exit that is done leaves none
+-- a call leaves the limits of its caller, of the caller's reserve and of its open sessions together, and an exit that is done
+-- leaves none
 abbrev pub StepKeepsLimits : Type 0
 StepKeepsLimits =
     (entry : Entry) (call : Call) (s : OwnState) →
     (ram_limits (own_step entry call s).next ≡ (if exits entry call s then 0 else ram_limits s))
     × (caps_limits (own_step entry call s).next ≡ (if exits entry call s then 0 else caps_limits s))
 
--- and so for the limits of its caller's account alone, but for calls of sessions
+-- and so for the limits of its caller's account alone, but for calls of sessions, requests and yields
 abbrev pub OthersKeepOwnLimits : Type 0
 OthersKeepOwnLimits =
-    (entry : Entry) (call : Call) (s : OwnState) → is_of_session call ≡ false →
+    (entry : Entry) (call : Call) (s : OwnState) → is_of_session call ≡ false → moves_reserve call ≡ false →
     ((own_step entry call s).next.account.ram_limit ≡ (if exits entry call s then 0 else s.account.ram_limit))
     × ((own_step entry call s).next.account.caps_limit ≡ (if exits entry call s then 0 else s.account.caps_limit))
 
--- an exit that is done returns all limits of its caller and of the caller's open sessions to init, and no other call any
+-- an exit that is done returns all limits of its caller, of the caller's reserve and of its open sessions to init, and no
+-- other call any
 abbrev pub ExitsReturnLimits : Type 0
 ExitsReturnLimits =
     (entry : Entry) (call : Call) (init : Account) (s : OwnState) →
@@ -251,7 +253,7 @@ LinesKeepBalance =
     (pages caps : ℕ) (world : World) (lines : List (List ℕ)) →
     IsBalanced pages caps world → IsBalanced pages caps (world_running world lines)
 
--- in a balanced world the limits of a component and of its open sessions together fit the machine
+-- in a balanced world the limits of a component, of its reserve and of its open sessions together fit the machine
 abbrev pub LimitsFitTheMachine : Type 0
 LimitsFitTheMachine =
     (pages caps : ℕ) (world : World) (component : ℕ) → IsBalanced pages caps world →

@@ -3,6 +3,8 @@ pub mod Moved
 pub mod Entries
 pub mod Slots
 pub mod Account
+pub mod Amounts
+pub mod Reserve
 pub mod Heap
 pub mod BestFit
 pub mod Growth
@@ -28,6 +30,7 @@ pub mod Use
 pub mod Sound
 pub mod Table
 pub mod Laws
+pub mod ReserveLaws
 pub mod SlicedLaws
 pub mod HeapLaws
 pub mod SessionArgs

@@ -1,4 +1,4 @@
--- The limits of a component and of its open sessions together.
+-- The limits of a component, of its reserve and of its open sessions together.
 use Rattle.std.specs.Prelude.{ℕ, ◌+◌, ◌-◌}
 use Rattle.own_model.specs.Account.{Account, WithinLimits}
 use Rattle.own_model.specs.Donation.{raised}
@@ -19,13 +19,13 @@ caps_with RpcObject = 0
 caps_with (OpenSession session) = session.account.caps_limit
 caps_with (Buffer session bytes) = 0
 
--- all limits of RAM that a component has
+-- all limits of RAM that a component has, its reserve and its sessions' among them
 abbrev pub ram_limits : OwnState → ℕ
-ram_limits s = s.account.ram_limit + total ram_with s.selectors
+ram_limits s = s.account.ram_limit + s.reserve.ram + total ram_with s.selectors
 
--- all limits of capabilities
+-- all limits of capabilities, the same
 abbrev pub caps_limits : OwnState → ℕ
-caps_limits s = s.account.caps_limit + total caps_with s.selectors
+caps_limits s = s.account.caps_limit + s.reserve.caps + total caps_with s.selectors
 
 -- init's account after a component goes from one own state to another: what its limits lose, init's gain
 abbrev pub init_after : Account → OwnState → OwnState → Account

@@ -6,6 +6,7 @@ use Rattle.std.specs.FinMap.{get, keys, entries}
 use Rattle.trade_base.specs.Bytes.{with_bytes}
 use Rattle.own_model.specs.NatMap.{NatMap, joined, least_gap}
 use Rattle.own_model.specs.Account.{Account}
+use Rattle.own_model.specs.Amounts.{Amounts}
 use Rattle.own_model.specs.OwnHeap.{OwnHeap, ranges_of_heap}
 use Rattle.own_model.specs.Region.{Region}
 use Rattle.own_model.specs.Session.{Session}
@@ -20,11 +21,12 @@ pub data Object : Type 0 where
   OpenSession : Session → Object
   Buffer : ℕ → List ℕ → Object
 
--- a component's account, what its selectors name, its regions by their start addresses, each of a selector, its heap,
+-- a component's account, its reserve, of which nothing is used, what its selectors name, its regions by their start addresses, each of a selector, its heap,
 -- its sliced blocks by the addresses of their payloads, each by its payload's bytes, and whether it has exited.
 -- A server has its account alone
 pub record OwnState : Type 0 where
   pub account : Account
+  pub reserve : Amounts
   pub selectors : NatMap Object
   pub regions : NatMap Region
   pub heap : OwnHeap

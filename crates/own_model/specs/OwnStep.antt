@@ -7,7 +7,7 @@ use Rattle.trade_base.specs.declared.refusal.Refusal.TheVariants.{NotAScript, Go
 use Rattle.trade_base.specs.Page.{page_of}
 use Rattle.own_model.specs.Account.{opened, shortage, charged, credited, parted_with, alloc_refusal}
 use Rattle.own_model.specs.Call.{Call, is_exit}
-use Rattle.own_model.specs.Call.Call.{Alloc, Free, Attach, AttachAt, Detach, Peek, Poke, Capalloc, Capfree, New, Del, Snew, Sdel, Quota, Open, Upgrade, CallSession, Close, Exit}
+use Rattle.own_model.specs.Call.Call.{Alloc, Free, Attach, AttachAt, Detach, Peek, Poke, Capalloc, Capfree, New, Del, Snew, Sdel, Quota, Reserve, Request, Yield, Open, Upgrade, CallSession, Close, Exit}
 use Rattle.own_model.specs.NatMap.{NatMap}
 use Rattle.own_model.specs.OwnState.{OwnState, Object, NamedBuffer, zeros, new_selector, pages_in, with_part, object_with, named_bytes, session_named, buffer_of, bytes_of_buffer, heap_ranges}
 use Rattle.own_model.specs.OwnState.Object.{Dataspace, RpcObject, OpenSession, Buffer}
@@ -21,8 +21,9 @@ use Rattle.own_model.specs.Place.Place.{InDataspace, InPayload, InBlock}
 use Rattle.own_model.specs.Sliced.{sliced_header, sliced_size, sliced_refusal, block_size}
 use Rattle.own_model.specs.Region.{Region, most_regions, without, user_gap, attach_refusal, attach_at_refusal, detach_refusal}
 use Rattle.own_model.specs.Reply.{Reply, LogLine}
-use Rattle.own_model.specs.Reply.Reply.{Selected, Attached, Bytes, Done, Quotas, Told, Refused}
+use Rattle.own_model.specs.Reply.Reply.{Selected, Attached, Bytes, Done, Quotas, Reserved, Told, Refused}
 use Rattle.own_model.specs.Donation.{raised}
+use Rattle.own_model.specs.Reserve.{no_reserve, reserve_account, filled, drawn}
 use Rattle.own_model.specs.Session.{Session, Wish, Served, wish, donation_refusal, new_session, upgraded, served}
 use Rattle.own_model.specs.SessionArgs.{Arguments, arguments_of}
 use Rattle.own_model.specs.StartList.{Entry, Kind}
@@ -261,6 +262,40 @@ newed n s = if is_large n then large_in n (own_heap_gap (page_of n) s) s else sm
 abbrev pub told_quota : OwnState → Outcome
 told_quota s = record { reply = Quotas s.account; lines = []; next = s }
 
+-- ---- the reserve
+
+-- what the caller's reserve has
+abbrev pub told_reserve : OwnState → Outcome
+told_reserve s = record { reply = Reserved s.reserve; lines = []; next = s }
+
+-- so much goes from the reserve to the account's limits
+abbrev pub reserve_requested : Arguments → OwnState → Outcome
+reserve_requested more s = record {
+  reply = Done;
+  lines = [];
+  next = record s { account = raised s.account more.ram more.caps; reserve = drawn s.reserve more.ram more.caps };
+}
+
+-- where the reserve covers it
+abbrev pub requested_by : Option Arguments → OwnState → Outcome
+requested_by (Some more) s = unless (shortage (reserve_account s.reserve) more.ram more.caps) s (reserve_requested more s)
+requested_by None s = refused s BadArgs
+
+-- so much goes from the account's limits to the reserve
+abbrev pub reserve_yielded : Arguments → OwnState → Outcome
+reserve_yielded more s = record {
+  reply = Done;
+  lines = [];
+  next = record s { account = parted_with s.account more.ram more.caps; reserve = filled s.reserve more.ram more.caps };
+}
+
+-- where what the account doesn't use covers it
+abbrev pub yielded_by : Option Arguments → OwnState → Outcome
+yielded_by (Some more) s = unless (shortage s.account more.ram more.caps) s (reserve_yielded more s)
+yielded_by None s = refused s BadArgs
+
+-- ---- sessions
+
 -- a session that is asked for, under the new selector: what is donated for it leaves the client's limits
 abbrev pub session_opened : Wish → OwnState → Outcome
 session_opened wish s = record {
@@ -346,9 +381,9 @@ session_closed selector (Some session) s =
     }
 session_closed selector None s = refused s InvalidSession
 
--- nothing is left of who has exited: every session is closed, everything is dropped, and limits and use are 0
+-- nothing is left of who has exited: every session is closed, everything is dropped, and limits, use and reserve are 0
 abbrev pub gone_state : OwnState
-gone_state = record { account = opened 0 0; selectors = map.empty; regions = map.empty; heap = no_heap; sliced = map.empty; gone = true }
+gone_state = record { account = opened 0 0; reserve = no_reserve; selectors = map.empty; regions = map.empty; heap = no_heap; sliced = map.empty; gone = true }
 
 -- a component exits
 abbrev pub exited : Outcome
@@ -371,6 +406,9 @@ entry_step entry (Del address) s = deleted address (get s.heap.payloads address)
 entry_step entry (Snew n) s = unless (sliced_refusal n s.account) s (sliced_in n (own_heap_gap (sliced_size n) s) s)
 entry_step entry (Sdel address) s = sliced_freed address (get s.sliced address) s
 entry_step entry Quota s = told_quota s
+entry_step entry Reserve s = told_reserve s
+entry_step entry (Request text) s = requested_by (arguments_of text) s
+entry_step entry (Yield text) s = yielded_by (arguments_of text) s
 entry_step entry (Open service text) s = opened_by (wish entry.name entry.routes service text) s
 entry_step entry (Upgrade selector text) s = upgraded_by selector (session_named (get s.selectors selector)) (arguments_of text) s
 entry_step entry (CallSession selector request) s = session_called selector (session_named (get s.selectors selector)) request s

@@ -4,6 +4,7 @@ use Rattle.std.specs.Fmt.{digits}
 use Rattle.trade_base.specs.declared.refusal.Refusal.{Refusal}
 use Rattle.trade_base.specs.Refusal.{refusal_name}
 use Rattle.own_model.specs.Account.{Account}
+use Rattle.own_model.specs.Amounts.{Amounts}
 
 -- what a call is answered. A service's reply is told as it stands
 pub data Reply : Type 0 where
@@ -12,6 +13,7 @@ pub data Reply : Type 0 where
   Bytes : List ℕ → Reply
   Done : Reply
   Quotas : Account → Reply
+  Reserved : Amounts → Reply
   Told : List ℕ → Reply
   Refused : Refusal → Reply
 
@@ -33,6 +35,10 @@ share_text used limit = decimal used ++ codes "/" ++ decimal limit
 abbrev pub quota_text : Account → List ℕ
 quota_text a = codes "ram " ++ share_text a.ram_used a.ram_limit ++ codes " caps " ++ share_text a.caps_used a.caps_limit
 
+-- amounts of RAM and of capabilities
+abbrev pub amounts_text : Amounts → List ℕ
+amounts_text amounts = codes "ram " ++ decimal amounts.ram ++ codes " caps " ++ decimal amounts.caps
+
 -- the text of a reply
 abbrev pub reply_text : Reply → List ℕ
 reply_text (Selected selector) = codes "cap " ++ decimal selector
@@ -40,6 +46,7 @@ reply_text (Attached address) = codes "at " ++ address_text address
 reply_text (Bytes bytes) = codes "data " ++ hex_text bytes
 reply_text Done = codes "ok"
 reply_text (Quotas account) = quota_text account
+reply_text (Reserved reserve) = amounts_text reserve
 reply_text (Told text) = text
 reply_text (Refused refusal) = refusal_name refusal
 

@@ -4,6 +4,7 @@ use Rattle.std.specs.FinMap as map
 use Rattle.own_model.specs.Account.{Account, opened, parted_with, Fits}
 use Rattle.own_model.specs.OwnHeap.{no_heap}
 use Rattle.own_model.specs.OwnState.{OwnState}
+use Rattle.own_model.specs.Reserve.{no_reserve}
 use Rattle.own_model.specs.Routes.{Rule}
 
 -- a script makes calls, a server answers those of others
@@ -34,7 +35,7 @@ entries_of list = map (λ start. start.entry) list.starts
 
 -- a component starts with its budget and nothing else
 abbrev pub start_state : StartEntry → OwnState
-start_state start = record { account = opened start.ram start.caps; selectors = map.empty; regions = map.empty; heap = no_heap; sliced = map.empty; gone = false }
+start_state start = record { account = opened start.ram start.caps; reserve = no_reserve; selectors = map.empty; regions = map.empty; heap = no_heap; sliced = map.empty; gone = false }
 
 abbrev pub start_states : StartList → List OwnState
 start_states list = map start_state list.starts

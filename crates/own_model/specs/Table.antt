@@ -8,7 +8,7 @@ use Rattle.trade_base.specs.declared.refusal.Refusal.TheVariants.{NotAScript, Go
 use Rattle.own_model.specs.Account.{Account}
 use Rattle.own_model.specs.BestFit.{Spot, block_size}
 use Rattle.own_model.specs.Call.{Call}
-use Rattle.own_model.specs.Call.Call.{Alloc, Free, Attach, AttachAt, Detach, Peek, Poke, Capalloc, Capfree, New, Del, Snew, Sdel, Quota, Open, Upgrade, CallSession, Close, Exit}
+use Rattle.own_model.specs.Call.Call.{Alloc, Free, Attach, AttachAt, Detach, Peek, Poke, Capalloc, Capfree, New, Del, Snew, Sdel, Quota, Reserve, Request, Yield, Open, Upgrade, CallSession, Close, Exit}
 use Rattle.own_model.specs.Growth.{most_chunks, is_large, hole_for, growth_of}
 use Rattle.own_model.specs.OwnState.{OwnState, Object, pages_in, named_bytes, bytes_named, session_named}
 use Rattle.own_model.specs.OwnState.Object.{Dataspace, RpcObject, OpenSession, Buffer}
@@ -16,7 +16,8 @@ use Rattle.own_model.specs.OwnStep.{most_bytes, own_heap_gap}
 use Rattle.own_model.specs.Place.{found}
 use Rattle.own_model.specs.Region.{most_regions, user_low, user_high, can_stand, first_gap}
 use Rattle.own_model.specs.Reply.{Reply}
-use Rattle.own_model.specs.Reply.Reply.{Selected, Attached, Bytes, Done, Quotas, Told, Refused}
+use Rattle.own_model.specs.Reply.Reply.{Selected, Attached, Bytes, Done, Quotas, Reserved, Told, Refused}
+use Rattle.own_model.specs.Reserve.{reserve_account}
 use Rattle.own_model.specs.Routes.{Rule, provider}
 use Rattle.own_model.specs.Session.{Session, session_ram, session_caps, given_by}
 use Rattle.own_model.specs.SessionArgs.{Arguments, arguments_of}
@@ -95,11 +96,15 @@ open_line routes service arguments s =
     ∷ when (nat_lt (given_by arguments).ram session_ram) InsufficientRamQuota
     ∷ when (nat_lt (given_by arguments).caps session_caps) InsufficientCapQuota ∷ []
 
+-- the line for limits that are to be moved from an account
+abbrev pub moved_line : Option Arguments → Account → List Test
+moved_line arguments from =
+    when (is_none arguments) BadArgs ∷ when (lacks_ram from (given_by arguments).ram) OutOfRam
+    ∷ when (lacks_caps from (given_by arguments).caps) OutOfCaps ∷ []
+
 -- the line for more of a donation
 abbrev pub upgrade_line : Option Session → Option Arguments → OwnState → List Test
-upgrade_line session arguments s =
-    when (is_none session) InvalidSession ∷ when (is_none arguments) BadArgs
-    ∷ when (lacks_ram s.account (given_by arguments).ram) OutOfRam ∷ when (lacks_caps s.account (given_by arguments).caps) OutOfCaps ∷ []
+upgrade_line session arguments s = when (is_none session) InvalidSession ∷ moved_line arguments s.account
 
 -- a script's line for each call
 abbrev pub line_of : Entry → Call → OwnState → List Test
@@ -124,6 +129,9 @@ line_of entry (Snew n) s =
     when (not (nat_lt 0 n && is_valid_size (sliced_header + n))) InvalidSize ∷ memory_line (sliced_size n) (own_heap_gap (sliced_size n) s) s
 line_of entry (Sdel address) s = when (is_none (get s.sliced address)) PageFault ∷ []
 line_of entry Quota s = []
+line_of entry Reserve s = []
+line_of entry (Request text) s = moved_line (arguments_of text) (reserve_account s.reserve)
+line_of entry (Yield text) s = moved_line (arguments_of text) s.account
 line_of entry (Open service text) s = open_line entry.routes service (arguments_of text) s
 line_of entry (Upgrade selector text) s = upgrade_line (session_named (get s.selectors selector)) (arguments_of text) s
 line_of entry (CallSession selector request) s = when (is_none (session_named (get s.selectors selector))) InvalidSession ∷ []
@@ -145,5 +153,6 @@ refusal_in (Attached address) = None
 refusal_in (Bytes bytes) = None
 refusal_in Done = None
 refusal_in (Quotas account) = None
+refusal_in (Reserved reserve) = None
 refusal_in (Told text) = None
 refusal_in (Refused refusal) = Some refusal

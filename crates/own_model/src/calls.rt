@@ -10,8 +10,8 @@ pub fn calls_are_refused_in_order()
     ensures leaves { RefusedLeaves }
 {}
 
-/// A call is refused for want of RAM or of capabilities only where its caller's account doesn't cover what the call asks for:
-/// never for want of a page, a place in a table or a gap. So it is on any machine that has booted, after any lines.
+/// A call is refused for want of RAM or of capabilities only where its caller's account, or for a request its reserve, doesn't
+/// cover what the call asks for: never for want of a page, a place in a table or a gap. So it is on any machine that has booted, after any lines.
 pub fn nothing_else_is_short()
     ensures call { NoHiddenShortage }
     ensures lines { NoHiddenShortageAfterLines }

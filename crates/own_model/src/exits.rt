@@ -11,7 +11,7 @@ pub fn exits_end()
     ensures alone { ExitsAlone }
 {}
 
-/// An exit that is done returns to init all limits of its caller and of the caller's open sessions. No other call changes
+/// An exit that is done returns to init all limits of its caller, of the caller's reserve and of its open sessions. No other call changes
 /// init's account.
 pub fn exits_return_limits()
     ensures { ExitsReturnLimits }

@@ -15,6 +15,7 @@ mod limits;
 mod listed;
 mod log_service;
 mod regions;
+mod reserves;
 mod rows;
 mod runs;
 mod session_args;
@@ -54,6 +55,7 @@ pub use log_service::writes_are_lines;
 pub use regions::{
     found_ranges_fit, freed_has_no_regions, full_maps_refuse, pokes_are_read, regions_stay_sound,
 };
+pub use reserves::{reserves_are_kept, yields_and_requests_undo};
 pub use rows::{
     arguments_are_read, empty_budget_is_told, exits_are_told, lines_and_names_are_refused,
     lines_end_and_overflow, long_lines_are_no_calls, longest_line_is_read, session_calls_are_read,

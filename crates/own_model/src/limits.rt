@@ -6,9 +6,9 @@ pub fn servers_stay()
     ensures { ServersStay }
 {}
 
-/// No call but an exit changes the limits of its caller and of the caller's open sessions together, and but for calls of
-/// sessions none changes those of the caller's account alone; an exit that is done leaves none of them. No call overdraws any
-/// of these accounts.
+/// No call but an exit changes the limits of its caller, of the caller's reserve and of its open sessions together, and but for
+/// calls of sessions, requests and yields none changes those of the caller's account alone; an exit that is done leaves none of
+/// them. No call overdraws any of these accounts.
 pub fn calls_keep_limits()
     ensures same { StepKeepsLimits }
     ensures own { OthersKeepOwnLimits }
@@ -24,14 +24,14 @@ pub fn capalloc_lacks_caps_alone()
 
 /// At the start and after any calls an account uses exactly what its component's dataspaces and heap are charged for, and a
 /// capability for each of these and each RPC object. Sessions and their buffers are charged to
-/// accounts of their own.
+/// accounts of their own, and nothing to a reserve.
 pub fn use_is_what_is_held()
     ensures start { StartsWithoutUse }
     ensures run { RunKeepsUse }
 {}
 
-/// A component's call leaves a balanced machine balanced, and so do lines; a component's limits then fit the machine. Where each component with its open sessions has
-/// the budget that it started with, or nothing once it is gone, and init has all else, that stays too.
+/// A component's call leaves a balanced machine balanced, and so do lines; a component's limits then fit the machine. Where each
+/// component with its reserve and its open sessions has the budget that it started with, or nothing once it is gone, and init has all else, that stays too.
 pub fn calls_keep_balance()
     ensures call { StepKeepsBalance }
     ensures lines { LinesKeepBalance }

@@ -37,7 +37,7 @@ use Rattle.pd_core.specs.declared.component.Role.{Role}
 use Rattle.pd_core.specs.declared.component.Role.TheVariants.{Script as AScript, Log as ALog, Files as AFiles, Gone as AGone}
 use Rattle.pd_core.proofs.ExitLemmas.{IsAlone, world_alone, core_alone, leads_alone, kind_of_script}
 use Rattle.pd_core.proofs.ExitWorldLemmas.{closed_at_first, closed_more, gone_world, exit_outcome}
-use Rattle.pd_core.proofs.QuotaLemmas.{found_in, session_at_place}
+use Rattle.pd_core.proofs.QuotaLemmas.{found_in, session_at_place, reserve_at_place, no_reserve_of_role}
 use Rattle.pd_core.proofs.WorldLemmas.{one_of, length-entries, entries_at, refused_goes, role_at}
 
 -- ---- a script as the world sees it
@@ -205,7 +205,11 @@ module _ {i count : ℕ} {old mid : Store} {before between : List Component} (d 
           answered = ap (λ (o : Outcome). reply_text o.reply) (sym outcome);
           lines = ap (λ (o : Outcome). flat_map log_text o.lines) (sym outcome);
           stepped = gone_world i count first (world_of rules mid between) (world_of rules new (set between i (record (get_or between i e) { role = AGone }))) (closes.closed rules)
-              (record { none = λ q. none_seen rules between e closes.core still_here q (none_after q); stepped = world_alone alone_after ends ram caps rules })
+              (record {
+                none = λ q. none_seen rules between e closes.core still_here q (none_after q);
+                reserve = reserve_at_place rules mid between i e still_here ∙ sym (no_reserve_of_role (sessions_in mid (roles_of between)) mid (get_or between i e).role);
+                stepped = world_alone alone_after ends ram caps rules;
+              })
               ∙ ap (λ (o : Outcome). with_state first i o.next) (sym outcome);
         };
         core = core_alone alone_after ends ram caps;

@@ -11,6 +11,8 @@ use Rattle.own_model.specs.Limits.{ram_with, caps_with, ram_limits, caps_limits}
 use Rattle.own_model.specs.NatMap.{NatMap}
 use Rattle.own_model.specs.OwnState.{OwnState, Object, NamedBuffer, session_named, buffer_of}
 use Rattle.own_model.specs.OwnState.Object.{Dataspace, RpcObject, OpenSession, Buffer as ABuffer}
+use Rattle.own_model.specs.Amounts.{Amounts}
+use Rattle.own_model.specs.Reserve.{no_reserve}
 use Rattle.own_model.specs.OwnStep.{Outcome, own_step, selectors_lent, session_closed, exited, gone_state}
 use Rattle.own_model.specs.Session.{Session}
 use Rattle.own_model.specs.StartList.{Entry}
@@ -103,16 +105,17 @@ no_limits RpcObject none = (refl, refl)
 no_limits (ABuffer session bytes) none = (refl, refl)
 no_limits (OpenSession session) none = absurd (none-some session (sym none))
 
--- without a session the limits are the account's
-account_alone : (s : OwnState) → ((q : ℕ) → session_named (get s.selectors q) ≡ None) → (ram_limits s ≡ s.account.ram_limit) × (caps_limits s ≡ s.account.caps_limit)
-account_alone s none =
+-- without a session and with nothing in reserve the limits are the account's
+account_alone : (s : OwnState) → s.reserve ≡ no_reserve → ((q : ℕ) → session_named (get s.selectors q) ≡ None) → (ram_limits s ≡ s.account.ram_limit) × (caps_limits s ≡ s.account.caps_limit)
+account_alone s empty none =
     let ram = total_same ram_with (λ _. 0) s.selectors (λ k o there. (no_limits o (ap session_named (sym there) ∙ none k)).0) ∙ total-zero s.selectors in
     let caps = total_same caps_with (λ _. 0) s.selectors (λ k o there. (no_limits o (ap session_named (sym there) ∙ none k)).1) ∙ total-zero s.selectors in
-    (omega (arith, ram), omega (arith, caps))
+    (omega (arith, ram, ap (λ (r : Amounts). r.ram) empty), omega (arith, caps, ap (λ (r : Amounts). r.caps) empty))
 
--- a component is gone that had no session, and init has its account's limits
+-- a component is gone that had no session and no reserve, and init has its account's limits
 pub record IsGoneFrom (i : ℕ) (old new : World) : Type 0 where
   pub none : (q : ℕ) → session_named (get (state_at old.states i).selectors q) ≡ None
+  pub reserve : (state_at old.states i).reserve ≡ no_reserve
   pub stepped : let account = (state_at old.states i).account in
       new ≡ record old { init = raised old.init account.ram_limit account.caps_limit; states = set old.states i gone_state }
 
@@ -121,7 +124,7 @@ pub gone_world : (i count : ℕ) (old mid new : World) → HasClosedAt i count o
 gone_world i count old mid new before goes =
     let was : OwnState = state_at old.states i in
     let s : OwnState = state_at mid.states i in
-    let alone = account_alone s goes.none in
+    let alone = account_alone s goes.reserve goes.none in
     let ram : s.account.ram_limit ≡ ram_limits was = sym alone.0 ∙ before.closed.ram in
     let caps : s.account.caps_limit ≡ caps_limits was = sym alone.1 ∙ before.closed.caps in
     goes.stepped

@@ -7,6 +7,7 @@ use Rattle.std.specs.List.{All, enumerate_from}
 use Rattle.std.specs.FinMap as finmap
 use Rattle.std.specs.FinMap.{get, empty, len}
 use Rattle.std.proofs.lemmas.List.Elements.{All-head, All-tail}
+use Rattle.own_model.specs.Reserve.{no_reserve}
 use Rattle.own_model.specs.NatMap.{NatMap, picked, total}
 use Rattle.own_model.specs.Account.{Account, opened}
 use Rattle.own_model.specs.Moved.{moved_up}
@@ -69,7 +70,7 @@ unfolding own_of regions_of
 own_opened L sessions ram caps =
     let selectors = picked-empty (object_of L sessions (opened_part ram caps)) in
     let regions = picked-empty (λ (region : Region). option_map (λ (other : ℕ). record region { of = other }) (selector_of empty region.of)) in
-    λ j. record { account = (start_state (budget ram caps)).account; selectors = selectors j; regions = regions j; heap = no_heap; sliced = empty; gone = (start_state (budget ram caps)).gone }
+    λ j. record { account = (start_state (budget ram caps)).account; reserve = no_reserve; selectors = selectors j; regions = regions j; heap = no_heap; sliced = empty; gone = (start_state (budget ram caps)).gone }
 
 -- where no block is, no payload stands
 no_payloads : (share : Share) → HasNoBlocks share → sliced_of share ≡ empty

@@ -4,6 +4,7 @@ use Rattle.std.proofs.lemmas.Option.{none-some, same_Some}
 use Rattle.std.specs.FinMap.{get}
 use Rattle.trade_base.specs.declared.id.DsId.{DsId}
 use Rattle.trade_base.specs.declared.id.Selector.{Selector}
+use Rattle.own_model.specs.Reserve.{no_reserve}
 use Rattle.own_model.specs.NatMap.{NatMap}
 use Rattle.own_model.specs.OwnHeap.{OwnHeap}
 use Rattle.own_model.specs.OwnState.Object.{Buffer as ABuffer}
@@ -45,6 +46,7 @@ module _ (L L' : Lent) (p : Part) (caps : NatMap Cap) (alike : LendAlike L L' ca
   unfolding own_of
   own_lent sessions i = record {
     account = account_of p;
+    reserve = no_reserve;
     selectors = picked_alike (object_of L' sessions p) (object_of L sessions p) caps
         (λ q cap there. object_lent L L' sessions p cap (λ s key is. alike q s key (ap buffer_at there ∙ is))) i;
     regions = regions_of caps user;

@@ -5,6 +5,7 @@ use Rattle.std.specs.Prelude.{Option}
 use Rattle.std.specs.Option.{option_and_then}
 use Rattle.std.specs.FinMap.{get, insert}
 use Rattle.trade_base.specs.Bytes.{with_bytes}
+use Rattle.own_model.specs.Reserve.{no_reserve}
 use Rattle.own_model.specs.Call.Call.{Poke}
 use Rattle.own_model.specs.NatMap.{NatMap, picked}
 use Rattle.own_model.specs.OwnState.{OwnState, Object, object_with, with_part}
@@ -90,6 +91,7 @@ module _ (store : Store) (script : Script) (sound : IsSoundScript store script) 
     unfolding own_of
     own_after = own_stays_but_lent store script sound store' own_part limits sessions ∙ (λ i. record {
       account = account_of p;
+      reserve = no_reserve;
       selectors = same _ _ put_at i;
       regions = regions_of script.caps.caps script.regions.user;
       heap = own_heap_at store script;

@@ -7,6 +7,7 @@ use Rattle.std.proofs.lemmas.Option.{none-some, same_Some}
 use Rattle.trade_base.specs.declared.id.DsId.{DsId}
 use Rattle.trade_base.specs.declared.id.Selector.{Selector}
 use Rattle.trade_base.specs.declared.id.SessionId.{SessionId}
+use Rattle.own_model.specs.Reserve.{no_reserve}
 use Rattle.own_model.specs.NatMap.{NatMap, picked, total}
 use Rattle.own_model.specs.Account.{opened, charged, credited}
 use Rattle.own_model.specs.Call.{Call}
@@ -244,7 +245,7 @@ module _ {L : Lent} (p : Part) (space : Space) (regions : Regions) (heap : OwnHe
             ∙ ap (λ m. insert m s object) (picked_alike (object_of L sessions charged_part) (object_of L sessions p) space.caps (object_stays sessions))
             ∙ ap (λ k. insert (picked (object_of L sessions p) space.caps) k object) (least ∙ sym (same_new_selector sessions ready)) in
             let attached = regions_alike space.caps (insert space.caps s cap) regions.user grown_one sound.attached named_apart in
-            λ i. record { account = charged (account_of p) n 1; selectors = names i; regions = attached i; heap = heap; sliced = sliced; gone = false }
+            λ i. record { account = charged (account_of p) n 1; reserve = no_reserve; selectors = names i; regions = attached i; heap = heap; sliced = sliced; gone = false }
 
         -- so a call that does this settles
         pub grows : ((sessions : Sessions) → script_step call (before sessions) ≡ record {
@@ -326,7 +327,7 @@ module _ {L : Lent} (p : Part) (space : Space) (regions : Regions) (heap : OwnHe
       shrunk_own sessions =
           let names = picked_alike (object_of L sessions credited_part) (object_of L sessions p) (remove space.caps s) (object_left sessions) ∙ picked-remove (object_of L sessions p) space.caps s in
           let attached = regions_alike space.caps (remove space.caps s) regions'.user shrunk_one left_named left_apart in
-          λ i. record { account = credited (account_of p) n 1; selectors = names i; regions = attached i; heap = heap; sliced = sliced; gone = false }
+          λ i. record { account = credited (account_of p) n 1; reserve = no_reserve; selectors = names i; regions = attached i; heap = heap; sliced = sliced; gone = false }
 
       -- so a call that does this settles
       pub shrinks : ((sessions : Sessions) → script_step call (before sessions) ≡ record {
@@ -467,7 +468,7 @@ module _ {L : Lent} (p : Part) (space : Space) (regions : Regions) (heap : OwnHe
           = λ sessions. picked_alike (object_of L sessions p') (object_of L sessions p) space.caps (object_kept sessions) in
           let attached = ap (regions_of space.caps) user in
           let outcome : DoesOwn L call p space regions heap sliced reply p' space regions' heap' sliced'
-          = λ sessions ready. (λ i. record { reply = reply; lines = []; next = record { account = account_of p'; selectors = selectors sessions i; regions = attached i; heap = heap'; sliced = sliced'; gone = false } }) ∙ sym (is sessions) in
+          = λ sessions ready. (λ i. record { reply = reply; lines = []; next = record { account = account_of p'; reserve = no_reserve; selectors = selectors sessions i; regions = attached i; heap = heap'; sliced = sliced'; gone = false } }) ∙ sym (is sessions) in
           let lawful = kept reply p' space regions' heap' sliced' (λ q. refl) outcome in
           let was = sound.lawful all_sessions (λ q server session there. refl) in
           let now = lawful all_sessions (λ q server session there. refl) in record {

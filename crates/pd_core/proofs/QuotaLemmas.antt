@@ -11,6 +11,7 @@ use Rattle.trade_base.specs.declared.refusal.Refusal.TheVariants.{InvalidSession
 use Rattle.own_model.specs.NatMap.{NatMap, picked}
 use Rattle.own_model.specs.OwnState.{OwnState, session_named}
 use Rattle.own_model.specs.OwnState.Object.{OpenSession}
+use Rattle.own_model.specs.Reserve.{no_reserve}
 use Rattle.own_model.specs.Session.{Session as AnOpenSession, Labelled}
 use Rattle.own_model.specs.Transcript.{nothing, state_at}
 use Rattle.own_model.proofs.NatMapLemmas.{get-empty, get-picked, get-picked_none}
@@ -54,6 +55,14 @@ pub account_of_known : (sessions : Sessions) (store : Store) (role known : Role)
 account_of_known sessions store role known account is pays =
     sym (account_of_role sessions store known account pays) ∙ ap (λ r. (own_in sessions store r).account) (sym is)
 
+-- no role has anything in reserve
+pub no_reserve_of_role : (sessions : Sessions) (store : Store) (role : Role) → no_reserve ≡ (own_in sessions store role).reserve
+unfolding own_of
+no_reserve_of_role sessions store (AScript script) = refl
+no_reserve_of_role sessions store (ALog account server) = refl
+no_reserve_of_role sessions store (AFiles account server) = refl
+no_reserve_of_role sessions store AGone = refl
+
 -- a component's own state is the one at its place of the world
 own_at_place : (rules : Rules) (store : Store) (components : List Component) (i : ℕ) (d : Component) → i < length components →
     state_at (world_of rules store components).states i ≡ own (sessions_in store (roles_of components)) store (get_or components i d)
@@ -63,6 +72,11 @@ own_at_place rules store components i d here = get_or-map (own (sessions_in stor
 pub account_at_place : (rules : Rules) (store : Store) (components : List Component) (i : ℕ) (d : Component) → i < length components →
     (state_at (world_of rules store components).states i).account ≡ (own (sessions_in store (roles_of components)) store (get_or components i d)).account
 account_at_place rules store components i d here = ap (λ (s : OwnState). s.account) (own_at_place rules store components i d here)
+
+-- and its reserve
+pub reserve_at_place : (rules : Rules) (store : Store) (components : List Component) (i : ℕ) (d : Component) → i < length components →
+    (state_at (world_of rules store components).states i).reserve ≡ (own (sessions_in store (roles_of components)) store (get_or components i d)).reserve
+reserve_at_place rules store components i d here = ap (λ (s : OwnState). s.reserve) (own_at_place rules store components i d here)
 
 -- ---- the last selector
 

@@ -6,6 +6,7 @@ use Rattle.std.specs.FinMap.{get, empty}
 use Rattle.slab.specs.Slab.{Slab}
 use Rattle.slab.specs.Slab as slab
 use Rattle.trade_base.specs.declared.id.SessionId.{SessionId}
+use Rattle.own_model.specs.Reserve.{no_reserve}
 use Rattle.own_model.specs.NatMap.{NatMap}
 use Rattle.own_model.specs.OwnHeap.{no_heap}
 use Rattle.own_model.specs.Session.{Labelled}
@@ -49,6 +50,7 @@ module _ (S S' : Sessions) (script : Script) (agrees : (q server : ℕ) (session
   unfolding own_of
   own_alike store i = record {
     account = account_of (part_at store script);
+    reserve = no_reserve;
     selectors = picked_alike (object_of (lent_in store) S' (part_at store script)) (object_of (lent_in store) S (part_at store script)) script.caps.caps
         (λ q cap there. named_alike (lent_in store) S S' (part_at store script) cap (λ server session is. agrees q server session (there ∙ ap Some is))) i;
     regions = regions_of script.caps.caps script.regions.user;

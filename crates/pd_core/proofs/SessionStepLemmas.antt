@@ -7,6 +7,7 @@ use Rattle.std.specs.Prelude.{Option, None, Ok, ◌==◌, if◌then◌else◌}
 use Rattle.std.specs.Option.{option_map, option_and_then}
 use Rattle.std.specs.FinMap.{get, insert, remove}
 use Rattle.trade_base.specs.declared.id.SessionId.{SessionId}
+use Rattle.own_model.specs.Reserve.{no_reserve}
 use Rattle.own_model.specs.Account.{Account, parted_with, shortage}
 use Rattle.own_model.specs.Call.{Call}
 use Rattle.own_model.specs.Call.Call.{Open, Upgrade, CallSession, Close}
@@ -242,7 +243,7 @@ module _ {L L' : Lent} {S S' : Sessions} {p p' : Part} {caps caps' : NatMap Cap}
           ]
         ]) in
         let regions = regions_turn changes.tables one attached ∙ ap (regions_of caps) whole in
-        λ i. record { account = account i; selectors = selectors i; regions = regions i; heap = heap; sliced = sliced; gone = false }
+        λ i. record { account = account i; reserve = no_reserve; selectors = selectors i; regions = regions i; heap = heap; sliced = sliced; gone = false }
 
     -- or a request makes it
     own_served : (lent ≡ None → k ≡ new_selector m) → account_of p' ≡ account_of p →
@@ -255,7 +256,7 @@ module _ {L L' : Lent} {S S' : Sessions} {p p' : Part} {caps caps' : NatMap Cap}
           | inr apart ↦ beside_it is_new s apart ∙ sym (get-insert_other t q (OpenSession x) s apart)
         ]) in
         let regions = regions_turn changes.tables one attached ∙ regions_given L L' caps q k one user lent lent' changes.tables.before in
-        λ i. record { account = account i; selectors = selectors i; regions = regions i; heap = heap; sliced = sliced; gone = false }
+        λ i. record { account = account i; reserve = no_reserve; selectors = selectors i; regions = regions i; heap = heap; sliced = sliced; gone = false }
 
   -- ---- it has nothing
 
@@ -269,7 +270,7 @@ module _ {L L' : Lent} {S S' : Sessions} {p p' : Part} {caps caps' : NatMap Cap}
         | inr apart ↦ beside_it is_new s apart ∙ sym (get-remove_other t q s apart)
       ]) in
       let regions = regions_turn changes.tables one attached ∙ regions_given L L' caps q k one user lent lent' changes.tables.before in
-      λ i. record { account = account i; selectors = selectors i; regions = regions i; heap = heap; sliced = sliced; gone = false }
+      λ i. record { account = account i; reserve = no_reserve; selectors = selectors i; regions = regions i; heap = heap; sliced = sliced; gone = false }
 
   -- ---- calls of sessions
 

@@ -3,6 +3,7 @@ use Rattle.std.specs.Prelude.{ℕ, List, [], Result, Ok, Err}
 use Rattle.std.specs.List.{flat_map}
 use Rattle.trade_base.specs.declared.refusal.Refusal.{Refusal}
 use Rattle.own_model.specs.Account.{Account}
+use Rattle.own_model.specs.Amounts.{Amounts}
 use Rattle.own_model.specs.OwnState.{OwnState}
 use Rattle.own_model.specs.OwnStep.{Outcome}
 use Rattle.own_model.specs.Reply.{Reply as Modelled, reply_text, log_text}
@@ -11,6 +12,7 @@ use Rattle.server_frame.specs.Told.{Told as Written}
 use Rattle.pd_core.specs.declared.answer.Answer.{Answer}
 use Rattle.pd_core.specs.declared.answer.Answer.TheVariants.{Selected, Attached, Done, Quotas}
 use Rattle.pd_core.specs.declared.answer.Quotas.{Quotas as QuotasTold}
+use Rattle.pd_core.specs.declared.answer.Reserve.{Reserve as ReserveTold}
 
 -- the account that has these quotas
 abbrev pub quotas_account : QuotasTold → Account
@@ -20,6 +22,10 @@ quotas_account quotas = record {
   caps_limit = quotas.caps_limit.0;
   caps_used = quotas.caps_used.0;
 }
+
+-- the amounts that are told of a reserve
+abbrev pub reserve_amounts : ReserveTold → Amounts
+reserve_amounts reserve = record { ram = reserve.ram.0; caps = reserve.caps.0 }
 
 -- the model's word for an answer
 abbrev pub model_answer : Answer → Modelled

@@ -5,6 +5,7 @@ use Rattle.std.specs.Coded.{Coded, code_by, coded×, coded_ℕ, coded_bool, code
 use Rattle.std.specs.FinMap as map
 use Rattle.own_model.specs.NatMap.{NatMap}
 use Rattle.own_model.specs.Account.{Account, coded_account}
+use Rattle.own_model.specs.Amounts.{Amounts, coded_amounts}
 use Rattle.own_model.specs.OwnHeap.{OwnHeap, coded_heap}
 use Rattle.own_model.specs.OwnState.{OwnState, Object}
 use Rattle.own_model.specs.OwnState.Object.{Dataspace, RpcObject, OpenSession, Buffer}
@@ -72,11 +73,19 @@ coded_entry =
 abbrev pub coded_own_state : Coded OwnState
 coded_own_state =
     code_by
-    (Account × (NatMap Object × (NatMap Region × (OwnHeap × (NatMap (List ℕ) × Bool)))))
-    (coded× coded_account (coded× (map.code coded_ℕ coded_object) (coded× (map.code coded_ℕ coded_region)
-    (coded× coded_heap (coded× (map.code coded_ℕ (coded_list coded_ℕ)) coded_bool)))))
-    (λ s. (s.account, (s.selectors, (s.regions, (s.heap, (s.sliced, s.gone))))))
-    (λ p. record { account = p.0; selectors = p.1.0; regions = p.1.1.0; heap = p.1.1.1.0; sliced = p.1.1.1.1.0; gone = p.1.1.1.1.1 })
+    (Account × (Amounts × (NatMap Object × (NatMap Region × (OwnHeap × (NatMap (List ℕ) × Bool))))))
+    (coded× coded_account (coded× coded_amounts (coded× (map.code coded_ℕ coded_object) (coded× (map.code coded_ℕ coded_region)
+    (coded× coded_heap (coded× (map.code coded_ℕ (coded_list coded_ℕ)) coded_bool))))))
+    (λ s. (s.account, (s.reserve, (s.selectors, (s.regions, (s.heap, (s.sliced, s.gone)))))))
+    (λ p. record {
+      account = p.0;
+      reserve = p.1.0;
+      selectors = p.1.1.0;
+      regions = p.1.1.1.0;
+      heap = p.1.1.1.1.0;
+      sliced = p.1.1.1.1.1.0;
+      gone = p.1.1.1.1.1.1;
+    })
     (λ _. refl)
 
 abbrev pub coded_world : Coded World

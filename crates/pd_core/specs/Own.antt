@@ -13,6 +13,7 @@ use Rattle.own_model.specs.OwnState.{OwnState, Object, pages_in}
 use Rattle.own_model.specs.OwnState.Object.{Dataspace as ADataspace, RpcObject as AnRpcObject, OpenSession, Buffer as ABuffer}
 use Rattle.own_model.specs.OwnStep.{count_refusal}
 use Rattle.own_model.specs.Region.{Region, resolved}
+use Rattle.own_model.specs.Reserve.{no_reserve}
 use Rattle.own_model.specs.Session.{Session as AnOpenSession}
 use Rattle.own_model.specs.Sliced.{block_found}
 use Rattle.cap_space.specs.declared.cap.Cap.{Cap}
@@ -88,6 +89,7 @@ regions_of caps user = picked (λ region. option_map (λ other. record region { 
 unfoldable pub own_of : Lent → Sessions → Part → NatMap Cap → NatMap Region → OwnHeap → NatMap (List ℕ) → OwnState
 own_of lent sessions part caps user heap sliced = record {
   account = account_of part;
+  reserve = no_reserve;
   selectors = picked (object_of lent sessions part) caps;
   regions = regions_of caps user;
   heap = heap;

@@ -1,15 +1,15 @@
 //! The accounts of a core: their limits, and what of them is used.
-ghost use Rattle.std.specs.Prelude.{◌≡◌};
+ghost use Rattle.std.specs.Prelude.{◌≡◌, ◌<◌, length};
 ghost use Rattle.std.specs.FinMap.{get};
 ghost use Rattle.std.specs.Option.{option_map};
 ghost use Rattle.own_model.specs.OwnState.{session_named};
 ghost use Rattle.own_model.specs.Session.{Session as AnOpenSession};
 ghost use Rattle.own_model.specs.Transcript.{state_at};
-ghost use Rattle.dataspace_core.specs.Store.{account_in, IsOpenIn};
-ghost use Rattle.pd_core.specs.Answer.{quotas_account};
+ghost use Rattle.dataspace_core.specs.Store.{Store, account_in, IsOpenIn};
+ghost use Rattle.pd_core.specs.Answer.{quotas_account, reserve_amounts};
 ghost use Rattle.pd_core.specs.Core.{Rules, world_of, IsCoreAt};
 
-use crate::answer::Quotas;
+use crate::answer::{Quotas, Reserve};
 use crate::component::{Component, Role};
 use crate::machine::Core;
 use crate::router::Router;
@@ -38,7 +38,7 @@ impl<R: Router + Drop> Core<R> {
     ghost use Rattle.own_model.specs.OwnState.{session_named};
     ghost use Rattle.own_model.specs.Session.{Session as AnOpenSession};
     ghost use Rattle.own_model.specs.Transcript.{state_at};
-    ghost use Rattle.pd_core.specs.Answer.{quotas_account};
+    ghost use Rattle.pd_core.specs.Answer.{quotas_account, reserve_amounts};
 
     /// How many components there are: each has an entry and an own state.
     pub fn count(&self) -> usize
@@ -54,6 +54,14 @@ impl<R: Router + Drop> Core<R> {
         ensures { quotas_account result ≡ (state_at self.now.states component).account }
     {
         component_quotas(&self.memory, self.components.as_slice(), component)
+    }
+
+    /// What the component at a place has in reserve.
+    pub fn reserve(&self, component: usize) -> Reserve
+        requires { component < length self.now.entries }
+        ensures { reserve_amounts result ≡ (state_at self.now.states component).reserve }
+    {
+        component_reserve(self.components.as_slice(), component)
     }
 
     /// The limits and the use of init's account.
@@ -93,8 +101,9 @@ impl<R: Router + Drop> Core<R> {
 
 impl Component {
     ghost use Rattle.std.specs.Prelude.{◌≡◌, ◌≤◌};
+    ghost use Rattle.dataspace_core.specs.Store.{Store};
     ghost use Rattle.server_frame.specs.Frame.{AtRow};
-    ghost use Rattle.pd_core.specs.Answer.{quotas_account};
+    ghost use Rattle.pd_core.specs.Answer.{quotas_account, reserve_amounts};
     ghost use Rattle.pd_core.specs.Component.{rows_of, own, IsSound, Serves};
     ghost use Rattle.pd_core.specs.Exit.{HasSelectorsTo};
     ghost use Rattle.pd_core.specs.Own.{Sessions};
@@ -115,6 +124,17 @@ impl Component {
                 caps_used: Caps(0),
                 caps_limit: Caps(0),
             },
+        }
+    }
+
+    /// What the component has in reserve: nothing.
+    fn reserve(&self) -> Reserve
+        ensures { (sessions : Sessions) (store : Store) → reserve_amounts result
+            ≡ (own sessions store self.now).reserve }
+    {
+        Reserve {
+            ram: Ram(0),
+            caps: Caps(0),
         }
     }
 
@@ -152,6 +172,15 @@ fn component_quotas(memory: &Memory, components: &[Component], place: usize) -> 
         ≡ (state_at (world_of rules memory.now components.now).states place).account }
 {
     components[place].quotas(memory)
+}
+
+// What the component at a place has in reserve.
+fn component_reserve(components: &[Component], place: usize) -> Reserve
+    requires { place < length components.now }
+    ensures { (rules : Rules) (store : Store) → reserve_amounts result
+        ≡ (state_at (world_of rules store components.now).states place).reserve }
+{
+    components[place].reserve()
 }
 
 // The same of the session that a selector of the component names, or `None` where it names none.

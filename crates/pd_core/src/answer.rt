@@ -35,6 +35,15 @@ pub struct Quotas {
     pub caps_limit: Caps,
 }
 
+/// What a component has in reserve: limits of which nothing is in use.
+#[derive(Clone, Copy)]
+pub struct Reserve {
+    /// Bytes of RAM.
+    pub ram: Ram,
+    /// Capabilities.
+    pub caps: Caps,
+}
+
 /// Writes what a call is answered in place of what the reply was. It finishes no log line. Who calls it takes it in, so that an
 /// outcome needn't be put together before it is told.
 #[inline(always)]

@@ -17,7 +17,7 @@ mod router;
 mod script;
 mod session_calls;
 
-pub use answer::Quotas;
+pub use answer::{Quotas, Reserve};
 pub use call::Call;
 pub use component::Component;
 pub use machine::Core;

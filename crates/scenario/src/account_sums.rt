@@ -3,9 +3,9 @@ ghost use Rattle.std.specs.Prelude.{◌≡◌, ◌+◌, ◌*◌, ◌^◌, ◌<�
 ghost use Rattle.own_model.specs.Limits.{ram_limits, caps_limits};
 ghost use Rattle.own_model.specs.Transcript.{state_at};
 ghost use Rattle.own_model.specs.World.{all_ram, all_caps};
-ghost use Rattle.pd_core.specs.Answer.{quotas_account};
+ghost use Rattle.pd_core.specs.Answer.{quotas_account, reserve_amounts};
 
-use pd_core::{Core, Quotas, Router};
+use pd_core::{Core, Quotas, Reserve, Router};
 
 /// Limits of several accounts together: RAM in bytes, and capabilities. They are wider than an account's, so that no sum
 /// is too large for them, whatever the accounts have.
@@ -17,7 +17,7 @@ pub struct Sums {
 
 impl Sums {
     ghost use Rattle.std.specs.Prelude.{◌≡◌, ◌+◌, ◌*◌, ◌^◌, ◌<◌, ◌≤◌};
-    ghost use Rattle.pd_core.specs.Answer.{quotas_account};
+    ghost use Rattle.pd_core.specs.Answer.{quotas_account, reserve_amounts};
 
     // The limits of one account.
     fn of(account: Quotas) -> Sums
@@ -29,6 +29,19 @@ impl Sums {
         Sums {
             ram: u128::from(account.ram_limit.0),
             caps: u128::from(account.caps_limit.0),
+        }
+    }
+
+    // What a reserve has.
+    fn kept(reserve: Reserve) -> Sums
+        ensures ram { result.ram ≡ (reserve_amounts reserve).ram }
+        ensures caps { result.caps ≡ (reserve_amounts reserve).caps }
+        ensures ram_fits { result.ram < 2 ^ 64 }
+        ensures caps_fits { result.caps < 2 ^ 64 }
+    {
+        Sums {
+            ram: u128::from(reserve.ram.0),
+            caps: u128::from(reserve.caps.0),
         }
     }
 
@@ -46,7 +59,7 @@ impl Sums {
     }
 }
 
-/// The limits of all accounts of at most 32 components, of their open sessions and of init.
+/// The limits of all accounts of at most 32 components, of their reserves, of their open sessions and of init.
 pub fn sum_all<R: Router + Drop>(core: &Core<R>) -> Sums
     requires few { length core.now.entries ≤ 32 }
     ensures ram { result.ram ≡ all_ram core.now }
@@ -59,7 +72,7 @@ pub fn sum_all<R: Router + Drop>(core: &Core<R>) -> Sums
     sums
 }
 
-// The limits of a component's account and of its open sessions.
+// The limits of a component's account, of its reserve and of its open sessions.
 fn sum_of<R: Router + Drop>(core: &Core<R>, component: usize) -> Sums
     requires { component < length core.now.entries }
     ensures ram { result.ram ≡ ram_limits (state_at core.now.states component) }
@@ -67,7 +80,7 @@ fn sum_of<R: Router + Drop>(core: &Core<R>, component: usize) -> Sums
     ensures ram_fits { result.ram < 2 ^ 80 }
     ensures caps_fits { result.caps < 2 ^ 80 }
 {
-    let mut sums = Sums::of(core.account(component));
+    let mut sums = Sums::of(core.account(component)).plus(Sums::kept(core.reserve(component)));
     for selector in 0..core.last_selector(component) + 1 {
         if let Some(account) = core.session_account(component, selector) {
             sums = sums.plus(Sums::of(account));

@@ -9,8 +9,8 @@ abbrev pub invariant-loop-selector : goal.invariant-loop-selector
 invariant-loop-selector g l =
     let s = state_at l.core.states l.component in
     record {
-      ram : l.sums.ram ≡ s.account.ram_limit + sum_below ram_with s.selectors l.selector;
-      caps : l.sums.caps ≡ s.account.caps_limit + sum_below caps_with s.selectors l.selector;
-      ram_fits : l.sums.ram ≤ (l.selector + 1) * 2 ^ 64;
-      caps_fits : l.sums.caps ≤ (l.selector + 1) * 2 ^ 64;
+      ram : l.sums.ram ≡ s.account.ram_limit + s.reserve.ram + sum_below ram_with s.selectors l.selector;
+      caps : l.sums.caps ≡ s.account.caps_limit + s.reserve.caps + sum_below caps_with s.selectors l.selector;
+      ram_fits : l.sums.ram ≤ (l.selector + 2) * 2 ^ 64;
+      caps_fits : l.sums.caps ≤ (l.selector + 2) * 2 ^ 64;
     }
