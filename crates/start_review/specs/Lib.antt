@@ -1,3 +1,6 @@
+pub mod Findings
 pub mod Hiding
 pub mod Left
+pub mod Near
 pub mod Places
+pub mod Wishes

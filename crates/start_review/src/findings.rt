@@ -1,12 +1,18 @@
-//! All findings of a start list, in the order of its parts: the list, its machine, the default route, and each entry with its
-//! own route.
+//! What a start list says that its writer can hardly have meant, in the order of its parts: the rules of the default route, and
+//! each entry with its own route.
+ghost use Rattle.std.specs.Prelude.{◌≡◌, ◌++◌, IfOk, OnOk, None, Some};
+ghost use Rattle.std.specs.List.{slice_get};
+ghost use Rattle.std.specs.Option.{option_map};
+ghost use Rattle.init_core.specs.Members.{name_in};
+ghost use Rattle.init_core.specs.View.{model_target};
+ghost use Rattle.start_review.specs.Findings.{entry_findings, findings_of, has_name, hidden, low_caps, low_ram, misled, no_child, part_pages, rule_findings, rule_part, rules_findings, stray_findings, strays, strays_if_provided, told, unreached, use_findings};
+
 use crate::finding::{Finding, Remark};
 use crate::hiding::{decides_some, hidden_by};
-use crate::members::{Table, few_edits, is_comment, nearest};
+use crate::near::near_name;
 use crate::part::Part;
-use crate::wishes::{SERVICES, before, is_led_to, is_provided, leads_somewhere};
-use init_core::{Binary, Entry, Name, Rule, StartList, Target, providers, target_child};
-use serde_json::Value;
+use crate::wishes::{before, is_led_to, is_provided, leads_somewhere};
+use init_core::{Binary, Entry, Name, Rule, StartList, Target, target_child};
 use std::alloc::{AllocError, Global};
 
 /// The least RAM in bytes that pays for a session.
@@ -22,273 +28,283 @@ enum Owner {
     Entry(usize),
 }
 
-/// What is looked at: a list, and the value that it was read of.
-#[derive(Clone, Copy)]
-pub(crate) struct Subject<'a> {
-    /// Where room is taken.
-    pub alloc: Global,
-    /// The list.
-    pub list: &'a StartList,
-    /// The value.
-    pub value: &'a Value,
+/// Tells all findings of a list.
+pub(crate) fn tell_findings(
+    found: &mut Vec<Finding>,
+    alloc: Global,
+    list: &StartList,
+) -> Result<(), AllocError>
+    ensures { OnOk result (found.new.items ≡ found.old.items ++ findings_of list.now) }
+{
+    tell_rules(found, alloc, list, Owner::Default, list.default_route())?;
+    let entries = list.entries();
+    for (place, entry) in entries.iter().enumerate() {
+        tell_entry(found, alloc, list, place, entry)?;
+    }
+    Ok(())
 }
 
-impl Subject<'_> {
-    /// All findings in order.
-    pub(crate) fn findings(self) -> Result<Vec<Finding>, AllocError> {
-        let mut found = Vec::new(self.alloc);
-        self.unread(&mut found, Table::List, Part::List, Some(self.value))?;
-        let machine = self.value.get("machine");
-        self.unread(&mut found, Table::Machine, Part::Machine, machine)?;
-        let rules = self.value.get("default-route");
-        self.rules(&mut found, Owner::Default, self.list.default_route(), rules)?;
-        let starts = self.value.get("start");
-        for (place, entry) in self.list.entries().iter().enumerate() {
-            self.entry(&mut found, place, entry, item(starts, place))?;
-        }
-        Ok(found)
-    }
-
-    // The findings of an entry and its own route.
-    fn entry(
-        self,
-        found: &mut Vec<Finding>,
-        place: usize,
-        entry: &Entry,
-        value: Option<&Value>,
-    ) -> Result<(), AllocError> {
-        self.unread(found, Table::Entry, named(place, entry), value)?;
-        if entry.ram() % 4096 != 0 {
-            found.push(of_entry(place, entry, Remark::PartPages(entry.ram())))?;
-        }
-        if entry.binary() == Binary::Script {
-            self.means(found, place, entry)?;
-        } else if !self.is_reached(place, entry) {
-            found.push(of_entry(place, entry, Remark::Unreached))?;
-        }
-        match entry.route() {
-            Some(rules) => {
-                let values = member(value, "route");
-                self.rules(found, Owner::Entry(place), rules, values)
-            }
-            None => Ok(()),
-        }
-    }
-
-    // Whether a script has the means for a session, where it has a route to a server.
-    fn means(
-        self,
-        found: &mut Vec<Finding>,
-        place: usize,
-        entry: &Entry,
-    ) -> Result<(), AllocError> {
-        if !leads_somewhere(self.list, place) {
-            return Ok(());
-        }
-        if entry.ram() < SESSION_RAM {
-            found.push(of_entry(place, entry, Remark::LowRam(entry.ram())))?;
-        }
-        if entry.caps() < SESSION_CAPS {
-            found.push(of_entry(place, entry, Remark::LowCaps(entry.caps())))?;
-        }
-        Ok(())
-    }
-
-    // Whether a script's wish leads to the server.
-    fn is_reached(self, place: usize, entry: &Entry) -> bool {
-        match entry.binary().service() {
-            Some(service) => is_led_to(self.list, service.as_bytes(), place),
-            None => false,
-        }
-    }
-
-    // The findings of a list of rules.
-    fn rules(
-        self,
-        found: &mut Vec<Finding>,
-        owner: Owner,
-        rules: &[Rule],
-        values: Option<&Value>,
-    ) -> Result<(), AllocError> {
-        for (place, rule) in rules.iter().enumerate() {
-            let part = self.rule_part(owner, place);
-            self.unread(found, Table::Rule, part, item(values, place))?;
-            self.rule(found, owner, rules, place, rule)?;
-        }
-        Ok(())
-    }
-
-    // The findings of a rule beside members that nothing reads.
-    fn rule(
-        self,
-        found: &mut Vec<Finding>,
-        owner: Owner,
-        rules: &[Rule],
-        place: usize,
-        rule: &Rule,
-    ) -> Result<(), AllocError> {
-        let earlier = before(rules, place);
-        if let Some(hiding) = hidden_by(earlier, rule) {
-            self.tell(found, owner, place, Remark::Hidden(hiding))?;
-        }
-        if let Target::Child(child) = rule.target() {
-            if self.list.find(child.as_bytes()).is_none() {
-                let near = self.near_name(child)?;
-                return self.tell(found, owner, place, Remark::NoChild(child.copy(), near));
-            }
-        }
-        match rule.service() {
-            Some(service) => self.lead(found, owner, place, earlier, rule, service),
-            None => self.leads(found, owner, place, earlier, rule),
-        }
-    }
-
-    // What is found of a rule of any service: it is looked at for each service that some entry provides.
-    fn leads(
-        self,
-        found: &mut Vec<Finding>,
-        owner: Owner,
-        place: usize,
-        earlier: &[Rule],
-        rule: &Rule,
-    ) -> Result<(), AllocError> {
-        for service in &SERVICES {
-            if is_provided(self.list, service.as_bytes()) {
-                if let Some(name) = Name::read(service) {
-                    self.lead(found, owner, place, earlier, rule, &name)?;
-                }
-            }
-        }
-        Ok(())
-    }
-
-    // What is found of a rule for a service, where it decides some wishes for it.
-    fn lead(
-        self,
-        found: &mut Vec<Finding>,
-        owner: Owner,
-        place: usize,
-        earlier: &[Rule],
-        rule: &Rule,
-        service: &Name,
-    ) -> Result<(), AllocError> {
-        if !decides_some(earlier, rule, service.as_bytes()) {
-            return Ok(());
-        }
-        match self.misled(rule.target(), service) {
-            Some(remark) => self.tell(found, owner, place, remark),
-            None => Ok(()),
-        }
-    }
-
-    // Why a target leads to no server for a service, unless it is to lead out of this init.
-    fn misled(self, target: &Target, service: &Name) -> Option<Remark> {
-        if target_child(self.list, target, service.as_bytes()).is_some() {
-            return None;
-        }
-        match target {
-            Target::Child(child) => Some(Remark::NotProvided(child.copy(), service.copy())),
-            Target::AnyChild => {
-                if providers(self.list, service.as_bytes()) == 0 {
-                    Some(Remark::NoProvider(service.copy()))
-                } else {
-                    Some(Remark::SeveralProviders(service.copy()))
-                }
-            }
-            Target::Parent => None,
-        }
-    }
-
-    // The first of the entries' names that are nearest to one that no entry has, if one is near.
-    fn near_name(self, child: &Name) -> Result<Option<Name>, AllocError> {
-        let mut best = None;
-        let mut least = usize::MAX;
-        for entry in self.list.entries() {
-            let name = entry.to_name();
-            if let Some(edits) = few_edits(self.alloc, name.as_str(), child.as_str())? {
-                if edits < least {
-                    least = edits;
-                    best = Some(name);
-                }
-            }
-        }
-        Ok(best)
-    }
-
-    // The members of an object that nothing reads.
-    fn unread(
-        self,
-        found: &mut Vec<Finding>,
-        table: Table,
-        part: Part,
-        value: Option<&Value>,
-    ) -> Result<(), AllocError> {
-        let Some(value) = value else {
-            return Ok(());
-        };
-        let Some(members) = value.as_object() else {
-            return Ok(());
-        };
-        for key in members.keys() {
-            let member = key.as_str();
-            if !is_comment(member) && !table.reads(member) {
-                let near = nearest(self.alloc, table.members(), member)?;
-                let remark = Remark::Unread(String::from_str(self.alloc, member)?, near);
-                found.push(Finding {
-                    part: part.copy(),
-                    remark,
-                })?;
-            }
-        }
-        Ok(())
-    }
-
-    // Tells something of a rule.
-    fn tell(
-        self,
-        found: &mut Vec<Finding>,
-        owner: Owner,
-        place: usize,
-        remark: Remark,
-    ) -> Result<(), AllocError> {
-        let part = self.rule_part(owner, place);
-        found.push(Finding { part, remark })?;
-        Ok(())
-    }
-
-    // The rule at a place of an owner's list.
-    fn rule_part(self, owner: Owner, place: usize) -> Part {
-        match owner {
-            Owner::Default => Part::DefaultRule(place),
-            Owner::Entry(entry) => Part::Rule(entry, self.name_at(entry), place),
-        }
-    }
-
-    // The name of the entry at a place.
-    fn name_at(self, place: usize) -> Option<Name> {
-        Some(self.list.entries().get(place)?.to_name())
+// Tells those of an entry and its own route.
+fn tell_entry(
+    found: &mut Vec<Finding>,
+    alloc: Global,
+    list: &StartList,
+    place: usize,
+    entry: &Entry,
+) -> Result<(), AllocError>
+    ensures { OnOk result
+        (found.new.items ≡ found.old.items ++ entry_findings list.now (place, entry.now)) }
+{
+    let part = Part::Entry(place, Some(entry.to_name()));
+    tell(found, &part, part_pages(entry))?;
+    tell_use(found, list, &part, place, entry)?;
+    match entry.route() {
+        Some(rules) => tell_rules(found, alloc, list, Owner::Entry(place), rules),
+        None => Ok(()),
     }
 }
 
-// An entry as a part.
-fn named(place: usize, entry: &Entry) -> Part {
-    Part::Entry(place, Some(entry.to_name()))
-}
-
-// Something that is told of an entry.
-fn of_entry(place: usize, entry: &Entry, remark: Remark) -> Finding {
-    Finding {
-        part: named(place, entry),
-        remark,
+// Tells of a script's means, or whether a server is reached.
+fn tell_use(
+    found: &mut Vec<Finding>,
+    list: &StartList,
+    part: &Part,
+    place: usize,
+    entry: &Entry,
+) -> Result<(), AllocError>
+    ensures { OnOk result (found.new.items
+        ≡ found.old.items ++ use_findings list.now part.now (place, entry.now) entry.now.binary) }
+{
+    match entry.binary() {
+        Binary::Script => {
+            tell(found, part, low_ram(list, place, entry))?;
+            tell(found, part, low_caps(list, place, entry))
+        }
+        Binary::Log => tell(found, part, unreached(list, b"LOG", place)),
+        Binary::Files => tell(found, part, unreached(list, b"File_system", place)),
     }
 }
 
-// A member of a value that may be missing.
-fn member<'v>(value: Option<&'v Value>, key: &str) -> Option<&'v Value> {
-    value?.get(key)
+// Whether an entry's RAM isn't whole pages.
+fn part_pages(entry: &Entry) -> Option<Remark>
+    ensures { result ≡ part_pages entry.now }
+{
+    if entry.ram() % 4096 == 0 {
+        None
+    } else {
+        Some(Remark::PartPages(entry.ram()))
+    }
 }
 
-// The element of a value at a place.
-pub(crate) fn item(value: Option<&Value>, place: usize) -> Option<&Value> {
-    value?.as_array()?.as_slice().get(place)
+// Whether a client that has a route to a server has too little RAM for a session.
+fn low_ram(list: &StartList, place: usize, entry: &Entry) -> Option<Remark>
+    ensures { result ≡ low_ram list.now (place, entry.now) }
+{
+    if leads_somewhere(list, place) && entry.ram() < SESSION_RAM {
+        Some(Remark::LowRam(entry.ram()))
+    } else {
+        None
+    }
+}
+
+// The same of capabilities.
+fn low_caps(list: &StartList, place: usize, entry: &Entry) -> Option<Remark>
+    ensures { result ≡ low_caps list.now (place, entry.now) }
+{
+    if leads_somewhere(list, place) && entry.caps() < SESSION_CAPS {
+        Some(Remark::LowCaps(entry.caps()))
+    } else {
+        None
+    }
+}
+
+// Whether no script's route leads to the server of a service at a place.
+fn unreached(list: &StartList, service: &[u8], place: usize) -> Option<Remark>
+    ensures { result ≡ unreached list.now service.now place }
+{
+    if is_led_to(list, service, place) {
+        None
+    } else {
+        Some(Remark::Unreached)
+    }
+}
+
+// Tells those of a list of rules.
+fn tell_rules(
+    found: &mut Vec<Finding>,
+    alloc: Global,
+    list: &StartList,
+    owner: Owner,
+    rules: &[Rule],
+) -> Result<(), AllocError>
+    ensures { OnOk result
+        (found.new.items ≡ found.old.items ++ rules_findings list.now owner rules.now) }
+{
+    for (place, rule) in rules.iter().enumerate() {
+        let part = rule_part(list, owner, place);
+        tell_rule(found, alloc, list, &part, before(rules, place), rule)?;
+    }
+    Ok(())
+}
+
+// The rule at a place of an owner's list.
+fn rule_part(list: &StartList, owner: Owner, place: usize) -> Part
+    ensures { result ≡ rule_part list.now owner place }
+{
+    match owner {
+        Owner::Default => Part::DefaultRule(place),
+        Owner::Entry(entry) => Part::Rule(entry, name_at(list, entry), place),
+    }
+}
+
+// The name of the entry at a place.
+fn name_at(list: &StartList, place: usize) -> Option<Name>
+    ensures { result ≡ option_map (λ entry. entry.name) (slice_get list.now.entries place) }
+{
+    Some(list.entries().get(place)?.to_name())
+}
+
+// Tells those of a rule, which is this part, after those before it.
+fn tell_rule(
+    found: &mut Vec<Finding>,
+    alloc: Global,
+    list: &StartList,
+    part: &Part,
+    earlier: &[Rule],
+    rule: &Rule,
+) -> Result<(), AllocError>
+    ensures { OnOk result (found.new.items
+        ≡ found.old.items ++ rule_findings list.now.entries part.now earlier.now rule.now) }
+{
+    tell(found, part, hidden(earlier, rule))?;
+    match no_child(alloc, list, rule.target())? {
+        Some(remark) => tell(found, part, Some(remark)),
+        None => tell_strays(found, list, part, earlier, rule),
+    }
+}
+
+// Whether an earlier rule hides one.
+fn hidden(earlier: &[Rule], rule: &Rule) -> Option<Remark>
+    ensures { result ≡ hidden earlier.now rule.now }
+{
+    match hidden_by(earlier, rule) {
+        Some(place) => Some(Remark::Hidden(place)),
+        None => None,
+    }
+}
+
+// Whether no entry has the name of a target's child.
+fn no_child(alloc: Global, list: &StartList, target: &Target) -> Result<Option<Remark>, AllocError>
+    ensures { IfOk result
+        (λ remark. remark ≡ no_child list.now.entries (model_target target.now)) }
+{
+    match target {
+        Target::Child(name) => if has_name(list.entries(), name.as_bytes()) {
+            Ok(None)
+        } else {
+            let near = near_name(alloc, list.entries(), name.as_str())?;
+            Ok(Some(Remark::NoChild(name.copy(), near)))
+        },
+        Target::AnyChild | Target::Parent => Ok(None),
+    }
+}
+
+// Whether some entry has a name.
+fn has_name(entries: &[Entry], name: &[u8]) -> bool
+    ensures { result ≡ has_name entries.now name.now }
+{
+    entries.iter().any(|entry| entry.name() == name)
+}
+
+// Tells for which services a rule leads to no child.
+fn tell_strays(
+    found: &mut Vec<Finding>,
+    list: &StartList,
+    part: &Part,
+    earlier: &[Rule],
+    rule: &Rule,
+) -> Result<(), AllocError>
+    ensures { OnOk result (found.new.items ≡ found.old.items
+        ++ stray_findings list.now.entries part.now earlier.now rule.now rule.now.service) }
+{
+    match rule.service() {
+        Some(service) => tell(found, part, strays(list, earlier, rule, service)),
+        None => tell_all_strays(found, list, part, earlier, rule),
+    }
+}
+
+// Tells for which of the services that there are a rule of any service leads to no child.
+fn tell_all_strays(
+    found: &mut Vec<Finding>,
+    list: &StartList,
+    part: &Part,
+    earlier: &[Rule],
+    rule: &Rule,
+) -> Result<(), AllocError>
+    ensures { OnOk result (found.new.items ≡ found.old.items
+        ++ stray_findings list.now.entries part.now earlier.now rule.now None) }
+{
+    tell_stray(found, list, part, earlier, rule, "LOG")?;
+    tell_stray(found, list, part, earlier, rule, "File_system")
+}
+
+// Tells whether a rule of any service leads to no child for a service that some entry provides.
+fn tell_stray(
+    found: &mut Vec<Finding>,
+    list: &StartList,
+    part: &Part,
+    earlier: &[Rule],
+    rule: &Rule,
+    service: &str,
+) -> Result<(), AllocError>
+    requires { name_in service.now ≡ Some service.now }
+    ensures { OnOk result (found.new.items ≡ found.old.items
+        ++ told part.now (strays_if_provided list.now.entries earlier.now rule.now service.now)) }
+{
+    match Name::read(service) {
+        Some(name) if is_provided(list, service.as_bytes()) => {
+            tell(found, part, strays(list, earlier, rule, &name))
+        }
+        _ => Ok(()),
+    }
+}
+
+// Whether a rule decides some wishes for a service, and leads them to no child.
+fn strays(list: &StartList, earlier: &[Rule], rule: &Rule, service: &Name) -> Option<Remark>
+    ensures { result ≡ strays list.now.entries earlier.now rule.now service.now }
+{
+    let asked = service.as_bytes();
+    if decides_some(earlier, rule, asked) && target_child(list, rule.target(), asked).is_none() {
+        misled(list, rule.target(), service)
+    } else {
+        None
+    }
+}
+
+// Why a target that leads to no child for a service doesn't, unless it is to lead out of this init.
+fn misled(list: &StartList, target: &Target, service: &Name) -> Option<Remark>
+    ensures { result ≡ misled list.now.entries (model_target target.now) service.now }
+{
+    match target {
+        Target::Child(child) => Some(Remark::NotProvided(child.copy(), service.copy())),
+        Target::AnyChild => if is_provided(list, service.as_bytes()) {
+            Some(Remark::SeveralProviders(service.copy()))
+        } else {
+            Some(Remark::NoProvider(service.copy()))
+        },
+        Target::Parent => None,
+    }
+}
+
+// Tells something of a part, if there is something.
+fn tell(found: &mut Vec<Finding>, part: &Part, remark: Option<Remark>) -> Result<(), AllocError>
+    ensures { OnOk result (found.new.items ≡ found.old.items ++ told part.now remark) }
+{
+    if let Some(remark) = remark {
+        found.push(Finding {
+            part: part.copy(),
+            remark,
+        })?;
+    }
+    Ok(())
 }

@@ -1,12 +1,14 @@
 //! Where in a start list a fault is, what is there, and what is expected.
-ghost use Rattle.std.specs.Prelude.{◌≡◌, IfErr, IfOk, IfSome, None, Some};
+ghost use Rattle.std.specs.Prelude.{◌≡◌, IfErr, IfOk, IfSome, Some, codes};
+ghost use Rattle.std.specs.Option.{option_copied};
 ghost use Rattle.serde_json.specs.View.{view};
 ghost use Rattle.init_core.specs.Misread.{entry_at_fault};
 ghost use Rattle.init_core.specs.declared.fault.BootFault.TheVariants.{NoMemory};
-ghost use Rattle.start_review.specs.Places.{entry_in};
+ghost use Rattle.start_review.specs.Places.{spot_before, spot_in, spot_of, spot_of_flaw};
+ghost use Rattle.start_review.specs.Places.Spot.{OfEntry, OfMachine};
 
-use crate::findings::item;
 use crate::part::Part;
+use crate::unread::item;
 use init_core::{BootFault, Field, Name, entry_at_fault};
 use serde_json::Value;
 use std::alloc::Global;
@@ -147,33 +149,28 @@ impl Flaw {
         value: &Value,
         fault: &BootFault,
     ) -> Result<Option<Flaw>, BootFault>
-        ensures entry { IfOk result (λ told. IfSome told
-            (λ flaw. entry_in flaw.part ≡ entry_at_fault (view value.now))) }
+        ensures spot { IfOk result (λ told. IfSome told (λ flaw.
+            spot_of_flaw flaw ≡ spot_of (entry_at_fault (view value.now)) fault.now)) }
         ensures memory { IfErr result (λ want. want ≡ NoMemory) }
     {
         let entry = entry_at_fault(alloc, value)?;
-        Ok(match fault {
-            BootFault::BadConfig(field) => flaw_of(value, *field, entry),
-            BootFault::DuplicateName(_) => in_entry(value, entry, "name", Expected::NewName),
-            BootFault::UnknownBinary(_) => in_entry(value, entry, "binary", Expected::Binary),
-            BootFault::BadJson | BootFault::QuotaExceeded(_) | BootFault::NoMemory => None,
+        Ok(match (fault, entry) {
+            (BootFault::BadConfig(field), None) => flaw_of_list(value, *field),
+            (BootFault::BadConfig(field), Some(place)) => flaw_of_entry(value, *field, place),
+            (BootFault::DuplicateName(_), Some(place)) => {
+                in_entry(value, place, "name", Expected::NewName)
+            }
+            (BootFault::UnknownBinary(_), Some(place)) => {
+                in_entry(value, place, "binary", Expected::Binary)
+            }
+            _ => None,
         })
-    }
-}
-
-// The flaw of a bad value, of the entry at a place or of no entry.
-fn flaw_of(value: &Value, field: Field, entry: Option<usize>) -> Option<Flaw>
-    ensures { IfSome result (λ flaw. entry_in flaw.part ≡ entry) }
-{
-    match entry {
-        Some(place) => flaw_of_entry(value, field, place),
-        None => flaw_of_list(value, field),
     }
 }
 
 // The flaw of a bad value before the entries.
 fn flaw_of_list(value: &Value, field: Field) -> Option<Flaw>
-    ensures { IfSome result (λ flaw. entry_in flaw.part ≡ None) }
+    ensures { IfSome result (λ flaw. spot_of_flaw flaw ≡ Some (spot_before field)) }
 {
     match field {
         Field::Machine => Some(at(Part::List, value, "machine", Expected::Object)),
@@ -190,7 +187,7 @@ fn flaw_of_list(value: &Value, field: Field) -> Option<Flaw>
 
 // The flaw of the machine's member.
 fn in_machine(value: &Value, member: &'static str) -> Option<Flaw>
-    ensures { IfSome result (λ flaw. entry_in flaw.part ≡ None) }
+    ensures { IfSome result (λ flaw. spot_of_flaw flaw ≡ Some (OfMachine member.now)) }
 {
     let machine = value.get("machine")?;
     Some(at(Part::Machine, machine, member, Expected::MachineSize))
@@ -198,9 +195,8 @@ fn in_machine(value: &Value, member: &'static str) -> Option<Flaw>
 
 // The flaw of a bad value of an entry.
 fn flaw_of_entry(value: &Value, field: Field, place: usize) -> Option<Flaw>
-    ensures { IfSome result (λ flaw. entry_in flaw.part ≡ Some place) }
+    ensures { IfSome result (λ flaw. spot_of_flaw flaw ≡ Some (spot_in place field)) }
 {
-    let entry = Some(place);
     match field {
         Field::Start => {
             let found = item(value.get("start"), place);
@@ -211,41 +207,40 @@ fn flaw_of_entry(value: &Value, field: Field, place: usize) -> Option<Flaw>
                 expected: Expected::Object,
             })
         }
-        Field::Name => in_entry(value, entry, "name", Expected::Name),
-        Field::Binary => in_entry(value, entry, "binary", Expected::Binary),
-        Field::Quantum => in_entry(value, entry, "quantum", Expected::Amount),
-        Field::Caps => in_entry(value, entry, "caps", Expected::Caps),
-        Field::Provides => in_entry(value, entry, "provides", Expected::Provides),
-        Field::Route => {
-            let found = item(value.get("start"), place)?;
-            match bad_rule(found.get("route")) {
-                Some((rule, bad)) => {
-                    Some(flaw_of_rule(Part::Rule(place, name_of(found), rule), bad))
-                }
-                None => in_entry(value, entry, "route", Expected::Rules),
-            }
-        }
+        Field::Name => in_entry(value, place, "name", Expected::Name),
+        Field::Binary => in_entry(value, place, "binary", Expected::Binary),
+        Field::Quantum => in_entry(value, place, "quantum", Expected::Amount),
+        Field::Caps => in_entry(value, place, "caps", Expected::Caps),
+        Field::Provides => in_entry(value, place, "provides", Expected::Provides),
+        Field::Route => in_route(value, place),
         _ => None,
     }
 }
 
-// The flaw of a member of the entry at a place.
-fn in_entry(
-    value: &Value,
-    entry: Option<usize>,
-    member: &'static str,
-    expected: Expected,
-) -> Option<Flaw>
-    ensures { IfSome result (λ flaw. entry_in flaw.part ≡ entry) }
+// The flaw of an entry's own route, or of its first value that is no rule.
+fn in_route(value: &Value, place: usize) -> Option<Flaw>
+    ensures { IfSome result (λ flaw. spot_of_flaw flaw ≡ Some (OfEntry place (Some (codes "route")))) }
 {
-    let place = entry?;
+    let found = item(value.get("start"), place)?;
+    match bad_rule(found.get("route")) {
+        Some((rule, bad)) => Some(flaw_of_rule(Part::Rule(place, name_of(found), rule), bad)),
+        None => in_entry(value, place, "route", Expected::Rules),
+    }
+}
+
+// The flaw of a member of the entry at a place.
+fn in_entry(value: &Value, place: usize, member: &'static str, expected: Expected) -> Option<Flaw>
+    ensures { IfSome result
+        (λ flaw. spot_of_flaw flaw ≡ Some (OfEntry place (Some member.now))) }
+{
     let found = item(value.get("start"), place)?;
     Some(at(Part::Entry(place, name_of(found)), found, member, expected))
 }
 
 // The flaw of a member of an object.
 fn at(part: Part, object: &Value, member: &'static str, expected: Expected) -> Flaw
-    ensures { result.part ≡ part }
+    ensures part { result.part ≡ part }
+    ensures member { option_copied result.member ≡ Some member.now }
 {
     Flaw {
         part,

@@ -2,8 +2,8 @@
 use crate::hiding::decides_some;
 use crate::left::kept;
 use crate::tree::{Amount, LabelAsked, decides_all, route_name};
-use crate::wishes::{SERVICES, before, rules_of};
-use init_core::{Binary, Entry, Rule, StartList, target_child};
+use crate::wishes::{SERVICES, before, provider, rules_of};
+use init_core::{Binary, Entry, StartList};
 use std::fmt;
 
 /// The tree as a graph in DOT: a node a component, and an edge for each rule that decides some of a script's wishes for a
@@ -81,8 +81,10 @@ fn show_edges<W: fmt::Write>(
     let name = entry.to_name();
     for (place, rule) in rules.iter().enumerate() {
         if decides_some(before(rules, place), rule, service.as_bytes()) {
-            write!(f, "  \"{name}\" -> ")?;
-            show_target(f, list, rule, service)?;
+            match provider(list, rule, service) {
+                Some(server) => write!(f, "  \"{name}\" -> \"{}\"", server.to_name())?,
+                None => write!(f, "  \"{name}\" -> \"(denied)\"")?,
+            }
             let label = LabelAsked {
                 rule,
                 in_graph: true,
@@ -95,19 +97,5 @@ fn show_edges<W: fmt::Write>(
         Ok(())
     } else {
         writeln!(f, "  \"{name}\" -> \"(denied)\" [label=\"{service}\"];")
-    }
-}
-
-// The node that a rule leads to for a service.
-fn show_target<W: fmt::Write>(
-    f: &mut fmt::Formatter<W>,
-    list: &StartList,
-    rule: &Rule,
-    service: &str,
-) -> fmt::Result {
-    let child = target_child(list, rule.target(), service.as_bytes());
-    match child.and_then(|child| list.entries().get(child)) {
-        Some(entry) => write!(f, "\"{}\"", entry.to_name()),
-        None => f.write_str("\"(denied)\""),
     }
 }

@@ -10,12 +10,14 @@ mod graph;
 mod hiding;
 mod left;
 mod members;
+mod near;
 mod part;
 mod quoted;
 mod review;
 #[cfg(test)]
 mod tests;
 mod tree;
+mod unread;
 mod wishes;
 
 pub use fault::{Fault, Whereabouts};

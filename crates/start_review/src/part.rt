@@ -1,4 +1,6 @@
 //! Parts of a start list, as people are told of them.
+ghost use Rattle.std.specs.Prelude.{◌≡◌};
+
 use init_core::Name;
 use std::fmt;
 
@@ -46,7 +48,9 @@ fn show_entry<W: fmt::Write>(
 
 impl Part {
     /// The same part once more.
-    pub(crate) fn copy(&self) -> Part {
+    pub(crate) fn copy(&self) -> Part
+        ensures { result ≡ self.now }
+    {
         match self {
             Part::List => Part::List,
             Part::Machine => Part::Machine,
@@ -58,7 +62,9 @@ impl Part {
 }
 
 // A name once more, where there is one.
-fn copied(name: &Option<Name>) -> Option<Name> {
+fn copied(name: &Option<Name>) -> Option<Name>
+    ensures { result ≡ name.now }
+{
     match name {
         Some(name) => Some(name.copy()),
         None => None,

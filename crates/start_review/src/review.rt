@@ -4,15 +4,18 @@ ghost use Rattle.serde_json.specs.View.{view};
 ghost use Rattle.init_core.specs.Boot.{quota_fault};
 ghost use Rattle.init_core.specs.StartText.{json_in, list_in};
 ghost use Rattle.init_core.specs.declared.fault.BootFault.TheVariants.{BadJson, NoMemory};
-ghost use Rattle.start_review.specs.Places.{fault_of};
+ghost use Rattle.init_core.specs.Misread.{entry_at_fault};
+ghost use Rattle.start_review.specs.Findings.{IsTold};
+ghost use Rattle.start_review.specs.Places.{IsPlaced, entry_at, fault_of};
 
 use crate::fault::{Fault, Whereabouts};
 use crate::finding::Finding;
-use crate::findings::Subject;
+use crate::findings::tell_findings;
 use crate::flaw::Flaw;
 use crate::graph::Graph;
 use crate::left::first_lack;
 use crate::tree::Tree;
+use crate::unread::unread;
 use init_core::{BootFault, Field, StartList};
 use serde_json::Value;
 use std::alloc::Global;
@@ -35,6 +38,9 @@ impl Review {
         ensures boots { IfOk result (λ review. quota_fault review.list ≡ None) }
         ensures fault { IfErr result
             (λ fault. fault.fault ≢ NoMemory → fault_of text.now ≡ Some fault.fault) }
+        ensures place { IfErr result (λ fault. fault.fault ≢ NoMemory
+            → IsPlaced (entry_at text.now) fault.fault fault.place) }
+        ensures told { IfOk result (λ review. IsTold review.list review.findings.items) }
     {
         if text.len() > LONGEST_TEXT {
             return Err(Fault {
@@ -53,22 +59,23 @@ impl Review {
                 place: Whereabouts::Budget(lack),
             });
         }
-        let subject = Subject {
-            alloc,
-            list: &list,
-            value: &value,
-        };
-        let findings = subject.findings()?;
+        let mut findings = unread(alloc, &list, &value)?;
+        tell_findings(&mut findings, alloc, &list)?;
         Ok(Review { list, findings })
     }
 
     /// The list.
-    pub fn list(&self) -> &StartList {
+    pub fn list(&self) -> &StartList
+        ensures { result.now ≡ self.now.list }
+    {
         &self.list
     }
 
-    /// What it says that its writer can hardly have meant, in the order of its parts.
-    pub fn findings(&self) -> &[Finding] {
+    /// What it says that its writer can hardly have meant: members that nothing reads, and then the rest, each in the order of
+    /// its parts.
+    pub fn findings(&self) -> &[Finding]
+        ensures { result.now ≡ self.now.findings.items }
+    {
         self.findings.as_slice()
     }
 
@@ -88,6 +95,8 @@ fn read_json(alloc: Global, text: &[u8]) -> Result<Value, Fault>
     ensures ok { IfOk result (λ value. json_in text.now ≡ Some (view value)) }
     ensures refused { IfErr result (λ fault. fault.fault ≢ NoMemory → fault.fault ≡ BadJson) }
     ensures none { IfErr result (λ fault. fault.fault ≢ NoMemory → json_in text.now ≡ None) }
+    ensures place { IfErr result (λ fault. fault.fault ≢ NoMemory
+        → IsPlaced (entry_at text.now) fault.fault fault.place) }
 {
     match Value::from_slice(alloc, text) {
         Ok(value) => Ok(value),
@@ -107,7 +116,9 @@ fn read_json(alloc: Global, text: &[u8]) -> Result<Value, Fault>
 
 // A fault of a value with its place.
 fn placed(alloc: Global, value: &Value, fault: BootFault) -> Fault
-    ensures { result.fault ≢ NoMemory → result.fault ≡ fault }
+    ensures fault { result.fault ≢ NoMemory → result.fault ≡ fault }
+    ensures place { result.fault ≢ NoMemory
+        → IsPlaced (entry_at_fault (view value.now)) result.fault result.place }
 {
     match Flaw::of(alloc, value, &fault) {
         Ok(Some(flaw)) => Fault {

@@ -2,8 +2,8 @@
 use crate::hiding::{asks_no_label, asks_service, decides_some};
 use crate::left::kept;
 use crate::quoted::Quoted;
-use crate::wishes::{SERVICES, before, rules_of};
-use init_core::{Binary, Entry, Rule, StartList, target_child};
+use crate::wishes::{SERVICES, before, provider, rules_of};
+use init_core::{Binary, Entry, Rule, StartList};
 use std::fmt;
 
 /// A start list's machine, what init keeps, each component with its budget, and for each script and service where an `open`
@@ -83,8 +83,10 @@ fn show_wishes<W: fmt::Write>(
     let rules = rules_of(list, client);
     for (place, rule) in rules.iter().enumerate() {
         if decides_some(before(rules, place), rule, service.as_bytes()) {
-            write!(f, "  {service} -> ")?;
-            show_target(f, list, rule, service)?;
+            match provider(list, rule, service) {
+                Some(server) => write!(f, "  {service} -> {}", server.to_name())?,
+                None => write!(f, "  {service} -> denied")?,
+            }
             write!(f, " by {}[{place}]", route_name(list, client))?;
             let label = LabelAsked {
                 rule,
@@ -112,20 +114,6 @@ pub(crate) fn route_name(list: &StartList, client: usize) -> &'static str {
     match list.entries().get(client) {
         Some(entry) if entry.route().is_some() => "route",
         _ => "default-route",
-    }
-}
-
-// The name of the component that a rule leads to for a service.
-fn show_target<W: fmt::Write>(
-    f: &mut fmt::Formatter<W>,
-    list: &StartList,
-    rule: &Rule,
-    service: &str,
-) -> fmt::Result {
-    let child = target_child(list, rule.target(), service.as_bytes());
-    match child.and_then(|child| list.entries().get(child)) {
-        Some(entry) => write!(f, "{}", entry.to_name()),
-        None => f.write_str("denied"),
     }
 }
 
