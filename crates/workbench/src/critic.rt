@@ -1,20 +1,19 @@
 //! Who holds answers against what is expected.
 ghost use Rattle.std.specs.Prelude.{◌≡◌, false, OnOk};
 
-use crate::complaint::{Complaint, Place, complain};
+use crate::complaint::{Complaints, Place};
 use crate::ending::PlayFault;
-use crate::expected::{Expected, Mismatch};
-use friendly_lines::{Fault, Said};
-use scenario::{Answer, Gather, Sink};
+use crate::expected::Expected;
+use friendly_lines::Fault;
+use scenario::{Answer, Sink};
 use std::alloc::Global;
 
-/// Holds answers against what is expected, and tells complaints.
+/// Holds answers against what is expected, and complains. Each of its calls tells whether there was a complaint.
 #[derive(Drop)]
 pub(crate) struct Critic<'a> {
     alloc: Global,
-    scenario: &'a [u8],
     expected: Expected,
-    gathered: Gather,
+    complaints: Complaints<'a>,
 }
 
 impl<'a> Critic<'a> {
@@ -22,162 +21,165 @@ impl<'a> Critic<'a> {
     pub(crate) fn new(alloc: Global, scenario: &'a [u8]) -> Critic<'a> {
         Critic {
             alloc,
-            scenario,
             expected: Expected::new(alloc),
-            gathered: Gather::new(),
+            complaints: Complaints::new(scenario),
         }
     }
 
-    /// Judges a line by what it says and what it was answered, if its call was, and tells whether there was a complaint.
+    /// Expects a log line of the next call.
+    pub(crate) fn expect_line(&mut self, number: u64, text: &[u8]) -> Result<bool, PlayFault> {
+        self.expected.add(number, text)?;
+        Ok(false)
+    }
+
+    /// Judges the answer of a line's call by the reply that is expected, if one is, and by the log lines. A call that was
+    /// skipped is answered as it may be.
     pub(crate) fn judge<E: Sink>(
-        &mut self,
-        number: u64,
-        line: &[u8],
-        said: Result<Said<'_>, Fault>,
-        answer: Option<Answer<'_>>,
-        complaints: &mut E,
-    ) -> Result<bool, PlayFault>
-        requires { E.has_failed complaints.old ≡ false }
-        ensures works { OnOk result (E.has_failed complaints.new ≡ false) }
-    {
-        match said {
-            Ok(Said::Nothing) => Ok(false),
-            Ok(Said::Log(text)) => {
-                self.expected.add(number, text)?;
-                Ok(false)
-            }
-            Ok(Said::Call { line: _, reply }) => {
-                let judged = self.judge_call(number, line, reply, answer, complaints);
-                self.expected.clear();
-                judged
-            }
-            Err(fault) => self.tell_unread(number, fault, complaints),
-        }
-    }
-
-    // Judges the answer of a call. One that was skipped is answered as it may be.
-    fn judge_call<E: Sink>(
         &mut self,
         number: u64,
         line: &[u8],
         reply: Option<&[u8]>,
         answer: Option<Answer<'_>>,
-        complaints: &mut E,
+        sink: &mut E,
     ) -> Result<bool, PlayFault>
-        requires { E.has_failed complaints.old ≡ false }
-        ensures works { OnOk result (E.has_failed complaints.new ≡ false) }
+        requires { E.has_failed sink.old ≡ false }
+        ensures works { OnOk result (E.has_failed sink.new ≡ false) }
     {
-        let Some(answer) = answer else {
-            return Ok(false);
+        let judged = match (reply, answer) {
+            (_, None) => Ok(false),
+            (None, Some(_)) => self.judge_silent(number, sink),
+            (Some(reply), Some(answer)) => {
+                let place = Place {
+                    line: number,
+                    column: column_of(line, reply),
+                };
+                self.judge_answer(place, reply, answer.reply, answer.lines, sink)
+            }
         };
-        let Some(mismatch) = self.expected.mismatch(reply, &answer) else {
-            return Ok(false);
-        };
-        let complaint = match mismatch {
-            Mismatch::NoReply => Complaint::NoReply,
-            Mismatch::Reply { expected } => Complaint::OtherReply {
-                reply: answer.reply,
-                expected,
-            },
-            Mismatch::Lines => Complaint::OtherLines {
-                lines: answer.lines,
-                expected: self.expected.lines(),
-            },
-        };
-        let place = Place {
-            line: number,
-            column: column_of(line, reply),
-        };
-        complain(
-            self.scenario,
-            place,
-            complaint,
-            &mut self.gathered,
-            complaints,
-        )?;
-        Ok(true)
+        self.expected.clear();
+        judged
     }
 
-    // Tells why a line isn't read.
-    fn tell_unread<E: Sink>(
+    // Complains where log lines are expected of a call for which no reply is.
+    fn judge_silent<E: Sink>(&mut self, number: u64, sink: &mut E) -> Result<bool, PlayFault>
+        requires { E.has_failed sink.old ≡ false }
+        ensures works { OnOk result (E.has_failed sink.new ≡ false) }
+    {
+        if self.expected.first().is_none() {
+            return Ok(false);
+        }
+        let place = Place {
+            line: number,
+            column: 1,
+        };
+        self.complain(place, b"log lines are expected of it, and no reply", sink)
+    }
+
+    // Complains of another reply, or else of other log lines.
+    fn judge_answer<E: Sink>(
+        &mut self,
+        place: Place,
+        expected: &[u8],
+        reply: &[u8],
+        lines: &[u8],
+        sink: &mut E,
+    ) -> Result<bool, PlayFault>
+        requires { E.has_failed sink.old ≡ false }
+        ensures works { OnOk result (E.has_failed sink.new ≡ false) }
+    {
+        if reply != expected {
+            self.complaints
+                .tell_other(sink, place, b"the reply is", reply, expected)?;
+            return Ok(true);
+        }
+        let expected = self.expected.lines();
+        if lines != expected {
+            let lines = without_last(lines);
+            let expected = without_last(expected);
+            self.complaints
+                .tell_other(sink, place, b"the log lines are", lines, expected)?;
+            return Ok(true);
+        }
+        Ok(false)
+    }
+
+    /// Tells why a line isn't read.
+    pub(crate) fn tell_unread<E: Sink>(
         &mut self,
         number: u64,
         fault: Fault,
-        complaints: &mut E,
+        sink: &mut E,
     ) -> Result<bool, PlayFault>
-        requires { E.has_failed complaints.old ≡ false }
-        ensures works { OnOk result (E.has_failed complaints.new ≡ false) }
+        requires { E.has_failed sink.old ≡ false }
+        ensures works { OnOk result (E.has_failed sink.new ≡ false) }
     {
         let reason = fault.reason.to_string(self.alloc)?;
         let place = Place {
             line: number,
             column: fault.column,
         };
-        let complaint = Complaint::Unread(reason.as_bytes());
-        complain(
-            self.scenario,
-            place,
-            complaint,
-            &mut self.gathered,
-            complaints,
-        )?;
-        Ok(true)
+        self.complain(place, reason.as_bytes(), sink)
     }
 
     /// Tells that a line is too long to be read.
     pub(crate) fn tell_too_long<E: Sink>(
         &mut self,
         number: u64,
-        complaints: &mut E,
-    ) -> Result<(), PlayFault>
-        requires { E.has_failed complaints.old ≡ false }
-        ensures works { OnOk result (E.has_failed complaints.new ≡ false) }
+        sink: &mut E,
+    ) -> Result<bool, PlayFault>
+        requires { E.has_failed sink.old ≡ false }
+        ensures works { OnOk result (E.has_failed sink.new ≡ false) }
     {
         let place = Place {
             line: number,
             column: 1,
         };
-        complain(
-            self.scenario,
-            place,
-            Complaint::TooLong,
-            &mut self.gathered,
-            complaints,
-        )?;
-        Ok(())
+        self.complain(place, b"a line of more than 8192 bytes", sink)
     }
 
-    /// Tells an expected log line that no call follows, if there is one, and whether there was.
-    pub(crate) fn tell_left_over<E: Sink>(&mut self, complaints: &mut E) -> Result<bool, PlayFault>
-        requires { E.has_failed complaints.old ≡ false }
-        ensures works { OnOk result (E.has_failed complaints.new ≡ false) }
+    /// Tells an expected log line that no call follows, if there is one.
+    pub(crate) fn tell_left_over<E: Sink>(&mut self, sink: &mut E) -> Result<bool, PlayFault>
+        requires { E.has_failed sink.old ≡ false }
+        ensures works { OnOk result (E.has_failed sink.new ≡ false) }
     {
-        let Some(line) = self.expected.first() else {
-            return Ok(false);
-        };
-        let place = Place { line, column: 1 };
-        complain(
-            self.scenario,
-            place,
-            Complaint::LeftOver,
-            &mut self.gathered,
-            complaints,
-        )?;
+        match self.expected.first() {
+            Some(line) => {
+                self.complain(
+                    Place { line, column: 1 },
+                    b"no call follows the log line",
+                    sink,
+                )
+            }
+            None => Ok(false),
+        }
+    }
+
+    // Complains in words.
+    fn complain<E: Sink>(
+        &mut self,
+        place: Place,
+        words: &[u8],
+        sink: &mut E,
+    ) -> Result<bool, PlayFault>
+        requires { E.has_failed sink.old ≡ false }
+        ensures works { OnOk result (E.has_failed sink.new ≡ false) }
+    {
+        self.complaints.tell(sink, place, words)?;
         Ok(true)
     }
 }
 
-// The column of the reply that is expected, with which a line ends but for a carriage return; or 1 where there is none.
-fn column_of(line: &[u8], reply: Option<&[u8]>) -> usize {
-    match reply {
-        None => 1,
-        Some(reply) => {
-            let end = if line.ends_with(b"\r") {
-                line.len().saturating_sub(1)
-            } else {
-                line.len()
-            };
-            end.saturating_sub(reply.len()).saturating_add(1)
-        }
-    }
+// Log lines without the last newline.
+fn without_last(lines: &[u8]) -> &[u8] {
+    &lines[..lines.len().saturating_sub(1)]
+}
+
+// The column of the reply that is expected, with which a line ends but for a carriage return.
+fn column_of(line: &[u8], reply: &[u8]) -> usize {
+    let end = if line.ends_with(b"\r") {
+        line.len().saturating_sub(1)
+    } else {
+        line.len()
+    };
+    end.saturating_sub(reply.len()).saturating_add(1)
 }

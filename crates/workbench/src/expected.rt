@@ -1,5 +1,4 @@
-//! What the next call is expected to be answered.
-use scenario::Answer;
+//! The log lines that the next call is expected to finish.
 use std::alloc::{AllocError, Global};
 
 /// The log lines that the next call is expected to finish.
@@ -9,17 +8,6 @@ pub(crate) struct Expected {
     lines: Vec<u8>,
     /// The line of the scenario that the first of them stands in.
     first: Option<u64>,
-}
-
-/// In what an answer isn't the one that is expected.
-#[derive(Clone, Copy, Debug, PartialEq, Eq)]
-pub(crate) enum Mismatch<'a> {
-    /// Log lines are expected, and no reply behind them.
-    NoReply,
-    /// The reply is another than this.
-    Reply { expected: &'a [u8] },
-    /// The log lines are others.
-    Lines,
 }
 
 impl Expected {
@@ -55,23 +43,5 @@ impl Expected {
     pub(crate) fn clear(&mut self) {
         self.lines.clear();
         self.first = None;
-    }
-
-    /// In what an answer isn't the one that is expected, the reply before the log lines.
-    pub(crate) fn mismatch<'b>(
-        &self,
-        reply: Option<&'b [u8]>,
-        answer: &Answer<'_>,
-    ) -> Option<Mismatch<'b>> {
-        let Some(expected) = reply else {
-            return self.first.map(|_| Mismatch::NoReply);
-        };
-        if expected != answer.reply {
-            Some(Mismatch::Reply { expected })
-        } else if self.lines() != answer.lines {
-            Some(Mismatch::Lines)
-        } else {
-            None
-        }
     }
 }

@@ -2,8 +2,8 @@
 //! go from line to line, and what one component is told alone.
 #![tactic(auto)]
 
-mod accounts;
-mod alone;
+mod account_list;
+mod beside;
 mod complaint;
 mod critic;
 mod ending;
@@ -11,18 +11,18 @@ mod expected;
 mod machine;
 mod notes;
 mod peaks;
-mod play;
+mod playing;
 mod row;
 #[cfg(test)]
 mod tests;
 mod text;
-mod trace;
+mod tracing;
 mod transcript;
 mod watch;
 
-pub use accounts::accounts;
-pub use alone::alone;
+pub use account_list::accounts;
+pub use beside::alone;
 pub use ending::{Ending, PlayFault, exit_status};
 pub use machine::Play;
-pub use trace::trace;
+pub use tracing::trace;
 pub use transcript::run;

@@ -157,6 +157,14 @@ impl Peaks {
         self.session(component, selector).is_some()
     }
 
+    /// The peak of the component at a place, which has this account now.
+    pub(crate) fn component(&self, place: usize, account: Quotas) -> Peak {
+        match self.components.get(place) {
+            Some(peak) => *peak,
+            None => Peak::of(account),
+        }
+    }
+
     /// The session under a selector of a component, if it is kept.
     pub(crate) fn session(&self, component: usize, selector: u64) -> Option<&Session> {
         self.sessions.iter().find(|session| session.component == component

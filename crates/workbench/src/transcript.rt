@@ -4,7 +4,7 @@ ghost use Rattle.std.specs.Prelude.{◌≡◌, false, OnOk};
 use crate::ending::{Ending, PlayFault};
 use crate::machine::Play;
 use crate::notes::Notes;
-use crate::play::play as play_lines;
+use crate::playing::play as play_lines;
 use crate::watch::{Heard, Watch};
 use init_core::{BootFault, StartList, boot};
 use pd_core::{Core, Router};

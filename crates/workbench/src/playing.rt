@@ -7,7 +7,7 @@ ghost use Rattle.workbench.specs.Devices.{AllWork, OutputsWork};
 use crate::ending::{Ending, PlayFault};
 use crate::notes::Notes;
 use crate::watch::{Heard, Watch};
-use friendly_lines::{Fault, Said, read_line};
+use friendly_lines::{Said, read_line};
 use pd_core::{Core, Reply, Router};
 use scenario::{Answer, Gather, LONGEST_LINE, MAX_LINES, Next, Run, Sink, Source};
 
@@ -129,8 +129,8 @@ fn play_next<R: Router + Drop, W: Watch, S: Source, K: Sink, E: Sink>(
             Ok(Played::Line { complained })
         }
         Next::TooLong => {
-            notes.critic.tell_too_long(notes.number, complaints)?;
-            Ok(Played::Line { complained: true })
+            let complained = notes.critic.tell_too_long(notes.number, complaints)?;
+            Ok(Played::Line { complained })
         }
         Next::End => Ok(Played::End),
     }
@@ -155,54 +155,61 @@ fn play_ahead<R: Router + Drop, W: Watch, K: Sink, E: Sink>(
     ensures works { OnOk result (OutputsWork (K.has_failed writer.new) (E.has_failed complaints.new)) }
 {
     let line = &notes.buffers.ahead.ahead()[..count];
-    let said = read_line(line, &mut notes.room);
-    let gathered = &mut notes.buffers.gathered;
-    let judged = match answer(
-        run,
-        core,
-        notes.number,
-        said,
-        &mut notes.reply,
-        watch,
-        gathered,
-        writer,
-    ) {
-        Ok(answer) => notes
-            .critic
-            .judge(notes.number, line, said, answer, complaints),
-        Err(fault) => Err(fault),
+    let judged = match read_line(line, &mut notes.room) {
+        Ok(Said::Nothing) => Ok(false),
+        Ok(Said::Log(text)) => notes.critic.expect_line(notes.number, text),
+        Ok(Said::Call { line: call, reply }) => {
+            let gathered = &mut notes.buffers.gathered;
+            match answer_call(
+                run,
+                core,
+                notes.number,
+                call,
+                &mut notes.reply,
+                watch,
+                gathered,
+                writer,
+            ) {
+                Ok(answer) => notes
+                    .critic
+                    .judge(notes.number, line, reply, answer, complaints),
+                Err(fault) => Err(fault),
+            }
+        }
+        Err(fault) => notes.critic.tell_unread(notes.number, fault, complaints),
     };
     notes.buffers.ahead.pass(count + 1);
     judged
 }
 
-// Answers what a line says, where it is a call, and tells the answer to `watch`.
-fn answer<'b, R: Router + Drop, W: Watch, K: Sink>(
-    run: &Run<'b>,
+// Answers a call, and tells the answer to `watch`.
+fn answer_call<'a, 'b, R: Router + Drop, W: Watch, K: Sink>(
+    run: &Run<'a>,
     core: &mut Core<R>,
     number: u64,
-    said: Result<Said<'b>, Fault>,
+    line: &'b [u8],
     reply: &'b mut Reply,
     watch: &mut W,
     gathered: &mut Gather,
     writer: &mut K,
 ) -> Result<Option<Answer<'b>>, PlayFault>
+where
+    'a: 'b,
     requires listed { core.old.entries ≡ entries_of (start_list_of run.now.list.now) }
     requires writes { K.has_failed writer.old ≡ false }
     ensures listed { core.new.entries ≡ core.old.entries }
     ensures works { OnOk result (K.has_failed writer.new ≡ false) }
 {
-    let Ok(Said::Call { line, .. }) = said else {
-        return Ok(None);
-    };
-    let answer = run.answer(core, line, reply);
-    if let Some(answer) = answer {
-        let heard = Heard {
-            number,
-            line,
-            answer,
-        };
-        watch.tell(core, run.list, &heard, gathered, writer)?;
+    match run.answer(core, line, reply) {
+        Some(answer) => {
+            let heard = Heard {
+                number,
+                line,
+                answer,
+            };
+            watch.tell(core, run.list, &heard, gathered, writer)?;
+            Ok(Some(answer))
+        }
+        None => Ok(None),
     }
-    Ok(answer)
 }

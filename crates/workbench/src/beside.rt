@@ -6,7 +6,7 @@ ghost use Rattle.own_model.specs.StartList.{entries_of};
 use crate::ending::{Ending, PlayFault};
 use crate::machine::Play;
 use crate::notes::Notes;
-use crate::play::play as play_lines;
+use crate::playing::play as play_lines;
 use crate::text::put_number;
 use crate::watch::{Heard, Watch};
 use init_core::{BootFault, StartList, boot};

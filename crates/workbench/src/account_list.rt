@@ -7,7 +7,7 @@ use crate::ending::{Ending, PlayFault};
 use crate::machine::Play;
 use crate::notes::Notes;
 use crate::peaks::{Peak, Peaks};
-use crate::play::play as play_lines;
+use crate::playing::play as play_lines;
 use crate::text::put_number;
 use arrayvec::ArrayVec;
 use init_core::{BootFault, StartList, boot};
@@ -86,16 +86,10 @@ fn put_components<R: Router + Drop, K: Sink>(
     requires writes { K.has_failed writer.old ≡ false }
     ensures failing { K.has_failed writer.new ≡ is_err result }
 {
-    for (component, peak) in peaks.components.iter().enumerate() {
-        if component < core.count() {
-            put_account(
-                list.name(component),
-                core.account(component),
-                *peak,
-                gathered,
-                writer,
-            )?;
-        }
+    for component in 0..core.count() {
+        let account = core.account(component);
+        let peak = peaks.component(component, account);
+        put_account(list.name(component), account, peak, gathered, writer)?;
     }
     Ok(())
 }
@@ -113,10 +107,28 @@ fn put_sessions<R: Router + Drop, K: Sink>(
     ensures failing { K.has_failed writer.new ≡ is_err result }
 {
     for component in 0..core.count() {
-        for selector in 0..=core.last_selector(component) {
-            if let Some(account) = core.session_account(component, selector) {
-                put_session(list, component, selector, account, peaks, gathered, writer)?;
-            }
+        put_sessions_of(core, list, component, peaks, gathered, writer)?;
+    }
+    Ok(())
+}
+
+// Gathers the line of each open session of a component, by its selector.
+fn put_sessions_of<R: Router + Drop, K: Sink>(
+    core: &Core<R>,
+    list: &StartList,
+    component: usize,
+    peaks: &Peaks,
+    gathered: &mut Gather,
+    writer: &mut K,
+) -> Result<(), DeviceFault>
+    requires listed { core.now.entries ≡ entries_of (start_list_of list.now) }
+    requires component { component < length core.now.entries }
+    requires writes { K.has_failed writer.old ≡ false }
+    ensures failing { K.has_failed writer.new ≡ is_err result }
+{
+    for selector in 0..=core.last_selector(component) {
+        if let Some(account) = core.session_account(component, selector) {
+            put_session(list, component, selector, account, peaks, gathered, writer)?;
         }
     }
     Ok(())
