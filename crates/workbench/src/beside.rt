@@ -13,10 +13,6 @@ use init_core::{BootFault, StartList, boot};
 use pd_core::{Core, Reply, Router};
 use scenario::{Answer, DeviceFault, Gather, Run, Sink, Source};
 use std::alloc::Global;
-use text_read::find_byte;
-
-/// What stands below the name of a side.
-const BELOW: &[u8] = b"         ";
 
 /// A second machine, on which the lines of one name alone are answered.
 #[derive(Drop)]
@@ -70,7 +66,7 @@ fn put_both<K: Sink>(
     put_side(b"  alone: ", alone, gathered, writer)
 }
 
-// Gathers an answer behind the name of its side: its log lines, each after the first below the one before, and the reply.
+// Gathers an answer behind the name of its side.
 fn put_side<K: Sink>(
     side: &[u8],
     answer: &Answer<'_>,
@@ -81,14 +77,7 @@ fn put_side<K: Sink>(
     ensures failing { K.has_failed writer.new ≡ is_err result }
 {
     gathered.put(writer, side)?;
-    let mut rest = answer.lines;
-    while let Some(place) = find_byte(b'\n', rest) {
-        let (line, after) = rest.split_at(place + 1);
-        gathered.put(writer, line)?;
-        gathered.put(writer, BELOW)?;
-        rest = after;
-    }
-    gathered.put_reply(writer, answer.name, answer.reply)
+    gathered.put_answer(writer, answer.lines, answer.name, answer.reply)
 }
 
 /// Plays a scenario, and writes each line of one name with what it is answered in the whole run and in a run of the name's lines

@@ -89,15 +89,17 @@ impl Peaks {
     // Takes what the accounts of sessions have in use now into account, and forgets the sessions that are no more.
     fn raise_sessions<R: Router + Drop>(&mut self, core: &Core<R>) {
         let mut place = 0;
-        while place < self.sessions.len() {
-            let session = &mut self.sessions[place];
-            match account_of(core, session.component, session.selector) {
-                Some(account) => {
-                    session.peak.raise(account);
-                    place += 1;
-                }
-                None => {
-                    let _ = self.sessions.remove(place);
+        for _ in 0..self.sessions.len() {
+            if place < self.sessions.len() {
+                let session = &mut self.sessions[place];
+                match account_of(core, session.component, session.selector) {
+                    Some(account) => {
+                        session.peak.raise(account);
+                        place += 1;
+                    }
+                    None => {
+                        let _ = self.sessions.remove(place);
+                    }
                 }
             }
         }

@@ -126,7 +126,7 @@ fn alone_a_name_is_told_the_same(rt: HostRuntime) -> Result<(), Fail> {
         outcome.written.as_slice(),
         b"2: bob alloc 4096\n  whole: bob: cap 1\n  alone: bob: cap 1\n\
           3: bob open LOG ram_quota=4K, cap_quota=2\n  whole: bob: cap 2\n  alone: bob: cap 2\n\
-          5: bob call 2 WRITE 780a\n  whole: [bob] x\n         bob: OK 2\n  alone: [bob] x\n         bob: OK 2\n\
+          5: bob call 2 WRITE 780a\n  whole: [bob] x\nbob: OK 2\n  alone: [bob] x\nbob: OK 2\n\
           3 lines of bob: the same alone as in the whole run\n"
             .as_slice()
     );
