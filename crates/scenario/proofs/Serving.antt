@@ -26,17 +26,17 @@ use Rattle.scenario.specs.Reach.{KeepsUp}
 use Rattle.std.proofs.lemmas.List.Elements.{All-append, All-cons, All-nil, filter-append}
 
 -- a name's lines among lines and then others
-said_by-append : (only : Option (List ℕ)) (xs ys : List (List ℕ)) → said_by only (xs ++ ys) ≡ said_by only xs ++ said_by only ys
+pub said_by-append : (only : Option (List ℕ)) (xs ys : List (List ℕ)) → said_by only (xs ++ ys) ≡ said_by only xs ++ said_by only ys
 said_by-append None xs ys = refl
 said_by-append (Some name) xs ys = filter-append (is_said_by name) xs ys
 
 -- what lines leave, and then others
-world_running-append : (world : World) (xs ys : List (List ℕ)) → world_running (world_running world xs) ys ≡ world_running world (xs ++ ys)
+pub world_running-append : (world : World) (xs ys : List (List ℕ)) → world_running (world_running world xs) ys ≡ world_running world (xs ++ ys)
 world_running-append world [] ys = refl
 world_running-append world (x ∷ xs) ys = world_running-append (world_after_heard world (heard world.entries x)) xs ys
 
 -- what is told of lines, and then of others
-told_running-append : (world : World) (xs ys : List (List ℕ)) → told_of_all None world (xs ++ ys) ≡ told_of_all None world xs ++ told_of_all None (world_running world xs) ys
+pub told_running-append : (world : World) (xs ys : List (List ℕ)) → told_of_all None world (xs ++ ys) ≡ told_of_all None world xs ++ told_of_all None (world_running world xs) ys
 told_running-append world [] ys = refl
 told_running-append world (x ∷ xs) ys =
     let told = told_now world.entries world.states (heard world.entries x) in
@@ -46,12 +46,12 @@ told_running-append world (x ∷ xs) ys =
 
 module _ (only : Option (List ℕ)) where
   -- the same from the world that the first lines left
-  told_of_both : (world mid : World) (xs ys : List (List ℕ)) → mid ≡ after_all only world xs → told_of_all only world xs ++ told_of_all only mid ys ≡ told_of_all only world (xs ++ ys)
+  pub told_of_both : (world mid : World) (xs ys : List (List ℕ)) → mid ≡ after_all only world xs → told_of_all only world xs ++ told_of_all only mid ys ≡ told_of_all only world (xs ++ ys)
   told_of_both world mid xs ys left =
       rw left (sym (ap (told_of_all None world) (said_by-append only xs ys) ∙ told_running-append world (said_by only xs) (said_by only ys)))
 
   -- and the world that both leave
-  left_by_both : (world mid last : World) (xs ys : List (List ℕ)) → mid ≡ after_all only world xs → last ≡ after_all only mid ys → last ≡ after_all only world (xs ++ ys)
+  pub left_by_both : (world mid last : World) (xs ys : List (List ℕ)) → mid ≡ after_all only world xs → last ≡ after_all only mid ys → last ≡ after_all only world (xs ++ ys)
   left_by_both world mid last xs ys left then =
       then ∙ ap (λ w. after_all only w ys) left ∙ world_running-append world (said_by only xs) (said_by only ys) ∙ ap (world_running world) (sym (said_by-append only xs ys))
 

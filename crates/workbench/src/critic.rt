@@ -1,0 +1,185 @@
+//! Who holds answers against what is expected.
+ghost use Rattle.std.specs.Prelude.{◌≡◌, false, OnOk};
+
+use crate::complaint::{Complaints, Place};
+use crate::ending::PlayFault;
+use crate::expected::Expected;
+use friendly_lines::Fault;
+use scenario::{Answer, Sink};
+use std::alloc::Global;
+
+/// Holds answers against what is expected, and complains. Each of its calls tells whether there was a complaint.
+#[derive(Drop)]
+pub(crate) struct Critic<'a> {
+    alloc: Global,
+    expected: Expected,
+    complaints: Complaints<'a>,
+}
+
+impl<'a> Critic<'a> {
+    /// The critic of a scenario by its name, who expects nothing yet.
+    pub(crate) fn new(alloc: Global, scenario: &'a [u8]) -> Critic<'a> {
+        Critic {
+            alloc,
+            expected: Expected::new(alloc),
+            complaints: Complaints::new(scenario),
+        }
+    }
+
+    /// Expects a log line of the next call.
+    pub(crate) fn expect_line(&mut self, number: u64, text: &[u8]) -> Result<bool, PlayFault> {
+        self.expected.add(number, text)?;
+        Ok(false)
+    }
+
+    /// Judges the answer of a line's call by the reply that is expected, if one is, and by the log lines. A call that was
+    /// skipped is answered as it may be.
+    pub(crate) fn judge<E: Sink>(
+        &mut self,
+        number: u64,
+        line: &[u8],
+        reply: Option<&[u8]>,
+        answer: Option<Answer<'_>>,
+        sink: &mut E,
+    ) -> Result<bool, PlayFault>
+        requires { E.has_failed sink.old ≡ false }
+        ensures works { OnOk result (E.has_failed sink.new ≡ false) }
+    {
+        let judged = match (reply, answer) {
+            (_, None) => Ok(false),
+            (None, Some(_)) => self.judge_silent(number, sink),
+            (Some(reply), Some(answer)) => {
+                let place = Place {
+                    line: number,
+                    column: column_of(line, reply),
+                };
+                self.judge_answer(place, reply, answer.reply, answer.lines, sink)
+            }
+        };
+        self.expected.clear();
+        judged
+    }
+
+    // Complains where log lines are expected of a call for which no reply is.
+    fn judge_silent<E: Sink>(&mut self, number: u64, sink: &mut E) -> Result<bool, PlayFault>
+        requires { E.has_failed sink.old ≡ false }
+        ensures works { OnOk result (E.has_failed sink.new ≡ false) }
+    {
+        if self.expected.first().is_none() {
+            return Ok(false);
+        }
+        let place = Place {
+            line: number,
+            column: 1,
+        };
+        self.complain(place, b"log lines are expected of it, and no reply", sink)
+    }
+
+    // Complains of another reply, or else of other log lines.
+    fn judge_answer<E: Sink>(
+        &mut self,
+        place: Place,
+        expected: &[u8],
+        reply: &[u8],
+        lines: &[u8],
+        sink: &mut E,
+    ) -> Result<bool, PlayFault>
+        requires { E.has_failed sink.old ≡ false }
+        ensures works { OnOk result (E.has_failed sink.new ≡ false) }
+    {
+        if reply != expected {
+            self.complaints
+                .tell_other(sink, place, b"the reply is", reply, expected)?;
+            return Ok(true);
+        }
+        let expected = self.expected.lines();
+        if lines != expected {
+            let lines = without_last(lines);
+            let expected = without_last(expected);
+            self.complaints
+                .tell_other(sink, place, b"the log lines are", lines, expected)?;
+            return Ok(true);
+        }
+        Ok(false)
+    }
+
+    /// Tells why a line isn't read.
+    pub(crate) fn tell_unread<E: Sink>(
+        &mut self,
+        number: u64,
+        fault: Fault,
+        sink: &mut E,
+    ) -> Result<bool, PlayFault>
+        requires { E.has_failed sink.old ≡ false }
+        ensures works { OnOk result (E.has_failed sink.new ≡ false) }
+    {
+        let reason = fault.reason.to_string(self.alloc)?;
+        let place = Place {
+            line: number,
+            column: fault.column,
+        };
+        self.complain(place, reason.as_bytes(), sink)
+    }
+
+    /// Tells that a line is too long to be read.
+    pub(crate) fn tell_too_long<E: Sink>(
+        &mut self,
+        number: u64,
+        sink: &mut E,
+    ) -> Result<bool, PlayFault>
+        requires { E.has_failed sink.old ≡ false }
+        ensures works { OnOk result (E.has_failed sink.new ≡ false) }
+    {
+        let place = Place {
+            line: number,
+            column: 1,
+        };
+        self.complain(place, b"a line of more than 8192 bytes", sink)
+    }
+
+    /// Tells an expected log line that no call follows, if there is one.
+    pub(crate) fn tell_left_over<E: Sink>(&mut self, sink: &mut E) -> Result<bool, PlayFault>
+        requires { E.has_failed sink.old ≡ false }
+        ensures works { OnOk result (E.has_failed sink.new ≡ false) }
+    {
+        match self.expected.first() {
+            Some(line) => {
+                self.complain(
+                    Place { line, column: 1 },
+                    b"no call follows the log line",
+                    sink,
+                )
+            }
+            None => Ok(false),
+        }
+    }
+
+    // Complains in words.
+    fn complain<E: Sink>(
+        &mut self,
+        place: Place,
+        words: &[u8],
+        sink: &mut E,
+    ) -> Result<bool, PlayFault>
+        requires { E.has_failed sink.old ≡ false }
+        ensures works { OnOk result (E.has_failed sink.new ≡ false) }
+    {
+        self.complaints.tell(sink, place, words)?;
+        Ok(true)
+    }
+}
+
+// Log lines without the last newline.
+fn without_last(lines: &[u8]) -> &[u8] {
+    &lines[..lines.len().saturating_sub(1)]
+}
+
+// The column of the reply that is expected, with which a line ends but for a carriage return.
+fn column_of(line: &[u8], reply: &[u8]) -> usize {
+    let end = if line.ends_with(b"\r") {
+        line.len().saturating_sub(1)
+    } else {
+        line.len()
+    };
+    end.saturating_sub(reply.len()).saturating_add(1)
+}

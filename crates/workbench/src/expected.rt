@@ -1,0 +1,47 @@
+//! The log lines that the next call is expected to finish.
+use std::alloc::{AllocError, Global};
+
+/// The log lines that the next call is expected to finish.
+#[derive(Drop)]
+pub(crate) struct Expected {
+    /// Each as it is printed, with its newline.
+    lines: Vec<u8>,
+    /// The line of the scenario that the first of them stands in.
+    first: Option<u64>,
+}
+
+impl Expected {
+    /// No log lines.
+    pub(crate) fn new(alloc: Global) -> Expected {
+        Expected {
+            lines: Vec::new(alloc),
+            first: None,
+        }
+    }
+
+    /// One log line more, which stands in a line of the scenario.
+    pub(crate) fn add(&mut self, number: u64, text: &[u8]) -> Result<(), AllocError> {
+        self.lines.extend_from_slice(text)?;
+        self.lines.push(b'\n')?;
+        if self.first.is_none() {
+            self.first = Some(number);
+        }
+        Ok(())
+    }
+
+    /// The log lines, each with its newline.
+    pub(crate) fn lines(&self) -> &[u8] {
+        self.lines.as_slice()
+    }
+
+    /// The line of the scenario that the first of them stands in, if there are any.
+    pub(crate) fn first(&self) -> Option<u64> {
+        self.first
+    }
+
+    /// Forgets all log lines.
+    pub(crate) fn clear(&mut self) {
+        self.lines.clear();
+        self.first = None;
+    }
+}

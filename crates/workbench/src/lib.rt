@@ -1,0 +1,28 @@
+//! Scenarios in the friendly form, played for people: what is answered, what isn't answered as it is expected, how the accounts
+//! go from line to line, and what one component is told alone.
+#![tactic(auto)]
+
+mod account_list;
+mod beside;
+mod complaint;
+mod critic;
+mod ending;
+mod expected;
+mod machine;
+mod notes;
+mod peaks;
+mod playing;
+mod row;
+#[cfg(test)]
+mod tests;
+mod text;
+mod tracing;
+mod transcript;
+mod watch;
+
+pub use account_list::accounts;
+pub use beside::alone;
+pub use ending::{Ending, PlayFault, exit_status};
+pub use machine::Play;
+pub use tracing::trace;
+pub use transcript::run;
