@@ -1,0 +1,103 @@
+//! How a play ends.
+ghost use Rattle.std.specs.Prelude.{◌≡◌};
+ghost use Rattle.workbench.specs.Ending.{status_of};
+
+use init_core::BootFault;
+use scenario::{DeviceFault, LineFault, RunFault};
+use std::alloc::{AllocError, AllocFailed};
+use thiserror::Error;
+
+/// Why a play stopped before the end of its scenario.
+#[derive(Clone, Copy, Debug, PartialEq, Eq, Error)]
+pub enum PlayFault {
+    /// A read failed, or a line was too long to be read to its end.
+    #[error("Read_fault")]
+    ReadFault,
+    /// A write failed, of what is told or of a complaint.
+    #[error("Write_fault")]
+    WriteFault,
+    /// A line came after the last one allowed.
+    #[error("Too_many_lines")]
+    TooManyLines,
+    /// The host has no room for what is kept between lines.
+    #[error("No_memory")]
+    NoMemory,
+}
+
+impl From<LineFault> for PlayFault {
+    fn from(fault: LineFault) -> PlayFault {
+        match fault {
+            LineFault::Read | LineFault::Endless => PlayFault::ReadFault,
+            LineFault::Write => PlayFault::WriteFault,
+        }
+    }
+}
+
+impl From<RunFault> for PlayFault {
+    fn from(fault: RunFault) -> PlayFault {
+        match fault {
+            RunFault::ReadFault => PlayFault::ReadFault,
+            RunFault::WriteFault => PlayFault::WriteFault,
+            RunFault::TooManyLines => PlayFault::TooManyLines,
+        }
+    }
+}
+
+impl From<DeviceFault> for PlayFault {
+    fn from(_fault: DeviceFault) -> PlayFault {
+        PlayFault::WriteFault
+    }
+}
+
+impl From<AllocError> for PlayFault {
+    fn from(_want: AllocError) -> PlayFault {
+        PlayFault::NoMemory
+    }
+}
+
+impl<T: Drop> From<AllocFailed<T>> for PlayFault {
+    fn from(_want: AllocFailed<T>) -> PlayFault {
+        PlayFault::NoMemory
+    }
+}
+
+/// How a play ended.
+#[derive(Clone, Copy, Debug, PartialEq, Eq)]
+pub struct Ending {
+    /// How many lines were read.
+    pub lines: u64,
+    /// How many complaints there were.
+    pub complaints: u64,
+    /// Why it stopped before the end of its scenario, if it did.
+    pub fault: Option<PlayFault>,
+}
+
+impl Ending {
+    /// A play that stopped before its first line.
+    pub(crate) fn before_all(fault: PlayFault) -> Ending {
+        Ending {
+            lines: 0,
+            complaints: 0,
+            fault: Some(fault),
+        }
+    }
+}
+
+/// The exit status of a play: 2 where no machine was booted, 1 for a fault of the run, 3 where there was a complaint, and
+/// else 0.
+pub fn exit_status(ended: &Result<Ending, BootFault>) -> u8
+    ensures { result ≡ status_of ended.now }
+{
+    match ended {
+        Err(_) => 2,
+        Ok(ending) => {
+            if ending.fault.is_some() {
+                1
+            } else if ending.complaints > 0 {
+                3
+            } else {
+                0
+            }
+        }
+    }
+}

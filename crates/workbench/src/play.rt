@@ -1,0 +1,208 @@
+//! The play: lines of the friendly form are read, answered, told and judged.
+ghost use Rattle.std.specs.Prelude.{◌≡◌, ◌≤◌, length, IfOk, OnOk, false};
+ghost use Rattle.own_model.specs.Listed.{start_list_of};
+ghost use Rattle.own_model.specs.StartList.{entries_of};
+ghost use Rattle.workbench.specs.Devices.{AllWork, OutputsWork};
+
+use crate::ending::{Ending, PlayFault};
+use crate::notes::Notes;
+use crate::watch::{Heard, Watch};
+use friendly_lines::{Fault, Said, read_line};
+use pd_core::{Core, Reply, Router};
+use scenario::{Answer, Gather, LONGEST_LINE, MAX_LINES, Next, Run, Sink, Source};
+
+/// What became of the next line.
+#[derive(Clone, Copy, Debug, PartialEq, Eq)]
+pub(crate) enum Played {
+    /// There was none.
+    End,
+    /// It was played; perhaps it was complained of.
+    Line { complained: bool },
+}
+
+/// How many lines were played to the end of a scenario, and how many complaints there were.
+#[derive(Clone, Copy, Debug, PartialEq, Eq)]
+pub(crate) struct Tally {
+    pub lines: u64,
+    pub complaints: u64,
+}
+
+/// Plays each line of a scenario in turn, at most `MAX_LINES`: its call is answered, told to `watch`, and held against what is
+/// expected. All that is told is written before each read, and at the end. A device that has failed isn't tried again.
+pub(crate) fn play<R: Router + Drop, W: Watch, S: Source, K: Sink, E: Sink>(
+    run: &Run<'_>,
+    core: &mut Core<R>,
+    notes: &mut Notes<'_>,
+    watch: &mut W,
+    reader: &mut S,
+    writer: &mut K,
+    complaints: &mut E,
+) -> Ending
+    requires listed { core.old.entries ≡ entries_of (start_list_of run.now.list.now) }
+{
+    let mut tally = Tally {
+        lines: 0,
+        complaints: 0,
+    };
+    let fault = if writer.failed() || complaints.failed() {
+        Some(PlayFault::WriteFault)
+    } else if reader.failed() {
+        Some(PlayFault::ReadFault)
+    } else {
+        play_all(
+            run, core, notes, watch, &mut tally, reader, writer, complaints,
+        )
+        .err()
+    };
+    Ending {
+        lines: tally.lines,
+        complaints: tally.complaints,
+        fault,
+    }
+}
+
+// Plays line after line, and counts them and the complaints.
+fn play_all<R: Router + Drop, W: Watch, S: Source, K: Sink, E: Sink>(
+    run: &Run<'_>,
+    core: &mut Core<R>,
+    notes: &mut Notes<'_>,
+    watch: &mut W,
+    tally: &mut Tally,
+    reader: &mut S,
+    writer: &mut K,
+    complaints: &mut E,
+) -> Result<(), PlayFault>
+    requires listed { core.old.entries ≡ entries_of (start_list_of run.now.list.now) }
+    requires works { AllWork (S.has_failed reader.old) (K.has_failed writer.old) (E.has_failed complaints.old) }
+{
+    tally.lines = 0;
+    tally.complaints = 0;
+    for count in 0..MAX_LINES {
+        notes.number = count + 1;
+        match play_next(run, core, notes, watch, reader, writer, complaints)? {
+            Played::End => return close(notes, tally, complaints),
+            Played::Line { complained } => {
+                tally.lines = count + 1;
+                tally.complaints += u64::from(complained);
+            }
+        }
+    }
+    if notes.buffers.begins_line(reader, writer)? {
+        return Err(PlayFault::TooManyLines);
+    }
+    close(notes, tally, complaints)
+}
+
+// Complains of an expected log line that no call follows.
+fn close<E: Sink>(
+    notes: &mut Notes<'_>,
+    tally: &mut Tally,
+    complaints: &mut E,
+) -> Result<(), PlayFault>
+    requires few { tally.old.complaints ≤ MAX_LINES }
+    requires works { E.has_failed complaints.old ≡ false }
+{
+    let complained = notes.critic.tell_left_over(complaints)?;
+    tally.complaints += u64::from(complained);
+    Ok(())
+}
+
+// Plays the next line, if there is one.
+fn play_next<R: Router + Drop, W: Watch, S: Source, K: Sink, E: Sink>(
+    run: &Run<'_>,
+    core: &mut Core<R>,
+    notes: &mut Notes<'_>,
+    watch: &mut W,
+    reader: &mut S,
+    writer: &mut K,
+    complaints: &mut E,
+) -> Result<Played, PlayFault>
+    requires listed { core.old.entries ≡ entries_of (start_list_of run.now.list.now) }
+    requires works { AllWork (S.has_failed reader.old) (K.has_failed writer.old) (E.has_failed complaints.old) }
+    ensures listed { core.new.entries ≡ core.old.entries }
+    ensures works { OnOk result
+        (AllWork (S.has_failed reader.new) (K.has_failed writer.new) (E.has_failed complaints.new)) }
+{
+    match notes.buffers.next_line(reader, writer)? {
+        Next::Line(count) => {
+            let complained = play_ahead(run, core, notes, count, watch, writer, complaints)?;
+            Ok(Played::Line { complained })
+        }
+        Next::TooLong => {
+            notes.critic.tell_too_long(notes.number, complaints)?;
+            Ok(Played::Line { complained: true })
+        }
+        Next::End => Ok(Played::End),
+    }
+}
+
+// Plays the line of so many bytes with which the bytes ahead begin, and passes it with its newline. Tells whether there was a
+// complaint.
+fn play_ahead<R: Router + Drop, W: Watch, K: Sink, E: Sink>(
+    run: &Run<'_>,
+    core: &mut Core<R>,
+    notes: &mut Notes<'_>,
+    count: usize,
+    watch: &mut W,
+    writer: &mut K,
+    complaints: &mut E,
+) -> Result<bool, PlayFault>
+    requires inside { count ≤ length notes.old.buffers.ahead }
+    requires short { count ≤ LONGEST_LINE }
+    requires listed { core.old.entries ≡ entries_of (start_list_of run.now.list.now) }
+    requires works { OutputsWork (K.has_failed writer.old) (E.has_failed complaints.old) }
+    ensures listed { core.new.entries ≡ core.old.entries }
+    ensures works { OnOk result (OutputsWork (K.has_failed writer.new) (E.has_failed complaints.new)) }
+{
+    let line = &notes.buffers.ahead.ahead()[..count];
+    let said = read_line(line, &mut notes.room);
+    let gathered = &mut notes.buffers.gathered;
+    let judged = match answer(
+        run,
+        core,
+        notes.number,
+        said,
+        &mut notes.reply,
+        watch,
+        gathered,
+        writer,
+    ) {
+        Ok(answer) => notes
+            .critic
+            .judge(notes.number, line, said, answer, complaints),
+        Err(fault) => Err(fault),
+    };
+    notes.buffers.ahead.pass(count + 1);
+    judged
+}
+
+// Answers what a line says, where it is a call, and tells the answer to `watch`.
+fn answer<'b, R: Router + Drop, W: Watch, K: Sink>(
+    run: &Run<'b>,
+    core: &mut Core<R>,
+    number: u64,
+    said: Result<Said<'b>, Fault>,
+    reply: &'b mut Reply,
+    watch: &mut W,
+    gathered: &mut Gather,
+    writer: &mut K,
+) -> Result<Option<Answer<'b>>, PlayFault>
+    requires listed { core.old.entries ≡ entries_of (start_list_of run.now.list.now) }
+    requires writes { K.has_failed writer.old ≡ false }
+    ensures listed { core.new.entries ≡ core.old.entries }
+    ensures works { OnOk result (K.has_failed writer.new ≡ false) }
+{
+    let Ok(Said::Call { line, .. }) = said else {
+        return Ok(None);
+    };
+    let answer = run.answer(core, line, reply);
+    if let Some(answer) = answer {
+        let heard = Heard {
+            number,
+            line,
+            answer,
+        };
+        watch.tell(core, run.list, &heard, gathered, writer)?;
+    }
+    Ok(answer)
+}
