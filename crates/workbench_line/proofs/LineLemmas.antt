@@ -1,13 +1,13 @@
 -- What matches tell of flags, values and commands.
-use Rattle.std.proofs.Common.{◌≡◌, ◌∙◌, ℕ, List, Bool, true, false, Option, Some, None, Result, refl, sym, ap, ap₂, codes, option_map, unwrap_or, Box}
+use Rattle.std.proofs.Common.{◌≡◌, ◌∙◌, ◌||◌, ◌++◌, ◌∷◌, [], ℕ, List, Bool, true, false, Option, Some, None, Result, Err, refl, sym, ap, ap₂, codes, option_map, unwrap_or, Box, is_some, true≢false}
 use Rattle.std.specs.Borrow.{Bor}
 use Rattle.std.specs.Box.{box_value}
-use Rattle.std.specs.Result.{Err}
 use Rattle.std.specs.Str.{bytes_eq}
 use Rattle.std.specs.Str.Parse.{ParsesBool}
 use Rattle.std.proofs.lemmas.Slice.Eq.{bytes_eq-Decides}
 use Rattle.clap.specs.Kinds.{HasKind}
-use Rattle.clap.specs.Words.{AddsSubcommand, App, FailsBy, Kinds, ReadsOne, Row, Shape, Text, app_of, subcommand_rows, with_subcommand}
+use Rattle.clap.specs.Words.{AddsArg, AddsSubcommand, App, FailsBy, Kinds, ReadsOne, Row, Rule, Shape, Text, app_of, rule_of, subcommand_rows, with_rule, with_subcommand}
+use Rattle.clap.specs.declared.builder.arg.Arg.{Arg}
 use Rattle.clap.specs.declared.builder.command.Command.{Command}
 use Rattle.clap.specs.declared.error.Error.{Error}
 use Rattle.clap.specs.declared.parser.matches.ArgMatches.TheViews.{out-SubCommand}
@@ -32,6 +32,13 @@ pub value_or : (found : Option (Bor (List ℕ))) (other result : Bor (List ℕ))
 value_or None other result same = ap (λ (t : Bor (List ℕ)). t.now) same
 value_or (Some t) other result same = ap (λ (t : Bor (List ℕ)). t.now) same
 
+-- an argument is added to a command of a shape
+pub arg_added : (old : Command) (arg : Arg) (new : Command) (shape : Shape) (rule : Rule) → AddsArg old arg new
+    → rule_of arg ≡ rule → arg.global ≡ false → HasShape shape old
+    → HasShape (record shape { rules = shape.rules ++ rule ∷ [] }) new
+arg_added old arg new shape rule adds has local made =
+    (adds.shape local ∙ ap₂ with_rule made.0 has, adds.globals ∙ ap₂ (λ (a b : Bool). a || b) made.1 local)
+
 -- a subcommand of a shape is added
 pub added : (old sub new : Command) (shape : Shape) (app : App) → AddsSubcommand old sub new → HasShape shape sub
     → app_of old ≡ app → app_of new ≡ with_subcommand app shape
@@ -41,7 +48,7 @@ added old sub new shape app adds has same =
 -- a name and rows told apart
 pub pair_is : (asked : Option (Text × List Row)) (name : Text) (rows : List Row)
     → Some name ≡ option_map (λ p. p.0) asked → Some rows ≡ option_map (λ p. p.1) asked → asked ≡ Some (name, rows)
-pair_is None name rows named has = absurd named
+pair_is None name rows named has = absurd (true≢false (ap is_some named))
 pair_is (Some (a, b)) name rows named has = ap₂ (λ (x : Text) (y : List Row). Some (x, y))
     (sym (ap (λ (o : Option Text). unwrap_or o a) named)) (sym (ap (λ (o : Option (List Row)). unwrap_or o b) has))
 

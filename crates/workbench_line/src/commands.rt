@@ -36,7 +36,9 @@ pub(crate) fn commands<'a>(alloc: Global) -> Result<Words<'a>, Error>
 }
 
 // The command that answers a scenario.
-fn run<'a>(alloc: Global) -> Result<Words<'a>, AllocError> {
+fn run<'a>(alloc: Global) -> Result<Words<'a>, AllocError>
+    ensures { IfOk result (HasShape run_shape) }
+{
     let accounts = flag(alloc, "accounts", help::WITH_ACCOUNTS);
     let only = option(alloc, "only", "NAME", help::ONLY);
     let machine = option(alloc, "machine", "FILE", help::MACHINE);
@@ -57,7 +59,9 @@ fn of_list<'a>(
     about: &'a str,
     id: &'a str,
     help: &'a str,
-) -> Result<Words<'a>, AllocError> {
+) -> Result<Words<'a>, AllocError>
+    ensures { IfOk result (HasShape (list_shape name.entry.now id.entry.now)) }
+{
     let list = file(alloc, "list", "FILE", help::LIST);
     let flag = flag(alloc, id, help);
     let command = Words::new(alloc, name).about(about).arg(flag)?.arg(list)?;
@@ -65,7 +69,9 @@ fn of_list<'a>(
 }
 
 // A command on a scenario and a machine.
-fn of_scenario<'a>(alloc: Global, name: &'a str, about: &'a str) -> Result<Words<'a>, AllocError> {
+fn of_scenario<'a>(alloc: Global, name: &'a str, about: &'a str) -> Result<Words<'a>, AllocError>
+    ensures { IfOk result (HasShape (scenario_shape name.entry.now [])) }
+{
     let machine = option(alloc, "machine", "FILE", help::MACHINE);
     let scenario = file(alloc, "scenario", "SCENARIO", help::SCENARIO);
     let command = Words::new(alloc, name)
@@ -76,7 +82,9 @@ fn of_scenario<'a>(alloc: Global, name: &'a str, about: &'a str) -> Result<Words
 }
 
 // The command that shows a component's two runs.
-fn alone<'a>(alloc: Global) -> Result<Words<'a>, AllocError> {
+fn alone<'a>(alloc: Global) -> Result<Words<'a>, AllocError>
+    ensures { IfOk result (HasShape alone_shape) }
+{
     let machine = option(alloc, "machine", "FILE", help::MACHINE);
     let name = file(alloc, "name", "NAME", help::NAME);
     let scenario = file(alloc, "scenario", "SCENARIO", help::SCENARIO);

@@ -13,10 +13,10 @@ pub(crate) const FIRST_STEPS: &str =
 bob, both with 64K and 16 capabilities, and log and files are its servers. A line
 that begins with # is a comment, and what follows => is the reply that is expected:
 
-  alice alloc 4K                                            => cap 1
-  alice open File_system ram_quota=12K, cap_quota=4         => cap 2
-  alice call 2 CREATE note                                  => OK
-  alice call 2 WRITE note 0 \"hello\"                         => OK 5
+  alice alloc 4K => cap 1
+  alice open File_system ram_quota=24K, cap_quota=4 => cap 2
+  alice call 2 CREATE note => OK
+  alice call 2 WRITE note 0 \"hello\" => OK 5
   alice quota
 
   printf 'alice alloc 4K => cap 1\\nalice quota\\n' | nethrywel run -
