@@ -1,7 +1,7 @@
 //! A scenario's play on a machine, over files and the standard streams.
 use crate::files::{STANDARD_INPUT, read_list};
 use crate::lists::{REFUSED, tell_fault};
-use init_core::{BootFault, MACHINE_A};
+use init_core::{BootFault, MACHINE_A, StartList};
 use scenario::{Input, Output, Source};
 use start_review::Review;
 use std::{fs, io};
@@ -28,6 +28,17 @@ pub(crate) enum Task<'a> {
     },
 }
 
+impl<'a> Task<'a> {
+    // The component that is asked for, if one is.
+    fn name(self) -> Option<&'a str> {
+        match self {
+            Task::Run { only, .. } => only,
+            Task::Alone { name } => Some(name),
+            Task::Trace | Task::Accounts => None,
+        }
+    }
+}
+
 /// Plays a scenario on the machine of a start list, or on the built-in machine. Answers the exit status.
 pub(crate) fn play(rt: &HostRuntime, machine: Option<&str>, scenario: &str, task: Task<'_>) -> u8 {
     let Some(path) = machine else {
@@ -50,6 +61,9 @@ fn play_on(
     scenario: &str,
     task: Task<'_>,
 ) -> u8 {
+    if let Some(name) = task.name() {
+        warn_of_stranger(rt, text, name);
+    }
     let play = Play {
         machine: text,
         scenario: scenario.as_bytes(),
@@ -67,6 +81,15 @@ fn play_on(
     };
     tell_end(rt, text, machine, &ended);
     exit_status(&ended)
+}
+
+// Warns of a name that no component has.
+fn warn_of_stranger(rt: &HostRuntime, text: &[u8], name: &str) {
+    if let Ok(list) = StartList::read(rt.alloc(), text) {
+        if list.find(name.as_bytes()).is_none() {
+            let _ = eprintln!(rt; "{name}: no component of the machine has this name");
+        }
+    }
 }
 
 // Plays the scenario of a source over the standard streams.
