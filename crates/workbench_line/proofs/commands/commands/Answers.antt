@@ -1,7 +1,7 @@
 -- The program as it is made, command by command.
 use Rattle.std.proofs.Common.{◌≡◌, ◌∙◌, ap, true}
 use Rattle.clap.specs.Simple.{app_of_fields, on_top}
-use Rattle.clap.specs.Words.{App, app_of}
+use Rattle.clap.specs.Words.{app_of}
 use Rattle.workbench_line.specs.Line.{bare}
 use Rattle.workbench_line.proofs.LineLemmas.{added}
 use Rattle.workbench_line.proofs.commands.commands.Goals as goal
