@@ -1,0 +1,76 @@
+//! What is told of a start list: its faults and findings, and where its wishes lead.
+use crate::files::read_list;
+use start_review::{Fault, Review, Whereabouts};
+use std::io;
+
+/// The exit status of a result that can't be written.
+pub(crate) const UNWRITTEN: u8 = 1;
+
+/// The exit status of a start list that is none, doesn't boot or, where that is asked for, has findings.
+pub(crate) const REFUSED: u8 = 2;
+
+/// Tells what is wrong with a start list, a line each on standard error, and `ok` where nothing is that counts: findings
+/// count where the check is strict. Answers the exit status.
+pub(crate) fn check(rt: &HostRuntime, path: &str, strict: bool) -> u8 {
+    let Some(review) = review(rt, path) else {
+        return REFUSED;
+    };
+    for finding in review.findings() {
+        let _ = eprintln!(rt; "{path}: {finding}");
+    }
+    if strict && !review.findings().is_empty() {
+        return REFUSED;
+    }
+    status_of(rt, println!(rt; "ok"))
+}
+
+/// Shows the components of a start list as text or as a graph, and answers the exit status.
+pub(crate) fn tree(rt: &HostRuntime, path: &str, dot: bool) -> u8 {
+    let Some(review) = review(rt, path) else {
+        return REFUSED;
+    };
+    let shown = if dot {
+        print!(rt; "{}", review.graph())
+    } else {
+        print!(rt; "{}", review.tree())
+    };
+    status_of(rt, shown)
+}
+
+// The start list of a path, or none where that is told on standard error.
+fn review(rt: &HostRuntime, path: &str) -> Option<Review> {
+    match read_list(rt, path) {
+        Ok(text) => match Review::read(rt.alloc(), &text) {
+            Ok(review) => Some(review),
+            Err(fault) => {
+                tell_fault(rt, path, &fault);
+                None
+            }
+        },
+        Err(fault) => {
+            let _ = eprintln!(rt; "{path}: {fault}");
+            None
+        }
+    }
+}
+
+/// Tells the fault of a start list with its place: a place in a text as editors look for it.
+pub(crate) fn tell_fault(rt: &HostRuntime, path: &str, fault: &Fault) {
+    let _ = match &fault.place {
+        Whereabouts::Text(line, column) => {
+            eprintln!(rt; "{path}:{line}:{column}: {}", fault.fault)
+        }
+        _ => eprintln!(rt; "{path}: {fault}"),
+    };
+}
+
+// The exit status of what was printed.
+fn status_of(rt: &HostRuntime, printed: io::Result<()>) -> u8 {
+    match printed {
+        Ok(()) => 0,
+        Err(_) => {
+            let _ = eprintln!(rt; "run: Write_fault");
+            UNWRITTEN
+        }
+    }
+}

@@ -1,0 +1,54 @@
+//! The program for people: start lists are looked at, and scenarios in the friendly form are played and measured.
+#![tactic(auto)]
+
+mod files;
+mod lists;
+mod plays;
+
+use clap::Error;
+use lists::{check, tree};
+use plays::{Task, play};
+use std::process::ExitCode;
+use workbench_line::{Command, needs_command, words_given};
+
+fn main(rt: HostRuntime) -> ExitCode {
+    let words = match words_given(&rt) {
+        Ok(words) => words,
+        Err(error) => return refuse(&rt, &error),
+    };
+    match Command::read(rt.alloc(), words.as_slice()) {
+        Ok(Some(command)) => ExitCode::from(answer(&rt, command)),
+        Ok(None) => match needs_command(rt.alloc()) {
+            Ok(error) => refuse(&rt, &error),
+            Err(error) => refuse(&rt, &error),
+        },
+        Err(error) => refuse(&rt, &error),
+    }
+}
+
+// Tells why the command line isn't taken, or the help that it asks for.
+fn refuse(rt: &HostRuntime, error: &Error) -> ExitCode {
+    let _ = error.print(rt);
+    ExitCode::from(error.exit_code() as u8)
+}
+
+// Does what is asked for, and answers the exit status.
+fn answer(rt: &HostRuntime, command: Command<'_>) -> u8 {
+    match command {
+        Command::Check { strict, list } => check(rt, list, strict),
+        Command::Tree { dot, list } => tree(rt, list, dot),
+        Command::Run {
+            machine,
+            only,
+            accounts,
+            scenario,
+        } => play(rt, machine, scenario, Task::Run { only, accounts }),
+        Command::Trace { machine, scenario } => play(rt, machine, scenario, Task::Trace),
+        Command::Accounts { machine, scenario } => play(rt, machine, scenario, Task::Accounts),
+        Command::Alone {
+            machine,
+            name,
+            scenario,
+        } => play(rt, machine, scenario, Task::Alone { name }),
+    }
+}

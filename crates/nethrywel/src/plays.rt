@@ -1,0 +1,155 @@
+//! A scenario's play on a machine, over files and the standard streams.
+use crate::files::{STANDARD_INPUT, read_list};
+use crate::lists::{REFUSED, tell_fault};
+use init_core::{BootFault, MACHINE_A, StartList};
+use scenario::{Input, Output, Source};
+use start_review::Review;
+use std::{fs, io};
+use workbench::{Ending, Play, accounts, alone, exit_status, run, trace};
+
+/// What is told of a scenario.
+#[derive(Clone, Copy, Debug)]
+pub(crate) enum Task<'a> {
+    /// Its transcript.
+    Run {
+        /// The name whose lines alone are answered, or none for all lines.
+        only: Option<&'a str>,
+        /// Whether the account list is told after the last reply.
+        accounts: bool,
+    },
+    /// A table of its lines.
+    Trace,
+    /// The accounts after it.
+    Accounts,
+    /// What a component is told in it, and alone.
+    Alone {
+        /// The component.
+        name: &'a str,
+    },
+}
+
+impl<'a> Task<'a> {
+    // The component that is asked for, if one is.
+    fn name(self) -> Option<&'a str> {
+        match self {
+            Task::Run { only, .. } => only,
+            Task::Alone { name } => Some(name),
+            Task::Trace | Task::Accounts => None,
+        }
+    }
+}
+
+/// Plays a scenario on the machine of a start list, or on the built-in machine. Answers the exit status.
+pub(crate) fn play(rt: &HostRuntime, machine: Option<&str>, scenario: &str, task: Task<'_>) -> u8 {
+    let Some(path) = machine else {
+        return play_on(rt, MACHINE_A.as_bytes(), None, scenario, task);
+    };
+    match read_list(rt, path) {
+        Ok(text) => play_on(rt, &text, machine, scenario, task),
+        Err(fault) => {
+            let _ = eprintln!(rt; "{path}: {fault}");
+            REFUSED
+        }
+    }
+}
+
+// Plays a scenario of a path on the machine of a text.
+fn play_on(
+    rt: &HostRuntime,
+    text: &[u8],
+    machine: Option<&str>,
+    scenario: &str,
+    task: Task<'_>,
+) -> u8 {
+    if let Some(name) = task.name() {
+        warn_of_stranger(rt, text, name);
+    }
+    let play = Play {
+        machine: text,
+        scenario: scenario.as_bytes(),
+    };
+    let ended = if scenario == STANDARD_INPUT {
+        play_from(rt, play, task, &mut Input::new(rt.reader()))
+    } else {
+        match fs::open(rt, scenario) {
+            Ok(file) => play_from(rt, play, task, &mut Input::new(file)),
+            Err(_) => {
+                let _ = eprintln!(rt; "{scenario}: Unreadable_scenario");
+                return REFUSED;
+            }
+        }
+    };
+    tell_end(rt, text, machine, &ended);
+    exit_status(&ended)
+}
+
+// Warns of a name that no component has.
+fn warn_of_stranger(rt: &HostRuntime, text: &[u8], name: &str) {
+    if let Ok(list) = StartList::read(rt.alloc(), text) {
+        if list.find(name.as_bytes()).is_none() {
+            let _ = eprintln!(rt; "{name}: no component of the machine has this name");
+        }
+    }
+}
+
+// Plays the scenario of a source over the standard streams.
+fn play_from<S: Source>(
+    rt: &HostRuntime,
+    play: Play<'_>,
+    task: Task<'_>,
+    reader: &mut S,
+) -> Result<Ending, BootFault> {
+    let alloc = rt.alloc();
+    let mut writer = Output::new(io::writer(rt));
+    let mut complaints = Output::new(rt.stderr());
+    match task {
+        Task::Run {
+            only,
+            accounts: listed,
+        } => {
+            let only = match only {
+                Some(name) => Some(name.as_bytes()),
+                None => None,
+            };
+            run(
+                alloc,
+                play,
+                only,
+                listed,
+                reader,
+                &mut writer,
+                &mut complaints,
+            )
+        }
+        Task::Trace => trace(alloc, play, reader, &mut writer, &mut complaints),
+        Task::Accounts => accounts(alloc, play, reader, &mut writer, &mut complaints),
+        Task::Alone { name } => alone(
+            alloc,
+            play,
+            name.as_bytes(),
+            reader,
+            &mut writer,
+            &mut complaints,
+        ),
+    }
+}
+
+// Tells why a play didn't come to its end: a start list's fault with its place.
+fn tell_end(
+    rt: &HostRuntime,
+    text: &[u8],
+    machine: Option<&str>,
+    ended: &Result<Ending, BootFault>,
+) {
+    match ended {
+        Ok(ending) => if let Some(fault) = &ending.fault {
+            let _ = eprintln!(rt; "run: {fault}");
+        },
+        Err(fault) => match (machine, Review::read(rt.alloc(), text)) {
+            (Some(path), Err(placed)) => tell_fault(rt, path, &placed),
+            _ => {
+                let _ = eprintln!(rt; "boot: {fault}");
+            }
+        },
+    }
+}

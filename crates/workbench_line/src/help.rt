@@ -1,0 +1,70 @@
+//! The texts of the help.
+
+/// The version that is told.
+pub(crate) const VERSION: &str = "1.0";
+
+/// What the program is.
+pub(crate) const ABOUT: &str =
+    "A workbench for machines whose components trade quotas of RAM and capabilities.";
+
+/// What a first scenario needs: names, calls, services and statuses.
+pub(crate) const FIRST_STEPS: &str =
+    "A scenario has a call a line: NAME CALL. On the built-in machine NAME is alice or
+bob, both with 64K and 16 capabilities, and log and files are its servers. A line
+that begins with # is a comment, and what follows => is the reply that is expected:
+
+  alice alloc 4K => cap 1
+  alice open File_system ram_quota=24K, cap_quota=4 => cap 2
+  alice call 2 CREATE note => OK
+  alice call 2 WRITE note 0 \"hello\" => OK 5
+  alice quota
+
+  printf 'alice alloc 4K => cap 1\\nalice quota\\n' | nethrywel run -
+
+CALL is one of
+  alloc N       capalloc      attach S        new N     open SERVICE ARGS
+  free S        capfree S     attach_at S A   del A     upgrade S ARGS
+  peek A LEN    quota         detach A        snew N    call S REQUEST
+  poke A HEX    exit                          sdel A    close S
+N is bytes, also as 4K or 2M; S a selector as a reply told it; A an address as
+0x10000000; HEX hexadecimal digits or \"text\". ARGS is ram_quota=8K, cap_quota=3 and,
+at will, label=\"..\". SERVICE is LOG or File_system.
+  LOG           WRITE \"text\\n\"
+  File_system   CREATE F, WRITE F O \"text\", READ F O LEN, SIZE F, DROP F, STAT,
+                and more
+
+Status: 0; 1 a fault of the run; 2 the command line or the start list; 3 a reply
+that isn't as expected, or a line that is no call. With --strict a finding is 2.
+docs/FORMATS.md has all forms of lines, replies and start lists.";
+
+pub(crate) const RUN: &str =
+    "Answer a scenario, and tell each line that isn't answered as it expects";
+
+pub(crate) const CHECK: &str = "Tell what is wrong with a start list, and where";
+
+pub(crate) const TREE: &str =
+    "Show a start list's components, their budgets, and where their sessions lead";
+
+pub(crate) const TRACE: &str = "Write a table (CSV) of all lines with what each left in use";
+
+pub(crate) const ACCOUNTS: &str =
+    "Tell all accounts after a scenario, with each session's server and each peak";
+
+pub(crate) const ALONE: &str =
+    "Show side by side what NAME is told among the others and in a run of its own";
+
+pub(crate) const SCENARIO: &str = "The path of a scenario; - is standard input";
+
+pub(crate) const LIST: &str = "The path of a start list in JSON; - is standard input";
+
+pub(crate) const MACHINE: &str = "A start list in JSON; without it the built-in machine";
+
+pub(crate) const ONLY: &str = "Answer the lines of this component alone";
+
+pub(crate) const WITH_ACCOUNTS: &str = "Print all accounts after the last reply";
+
+pub(crate) const STRICT: &str = "End with status 2 where there is a finding";
+
+pub(crate) const DOT: &str = "Write a graph for Graphviz in place of the text";
+
+pub(crate) const NAME: &str = "The component that is looked at";
