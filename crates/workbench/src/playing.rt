@@ -39,6 +39,7 @@ pub(crate) fn play<R: Router + Drop, W: Watch, S: Source, K: Sink, E: Sink>(
     complaints: &mut E,
 ) -> Ending
     requires listed { core.old.entries ≡ entries_of (start_list_of run.now.list.now) }
+    ensures listed { core.new.entries ≡ core.old.entries }
 {
     let mut tally = Tally {
         lines: 0,
@@ -74,6 +75,7 @@ fn play_all<R: Router + Drop, W: Watch, S: Source, K: Sink, E: Sink>(
 ) -> Result<(), PlayFault>
     requires listed { core.old.entries ≡ entries_of (start_list_of run.now.list.now) }
     requires works { AllWork (S.has_failed reader.old) (K.has_failed writer.old) (E.has_failed complaints.old) }
+    ensures listed { core.new.entries ≡ core.old.entries }
 {
     tally.lines = 0;
     tally.complaints = 0;
