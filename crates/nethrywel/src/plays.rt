@@ -145,11 +145,17 @@ fn tell_end(
         Ok(ending) => if let Some(fault) = &ending.fault {
             let _ = eprintln!(rt; "run: {fault}");
         },
-        Err(fault) => match (machine, Review::read(rt.alloc(), text)) {
-            (Some(path), Err(placed)) => tell_fault(rt, path, &placed),
-            _ => {
-                let _ = eprintln!(rt; "boot: {fault}");
-            }
-        },
+        Err(fault) => tell_unbooted(rt, text, machine, fault),
     }
+}
+
+// Tells why no machine was booted, with the place in its start list where that is a file's.
+fn tell_unbooted(rt: &HostRuntime, text: &[u8], machine: Option<&str>, fault: &BootFault) {
+    if let Some(path) = machine {
+        if let Err(placed) = Review::read(rt.alloc(), text) {
+            tell_fault(rt, path, &placed);
+            return;
+        }
+    }
+    let _ = eprintln!(rt; "boot: {fault}");
 }
