@@ -14,7 +14,7 @@ use Rattle.own_model.specs.Listed.{Listed, ListedEntry, ListedRule, Binary, Targ
 use Rattle.own_model.specs.Listed.Binary.{Script, LogServer, FileServer}
 use Rattle.own_model.specs.Listed.Target.{Child, AnyChild, Parent}
 use Rattle.own_model.specs.Routes.{Service}
-use Rattle.own_model.specs.StartList.{StartEntry, init_keeps, AllCovered, Boots, start_state}
+use Rattle.own_model.specs.StartList.{StartEntry, budget, init_keeps, AllCovered, Boots, start_state}
 use Rattle.own_model.specs.World.{start_world}
 use Rattle.own_model.proofs.ListedLemmas.{routes_lead}
 use Rattle.own_model.proofs.NatMapLemmas.{get-empty, get-insert_same}
@@ -32,7 +32,7 @@ use Rattle.init_core.specs.Boot.{HasStarted, init_in, rules_at, to_come, first_o
 
 -- nothing has started in a memory that has just booted
 pub nothing_yet : {list : Listed} {store : Store} {components : List Component} (pages caps places : ℕ) → pages ≡ list.pages → caps ≡ list.caps →
-    store ≡ fresh_store (root_in store) pages caps (room_in store + 1) places → list.caps + length list.entries * 2 ≤ room_in store * 2 + 1 → components ≡ [] →
+    store ≡ fresh_store (root_in store) pages caps (room_in store + 1) places → list.caps + length list.entries * 4 ≤ room_in store * 2 + 1 → components ≡ [] →
     HasStarted list store components 0
 nothing_yet {list} {store} pages caps places pages_is caps_is was enough none =
     let machine = opened (list.pages * 4096) list.caps in
@@ -75,7 +75,7 @@ offers_some : (service : List ℕ) (entry : ListedEntry) → offers service entr
 offers_some service entry offering = serves_some entry.binary service (both entry.provides (serves entry.binary service) offering)
 
 abbrev nobody : ListedEntry
-nobody = record { name = []; binary = Script; ram = 0; caps = 0; provides = false; route = None }
+nobody = record { name = []; binary = Script; ram = 0; caps = 0; provides = false; route = None; reserve = None }
 
 -- the first entry that passes is a server where those that pass are
 passes_some : (passes : ListedEntry → Bool) → ((entry : ListedEntry) → passes entry ≡ true → IsSome (service_of entry.binary)) →
@@ -133,8 +133,9 @@ none_uncovered (Some refusal) start behind none = absurd (none-some start (sym n
 all_covered : (init : Account) (starts : List StartEntry) → first_uncovered init starts ≡ None → AllCovered init starts
 all_covered init [] none = tt
 all_covered init (start ∷ starts) none =
-    let parts = none_uncovered (shortage init start.ram start.caps) start (first_uncovered (parted_with init start.ram start.caps) starts) none in
-    (covers init start.ram start.caps parts.0, all_covered (parted_with init start.ram start.caps) starts parts.1)
+    let whole = budget start in
+    let parts = none_uncovered (shortage init whole.ram whole.caps) start (first_uncovered (parted_with init whole.ram whole.caps) starts) none in
+    (covers init whole.ram whole.caps parts.0, all_covered (parted_with init whole.ram whole.caps) starts parts.1)
 
 module _ {list : Listed} {store : Store} {components : List Component} {count : ℕ} (so_far : HasStarted list store components count) (all : count ≡ length list.entries) where
   all_taken : take count list.entries ≡ list.entries

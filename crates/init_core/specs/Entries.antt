@@ -5,12 +5,13 @@ use Rattle.std.specs.Option.{option_and_then, option_map, unwrap_or}
 use Rattle.std.specs.Str.{bytes_eq}
 use Rattle.serde_json.specs.Data.{Data}
 use Rattle.serde_json.specs.Find.{get, as_array, as_str}
+use Rattle.own_model.specs.Amounts.{Amounts}
 use Rattle.own_model.specs.Listed.{Binary, ListedEntry, ListedRule, serves}
 use Rattle.own_model.specs.Listed.Binary.{Script, LogServer, FileServer}
 use Rattle.init_core.specs.declared.fault.BootFault.{BootFault}
 use Rattle.init_core.specs.declared.fault.BootFault.TheVariants.{BadConfig, DuplicateName, UnknownBinary}
 use Rattle.init_core.specs.declared.fault.Field.TheVariants as field
-use Rattle.init_core.specs.Members.{amount_at, elements, is_object, name_at, name_in, whole_at}
+use Rattle.init_core.specs.Members.{amount_at, amount_in, elements, is_object, name_at, name_in, whole_at, whole_in}
 use Rattle.init_core.specs.Rules.{rules_of}
 
 -- the value, or else a fault
@@ -75,6 +76,26 @@ abbrev pub own_route : Option Data → Option (Option (List ListedRule))
 own_route None = Some None
 own_route (Some d) = option_map Some (rules_of d)
 
+-- a member of a script's entry, read by f where it is told; in an entry of another binary it has no value
+abbrev pub if_script : {A : Type 0} → (Data → Option A) → Binary → Option Data → Option (Option A)
+if_script f binary None = Some None
+if_script f Script (Some d) = option_map Some (f d)
+if_script f LogServer (Some d) = None
+if_script f FileServer (Some d) = None
+
+-- a reserve is given by one of its two members, or by both: without the other that is 0
+abbrev pub reserve_with : Option ℕ → Option ℕ → Option Amounts
+reserve_with None None = None
+reserve_with (Some ram) caps = Some (record { ram = ram; caps = unwrap_or caps 0 })
+reserve_with None (Some caps) = Some (record { ram = 0; caps = caps })
+
+-- the reserve that an entry of a binary is given
+abbrev pub reserve_told : Binary → Data → Result (Option Amounts) BootFault
+reserve_told binary entry = do
+  ram ← value_or (BadConfig field.Reserve) (if_script amount_in binary (get (codes "reserve") entry))
+  caps ← value_or (BadConfig field.ReserveCaps) (if_script (whole_in 0 4294967295) binary (get (codes "reserve-caps") entry))
+  Ok (reserve_with ram caps)
+
 -- an entry, which comes after those before it
 abbrev pub entry_of : List ListedEntry → Data → Result ListedEntry BootFault
 entry_of before d = do
@@ -86,7 +107,8 @@ entry_of before d = do
   caps ← value_or (BadConfig field.Caps) (whole_at (codes "caps") 0 4294967295 entry)
   provides ← value_or (BadConfig field.Provides) (provided binary (get (codes "provides") entry))
   route ← value_or (BadConfig field.Route) (own_route (get (codes "route") entry))
-  Ok (record { name = name; binary = binary; ram = ram; caps = caps; provides = provides; route = route })
+  reserve ← reserve_told binary entry
+  Ok (record { name = name; binary = binary; ram = ram; caps = caps; provides = provides; route = route; reserve = reserve })
 
 -- the entries of a list, after those before it
 abbrev pub entries_after : List ListedEntry → List Data → Result (List ListedEntry) BootFault

@@ -38,8 +38,16 @@ name_of d = option_and_then name_in (as_str d)
 abbrev pub is_true : Data → Bool
 is_true d = unwrap_or (as_bool d) false
 
+-- the amount that a value is, if it is a text of one
+abbrev pub amount_in : Data → Option ℕ
+amount_in d = option_and_then amount_of (as_str d)
+
 abbrev pub in_range : ℕ → ℕ → ℕ → Option ℕ
 in_range low high n = if nat_le low n && nat_le n high then Some n else None
+
+-- the whole number from `low` to `high` that a value is, if it is one
+abbrev pub whole_in : ℕ → ℕ → Data → Option ℕ
+whole_in low high d = option_and_then (in_range low high) (option_and_then as_u64 (as_number d))
 
 -- ---- the members of an object: nothing where a member is missing, where it has another value, or where there is no
 -- ---- object
@@ -51,14 +59,11 @@ abbrev pub name_at : List ℕ → Data → Option (List ℕ)
 name_at key d = option_and_then name_of (get key d)
 
 abbrev pub amount_at : List ℕ → Data → Option ℕ
-amount_at key d = option_and_then amount_of (text_at key d)
-
-abbrev pub whole_in : Data → Option ℕ
-whole_in d = option_and_then as_u64 (as_number d)
+amount_at key d = option_and_then amount_in (get key d)
 
 -- a whole number from `low` to `high`
 abbrev pub whole_at : List ℕ → ℕ → ℕ → Data → Option ℕ
-whole_at key low high d = option_and_then (in_range low high) (option_and_then whole_in (get key d))
+whole_at key low high d = option_and_then (whole_in low high) (get key d)
 
 -- ---- where a member may be missing
 

@@ -2,22 +2,26 @@
 ghost use Rattle.std.specs.Prelude.{◌≡◌, ◌≢◌, ◌≤◌, [], length, map, vec_len, IfOk, IfErr};
 ghost use Rattle.std.specs.Option.{option_copied, option_map};
 ghost use Rattle.std.specs.Result.{result_map_both};
-ghost use Rattle.own_model.specs.Listed.{offers, serves};
+ghost use Rattle.own_model.specs.Listed.{offers, reserve_of, serves};
 ghost use Rattle.init_core.specs.Misread.{first_misread, service_name};
 ghost use Rattle.serde_json.specs.View.{view};
 ghost use Rattle.init_core.specs.Entries.{binary_of, binary_told, entries_after, entry_of, is_service_of, is_taken, new_name, no_binary, own_route, provided, provided_in};
 ghost use Rattle.init_core.specs.Mark.{mark_of};
 ghost use Rattle.init_core.specs.Members.{name_in};
 ghost use Rattle.init_core.specs.View.{model_binary};
+ghost use Rattle.pd_core.specs.Answer.{reserve_amounts};
 ghost use Rattle.init_core.specs.declared.fault.BootFault.TheVariants.{NoMemory, BadConfig, QuotaExceeded};
 
 use crate::fault::{BootFault, Field};
 use crate::member::{amount_at, name_at, whole_at};
 use crate::name::{Mark, Name};
+use crate::reserve::read_reserve;
 use crate::rule::{Rule, read_rules};
+use pd_core::Reserve;
 use serde_json::Value;
 use std::alloc::Global;
 use std::marker::Model;
+use trade_base::{Caps, Ram};
 
 /// What a component runs.
 #[derive(Clone, Copy, Debug, PartialEq, Eq)]
@@ -81,8 +85,8 @@ impl Binary {
     }
 }
 
-/// A component of the machine: its budget, whether it provides the service of its binary, and its own route, if it has
-/// one.
+/// A component of the machine: what its account starts with, whether it provides the service of its binary, its own route, if
+/// it has one, and its reserve, if the list gives it one.
 #[derive(Debug, Drop)]
 pub struct Entry {
     name: Name,
@@ -93,6 +97,7 @@ pub struct Entry {
     caps: u32,
     provides: bool,
     route: Option<Vec<Rule>>,
+    reserve: Option<Reserve>,
 }
 
 impl Model for Entry {
@@ -102,6 +107,7 @@ impl Model for Entry {
     ghost Value = { ListedEntry };
 
     ghost use Rattle.init_core.specs.View.{model_binary};
+    ghost use Rattle.pd_core.specs.Answer.{reserve_amounts};
 
     ghost view = { λ entry. record {
       name = entry.name;
@@ -110,6 +116,7 @@ impl Model for Entry {
       caps = entry.caps;
       provides = entry.provides;
       route = option_map (λ rules. rules.items) entry.route;
+      reserve = option_map reserve_amounts entry.reserve;
     } };
 
     ghost use Rattle.std.specs.Prelude.{◌≡◌};
@@ -137,6 +144,7 @@ impl Entry {
             Field::Provides,
         ))?;
         let route = read_route(alloc, value.get("route"))?;
+        let reserve = read_reserve(binary, value)?;
         Ok(Entry {
             mark: Mark::of(name.as_bytes()),
             name,
@@ -145,6 +153,7 @@ impl Entry {
             caps,
             provides,
             route,
+            reserve,
         })
     }
 
@@ -205,6 +214,26 @@ impl Entry {
         match &self.route {
             Some(rules) => Some(rules.as_slice()),
             None => None,
+        }
+    }
+
+    /// The reserve that the list gives it, if it has one of the two members.
+    pub fn reserve(&self) -> Option<Reserve>
+        ensures { option_map reserve_amounts result ≡ self.now.reserve }
+    {
+        self.reserve
+    }
+
+    /// The reserve that it starts with: what the list gives a script, and else nothing.
+    pub fn reserve_at_start(&self) -> Reserve
+        ensures { reserve_amounts result ≡ reserve_of self.now }
+    {
+        match (self.binary, self.reserve) {
+            (Binary::Script, Some(reserve)) => reserve,
+            _ => Reserve {
+                ram: Ram(0),
+                caps: Caps(0),
+            },
         }
     }
 

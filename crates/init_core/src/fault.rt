@@ -33,6 +33,10 @@ pub enum Field {
     Provides,
     /// An entry's own rules.
     Route,
+    /// The RAM of an entry's reserve.
+    Reserve,
+    /// The capabilities of an entry's reserve.
+    ReserveCaps,
 }
 
 impl fmt::Display for Field {
@@ -49,6 +53,8 @@ impl fmt::Display for Field {
             Field::Quantum => "quantum",
             Field::Provides => "provides",
             Field::Route => "route",
+            Field::Reserve => "reserve",
+            Field::ReserveCaps => "reserve-caps",
         })
     }
 }

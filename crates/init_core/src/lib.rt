@@ -8,6 +8,7 @@ mod list;
 mod machine_a;
 mod member;
 mod name;
+mod reserve;
 mod routing;
 mod rule;
 mod startup;

@@ -1,5 +1,5 @@
 //! Start lists, read of JSON.
-ghost use Rattle.std.specs.Prelude.{◌≡◌, ◌≢◌, ◌<◌, ◌≤◌, length, map, IfOk, IfErr, Ok, Some, None};
+ghost use Rattle.std.specs.Prelude.{◌≡◌, ◌≢◌, ◌<◌, ◌≤◌, is_some, length, map, IfOk, IfErr, Ok, Some, None};
 ghost use Rattle.init_core.specs.Misread.{entry_at_fault, first_misread, starts_of};
 ghost use Rattle.std.specs.Option.{option_map};
 ghost use Rattle.std.specs.List.{position, slice_get};
@@ -140,6 +140,15 @@ impl StartList {
             ≡ (entry_at (entries_of (start_list_of self.now)) component).name }
     {
         self.entries[component].name()
+    }
+
+    /// Whether the list gives a component by its number one of the two members of a reserve.
+    pub fn gives_reserve(&self, component: usize) -> bool
+        requires { component < length self.now.entries }
+        ensures { option_map (λ entry. is_some entry.reserve) (slice_get self.now.entries component)
+            ≡ Some result }
+    {
+        self.entries[component].reserve().is_some()
     }
 
     /// The number of the component of a name, if there is one.

@@ -2,7 +2,7 @@
 ghost use Rattle.std.specs.Prelude.{◌≡◌, ◌≤◌, map, vec_len, IfSome};
 ghost use Rattle.std.specs.Option.{option_map};
 ghost use Rattle.serde_json.specs.View.{view};
-ghost use Rattle.init_core.specs.Members.{amount_at, is_true, name_at, name_of, short_list, text_at, text_if_told, whole_at};
+ghost use Rattle.init_core.specs.Members.{amount_at, amount_in, is_true, name_at, name_of, short_list, text_at, text_if_told, whole_at, whole_in};
 ghost use Rattle.serde_json.specs.Find.{get};
 
 use crate::name::Name;
@@ -40,11 +40,31 @@ pub(crate) fn is_true(value: &Value) -> bool
     value.as_bool() == Some(true)
 }
 
+/// The amount that a value is, if it is a text of one.
+pub(crate) fn amount_in(value: &Value) -> Option<u64>
+    ensures { result ≡ amount_in (view value.now) }
+{
+    read_amount(value.as_str()?.as_bytes())
+}
+
 /// The amount that a member is, if it is a text of one.
 pub(crate) fn amount_at(object: &Value, key: &str) -> Option<u64>
     ensures { result ≡ amount_at key.now (view object.now) }
 {
-    read_amount(text_at(object, key)?.as_bytes())
+    amount_in(object.get(key)?)
+}
+
+/// The whole number from `low` to `high` that a value is, if it is one.
+pub(crate) fn whole_in(value: &Value, low: u32, high: u32) -> Option<u32>
+    ensures value { result ≡ whole_in low high (view value.now) }
+    ensures range { IfSome result (λ number. (low ≤ number) × (number ≤ high)) }
+{
+    let number = u32::try_from(value.as_u64()?).ok()?;
+    if low <= number && number <= high {
+        Some(number)
+    } else {
+        None
+    }
 }
 
 /// The whole number from `low` to `high` that a member is, if it is one.
@@ -52,12 +72,7 @@ pub(crate) fn whole_at(object: &Value, key: &str, low: u32, high: u32) -> Option
     ensures value { result ≡ whole_at key.now low high (view object.now) }
     ensures range { IfSome result (λ number. (low ≤ number) × (number ≤ high)) }
 {
-    let number = u32::try_from(object.get(key)?.as_u64()?).ok()?;
-    if low <= number && number <= high {
-        Some(number)
-    } else {
-        None
-    }
+    whole_in(object.get(key)?, low, high)
 }
 
 /// The text of a member that may be missing. It is `None` where the member is there and isn't a text.

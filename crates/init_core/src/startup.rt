@@ -1,10 +1,13 @@
 //! How a machine starts: init opens an account for each component of its start list in turn, and keeps what is left.
-ghost use Rattle.std.specs.Prelude.{◌≡◌, ◌≢◌, ◌+◌, ◌*◌, ◌<◌, ◌≤◌, length, IfOk, IfErr, OnOk, Some};
+ghost use Rattle.std.specs.Prelude.{◌≡◌, ◌≢◌, ◌+◌, ◌*◌, ◌<◌, ◌≤◌, is_none, is_ok, length, IfOk, IfErr, OnOk, None, Some};
+ghost use Rattle.own_model.specs.Account.{shortage};
 ghost use Rattle.own_model.specs.Listed.{start_list_of};
+ghost use Rattle.own_model.specs.Listed.Binary.{Script as AScript, LogServer, FileServer};
 ghost use Rattle.own_model.specs.World.{start_world, IsBalancedFor};
 ghost use Rattle.own_model.specs.StartList.{Boots};
-ghost use Rattle.init_core.specs.Boot.{HasStarted, IsMade, quota_fault};
-ghost use Rattle.init_core.specs.declared.fault.BootFault.TheVariants.{NoMemory};
+ghost use Rattle.dataspace_core.specs.Store.{IsOpenIn, root_in, room_in};
+ghost use Rattle.init_core.specs.Boot.{HasStarted, IsMade, Opens, init_in, quota_fault};
+ghost use Rattle.init_core.specs.declared.fault.BootFault.TheVariants.{NoMemory, QuotaExceeded};
 
 use crate::entry::{Binary, Entry};
 use crate::fault::BootFault;
@@ -37,7 +40,7 @@ pub fn boot(alloc: Global, list: &StartList) -> Result<Core<RouteTable<'_>>, Boo
         alloc,
         list.pages() as usize,
         Caps(list.caps()),
-        1 + list.count() + sessions_of(list),
+        1 + list.count() * 2 + sessions_of(list),
     )?;
     let mut components = Vec::new(alloc);
     for place in 0..list.count() {
@@ -56,8 +59,8 @@ fn sessions_of(list: &StartList) -> usize
 
 /// Starts the component at a place of the list, after those before it.
 ///
-/// It is refused with `QuotaExceeded` where what init still has doesn't cover it. Wherever the host has no room, that is told
-/// instead.
+/// It is refused with `QuotaExceeded` where what init still has doesn't cover its account and its reserve together. Wherever
+/// the host has no room, that is told instead.
 fn start(
     memory: &mut Memory,
     components: &mut Vec<Component>,
@@ -72,41 +75,88 @@ fn start(
     ensures fault { IfErr result (λ fault. fault ≢ NoMemory → quota_fault list.now ≡ Some fault) }
 {
     let entry = &list.entries()[place];
-    let init = memory.root();
-    let account = match memory.open(init, Ram(entry.ram()), Caps(entry.caps())) {
-        Ok(account) => account,
-        Err(_) => return Err(entry.quota_exceeded()),
-    };
-    let component = component_of(entry, account, list, alloc)?;
-    components.push(component)?;
-    Ok(())
+    let account = open_for(memory, entry, Ram(entry.ram()), Caps(entry.caps()))?;
+    match entry.binary() {
+        Binary::Script => {
+            let kept = entry.reserve_at_start();
+            let reserve = open_for(memory, entry, kept.ram, kept.caps)?;
+            components.push(script_of(entry, account, reserve, list, alloc)?)?;
+            Ok(())
+        }
+        Binary::Log => {
+            components.push(log_of(entry, account, list, alloc)?)?;
+            Ok(())
+        }
+        Binary::Files => {
+            components.push(files_of(entry, account, list, alloc)?)?;
+            Ok(())
+        }
+    }
 }
 
-/// The component of an entry on its account, with new tables.
-fn component_of(
+/// An account for an entry with these limits of init's. It is refused with the entry's name where init doesn't cover them.
+fn open_for(
+    memory: &mut Memory,
+    entry: &Entry,
+    ram: Ram,
+    caps: Caps,
+) -> Result<AccountId, BootFault>
+    requires init { IsOpenIn memory.old (root_in memory.old) }
+    requires room { 0 < room_in memory.old }
+    ensures covered { is_ok result ≡ is_none (shortage (init_in memory.old) ram.0 caps.0) }
+    ensures opened { IfOk result (λ account. Opens memory.old account.0 ram.0 caps.0 memory.new) }
+    ensures fault { IfErr result (λ fault. fault ≡ QuotaExceeded entry.now.name) }
+{
+    match memory.open(memory.root(), ram, caps) {
+        Ok(account) => Ok(account),
+        Err(_) => Err(entry.quota_exceeded()),
+    }
+}
+
+/// The script of an entry on its account and that of its reserve, with new tables.
+fn script_of(
+    entry: &Entry,
+    account: AccountId,
+    reserve: AccountId,
+    list: &StartList,
+    alloc: Global,
+) -> Result<Component, BootFault>
+    requires { entry.now.binary ≡ AScript }
+    ensures made { IfOk result (IsMade list.now entry.now account.0 (Some reserve.0)) }
+    ensures fault { IfErr result (λ fault. fault ≡ NoMemory) }
+{
+    let pages = list.pages() as usize;
+    let caps = CapSpace::boot(alloc, list.caps() as usize)?;
+    let regions = RegionMap::boot(alloc, REGIONS, pages, pages)?;
+    Ok(Component::script(entry.name(), account, reserve, caps, regions))
+}
+
+/// The log server of an entry on its account, without sessions.
+fn log_of(
     entry: &Entry,
     account: AccountId,
     list: &StartList,
     alloc: Global,
 ) -> Result<Component, BootFault>
-    ensures made { IfOk result (IsMade list.now entry.now account.0) }
+    requires { entry.now.binary ≡ LogServer }
+    ensures made { IfOk result (IsMade list.now entry.now account.0 None) }
     ensures fault { IfErr result (λ fault. fault ≡ NoMemory) }
 {
-    let pages = list.pages() as usize;
-    let name = entry.name();
-    match entry.binary() {
-        Binary::Script => {
-            let caps = CapSpace::boot(alloc, list.caps() as usize)?;
-            let regions = RegionMap::boot(alloc, REGIONS, pages, pages)?;
-            Ok(Component::script(name, account, caps, regions))
-        }
-        Binary::Log => {
-            let server = Server::boot(alloc, LogService, sessions_of(list), pages)?;
-            Ok(Component::log(name, account, server))
-        }
-        Binary::Files => {
-            let server = Server::boot(alloc, FileService, sessions_of(list), pages)?;
-            Ok(Component::files(name, account, server))
-        }
-    }
+    let server = Server::boot(alloc, LogService, sessions_of(list), list.pages() as usize)?;
+    Ok(Component::log(entry.name(), account, server))
+}
+
+/// The file server of an entry, the same.
+fn files_of(
+    entry: &Entry,
+    account: AccountId,
+    list: &StartList,
+    alloc: Global,
+) -> Result<Component, BootFault>
+    requires { entry.now.binary ≡ FileServer }
+    ensures made { IfOk result (IsMade list.now entry.now account.0 None) }
+    ensures fault { IfErr result (λ fault. fault ≡ NoMemory) }
+{
+    let server = Server::boot(alloc, FileService, sessions_of(list), list.pages() as usize)?;
+    Ok(Component::files(entry.name(), account, server))
 }

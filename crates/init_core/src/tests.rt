@@ -222,6 +222,72 @@ fn budgets_and_services_are_told(rt: HostRuntime) -> Result<(), Fail> {
 }
 
 #[test]
+fn reserves_are_told(rt: HostRuntime) -> Result<(), Fail> {
+    for (binary, members, want) in [
+        ("script", "", "read"),
+        ("script", ",\"reserve\":\"8K\",\"reserve-caps\":2", "read"),
+        ("script", ",\"reserve\":\"0\"", "read"),
+        ("script", ",\"reserve-caps\":4294967295", "read"),
+        ("script", ",\"reserve\":8192", "Bad_config reserve"),
+        ("script", ",\"reserve\":\"8k\"", "Bad_config reserve"),
+        ("script", ",\"reserve\":null", "Bad_config reserve"),
+        (
+            "script",
+            ",\"reserve-caps\":4294967296",
+            "Bad_config reserve-caps",
+        ),
+        (
+            "script",
+            ",\"reserve-caps\":\"2\"",
+            "Bad_config reserve-caps",
+        ),
+        (
+            "script",
+            ",\"reserve-caps\":2.0,\"reserve\":\"\"",
+            "Bad_config reserve",
+        ),
+        ("script", ",\"reserve\":8,\"route\":{}", "Bad_config route"),
+        ("log", ",\"reserve\":\"8K\"", "Bad_config reserve"),
+        ("files", ",\"reserve-caps\":0", "Bad_config reserve-caps"),
+        (
+            "log",
+            ",\"reserve-caps\":0,\"reserve\":\"0\"",
+            "Bad_config reserve",
+        ),
+        ("log", ",\"reserve\":null", "Bad_config reserve"),
+    ] {
+        let entry = format!(in rt.alloc();
+            "{{\"name\":\"alice\",\"binary\":\"{binary}\",\"quantum\":\"0\",\"caps\":0{members}}}"
+        )?;
+        assert!(rt; told_of(rt.alloc(), MACHINE, RULE, entry.as_str())?.as_str() == want);
+    }
+    Ok(())
+}
+
+#[test]
+fn reserves_are_given(rt: HostRuntime) -> Result<(), Fail> {
+    let text = format!(in rt.alloc();
+        "{{{MACHINE}\"start\":[{LOG},{ALICE},{},{},{}]}}",
+        "{\"name\":\"bob\",\"binary\":\"script\",\"quantum\":\"0\",\"caps\":0,\"reserve\":\"8K\",\"reserve-caps\":2}",
+        "{\"name\":\"carol\",\"binary\":\"script\",\"quantum\":\"0\",\"caps\":0,\"reserve\":\"0\"}",
+        "{\"name\":\"dave\",\"binary\":\"script\",\"quantum\":\"0\",\"caps\":0,\"reserve-caps\":3}"
+    )?;
+    let list = StartList::read(rt.alloc(), text.as_str().as_bytes())?;
+    for (component, given) in [None, None, Some((8192, 2)), Some((0, 0)), Some((0, 3))]
+        .iter()
+        .enumerate()
+    {
+        let reserve = list.entries()[component].reserve();
+        assert_eq!(rt; list.gives_reserve(component), given.is_some());
+        assert_eq!(rt;
+            reserve.map(|reserve| (reserve.ram.0, reserve.caps.0)),
+            *given
+        );
+    }
+    Ok(())
+}
+
+#[test]
 fn rules_are_read(rt: HostRuntime) -> Result<(), Fail> {
     let bad = "Bad_config default-route";
     for (rule, want) in [

@@ -15,7 +15,7 @@ use Rattle.own_model.specs.Laws.{StepKeepsBalance, LinesKeepBalance, StepKeepsBa
 use Rattle.own_model.specs.Limits.{ram_limits, caps_limits, init_after, AreWithinLimits}
 use Rattle.own_model.specs.OwnState.{OwnState}
 use Rattle.own_model.specs.OwnStep.{own_step, gone_state}
-use Rattle.own_model.specs.StartList.{Entry, StartEntry, StartList, machine_account, init_keeps}
+use Rattle.own_model.specs.StartList.{Entry, StartEntry, StartList, machine_account, init_keeps, budget}
 use Rattle.own_model.specs.Transcript.{Heard, heard, entry_at, state_at, nothing}
 use Rattle.own_model.specs.Transcript.Heard.{NoCall, Stranger, Caller}
 use Rattle.own_model.specs.World.{World, HasItsBudget, ram_returned, caps_returned, init_for, IsBalanced, IsBalancedFor, world_after_heard, with_state, outcome_at}
@@ -110,11 +110,11 @@ budget_parts : (gone : Bool) (limits budget : ℕ) → limits ≡ cond gone 0 bu
 budget_parts true limits budget is = omega (arith, is)
 budget_parts false limits budget is = omega (arith, is)
 
-module _ (budget : StartEntry → ℕ) (limits : OwnState → ℕ) (none : limits nothing ≡ 0)
-    (of : (start : StartEntry) (s : OwnState) → HasItsBudget start s → limits s ≡ cond s.gone 0 (budget start)) where
+module _ (share : StartEntry → ℕ) (limits : OwnState → ℕ) (none : limits nothing ≡ 0)
+    (of : (start : StartEntry) (s : OwnState) → HasItsBudget start s → limits s ≡ cond s.gone 0 (share start)) where
   -- the budgets of those that are gone
   abbrev returned_in : StartEntry × OwnState → ℕ
-  returned_in p = cond p.1.gone (budget p.0) 0
+  returned_in p = cond p.1.gone (share p.0) 0
 
   abbrev returned : List StartEntry → List OwnState → ℕ
   returned starts states = sum_by returned_in (zip starts states)
@@ -129,8 +129,8 @@ module _ (budget : StartEntry → ℕ) (limits : OwnState → ℕ) (none : limit
   returned_set (start ∷ starts) (s ∷ states) zero y count each step less =
       let old : returned (start ∷ starts) (s ∷ states) ≡ returned_in (start, s) + returned starts states = sum_by-cons returned_in (start, s) (zip starts states) in
       let new : returned (start ∷ starts) (y ∷ states) ≡ returned_in (start, y) + returned starts states = sum_by-cons returned_in (start, y) (zip starts states) in
-      let before = budget_parts s.gone (limits s) (budget start) (of start s each.0) in
-      let after = budget_parts y.gone (limits y) (budget start) (of start y (step start each.0)) in
+      let before = budget_parts s.gone (limits s) (share start) (of start s each.0) in
+      let after = budget_parts y.gone (limits y) (share start) (of start y (step start each.0)) in
       new ∙ omega (arith, old, before, after, less)
   returned_set (start ∷ starts) (s ∷ states) (suc i) y count each step less =
       let old : returned (start ∷ starts) (s ∷ states) ≡ returned_in (start, s) + returned starts states = sum_by-cons returned_in (start, s) (zip starts states) in
@@ -146,8 +146,8 @@ init_set : (list : StartList) (world : World) (component : ℕ) (y : OwnState) �
 init_set list world component y h step ram_less caps_less =
     let kept : Account = init_keeps (machine_account list) list.starts in
     let before : OwnState = state_at world.states component in
-    let more_ram = returned_set (λ start. start.ram) ram_limits none_left.0 (λ start s b. b.ram) list.starts world.states component y h.count h.budgets step ram_less in
-    let more_caps = returned_set (λ start. start.caps) caps_limits none_left.1 (λ start s b. b.caps) list.starts world.states component y h.count h.budgets step caps_less in
+    let more_ram = returned_set (λ start. (budget start).ram) ram_limits none_left.0 (λ start s b. b.ram) list.starts world.states component y h.count h.budgets step ram_less in
+    let more_caps = returned_set (λ start. (budget start).caps) caps_limits none_left.1 (λ start s b. b.caps) list.starts world.states component y h.count h.budgets step caps_less in
     let ram : kept.ram_limit + ram_returned list.starts world.states + (ram_limits before - ram_limits y) ≡ kept.ram_limit + ram_returned list.starts (set world.states component y) = omega (arith, more_ram) in
     let caps : kept.caps_limit + caps_returned list.starts world.states + (caps_limits before - caps_limits y) ≡ kept.caps_limit + caps_returned list.starts (set world.states component y) = omega (arith, more_caps) in
     ap (λ init. init_after init before y) h.init ∙ (λ i. record kept { ram_limit = ram i; caps_limit = caps i })

@@ -12,6 +12,7 @@ use Rattle.own_model.proofs.NewSelector.{new_selector_free}
 use Rattle.own_model.proofs.RegionLemmas.{place, left_without, len-without, free_place}
 use Rattle.own_model.specs.Account.{Account, credited, parted_with, alloc_refusal}
 use Rattle.own_model.specs.Donation.{raised}
+use Rattle.own_model.specs.Amounts.{Amounts}
 use Rattle.own_model.specs.Reserve.{no_reserve}
 use Rattle.own_model.specs.Session.{Session, ServiceState, new_session, upgraded, served, served_by}
 use Rattle.own_model.specs.Session.ServiceState.{Logging, Filing}
@@ -422,9 +423,9 @@ reserve_sound s h = search rules
 no_ranges : (q : ℕ) → get (ranges_of_blocks empty) q ≡ get (empty {R = nat_cmp}) q
 no_ranges q = get-ranges empty q ∙ ap (option_and_then (λ payload. Some (range_of payload))) (get-empty (q + sliced_header)) ∙ sym (get-empty q)
 
--- who has nothing but an account
-none_sound : (account : Account) (gone : Bool) → IsSound (record { account = account; reserve = no_reserve; selectors = empty; regions = empty; heap = no_heap; sliced = empty; gone = gone })
-none_sound account gone = record {
+-- who has nothing but an account and a reserve
+none_sound : (account : Account) (reserve : Amounts) (gone : Bool) → IsSound (record { account = account; reserve = reserve; selectors = empty; regions = empty; heap = no_heap; sliced = empty; gone = gone })
+none_sound account reserve gone = record {
   whole = λ selector bytes is. absurd (none-some bytes (sym (ap named_bytes (get-empty selector)) ∙ is));
   mapped = record {
     named = λ at region is. absurd (none-some region (sym (get-empty at) ∙ is));
@@ -439,10 +440,10 @@ none_sound account gone = record {
 
 -- as who starts, and who has exited
 pub start_sound : (start : StartEntry) → IsSound (start_state start)
-start_sound start = none_sound (start_state start).account false
+start_sound start = none_sound (start_state start).account start.reserve false
 
 pub gone_sound : IsSound gone_state
-gone_sound = none_sound gone_state.account true
+gone_sound = none_sound gone_state.account no_reserve true
 
 -- a call keeps it so
 pub step_sound : (entry : Entry) (call : Call) (s : OwnState) → IsSound s → IsSound (own_step entry call s).next

@@ -12,7 +12,7 @@ use Rattle.own_model.specs.Limits.{ram_with, caps_with, ram_limits, caps_limits,
 use Rattle.own_model.specs.OwnState.{EachSession}
 use Rattle.own_model.specs.OwnState.Object.{OpenSession}
 use Rattle.own_model.specs.Rows.{start_of_a}
-use Rattle.own_model.specs.StartList.{StartEntry, StartList, Boots, AllCovered, start_state, init_keeps}
+use Rattle.own_model.specs.StartList.{StartEntry, StartList, budget, Boots, AllCovered, start_state, init_keeps}
 use Rattle.own_model.specs.World.{HasItsBudget, ram_returned, caps_returned, IsBalanced, IsBalancedFor, start_world}
 
 -- nobody starts with a session
@@ -29,7 +29,7 @@ ram_kept : (init : Account) (starts : List StartEntry) → AllCovered init start
     (init_keeps init starts).ram_limit + sum_by ram_limits (map start_state starts) ≡ init.ram_limit
 ram_kept init [] covered unused = omega arith
 ram_kept init (start ∷ starts) covered unused =
-    let rest = ram_kept (parted_with init start.ram start.caps) starts covered.1 unused in
+    let rest = ram_kept (parted_with init (budget start).ram (budget start).caps) starts covered.1 unused in
     rw (sum_by-cons ram_limits (start_state start) (map start_state starts)) (omega (arith, rest, covered.0.ram_fits, unused, total-empty ram_with))
 
 -- the same of capabilities
@@ -37,14 +37,14 @@ caps_kept : (init : Account) (starts : List StartEntry) → AllCovered init star
     (init_keeps init starts).caps_limit + sum_by caps_limits (map start_state starts) ≡ init.caps_limit
 caps_kept init [] covered unused = omega arith
 caps_kept init (start ∷ starts) covered unused =
-    let rest = caps_kept (parted_with init start.ram start.caps) starts covered.1 unused in
+    let rest = caps_kept (parted_with init (budget start).ram (budget start).caps) starts covered.1 unused in
     rw (sum_by-cons caps_limits (start_state start) (map start_state starts)) (omega (arith, rest, covered.0.caps_fit, unused, total-empty caps_with))
 
 -- init uses nothing
 init_unused : (init : Account) (starts : List StartEntry) →
     ((init_keeps init starts).ram_used ≡ init.ram_used) × ((init_keeps init starts).caps_used ≡ init.caps_used)
 init_unused init [] = (refl, refl)
-init_unused init (start ∷ starts) = init_unused (parted_with init start.ram start.caps) starts
+init_unused init (start ∷ starts) = init_unused (parted_with init (budget start).ram (budget start).caps) starts
 
 -- a start list that boots starts balanced
 pub start_balanced : (list : StartList) → Boots list → IsBalanced list.pages list.caps (start_world list)

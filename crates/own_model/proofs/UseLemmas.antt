@@ -24,6 +24,7 @@ use Rattle.own_model.specs.OwnState.{OwnState, Object, zeros, new_selector, obje
 use Rattle.own_model.specs.OwnState.Object.{Dataspace, RpcObject, OpenSession, Buffer}
 use Rattle.own_model.specs.OwnStep.{gone_state, own_run, allocated, freed, poked_at, payload_poked, block_taken, chunk_added, large_at, given_back, sliced_at, sliced_freed, own_heap_gap, cap_allocated, cap_freed, with_buffer}
 use Rattle.own_model.specs.Account.{Account, opened, parted_with, alloc_refusal}
+use Rattle.own_model.specs.Amounts.{Amounts}
 use Rattle.own_model.specs.Reserve.{no_reserve}
 use Rattle.own_model.specs.Session.{Session, new_session, upgraded, served}
 use Rattle.own_model.specs.Sliced.{sliced_header, sliced_size, block_size}
@@ -32,15 +33,15 @@ use Rattle.own_model.specs.StartList.{Entry, StartEntry, start_state}
 use Rattle.own_model.specs.Use.{UsesWhatItHolds, object_size, object_caps}
 
 -- where nothing is held, nothing is used
-none_uses : (ram caps : ℕ) (gone : Bool) → UsesWhatItHolds (record { account = opened ram caps; reserve = no_reserve; selectors = empty; regions = empty; heap = no_heap; sliced = empty; gone = gone })
-none_uses ram caps gone = search (rules, total-empty, len-empty)
+none_uses : (ram caps : ℕ) (reserve : Amounts) (gone : Bool) → UsesWhatItHolds (record { account = opened ram caps; reserve = reserve; selectors = empty; regions = empty; heap = no_heap; sliced = empty; gone = gone })
+none_uses ram caps reserve gone = search (rules, total-empty, len-empty)
 
 -- as at the start, and after an exit
 pub start_uses : (start : StartEntry) → UsesWhatItHolds (start_state start)
-start_uses start = none_uses start.ram start.caps false
+start_uses start = none_uses start.ram start.caps start.reserve false
 
 pub gone_uses : UsesWhatItHolds gone_state
-gone_uses = none_uses 0 0 true
+gone_uses = none_uses 0 0 no_reserve true
 
 -- a new dataspace uses its bytes and a capability
 allocated_uses : (n : ℕ) (s : OwnState) → UsesWhatItHolds s → UsesWhatItHolds (allocated n s).next

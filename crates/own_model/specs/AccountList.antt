@@ -1,16 +1,31 @@
--- The account list: use and limits of every account, and the sums of all limits.
-use Rattle.std.specs.Prelude.{◌≡◌, ℕ, ◌*◌, ◌++◌, List, [], ◌∷◌, codes, decimal}
+-- The account list: use and limits of every account, what reserves have, and the sums of all limits.
+use Rattle.std.specs.Prelude.{◌≡◌, ℕ, ◌*◌, ◌||◌, ◌++◌, Bool, List, [], ◌∷◌, codes, decimal, nat_lt, is_some, if◌then◌else◌, Option}
 use Rattle.std.specs.FinMap.{entries}
 use Rattle.std.specs.List.{flat_map, zip}
 use Rattle.own_model.specs.Account.{Account}
+use Rattle.own_model.specs.Amounts.{Amounts}
+use Rattle.own_model.specs.Listed.{Listed, ListedEntry}
 use Rattle.own_model.specs.OwnState.{OwnState, Object}
 use Rattle.own_model.specs.OwnState.Object.{Dataspace, RpcObject, OpenSession, Buffer}
-use Rattle.own_model.specs.Reply.{quota_text}
+use Rattle.own_model.specs.Reply.{amounts_text, quota_text}
 use Rattle.own_model.specs.World.{World, IsBalanced, all_ram, all_caps}
 
 -- the line of an account, by its name
 abbrev pub account_line : List ℕ → Account → List ℕ
 account_line name account = codes "account " ++ name ++ codes " " ++ quota_text account ++ 10 ∷ []
+
+-- the line of a reserve, by its component's name
+abbrev pub reserve_line : List ℕ → Amounts → List ℕ
+reserve_line name reserve = codes "reserve " ++ name ++ codes " " ++ amounts_text reserve ++ 10 ∷ []
+
+-- a reserve is told where the start list gives one, and where it has anything
+abbrev pub is_told : Option Amounts → Amounts → Bool
+is_told given reserve = is_some given || nat_lt 0 reserve.ram || nat_lt 0 reserve.caps
+
+-- the line of a component's account, and then that of its reserve
+abbrev pub component_lines : ListedEntry → OwnState → List ℕ
+component_lines entry s =
+    account_line entry.name s.account ++ (if is_told entry.reserve s.reserve then reserve_line entry.name s.reserve else [])
 
 -- the line of a session's account, by its client's name and its selector
 abbrev pub session_line : List ℕ → ℕ → Account → List ℕ
@@ -31,12 +46,12 @@ session_lines name s = flat_map (λ e. object_line name e.0 e.1) (entries s.sele
 abbrev pub total_line : ℕ → ℕ → List ℕ
 total_line ram caps = codes "total ram " ++ decimal ram ++ codes " caps " ++ decimal caps ++ 10 ∷ []
 
--- init's line, the entries' lines in order, the lines of each one's open sessions in order, and the sums
-abbrev pub account_list_text : World → List ℕ
-account_list_text world =
+-- init's line, the lines of the list's entries in order, the lines of each one's open sessions in order, and the sums
+abbrev pub account_list_text : Listed → World → List ℕ
+account_list_text list world =
     account_line (codes "init") world.init
-    ++ flat_map (λ p. account_line p.0.name p.1.account) (zip world.entries world.states)
-    ++ flat_map (λ p. session_lines p.0.name p.1) (zip world.entries world.states)
+    ++ flat_map (λ p. component_lines p.0 p.1) (zip list.entries world.states)
+    ++ flat_map (λ p. session_lines p.0.name p.1) (zip list.entries world.states)
     ++ total_line (all_ram world) (all_caps world)
 
 -- the sums are the machine's

@@ -86,6 +86,10 @@ abbrev pub of_text : {X : Type 0} → (X → List ℕ → Call) → (List ℕ �
 of_text call first None = None
 of_text call first (Some arguments) = option_map (λ x. call x (unwrap_or (first_word arguments).rest [])) (first (first_word arguments).word)
 
+-- of a text alone: what stands after a space, any bytes, or none, and the same without the space
+abbrev pub of_rest : (List ℕ → Call) → Option (List ℕ) → Option Call
+of_rest call arguments = Some (call (unwrap_or arguments []))
+
 -- the forms
 abbrev pub forms : List Form
 forms =
@@ -108,6 +112,9 @@ forms =
     ∷ record { word = codes "close"; call = of_one Close number_of }
     ∷ record { word = codes "exit"; call = of_none Exit }
     ∷ record { word = codes "quota"; call = of_none Quota }
+    ∷ record { word = codes "reserve"; call = of_none Reserve }
+    ∷ record { word = codes "request"; call = of_rest Request }
+    ∷ record { word = codes "yield"; call = of_rest Yield }
     ∷ []
 
 -- the call of the form with this word

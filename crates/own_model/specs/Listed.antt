@@ -3,6 +3,8 @@ use Rattle.std.specs.Prelude.{◌≡◌, ℕ, ◌&&◌, ◌==◌, Bool, false, L
 use Rattle.std.specs.List.{starts_with, ends_with, slice_get}
 use Rattle.std.specs.Option.{option_and_then, option_map, unwrap_or}
 use Rattle.std.specs.Str.{bytes_eq}
+use Rattle.own_model.specs.Amounts.{Amounts}
+use Rattle.own_model.specs.Reserve.{no_reserve}
 use Rattle.own_model.specs.Routes as routes
 use Rattle.own_model.specs.Routes.{Rule, Service, as_asked}
 use Rattle.own_model.specs.StartList.{Kind, StartEntry, StartList}
@@ -27,7 +29,8 @@ pub record ListedRule : Type 0 where
   pub label_suffix : Option (List ℕ)
   pub target : Target
 
--- an entry: its budget, whether it provides the service of its binary, and its own route, if it has one
+-- an entry: what its account starts with, whether it provides the service of its binary, its own route, if it has one, and
+-- its reserve, if the list gives it one
 pub record ListedEntry : Type 0 where
   pub name : List ℕ
   pub binary : Binary
@@ -35,6 +38,7 @@ pub record ListedEntry : Type 0 where
   pub caps : ℕ
   pub provides : Bool
   pub route : Option (List ListedRule)
+  pub reserve : Option Amounts
 
 -- a machine and its entries, with the route of those that have none of their own
 pub record Listed : Type 0 where
@@ -143,6 +147,15 @@ kind_of Script = Kind.Script
 kind_of LogServer = Kind.Server
 kind_of FileServer = Kind.Server
 
+-- a script has the reserve that the list gives it, and else an empty one; a server has none
+abbrev pub reserve_by : Binary → Option Amounts → Amounts
+reserve_by Script given = unwrap_or given no_reserve
+reserve_by LogServer given = no_reserve
+reserve_by FileServer given = no_reserve
+
+abbrev pub reserve_of : ListedEntry → Amounts
+reserve_of entry = reserve_by entry.binary entry.reserve
+
 abbrev pub start_of : Listed → ListedEntry → StartEntry
 start_of list entry = record {
   entry = record {
@@ -152,6 +165,7 @@ start_of list entry = record {
   };
   ram = entry.ram;
   caps = entry.caps;
+  reserve = reserve_of entry;
 }
 
 -- the start list of the model that a list tells

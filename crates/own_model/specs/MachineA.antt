@@ -10,9 +10,9 @@ machine_a = record {
   pages = 64;
   caps = 64;
   default_route = record { service = None; label = None; label_prefix = None; label_suffix = None; target = AnyChild } ∷ [];
-  entries = record { name = codes "log"; binary = LogServer; ram = 16384; caps = 8; provides = true; route = None }
-      ∷ record { name = codes "files"; binary = FileServer; ram = 16384; caps = 8; provides = true; route = None }
-      ∷ record { name = codes "alice"; binary = Script; ram = 65536; caps = 16; provides = false; route = None }
-      ∷ record { name = codes "bob"; binary = Script; ram = 65536; caps = 16; provides = false; route = None }
+  entries = record { name = codes "log"; binary = LogServer; ram = 16384; caps = 8; provides = true; route = None; reserve = None }
+      ∷ record { name = codes "files"; binary = FileServer; ram = 16384; caps = 8; provides = true; route = None; reserve = None }
+      ∷ record { name = codes "alice"; binary = Script; ram = 65536; caps = 16; provides = false; route = None; reserve = None }
+      ∷ record { name = codes "bob"; binary = Script; ram = 65536; caps = 16; provides = false; route = None; reserve = None }
       ∷ [];
 }

@@ -8,7 +8,7 @@ use Rattle.own_model.specs.Limits.{ram_limits, caps_limits, init_after, AreWithi
 use Rattle.own_model.specs.OwnState.{OwnState}
 use Rattle.own_model.specs.OwnStep.{Outcome}
 use Rattle.own_model.specs.Running.{running_step, states_after_heard, states_running, init_after_heard, init_running}
-use Rattle.own_model.specs.StartList.{Entry, StartEntry, StartList, entries_of, start_states, machine_account, init_keeps}
+use Rattle.own_model.specs.StartList.{Entry, StartEntry, StartList, budget, entries_of, start_states, machine_account, init_keeps}
 use Rattle.own_model.specs.Transcript.{Heard, state_at}
 
 -- the entries, init's account, and the own states in the order of the entries
@@ -66,17 +66,17 @@ pub record IsBalanced (pages caps : ℕ) (world : World) : Type 0 where
   pub ram_adds_up : all_ram world ≡ pages * 4096
   pub caps_add_up : all_caps world ≡ caps
 
--- a component with its open sessions has the budget that it started with, or nothing once it is gone
+-- a component with its reserve and its open sessions has the budget that it started with, or nothing once it is gone
 pub record HasItsBudget (start : StartEntry) (s : OwnState) : Type 0 where
-  pub ram : ram_limits s ≡ (if s.gone then 0 else start.ram)
-  pub caps : caps_limits s ≡ (if s.gone then 0 else start.caps)
+  pub ram : ram_limits s ≡ (if s.gone then 0 else (budget start).ram)
+  pub caps : caps_limits s ≡ (if s.gone then 0 else (budget start).caps)
 
 -- the budgets of those that are gone
 abbrev pub ram_returned : List StartEntry → List OwnState → ℕ
-ram_returned starts states = sum_by (λ p. if p.1.gone then p.0.ram else 0) (zip starts states)
+ram_returned starts states = sum_by (λ p. if p.1.gone then (budget p.0).ram else 0) (zip starts states)
 
 abbrev pub caps_returned : List StartEntry → List OwnState → ℕ
-caps_returned starts states = sum_by (λ p. if p.1.gone then p.0.caps else 0) (zip starts states)
+caps_returned starts states = sum_by (λ p. if p.1.gone then (budget p.0).caps else 0) (zip starts states)
 
 -- what init's account is for a start list: what the start left it, and the budgets of those that are gone
 abbrev pub init_for : StartList → List OwnState → Account

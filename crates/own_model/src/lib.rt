@@ -58,7 +58,8 @@ pub use regions::{
 pub use reserves::{reserves_are_kept, yields_and_requests_undo};
 pub use rows::{
     arguments_are_read, empty_budget_is_told, exits_are_told, lines_and_names_are_refused,
-    lines_end_and_overflow, long_lines_are_no_calls, longest_line_is_read, session_calls_are_read,
+    lines_end_and_overflow, long_lines_are_no_calls, longest_line_is_read, reserve_calls_are_read,
+    reserves_are_moved, session_calls_are_read,
 };
 pub use runs::{own_part_over_append, own_run_over_append};
 pub use session_args::arguments_are_read_back;

@@ -1,7 +1,7 @@
 //! Worked inputs of machine A that compute: what is told of each, to the byte.
 ghost use Rattle.std.specs.Prelude.{◌≡◌, ◌++◌, [], ◌∷◌, codes, replicate, Some};
 ghost use Rattle.own_model.specs.Call.{form_of};
-ghost use Rattle.own_model.specs.Call.Call.{AttachAt, Detach, Peek, Poke, New, Del, Snew, Sdel, Open, Upgrade, CallSession, Close};
+ghost use Rattle.own_model.specs.Call.Call.{AttachAt, Detach, Peek, Poke, New, Del, Snew, Sdel, Reserve, Request, Yield, Open, Upgrade, CallSession, Close};
 ghost use Rattle.own_model.specs.Rows.{told_by_a};
 ghost use Rattle.own_model.specs.Laws.{LongLinesAreNoCalls};
 
@@ -74,6 +74,39 @@ pub fn session_calls_are_read()
     ensures selectors { told_by_a
         (codes "alice upgrade\nalice upgrade x\nalice call \nalice call -1 WRITE\nalice close\nalice close 1 \n")
         ≡ codes "?: Bad_line\n?: Bad_line\n?: Bad_line\n?: Bad_line\n?: Bad_line\n?: Bad_line\n" }
+{}
+
+/// What is requested of a reserve or yielded to it is a text, and may be empty or left out.
+pub fn reserve_calls_are_read()
+    ensures reserve { form_of (codes "reserve") ≡ Some Reserve }
+    ensures request { form_of (codes "request ram_quota=4K")
+        ≡ Some (Request (codes "ram_quota=4K")) }
+    ensures nothing { form_of (codes "request") ≡ Some (Request []) }
+    ensures empty { form_of (codes "yield ") ≡ Some (Yield []) }
+    ensures spaces { form_of (codes "yield  x ") ≡ Some (Yield (codes " x ")) }
+    ensures others { told_by_a (codes "alice reserve \nalice reserve 1\nalice requests\n")
+        ≡ codes "?: Bad_line\n?: Bad_line\n?: Bad_line\n" }
+{}
+
+/// A reserve is filled by yields and drawn by requests, each refused for what lacks it; a label is read and ignored. Who is a
+/// server or has exited has none.
+pub fn reserves_are_moved()
+    ensures yielded { told_by_a (codes "alice yield ram_quota=4K\nalice quota\n")
+        ≡ codes "alice: ok\nalice: ram 0/61440 caps 0/16\n" }
+    ensures caps { told_by_a (codes "alice yield cap_quota=2\nalice reserve\n")
+        ≡ codes "alice: ok\nalice: ram 0 caps 2\n" }
+    ensures requested { told_by_a
+        (codes "alice yield ram_quota=1K\nalice request ram_quota=512\nalice reserve\n")
+        ≡ codes "alice: ok\nalice: ok\nalice: ram 512 caps 0\n" }
+    ensures lacking { told_by_a
+        (codes "alice yield ram_quota=65537\nalice yield cap_quota=17\nbob request ram_quota=1\nbob request cap_quota=1\n")
+        ≡ codes "alice: Out_of_ram\nalice: Out_of_caps\nbob: Out_of_ram\nbob: Out_of_caps\n" }
+    ensures texts { told_by_a
+        (codes "alice request\nalice request \nalice yield label=\"x\"\nalice yield label=x\nalice request ram_quota=x\nalice reserve\n")
+        ≡ codes "alice: ok\nalice: ok\nalice: ok\nalice: Bad_args\nalice: Bad_args\nalice: ram 0 caps 0\n" }
+    ensures away { told_by_a
+        (codes "log reserve\nlog yield\nalice yield ram_quota=1\nalice exit\nalice reserve\nalice request ram_quota=1\n")
+        ≡ codes "log: Not_a_script\nlog: Not_a_script\nalice: ok\nalice: ok\nalice: Gone\nalice: Gone\n" }
 {}
 
 /// A name that no entry has, a server, forms and numbers outside the grammar, and sizes that no budget covers are refused.

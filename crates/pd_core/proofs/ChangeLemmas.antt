@@ -11,12 +11,12 @@ use Rattle.own_model.specs.OwnState.{OwnState}
 use Rattle.own_model.specs.Session.{Labelled}
 use Rattle.cap_space.specs.declared.cap.Cap.{Cap}
 use Rattle.dataspace_core.specs.Room.{HasRoom}
-use Rattle.dataspace_core.specs.Store.{Store, parents_in, root_in, IsOpenIn, IsChildIn}
+use Rattle.dataspace_core.specs.Store.{Store, part, account_of, opened_part, parents_in, root_in, IsOpenIn, IsChildIn}
 use Rattle.server_frame.specs.Frame.{Row}
 use Rattle.trade_base.specs.declared.id.SessionId.{SessionId}
-use Rattle.pd_core.specs.Component.{Pays, caps_in, places_in, own_in, lent_of, lent_by, NamesItsSessions, HasPlaces, IsSoundRole}
+use Rattle.pd_core.specs.Component.{Pays, reserve_in, IsReserve, caps_in, places_in, own_in, lent_of, lent_by, NamesItsSessions, HasPlaces, IsSoundRole}
 use Rattle.pd_core.specs.Core.{Roles, rows_at, sessions_in, Owner, Owns, NamesAccount, IsSoundCore}
-use Rattle.pd_core.specs.Core.Owner.{Init, Place, SessionAt}
+use Rattle.pd_core.specs.Core.Owner.{Init, Place, ReserveAt, SessionAt}
 use Rattle.pd_core.specs.Own.{Sessions}
 use Rattle.pd_core.specs.Sessions.{row_session}
 use Rattle.pd_core.specs.Sound.{session_at, buffer_at}
@@ -29,7 +29,13 @@ use Rattle.pd_core.proofs.HeldLemmas.{same_place, not_place, client_pays}
 abbrev pub AgreeOn : NatMap Cap → Sessions → Sessions → Type 0
 AgreeOn caps S S' = (q server : ℕ) (session : SessionId) → session_at (get caps q) ≡ Some (server, session) → S' server session.0 ≡ S server session.0
 
--- a role is another's after the change: it is sound, and has its accounts, its capabilities and its own state
+-- an account has the part and the parent that it had
+pub record Rests (account : ℕ) (store store' : Store) : Type 0 where
+  pub own : part account store' ≡ part account store
+  pub parent : get (parents_in store') account ≡ get (parents_in store) account
+
+-- a role is another's after the change: it is sound, and has its accounts, its capabilities and its own state, and its reserve
+-- rests
 pub record Follows (store : Store) (before : Role) (store' : Store) (after : Role) : Type 0 where
   pub sound : IsSoundRole store' after
   pub own : (S S' : Sessions) → AgreeOn (caps_in before) S S' → own_in S' store' after ≡ own_in S store before
@@ -37,6 +43,8 @@ pub record Follows (store : Store) (before : Role) (store' : Store) (after : Rol
   pub places : places_in after ≡ places_in before
   pub pays : (account : ℕ) → Pays after account → Pays before account
   pub paid : (account : ℕ) → Pays before account → Pays after account
+  pub reserve : reserve_in after ≡ reserve_in before
+  pub reserved : (account : ℕ) → reserve_in before ≡ Some account → Rests account store store'
 
 -- the row of the session that a change touches: a client's before and after, on an account that nobody else had
 pub record IsTouched (store : Store) (roles : Roles) (i server id : ℕ) (was is : Option (Row Labelled)) : Type 0 where
@@ -50,6 +58,8 @@ pub record ChangesCore (i s key : ℕ) (store : Store) (roles : Roles) (store' :
   pub others : (k : ℕ) → k ≢ i → Follows store (roles k) store' (roles' k)
   pub sound : IsSoundRole store' (roles' i)
   pub pays : (account : ℕ) → Pays (roles' i) account → Pays (roles i) account
+  pub reserve : (account : ℕ) → reserve_in (roles' i) ≡ Some account → reserve_in (roles i) ≡ Some account
+  pub reserved : (account : ℕ) → reserve_in (roles' i) ≡ Some account → IsReserve store' account
   pub rows : (server id : ℕ) → ((server ≡ s) → (id ≡ key) → ⊥) → get (rows_at store' roles' server) id ≡ get (rows_at store roles server) id
   pub row : (get (rows_at store' roles' s) key ≡ get (rows_at store roles s) key) ⊎ IsTouched store roles i s key (get (rows_at store roles s) key) (get (rows_at store' roles' s) key)
   pub named : NamesItsSessions (rows_at store' roles') (roles' i)
@@ -103,11 +113,29 @@ module _ {i s key : ℕ} {store store' : Store} {roles roles' : Roles} (core : I
     | inr other ↦ (changes.others k other).pays account pays
   ]
 
+  -- so it is with reserves
+  was_reserve : (k account : ℕ) → reserve_in (roles' k) ≡ Some account → reserve_in (roles k) ≡ Some account
+  was_reserve k account has = elim (cases_eq k i) [
+    | inl at ↦ ap (λ n. reserve_in (roles n)) at ∙ changes.reserve account (ap (λ n. reserve_in (roles' n)) (sym at) ∙ has)
+    | inr other ↦ sym (changes.others k other).reserve ∙ has
+  ]
+
+  reserved_after : (k account : ℕ) → reserve_in (roles' k) ≡ Some account → IsReserve store' account
+  reserved_after k account has = elim (cases_eq k i) [
+    | inl at ↦ changes.reserved account (ap (λ n. reserve_in (roles' n)) (sym at) ∙ has)
+    | inr other ↦
+        let was = was_reserve k account has in
+        let rests = (changes.others k other).reserved account was in
+        let before = core.reserved k account was in
+        record { child = rests.parent ∙ before.child ∙ ap Some (sym changes.root); unused = subst (λ p. p ≡ opened_part (account_of p).ram_limit (account_of p).caps_limit) (sym rests.own) before.unused }
+  ]
+
   -- who has an account had it, or has the touched session's, which nobody else had
   owned : (owner : Owner) (account : ℕ) → Owns store' roles' owner account →
       Owns store roles owner account ⊎ ((owner ≡ SessionAt s key) × ((one : Owner) → Owns store roles one account → one ≡ SessionAt s key))
   owned Init account owns = inl (sym changes.root ∙ owns)
   owned (Place k) account owns = inl (was_place k account owns)
+  owned (ReserveAt k) account owns = inl (was_reserve k account owns)
   owned (SessionAt server id) account owns = elim (each_row server id) [
     | inl same ↦ inl (ap (option_map (λ (row : Row Labelled). row.key)) (sym same) ∙ owns)
     | inr touched ↦
@@ -194,6 +222,7 @@ module _ {i s key : ℕ} {store store' : Store} {roles roles' : Roles} (core : I
     init = subst (IsOpenIn store') (sym changes.root) changes.init;
     sound = at_each (λ k. IsSoundRole store' (roles' k)) changes.sound (λ k other. (changes.others k other).sound);
     children = λ k account pays. changes.children k account (was_place k account pays) pays ∙ core.children k account (was_place k account pays) ∙ ap Some (sym changes.root);
+    reserved = reserved_after;
     apart = apart_after;
     clients = clients_after;
     named = at_each (λ k. NamesItsSessions (rows_at store' roles') (roles' k)) changes.named named_after;

@@ -39,7 +39,8 @@ use Rattle.pd_core.specs.Sound.{session_at, buffer_at, lent_from, IsOthers, AreO
 use Rattle.pd_core.specs.declared.component.Role.TheVariants.{Script as AScript}
 use Rattle.pd_core.specs.declared.script.Script.{Script}
 use Rattle.pd_core.proofs.HeldLemmas.{no_place, same_session, lender, owned_open, owns_row, pays_no_init, row_paid as paid_row}
-use Rattle.pd_core.proofs.LentPlaceLemmas.{alone_weight, lending_weight, lent_once, counted_by_sessions}
+use Rattle.pd_core.proofs.CostLemmas.{row_covers, cost, weight, cost_covers}
+use Rattle.pd_core.proofs.LentPlaceLemmas.{counted_by_sessions}
 use Rattle.pd_core.proofs.NameLemmas.{buffer_key, own_or_lent, lent_key, Names}
 use Rattle.pd_core.proofs.LentLemmas.{LendAlike, paid_still}
 use Rattle.pd_core.proofs.ServerLemmas.{IsPaidRow, lent_paid, sound_works, place_in}
@@ -67,12 +68,6 @@ module _ {store : Store} {roles : Roles} {i s : ℕ} {script : Script} (two : Ar
 
   pub named : NamesItsSessions (rows_at store roles) (AScript script)
   named = at_script two (NamesItsSessions (rows_at store roles)) (core.named i)
-
-  -- a session has two capabilities
-  pub row_covers : (at id : ℕ) (row : Row Labelled) → get (rows_at store roles at) id ≡ Some row → 2 ≤ row.account.caps_limit
-  row_covers at id row is =
-      let paid = paid_row core at id row is in
-      subst (λ (a : Account). 2 ≤ a.caps_limit) paid.account (core.room.paid row.key row.client paid.child (core.clients at id row is))
 
   one : IsOne script.caps.caps
   one = script_sound.own.named.one
@@ -143,24 +138,6 @@ module _ {store : Store} {roles : Roles} {i s : ℕ} {script : Script} (two : Ar
     pub holds_lent : HoldsLent script.caps.caps q (lent_under row.buffer lent_row).0 row.buffer
     holds_lent = (lent_under row.buffer lent_row).1
 
-    -- what a capability stands for has two capabilities where it is a session
-    abbrev cost : Cap → ℕ
-    cost cap = unwrap_or (option_map caps_with (object_of (lent_in store) (sessions_in store roles) (part_at store script) cap)) 0
-
-    -- which are one for itself and one for what it lends
-    abbrev weight : Cap → ℕ
-    weight cap = alone_weight cap + lending_weight (rows_at store roles) cap
-
-    cost_covers : (k : ℕ) (cap : Cap) → get script.caps.caps k ≡ Some cap → weight cap ≤ cost cap
-    cost_covers k (Dataspace ds) is = omega arith
-    cost_covers k RpcObject is = omega arith
-    cost_covers k (Buffer space session) is = omega arith
-    cost_covers k (Session at other) is =
-        let one = named.its k at other (ap session_at is) in
-        let least = row_covers at other.0 one.row one.there in
-        let found = ap (λ o. unwrap_or (option_map caps_with (option_map OpenSession (option_map row_session o))) 0) one.there in
-        omega (arith, least, found, lent_once (lent_by (rows_at store roles) (Some (at, other))))
-
     -- there is a place for each selector that the account could pay for with the session's limits
     pub placed : (account_in store payer).caps_limit + row.account.caps_limit + total session_weight script.caps.caps ≤ script.caps.places + 1 + lent_weight row.buffer
     unfolding own_of
@@ -168,11 +145,13 @@ module _ {store : Store} {roles : Roles} {i s : ℕ} {script : Script} (two : Ar
         let all = at_script two (λ r. IfSome (places_in r) (λ p. caps_limits (own_in (sessions_in store roles) store r) ≤ p)) (core.placed i) in
         let selectors = total-picked caps_with (object_of (lent_in store) (sessions_in store roles) (part_at store script)) script.caps.caps in
         let counted = counted_by_sessions (rows_at store roles) (AScript script) named one in
-        let weights = total-remove weight script.caps.caps q (Session s session) names in
+        let by_weight = weight core i script is_script in
+        let by_cost = cost core i script is_script in
+        let weights = total-remove by_weight script.caps.caps q (Session s session) names in
         let own = ap lent_weight (ap lent_of its.there) in
-        let costs = total-remove cost script.caps.caps q (Session s session) names in
+        let costs = total-remove by_cost script.caps.caps q (Session s session) names in
         let found = ap (λ o. unwrap_or (option_map caps_with (option_map OpenSession (option_map row_session o))) 0) its.there in
-        let rest = total_le weight cost (remove script.caps.caps q) (λ k cap is. cost_covers k cap (before_remove script.caps.caps q k cap is)) in
+        let rest = total_le by_weight by_cost (remove script.caps.caps q) (λ k cap is. cost_covers core i script is_script k cap (before_remove script.caps.caps q k cap is)) in
         let account = ap (λ (a : Account). a.caps_limit) (account_of-part payer store) in
         omega (arith, all, selectors, counted, weights, own, costs, found, rest, account)
 
@@ -185,7 +164,7 @@ module _ {store : Store} {roles : Roles} {i s : ℕ} {script : Script} (two : Ar
       once = λ p other is e. named.once p q s other session (ap session_at is) (ap session_at names) e;
       under = under;
       lent = holds_lent;
-      least = row_covers s session.0 row its.there;
+      least = row_covers core s session.0 row its.there;
       placed = placed;
     }
 
@@ -211,7 +190,7 @@ module _ {store : Store} {roles : Roles} {i s : ℕ} {script : Script} (two : Ar
 
     -- a script that has turned keeps the rest
     pub keeps_but : {script' : Script} {lent lent' : Option ℕ} → Turns script script' q under lent lent' → KeepsBut script script' q under
-    keeps_but turns = record { account = ap (λ (x : Script). x.account) turns.is; places = turns.places; caps = turns.tables.others }
+    keeps_but turns = record { account = ap (λ (x : Script). x.account) turns.is; reserve = ap (λ (x : Script). x.reserve) turns.is; places = turns.places; caps = turns.tables.others }
 
     -- ---- what it lends
 
@@ -422,7 +401,7 @@ module _ {store : Store} {roles : Roles} {i s : ℕ} {script : Script} (two : Ar
         };
         ram = limits;
         sound = sound;
-        stays = record { account = refl; places = refl; caps = λ p other _. get-insert_other script.caps.caps selector (Session s session) p other };
+        stays = record { account = refl; reserve = refl; places = refl; caps = λ p other _. get-insert_other script.caps.caps selector (Session s session) p other };
         rows_stay = λ id other. ap (λ (m : NatMap (Row Labelled)). get m id) opens.sessions ∙ get-insert_other rows session.0 first_row id other;
         tied = record {
           has = free;

@@ -69,7 +69,7 @@ module _ {store : Store} (components : List Component) {i s : ℕ} {script : Scr
       session_goes components components' two d host_is replaced faces (row_alone two q session names)
       (changes_closed two q session names store' (subst (λ n. ClosesPart its_row.key n store store') its_client closes) keeps gone (turns.tables.after.free refl)
       (written ∙ ap (λ r. remove (rows_in store r) session.0) (sym host_is)) done.sound stays.machine) stays
-      rules (Close q) refl Done [] (told_alone (reply_text Done)) refl refl done.does
+      rules (Close q) refl refl Done [] (told_alone (reply_text Done)) refl refl done.does
 
   -- ---- the caller is put back first
 

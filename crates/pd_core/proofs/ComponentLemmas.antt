@@ -1,8 +1,8 @@
 -- A component that is a script; the accounts of components; and what a plain call keeps of the memory.
-use Rattle.std.proofs.Common.{◌≡◌, ℕ, List, ◌∙◌, Some, IsSome, unwrap_or, refl, sym, ap, subst}
+use Rattle.std.proofs.Common.{◌≡◌, ◌≢◌, ℕ, List, ◌∙◌, Some, IsSome, unwrap_or, refl, sym, ap, subst, inl, inr}
 use Rattle.std.specs.Prelude.{Option}
 use Rattle.own_model.specs.Account.{Account, opened}
-use Rattle.own_model.specs.NatMap.{total}
+use Rattle.own_model.specs.NatMap.{NatMap, total}
 use Rattle.own_model.proofs.NatMapLemmas.{some_of, value_at}
 use Rattle.own_model.proofs.Totals.{total-insert_same}
 use Rattle.dataspace_core.specs.Room.{HasRoom}
@@ -14,26 +14,42 @@ use Rattle.own_model.specs.Routes.{Rule}
 use Rattle.pd_core.specs.Call.{model_call, IsPlain}
 use Rattle.pd_core.specs.declared.call.Call.{Call}
 use Rattle.own_model.specs.OwnStep.{own_step, script_step}
-use Rattle.dataspace_core.specs.Store.{Store, part, account_of, account_in, accounts_in, caps_limits_in, IsOpenIn, PartBecomes}
+use Rattle.dataspace_core.specs.Store.{Store, part, account_of, account_in, accounts_in, caps_limits_in, space_at, IsOpenIn, PartBecomes}
 use Rattle.pd_core.specs.declared.script.Script.{Script}
 use Rattle.trade_base.specs.declared.id.AccountId.{AccountId}
 use Rattle.pd_core.specs.Own.{Sessions, own_of, own_at}
 use Rattle.pd_core.specs.Sound.{OthersStay, SparesOthers, Keeps as ScriptKeeps}
-use Rattle.pd_core.specs.Component.{Pays, entry_of, kind_of, payer_in, payer_of, served_by, own_in, own, IsSoundRole, IsSound, Keeps}
+use Rattle.pd_core.specs.Component.{Pays, amounts_in, entry_of, kind_of, payer_in, payer_of, reserve_in, served_by, own_in, own, IsSoundRole, IsSound, Keeps}
 use Rattle.pd_core.specs.Exit.{IsScriptRole}
 use Rattle.trade_base.specs.declared.refusal.Refusal.TheVariants.{Gone as IsGone}
 use Rattle.std.proofs.lemmas.Option.{none-some}
 use Rattle.pd_core.specs.declared.component.Role.{Role}
 use Rattle.pd_core.specs.declared.component.Role.TheVariants.{Script as AScript, Log as ALog, Files as AFiles, Gone as AGone}
 use Rattle.pd_core.specs.declared.component.Component.{Component}
+use Rattle.pd_core.proofs.AsideLemmas.{outcome_with, stands_aside}
+use Rattle.cap_space.specs.declared.cap.Cap.{Cap}
+use Rattle.std.proofs.lemmas.Bool.{cases_eq}
 
--- its own step is the script's
+-- its own step is the script's, beside the reserve
 pub script_outcome : (rules : List Rule) (sessions : Sessions) (store : Store) (component : Component) (script : Script) (call : Call) → component.role ≡ AScript script → IsPlain call →
-    own_step (entry_of rules component) (model_call call) (own sessions store component) ≡ script_step (model_call call) (own_at sessions store script)
+    own_step (entry_of rules component) (model_call call) (own sessions store component) ≡ outcome_with (amounts_in (part script.reserve.0 store)) (script_step (model_call call) (own_at sessions store script))
 unfolding own_of
 script_outcome rules sessions store component script call is plain =
     ap (λ role. own_step (record { name = component.name.items; kind = kind_of role; routes = rules }) (model_call call) (own_in sessions store role)) is
-    ∙ routes_alike (entry_of rules component) (model_call call) (own_at sessions store script) plain.of_no_session
+    ∙ stands_aside (amounts_in (part script.reserve.0 store)) (own_at sessions store script) (entry_of rules component) (model_call call) plain.of_no_reserve plain.no_exit
+    ∙ ap (outcome_with (amounts_in (part script.reserve.0 store))) (routes_alike (entry_of rules component) (model_call call) (own_at sessions store script) plain.of_no_session)
+
+-- a call that spares others leaves what the reserve has
+pub reserve_spared : {account : ℕ} {caps : NatMap Cap} {store store' : Store} (before after : AccountId) → SparesOthers account caps store store' → after ≡ before → before.0 ≢ account →
+    amounts_in (part after.0 store') ≡ amounts_in (part before.0 store)
+reserve_spared {account} {caps} {store} {store'} before after spares same apart =
+    ap (λ (a : AccountId). amounts_in (part a.0 store')) same ∙ elim spares [
+      | inl others ↦ ap amounts_in (others before.0 apart)
+      | inr writes ↦ elim (cases_eq before.0 (space_at store writes.key).payer) [
+        | inl at ↦ ap (λ n. amounts_in (part n store')) at ∙ ap amounts_in writes.becomes.own ∙ ap (λ n. amounts_in (part n store)) (sym at)
+        | inr other ↦ ap amounts_in (writes.becomes.others before.0 other)
+      ]
+    ]
 
 -- what the script keeps, the component does
 pub script_keeps : {store store' : Store} (component : Component) (script script' : Script) → component.role ≡ AScript script → ScriptKeeps store script store' script' → SparesOthers script.account.0 script.caps.caps store store' →
@@ -45,6 +61,7 @@ script_keeps {store} {store'} component script script' is keeps others =
       service = refl;
       pays = λ account pays. ap (λ (a : AccountId). a.0) (sym keeps.account) ∙ pays;
       paid = λ account pays. ap (λ (a : AccountId). a.0) keeps.account ∙ pays;
+      reserve = ap (λ (a : AccountId). Some a.0) keeps.reserve;
       is_open = subst (λ (a : AccountId). IsSome (part a.0 store').account) keeps.account keeps.sound.own.paid.is_open;
       caps_limit = ap (λ (a : AccountId). (account_of (part a.0 store')).caps_limit) (sym keeps.account) ∙ keeps.caps_limit;
       places = ap Some keeps.places;

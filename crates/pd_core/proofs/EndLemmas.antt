@@ -1,19 +1,19 @@
 -- A script's heaps end one after the other, and then its account uses nothing and closes.
-use Rattle.std.proofs.Common.{◌≡◌, ◌≢◌, ℕ, ◌*◌, Option, Some, None, is_some, unwrap_or, refl, sym, ap, subst, ◌∙◌, arith, inl, inr}
+use Rattle.std.proofs.Common.{◌≡◌, ◌≢◌, ℕ, ◌*◌, Option, Some, None, is_some, IsSome, unwrap_or, refl, sym, ap, subst, ◌∙◌, arith, inl, inr}
 use Rattle.std.proofs.lemmas.Option.{none-some}
 use Rattle.std.specs.FinMap.{get, len}
 use Rattle.trade_base.specs.declared.id.AccountId.{AccountId}
 use Rattle.own_model.specs.Account.{Account, opened, credited}
 use Rattle.own_model.specs.HeapWindow.{heap_low, heap_high}
-use Rattle.own_model.specs.NatMap.{total}
+use Rattle.own_model.specs.NatMap.{NatMap, total}
 use Rattle.own_model.specs.Region.{Region}
 use Rattle.own_model.specs.Sliced.{block_size}
 use Rattle.own_model.specs.Use.{heap_count, heap_size, object_caps}
 use Rattle.own_model.proofs.ApartLemmas.{LieApart-fewer}
-use Rattle.own_model.proofs.NatMapLemmas.{none_at, some_of, value_at}
+use Rattle.own_model.proofs.NatMapLemmas.{none_at, some_of, value_at, before_remove, get-remove_other}
 use Rattle.own_model.proofs.Totals.{total_same, total-zero, total-insert_same}
 use Rattle.region_map.specs.Regions.{Regions}
-use Rattle.dataspace_core.specs.Store.{Store, Part, part, account_of, account_in, accounts_in, parent_in, caps_limits_in, IsOpenIn, AreRelatedIn, PartBecomes}
+use Rattle.dataspace_core.specs.Store.{Store, Part, part, account_of, account_in, accounts_in, root_in, parents_in, parent_in, caps_limits_in, IsOpenIn, IsChildIn, IsLeafIn, AreRelatedIn, PartBecomes, ClosesPart}
 use Rattle.dataspace_core.specs.Share.{Share, share_in, KeepsShares}
 use Rattle.dataspace_core.proofs.LimitLaws.{accounts_after}
 use Rattle.dataspace_core.proofs.PartLaws.{account_of-part, open_in_part, part_open}
@@ -27,6 +27,8 @@ use Rattle.sliced_heap.specs.Sliced.{block_regions}
 use Rattle.heap_window.proofs.ShareLemmas.{shown_block}
 use Rattle.pd_core.specs.declared.script.Script.{Script}
 use Rattle.pd_core.specs.Own.{own_of, own_at, own_heap_at, part_at, sliced_at}
+use Rattle.pd_core.specs.Component.{IsOwnReserve}
+use Rattle.pd_core.specs.Exit.{ClosesBoth}
 use Rattle.pd_core.specs.Release.{IsCleared}
 use Rattle.pd_core.specs.Sound.{IsSoundScript, OthersStay, Keeps}
 use Rattle.heap_window.proofs.BesideLemmas.{standing, none_standing, sliced_standing, elsewhere_standing}
@@ -180,3 +182,28 @@ module _ {account : ℕ} {old mid : Store} (cleared : IsCleared account old mid)
         = record { own = refl; others = cleared.others; root = cleared.root; parents = cleared.parents; room = cleared.room } in
         ap (total (λ (a : Account). a.caps_limit)) (accounts_after account (part account mid) old mid now.0 becomes now.1)
         ∙ total-insert_same (λ a. a.caps_limit) (accounts_in old) account now.0 was.0 was.1 limit
+
+-- ---- its reserve closes after it
+
+module _ {payer kept : ℕ} {old mid : Store} (own : IsOwnReserve old payer kept) (child : IsChildIn old payer (root_in old)) (closed : ClosesPart payer (parent_in old payer) old mid) where
+  -- the account was below init's
+  first : ClosesPart payer (root_in old) old mid
+  first = subst (λ p. ClosesPart payer p old mid) (ap (λ o. unwrap_or o (root_in old)) child) closed
+
+  reserve_below : IsChildIn mid kept (root_in old)
+  reserve_below = ap (λ (m : NatMap ℕ). get m kept) first.parents ∙ get-remove_other (parents_in old) payer kept own.apart ∙ own.is_reserve.child
+
+  -- so the reserve still is, has none below it and uses nothing
+  pub reserve_there : IsSome (get (parents_in mid) kept)
+  reserve_there = ap is_some reserve_below
+
+  pub reserve_leaf : IsLeafIn mid kept
+  reserve_leaf one below = own.leaf one (before_remove (parents_in old) payer one kept (ap (λ (m : NatMap ℕ). get m one) (sym first.parents) ∙ below))
+
+  pub reserve_unused : (account_in mid kept).caps_used ≡ 0
+  reserve_unused = ap (λ (a : Account). a.caps_used) (sym (account_of-part kept mid) ∙ ap account_of (first.others kept own.apart own.not_root ∙ own.is_reserve.unused))
+
+  -- and both close
+  pub closes_both : {new : Store} → caps_limits_in mid ≡ caps_limits_in old → ClosesPart kept (parent_in mid kept) mid new → ClosesBoth payer kept (root_in old) old new
+  closes_both {new} caps last =
+      record { between = mid; first = first; caps = caps; last = subst (λ p. ClosesPart kept p mid new) (ap (λ o. unwrap_or o (root_in mid)) reserve_below) last }

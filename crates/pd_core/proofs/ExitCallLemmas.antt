@@ -6,7 +6,7 @@ use Rattle.std.proofs.lemmas.List.{get_or-map, length-map}
 use Rattle.std.specs.FinMap.{get}
 use Rattle.std.specs.List.{flat_map}
 use Rattle.std.specs.Option.{ok_or, option_map}
-use Rattle.std.specs.Prelude.{IsSome}
+use Rattle.std.specs.Prelude.{IsSome, IfSome}
 use Rattle.std.specs.Result.{result_ok, result_err}
 use Rattle.trade_base.specs.declared.id.SessionId.{SessionId}
 use Rattle.trade_base.specs.declared.refusal.Refusal.{Refusal}
@@ -22,12 +22,12 @@ use Rattle.own_model.specs.Transcript.{nothing, entry_at, state_at}
 use Rattle.own_model.specs.World.{World, with_state}
 use Rattle.own_model.proofs.NatMapLemmas.{get-empty}
 use Rattle.cap_space.specs.declared.cap.Cap.{Cap}
-use Rattle.dataspace_core.specs.Store.{Store, root_in, ram_limits_in, caps_limits_in, ClosesPart}
+use Rattle.dataspace_core.specs.Store.{Store, root_in, ram_limits_in, caps_limits_in}
 use Rattle.server_frame.specs.Told.{Told}
 use Rattle.pd_core.specs.Answer.{told_alone}
-use Rattle.pd_core.specs.Component.{kind_of, payer_of, caps_in, caps_of, own_in, own, NamesItsSessions}
+use Rattle.pd_core.specs.Component.{kind_of, payer_of, reserve_of, caps_in, caps_of, own_in, own, NamesItsSessions}
 use Rattle.pd_core.specs.Core.{Rules, roles_of, entries_of, rows_at, sessions_in, world_of, IsCore}
-use Rattle.pd_core.specs.Exit.{IsScriptRole, places_told, HasSelectorsTo, HasClosedAt, ClosesTo}
+use Rattle.pd_core.specs.Exit.{ClosesBoth, IsScriptRole, places_told, HasSelectorsTo, HasClosedAt, ClosesTo}
 use Rattle.pd_core.specs.Own.{Sessions, own_of}
 use Rattle.pd_core.specs.SessionCalls.{Goes, named_in}
 use Rattle.pd_core.specs.Sessions.{row_session}
@@ -35,9 +35,9 @@ use Rattle.pd_core.specs.Sound.{session_at}
 use Rattle.pd_core.specs.declared.component.Component.{Component}
 use Rattle.pd_core.specs.declared.component.Role.{Role}
 use Rattle.pd_core.specs.declared.component.Role.TheVariants.{Script as AScript, Log as ALog, Files as AFiles, Gone as AGone}
-use Rattle.pd_core.proofs.ExitLemmas.{IsAlone, world_alone, core_alone, leads_alone, kind_of_script}
+use Rattle.pd_core.proofs.ExitLemmas.{IsAlone, closes_reserve, world_alone, core_alone, leads_alone, kind_of_script}
 use Rattle.pd_core.proofs.ExitWorldLemmas.{closed_at_first, closed_more, gone_world, exit_outcome}
-use Rattle.pd_core.proofs.QuotaLemmas.{found_in, session_at_place, reserve_at_place, no_reserve_of_role}
+use Rattle.pd_core.proofs.QuotaLemmas.{found_in, session_at_place}
 use Rattle.pd_core.proofs.WorldLemmas.{one_of, length-entries, entries_at, refused_goes, role_at}
 
 -- ---- a script as the world sees it
@@ -193,7 +193,7 @@ module _ {i count : ℕ} {old mid : Store} {before between : List Component} (d 
   alone_after = record { core = closes.core; here = still_here; is_script = script_after; none = none_after }
 
   -- its end is the model's exit
-  pub exit_goes : {new : Store} {ended : Component} → ended ≡ record (get_or between i e) { role = AGone } → ClosesPart (payer_of (get_or between i e)) (root_in mid) mid new →
+  pub exit_goes : {new : Store} {ended : Component} → ended ≡ record (get_or between i e) { role = AGone } → IfSome (reserve_of (get_or between i e)) (λ one. ClosesBoth (payer_of (get_or between i e)) one (root_in mid) mid new) →
       ram_limits_in new ≡ ram_limits_in mid → caps_limits_in new ≡ caps_limits_in mid → (rules : Rules) → Goes rules Exit i (told_alone (reply_text Done)) old before new (set between i ended)
   exit_goes {new} gone ends ram caps rules =
       subst (λ c. Goes rules Exit i (told_alone (reply_text Done)) old before new (set between i c)) (sym gone) (
@@ -205,15 +205,11 @@ module _ {i count : ℕ} {old mid : Store} {before between : List Component} (d 
           answered = ap (λ (o : Outcome). reply_text o.reply) (sym outcome);
           lines = ap (λ (o : Outcome). flat_map log_text o.lines) (sym outcome);
           stepped = gone_world i count first (world_of rules mid between) (world_of rules new (set between i (record (get_or between i e) { role = AGone }))) (closes.closed rules)
-              (record {
-                none = λ q. none_seen rules between e closes.core still_here q (none_after q);
-                reserve = reserve_at_place rules mid between i e still_here ∙ sym (no_reserve_of_role (sessions_in mid (roles_of between)) mid (get_or between i e).role);
-                stepped = world_alone alone_after ends ram caps rules;
-              })
+              (record { none = λ q. none_seen rules between e closes.core still_here q (none_after q); stepped = world_alone alone_after (closes_reserve alone_after new ends) ram caps rules })
               ∙ ap (λ (o : Outcome). with_state first i o.next) (sym outcome);
         };
-        core = core_alone alone_after ends ram caps;
-        leads = λ all leads agrees. leads_alone alone_after ends ram caps all leads (closes.leads all leads agrees);
+        core = core_alone alone_after (closes_reserve alone_after new ends) ram caps;
+        leads = λ all leads agrees. leads_alone alone_after (closes_reserve alone_after new ends) ram caps all leads (closes.leads all leads agrees);
       })
 
 -- ---- an exit that is refused

@@ -11,8 +11,6 @@ use Rattle.own_model.specs.Limits.{ram_with, caps_with, ram_limits, caps_limits}
 use Rattle.own_model.specs.NatMap.{NatMap}
 use Rattle.own_model.specs.OwnState.{OwnState, Object, NamedBuffer, session_named, buffer_of}
 use Rattle.own_model.specs.OwnState.Object.{Dataspace, RpcObject, OpenSession, Buffer as ABuffer}
-use Rattle.own_model.specs.Amounts.{Amounts}
-use Rattle.own_model.specs.Reserve.{no_reserve}
 use Rattle.own_model.specs.OwnStep.{Outcome, own_step, selectors_lent, session_closed, exited, gone_state}
 use Rattle.own_model.specs.Session.{Session}
 use Rattle.own_model.specs.StartList.{Entry}
@@ -105,28 +103,29 @@ no_limits RpcObject none = (refl, refl)
 no_limits (ABuffer session bytes) none = (refl, refl)
 no_limits (OpenSession session) none = absurd (none-some session (sym none))
 
--- without a session and with nothing in reserve the limits are the account's
-account_alone : (s : OwnState) → s.reserve ≡ no_reserve → ((q : ℕ) → session_named (get s.selectors q) ≡ None) → (ram_limits s ≡ s.account.ram_limit) × (caps_limits s ≡ s.account.caps_limit)
-account_alone s empty none =
+-- without a session the limits are the account's and the reserve's
+account_alone : (s : OwnState) → ((q : ℕ) → session_named (get s.selectors q) ≡ None) → (ram_limits s ≡ s.account.ram_limit + s.reserve.ram) × (caps_limits s ≡ s.account.caps_limit + s.reserve.caps)
+account_alone s none =
     let ram = total_same ram_with (λ _. 0) s.selectors (λ k o there. (no_limits o (ap session_named (sym there) ∙ none k)).0) ∙ total-zero s.selectors in
     let caps = total_same caps_with (λ _. 0) s.selectors (λ k o there. (no_limits o (ap session_named (sym there) ∙ none k)).1) ∙ total-zero s.selectors in
-    (omega (arith, ram, ap (λ (r : Amounts). r.ram) empty), omega (arith, caps, ap (λ (r : Amounts). r.caps) empty))
+    (omega (arith, ram), omega (arith, caps))
 
--- a component is gone that had no session and no reserve, and init has its account's limits
+-- a component is gone that had no session, and init has the limits of its account and of its reserve
 pub record IsGoneFrom (i : ℕ) (old new : World) : Type 0 where
   pub none : (q : ℕ) → session_named (get (state_at old.states i).selectors q) ≡ None
-  pub reserve : (state_at old.states i).reserve ≡ no_reserve
-  pub stepped : let account = (state_at old.states i).account in
-      new ≡ record old { init = raised old.init account.ram_limit account.caps_limit; states = set old.states i gone_state }
+  pub stepped : let s = state_at old.states i in new ≡ record old {
+    init = raised old.init (s.account.ram_limit + s.reserve.ram) (s.account.caps_limit + s.reserve.caps);
+    states = set old.states i gone_state;
+  }
 
 -- where its sessions were closed before, the world is that after its exit
 pub gone_world : (i count : ℕ) (old mid new : World) → HasClosedAt i count old mid → IsGoneFrom i mid new → new ≡ with_state old i gone_state
 gone_world i count old mid new before goes =
     let was : OwnState = state_at old.states i in
     let s : OwnState = state_at mid.states i in
-    let alone = account_alone s goes.reserve goes.none in
-    let ram : s.account.ram_limit ≡ ram_limits was = sym alone.0 ∙ before.closed.ram in
-    let caps : s.account.caps_limit ≡ caps_limits was = sym alone.1 ∙ before.closed.caps in
+    let alone = account_alone s goes.none in
+    let ram : s.account.ram_limit + s.reserve.ram ≡ ram_limits was = sym alone.0 ∙ before.closed.ram in
+    let caps : s.account.caps_limit + s.reserve.caps ≡ caps_limits was = sym alone.1 ∙ before.closed.caps in
     goes.stepped
     ∙ (λ j. record mid { init = raised mid.init (ram j) (caps j); states = set mid.states i gone_state })
     ∙ ap (λ (w : World). record w { init = raised w.init (ram_limits was) (caps_limits was); states = set w.states i gone_state }) before.others

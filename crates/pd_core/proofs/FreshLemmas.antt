@@ -7,6 +7,7 @@ use Rattle.std.specs.List.{All, enumerate_from}
 use Rattle.std.specs.FinMap as finmap
 use Rattle.std.specs.FinMap.{get, empty, len}
 use Rattle.std.proofs.lemmas.List.Elements.{All-head, All-tail}
+use Rattle.own_model.specs.Amounts.{Amounts}
 use Rattle.own_model.specs.Reserve.{no_reserve}
 use Rattle.own_model.specs.NatMap.{NatMap, picked, total}
 use Rattle.own_model.specs.Account.{Account, opened}
@@ -50,27 +51,27 @@ use Rattle.pd_core.specs.declared.script.Script.{Script}
 use Rattle.sliced_heap.proofs.HeapLaws.{empty_map}
 use Rattle.pd_core.specs.Own.{Sessions, no_sessions, own_of, own_at, part_at, own_heap_at, sliced_at, object_of, regions_of, selector_of, Lent, lent_in, no_lent}
 use Rattle.pd_core.specs.Sound.{session_at, buffer_at, rpc_weight, session_weight, IsLawful, IsSoundScript}
-use Rattle.pd_core.specs.Component.{Pays, entry_of, payer_in, payer_of, caps_in, caps_of, places_in, places_of, rows_in, tables_in, NamesItsSessions, HasPlaces, HasNewHeap, HasNewHeaps, own_in, own, IsSoundServer, IsSoundRole}
+use Rattle.pd_core.specs.Component.{Pays, amounts_in, with_reserve, reserve_in, reserve_of, reserve_held, entry_of, payer_in, payer_of, caps_in, caps_of, places_in, places_of, rows_in, tables_in, NamesItsSessions, HasPlaces, HasNewHeap, HasNewHeaps, own_in, own, IsSoundServer, IsSoundRole}
 use Rattle.pd_core.specs.Core.{Rules, Roles, roles_of, rows_at, sessions_in, world_of, Owner, Owns, IsCore}
-use Rattle.pd_core.specs.Core.Owner.{Init, Place, SessionAt}
+use Rattle.pd_core.specs.Core.Owner.{Init, Place, ReserveAt, SessionAt}
 use Rattle.pd_core.proofs.NameLemmas.{cap_named}
 use Rattle.pd_core.proofs.ComponentLemmas.{pays_is}
 use Rattle.pd_core.proofs.HeldLemmas.{names_none}
 use Rattle.pd_core.proofs.WorldLemmas.{all_roles, place_of, role_at, one_of}
 use Rattle.std.proofs.lemmas.Bool.{cases_lt}
-use Rattle.pd_core.specs.Fresh.{account_at, start_of, opened_part, started_world, AreEmpty, HasNoSessions, IsNewServer, IsFresh, AreFresh}
+use Rattle.pd_core.specs.Fresh.{Has, IsFreshReserve, reserve_at, account_at, start_of, opened_part, started_world, AreEmpty, HasNoSessions, IsNewServer, IsFresh, AreFresh}
 
--- a start with this budget
-abbrev budget : ℕ → ℕ → StartEntry
-budget ram caps = record { entry = nobody; ram = ram; caps = caps }
+-- a start with these limits and this reserve
+abbrev beginning : ℕ → ℕ → Amounts → StartEntry
+beginning ram caps reserve = record { entry = nobody; ram = ram; caps = caps; reserve = reserve }
 
 -- who has nothing has the own state of a start
-own_opened : (L : Lent) (sessions : Sessions) (ram caps : ℕ) → own_of L sessions (opened_part ram caps) empty empty no_heap empty ≡ start_state (budget ram caps)
+own_opened : (L : Lent) (sessions : Sessions) (ram caps : ℕ) → own_of L sessions (opened_part ram caps) empty empty no_heap empty ≡ start_state (beginning ram caps no_reserve)
 unfolding own_of regions_of
 own_opened L sessions ram caps =
     let selectors = picked-empty (object_of L sessions (opened_part ram caps)) in
     let regions = picked-empty (λ (region : Region). option_map (λ (other : ℕ). record region { of = other }) (selector_of empty region.of)) in
-    λ j. record { account = (start_state (budget ram caps)).account; reserve = no_reserve; selectors = selectors j; regions = regions j; heap = no_heap; sliced = empty; gone = (start_state (budget ram caps)).gone }
+    λ j. record { account = (start_state (beginning ram caps no_reserve)).account; reserve = no_reserve; selectors = selectors j; regions = regions j; heap = no_heap; sliced = empty; gone = (start_state (beginning ram caps no_reserve)).gone }
 
 -- where no block is, no payload stands
 no_payloads : (share : Share) → HasNoBlocks share → sliced_of share ≡ empty
@@ -84,7 +85,7 @@ no_payloads share none =
 
 module _ (store : Store) (ram caps : ℕ) where
   -- a script before its first call
-  module _ (script : Script) (unused : part_at store script ≡ opened_part ram caps) (fresh : AreEmpty store caps script.caps script.regions)
+  module _ (script : Script) (unused : part_at store script ≡ opened_part ram caps) (more : ℕ) (fresh : AreEmpty store (caps + more) script.caps script.regions)
       (heaps : HasNewHeaps script) where
     -- its account is open
     opens : IsOpenIn store script.account.0
@@ -106,7 +107,7 @@ module _ (store : Store) (ram caps : ℕ) where
     no_blocks = no_payloads (share_at script.account.0 store script.regions) (maps.1 script.account.0)
 
     -- the own state is that of a start
-    script_unused : (sessions : Sessions) → own_at sessions store script ≡ start_state (budget ram caps)
+    script_unused : (sessions : Sessions) → own_at sessions store script ≡ start_state (beginning ram caps no_reserve)
     script_unused sessions =
         (λ i. own_of (lent_in store) sessions (unused i) (fresh.no_caps i) (fresh.no_regions i) (no_heap_yet i) (no_blocks i)) ∙ own_opened (lent_in store) sessions ram caps
 
@@ -142,7 +143,7 @@ module _ (store : Store) (ram caps : ℕ) where
               unnamed = λ start q region ds there names. absurd (none_in_empty _ fresh.no_heap start region there);
             };
             lawful = λ open_sessions ready. subst IsLawful (sym (script_unused open_sessions))
-                (record { sound = start_sound (budget ram caps); uses = start_uses (budget ram caps); within = record { ram = omega arith; caps = omega arith } });
+                (record { sound = start_sound (beginning ram caps no_reserve); uses = start_uses (beginning ram caps no_reserve); within = record { ram = omega arith; caps = omega arith } });
           };
           lent = λ s q key names. absurd (none-some (q, key) (sym (ap (λ (m : NatMap Cap). buffer_at (get m s)) fresh.no_caps ∙ ap buffer_at (get-empty s)) ∙ names));
           heaps = record {
@@ -157,13 +158,13 @@ module _ (store : Store) (ram caps : ℕ) where
   -- the same of a role
   record RoleIsFresh (role : Role) : Type 0 where
     sound : IsSoundRole store role
-    state : (sessions : Sessions) → own_in sessions store role ≡ start_state (budget ram caps)
+    state : (sessions : Sessions) → own_in sessions store role ≡ start_state (beginning ram caps (reserve_held store role))
     no_caps : caps_in role ≡ empty
     no_rows : rows_in store role ≡ empty
-    places : IfSome (places_in role) (λ places. caps ≤ places)
+    places : IfSome (places_in role) (λ places. caps + (reserve_held store role).caps ≤ places)
 
   -- a server's account is all that it has
-  server_state : (account : AccountId) → part account.0 store ≡ opened_part ram caps → own_of no_lent no_sessions (part account.0 store) empty empty no_heap empty ≡ start_state (budget ram caps)
+  server_state : (account : AccountId) → part account.0 store ≡ opened_part ram caps → own_of no_lent no_sessions (part account.0 store) empty empty no_heap empty ≡ start_state (beginning ram caps no_reserve)
   server_state account unused = ap (λ p. own_of no_lent no_sessions p empty empty no_heap empty) unused ∙ own_opened no_lent no_sessions ram caps
 
   -- and it is sound where it has no sessions
@@ -175,10 +176,17 @@ module _ (store : Store) (ram caps : ℕ) where
     places = new.places;
   }
 
-  role_fresh : (role : Role) → part (payer_in role) store ≡ opened_part ram caps → IfSome (tables_in role) (λ tables. AreEmpty store caps tables.0 tables.1) → HasNewHeap role → IsNewServer store role →
+  role_fresh : (role : Role) → part (payer_in role) store ≡ opened_part ram caps → IfSome (tables_in role) (λ tables. AreEmpty store (caps + (reserve_held store role).caps) tables.0 tables.1) → HasNewHeap role → IsNewServer store role →
       RoleIsFresh role
   role_fresh (AScript script) unused fresh heap new =
-      record { sound = script_sound script unused fresh heap; state = script_unused script unused fresh heap; no_caps = fresh.no_caps; no_rows = refl; places = fresh.places }
+      let has = amounts_in (part script.reserve.0 store) in
+      record {
+        sound = script_sound script unused has.caps fresh heap;
+        state = λ sessions. ap (with_reserve has) (script_unused script unused has.caps fresh heap sessions);
+        no_caps = fresh.no_caps;
+        no_rows = refl;
+        places = fresh.places;
+      }
   role_fresh (ALog account server) unused fresh heap new = record {
     sound = server_sound IsLogKept account.0 server.sessions server.map unused new;
     state = λ sessions. server_state account unused;
@@ -212,7 +220,7 @@ module _ (store : Store) (component : Component) (fresh : IsFresh store componen
   -- there is a place for each capability of its budget
   fresh_places : (sessions : Sessions) → HasPlaces sessions store component.role
   fresh_places sessions =
-      let all : caps_limits (own sessions store component) ≡ (account_at store component).caps_limit = omega (arith, ap caps_limits (fresh_state [] sessions), total-empty caps_with) in
+      let all : caps_limits (own sessions store component) ≡ (account_at store component).caps_limit + (reserve_at store component).caps = omega (arith, ap caps_limits (fresh_state [] sessions), total-empty caps_with) in
       subst (λ n. IfSome (places_of component) (λ places. n ≤ places)) (sym all) role.places
 
 -- the entries are those of the starts
@@ -252,10 +260,31 @@ module _ (store : Store) (components : List Component) (fresh : AreFresh store c
       let within = place_of components k (λ none. subst (λ r. Pays r account) none pays) in
       (within, λ d. pays_is (get_or components k d).role account (subst (λ r. Pays r account) (role_at components k d within) pays))
 
-  differs : (j k account : ℕ) → j < k → Pays (roles j) account → Pays (roles k) account → ⊥
-  differs j k account before one two =
-      let d = one_of components k (payer_at k account two).0 in
-      fresh.apart j k d before (payer_at k account two).0 ((payer_at j account one).1 d ∙ sym ((payer_at k account two).1 d))
+  -- so does who has a reserve
+  reserve_where : (k account : ℕ) → reserve_in (roles k) ≡ Some account → (k < length components) × ((d : Component) → reserve_of (get_or components k d) ≡ Some account)
+  reserve_where k account is =
+      let within = place_of components k (λ none. none-some account (ap reserve_in (sym none) ∙ is)) in
+      (within, λ d. ap reserve_in (sym (role_at components k d within)) ∙ is)
+
+  -- an account of a place is its component's own or that of its reserve
+  abbrev HasAt : ℕ → ℕ → Type 0
+  HasAt k account = (k < length components) × ((d : Component) → Has (get_or components k d) account)
+
+  pays_at : (k account : ℕ) → Pays (roles k) account → HasAt k account
+  pays_at k account pays = let at = payer_at k account pays in (at.0, λ d. inl (at.1 d))
+
+  keeps_at : (k account : ℕ) → reserve_in (roles k) ≡ Some account → HasAt k account
+  keeps_at k account is = let at = reserve_where k account is in (at.0, λ d. inr (at.1 d))
+
+  -- no two places share one
+  same_where : (j k account : ℕ) → HasAt j account → HasAt k account → j ≡ k
+  same_where j k account one two = elim (cases_lt j k) [
+    | inl before ↦ let d = one_of components k two.0 in absurd (fresh.apart j k d before two.0 account (one.1 d) (two.1 d))
+    | inr after ↦ elim (cases_lt k j) [
+      | inl before ↦ let d = one_of components j one.0 in absurd (fresh.apart k j d before one.0 account (two.1 d) (one.1 d))
+      | inr same ↦ omega (arith, after, same)
+    ]
+  ]
 
   no_init : (k account : ℕ) → root_in store ≡ account → Pays (roles k) account → ⊥
   no_init k account root pays =
@@ -263,17 +292,38 @@ module _ (store : Store) (components : List Component) (fresh : AreFresh store c
       let d = one_of components k at.0 in
       (fresh.each k d at.0).not_init (at.1 d ∙ sym root)
 
+  -- a reserve is fresh
+  reserve_fresh : (k account : ℕ) → reserve_in (roles k) ≡ Some account → (payer : ℕ) × (((d : Component) → payer_of (get_or components k d) ≡ payer) × IsFreshReserve store payer account)
+  reserve_fresh k account is =
+      let at = reserve_where k account is in
+      let d = one_of components k at.0 in (
+        payer_in (roles k),
+        (
+          (λ e. ap payer_in (sym (role_at components k e at.0))),
+          subst (λ n. IsFreshReserve store n account) (ap payer_in (sym (role_at components k d at.0)))
+              (subst (λ o. IfSome o (λ reserve. IsFreshReserve store (payer_of (get_or components k d)) reserve)) (at.1 d) (fresh.each k d at.0).reserve),
+        ),
+      )
+
+  -- no reserve is a component's own account
+  not_both : (j k account : ℕ) → Pays (roles j) account → reserve_in (roles k) ≡ Some account → ⊥
+  not_both j k account pays is =
+      let same = same_where j k account (pays_at j account pays) (keeps_at k account is) in
+      let its = reserve_fresh k account is in
+      let at = payer_at k account (subst (λ n. Pays (roles n) account) same pays) in
+      let d = one_of components k at.0 in
+      its.1.1.apart (sym (at.1 d) ∙ its.1.0 d)
+
   apart : (one other : Owner) (account : ℕ) → Owns store roles one account → Owns store roles other account → one ≡ other
   apart Init Init account first second = refl
   apart Init (Place k) account first second = absurd (no_init k account first second)
   apart (Place j) Init account first second = absurd (no_init j account second first)
-  apart (Place j) (Place k) account first second = elim (cases_lt j k) [
-    | inl before ↦ absurd (differs j k account before first second)
-    | inr after ↦ elim (cases_lt k j) [
-      | inl before ↦ absurd (differs k j account before second first)
-      | inr same ↦ ap Place (omega (arith, after, same))
-    ]
-  ]
+  apart (Place j) (Place k) account first second = ap Place (same_where j k account (pays_at j account first) (pays_at k account second))
+  apart (ReserveAt j) (ReserveAt k) account first second = ap ReserveAt (same_where j k account (keeps_at j account first) (keeps_at k account second))
+  apart (Place j) (ReserveAt k) account first second = absurd (not_both j k account first second)
+  apart (ReserveAt j) (Place k) account first second = absurd (not_both k j account second first)
+  apart Init (ReserveAt k) account first second = absurd ((reserve_fresh k account second).1.1.not_init (sym first))
+  apart (ReserveAt k) Init account first second = absurd ((reserve_fresh k account first).1.1.not_init (sym second))
   apart (SessionAt server id) other account first second = absurd (none-some account (sym (ap (option_map (λ (r : Row Labelled). r.key)) (none_open server id)) ∙ first))
   apart one (SessionAt server id) account first second = absurd (none-some account (sym (ap (option_map (λ (r : Row Labelled). r.key)) (none_open server id)) ∙ second))
 
@@ -286,6 +336,7 @@ module _ (store : Store) (components : List Component) (fresh : AreFresh store c
         let at = payer_at k account pays in
         let d = one_of components k at.0 in
         subst (λ n. IsChildIn store n (root_in store)) (at.1 d) (fresh.each k d at.0).child;
+    reserved = λ k account is. (reserve_fresh k account is).1.1.is_reserve;
     apart = apart;
     clients = λ server id row there. no_row server id row there;
     named = all_roles (λ _ r. NamesItsSessions (rows_at store roles) r) components

@@ -3,21 +3,22 @@ use Rattle.std.proofs.Common.{◌≡◌, ◌≢◌, ℕ, Some, is_some, refl, sy
 use Rattle.std.proofs.lemmas.Option.{none-some, same_Some}
 use Rattle.std.specs.FinMap.{get, empty}
 use Rattle.std.specs.Option.{option_map}
-use Rattle.std.specs.Prelude.{Option, None}
+use Rattle.std.specs.Prelude.{Option, None, IfSome}
 use Rattle.own_model.specs.NatMap.{NatMap}
 use Rattle.own_model.specs.Session.{Labelled}
 use Rattle.own_model.proofs.NatMapLemmas.{get-empty}
 use Rattle.cap_space.specs.declared.cap.Cap.{Cap}
-use Rattle.dataspace_core.specs.Store.{Store, part, space_at, root_in, IsOpenIn, IsChildIn}
+use Rattle.dataspace_core.specs.Store.{Store, Part, part, space_at, root_in, IsOpenIn, IsChildIn}
 use Rattle.dataspace_core.proofs.PartLaws.{open_in_part, paid_in_part}
 use Rattle.server_frame.specs.Frame.{Row}
-use Rattle.pd_core.specs.Component.{Pays, caps_in, lent_of, lent_by, NamesItsSessions}
+use Rattle.pd_core.specs.Component.{Pays, HasReserveApart, reserve_in, caps_in, lent_of, lent_by, NamesItsSessions}
 use Rattle.pd_core.specs.Core.{Roles, rows_at, sessions_in, Owner, Owns, NamesAccount, IsSoundCore}
-use Rattle.pd_core.specs.Core.Owner.{Init, Place, SessionAt}
+use Rattle.pd_core.specs.Core.Owner.{Init, Place, ReserveAt, SessionAt}
 use Rattle.pd_core.specs.Own.{HasSessions}
 use Rattle.pd_core.specs.Sessions.{row_session}
 use Rattle.pd_core.specs.Sound.{session_at, buffer_at}
 use Rattle.pd_core.specs.declared.component.Role.{Role}
+use Rattle.pd_core.specs.declared.component.Role.TheVariants.{Script, Log, Files, Gone}
 use Rattle.trade_base.specs.declared.id.SessionId.{SessionId}
 use Rattle.pd_core.proofs.ComponentLemmas.{account_open}
 use Rattle.pd_core.proofs.ServerLemmas.{IsPaidRow, paid_in, lent_paid, sound_works}
@@ -39,6 +40,18 @@ no_place k server id e = cc
 
 pub same_session : (a b c d : ℕ) → SessionAt a b ≡ SessionAt c d → (a ≡ c) × (b ≡ d)
 same_session a b c d e = (cc, cc)
+
+pub same_reserve : (j k : ℕ) → ReserveAt j ≡ ReserveAt k → j ≡ k
+same_reserve j k e = cc
+
+pub no_reserve_init : (k : ℕ) → Init ≢ ReserveAt k
+no_reserve_init k e = cc
+
+pub no_reserve_place : (j k : ℕ) → Place j ≢ ReserveAt k
+no_reserve_place j k e = cc
+
+pub no_reserve_session : (server id k : ℕ) → SessionAt server id ≢ ReserveAt k
+no_reserve_session server id k e = cc
 
 -- ---- a role without a capability
 
@@ -72,6 +85,7 @@ module _ {store : Store} {roles : Roles} (core : IsSoundCore store roles) where
   pub owned_open : (owner : Owner) (account : ℕ) → Owns store roles owner account → IsOpenIn store account
   owned_open Init account owns = subst (IsOpenIn store) owns core.init
   owned_open (Place k) account owns = open_in_part account store (account_open store (roles k) (core.sound k) account owns)
+  owned_open (ReserveAt k) account owns = open_in_part account store (ap (λ (p : Part). is_some p.account) (core.reserved k account owns).unused)
   owned_open (SessionAt server id) account owns = row_open server id account (get (rows_at store roles server) id) refl owns
 
   -- the session that lends a component a dataspace, and its account, which pays for that
@@ -132,6 +146,23 @@ module _ {store : Store} {roles : Roles} (core : IsSoundCore store roles) where
         let names = held.1 in
         let its = client_pays k child account names in
         subst (λ n. NamesAccount (rows_at store roles) (roles n) child account) (same_place k i (core.apart (Place k) (Place i) account its pays)) names
+
+  -- a role's reserve is another account than its own
+  pub reserve_apart : (k : ℕ) → HasReserveApart (roles k)
+  reserve_apart k = by_role (roles k) refl where
+    by_role : (r : Role) → roles k ≡ r → HasReserveApart r
+    by_role (Script script) is = λ e.
+        no_reserve_place k k (core.apart (Place k) (ReserveAt k) script.reserve.0 (subst (λ r. Pays r script.reserve.0) (sym is) (sym e)) (ap reserve_in is))
+    by_role (Log account server) is = tt
+    by_role (Files account server) is = tt
+    by_role Gone is = tt
+
+  -- it is open
+  pub reserve_open : (k : ℕ) → IfSome (reserve_in (roles k)) (IsOpenIn store)
+  reserve_open k = elim (reserve_in (roles k)) as (λ o. reserve_in (roles k) ≡ o → IfSome o (IsOpenIn store)) [
+    | None ↦ λ _. tt
+    | Some account ↦ λ is. owned_open (ReserveAt k) account is
+  ] refl
 
   -- each session that a selector names is open
   pub names_open : (i : ℕ) → HasSessions (sessions_in store roles) (caps_in (roles i))

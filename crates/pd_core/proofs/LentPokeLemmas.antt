@@ -146,6 +146,7 @@ module _ (store : Store) (script : Script) (sound : IsSoundScript store script) 
     keeps = record {
       sound = sound_after;
       account = refl;
+      reserve = refl;
       ram_limit = ap (λ q. (account_of q).ram_limit) own_part;
       caps_limit = ap (λ q. (account_of q).caps_limit) own_part;
       places = refl;

@@ -17,6 +17,10 @@ pub mod ChangeLemmas
 pub mod RoleLemmas
 pub mod WorldLemmas
 pub mod PlainLemmas
+pub mod AsideLemmas
+pub mod CostLemmas
+pub mod ShiftLemmas
+pub mod ReserveCallLemmas
 pub mod SessionChangeLemmas
 pub mod ClientServerLemmas
 pub mod SessionRefusedLemmas

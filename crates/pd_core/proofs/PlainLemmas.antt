@@ -10,12 +10,12 @@ use Rattle.own_model.specs.NatMap.{NatMap}
 use Rattle.own_model.specs.OwnStep.{own_step}
 use Rattle.own_model.specs.Routes.{Rule}
 use Rattle.own_model.specs.Session.{Labelled}
-use Rattle.dataspace_core.specs.Store.{Store, Part, part, root_in}
+use Rattle.dataspace_core.specs.Store.{Store, Part, part, account_of, opened_part, root_in}
 use Rattle.dataspace_core.proofs.PartLaws.{open_in_part, part_open}
 use Rattle.server_frame.specs.Frame.{Row}
 use Rattle.server_frame.specs.Told.{Told as Written}
 use Rattle.pd_core.specs.Answer.{Told, told, told_of}
-use Rattle.pd_core.specs.Component.{Pays, entry_of, payer_of, service_of, caps_in, places_in, rows_in, own_in, own, lent_by, NamesItsSessions, IsSoundRole, IsSound, Keeps}
+use Rattle.pd_core.specs.Component.{Pays, IsReserve, reserve_in, entry_of, payer_of, service_of, caps_in, places_in, rows_in, own_in, own, lent_by, NamesItsSessions, IsSoundRole, IsSound, Keeps}
 use Rattle.pd_core.specs.Core.{Rules, Roles, roles_of, rows_at, sessions_in, Owns, NamesAccount, IsCore}
 use Rattle.pd_core.specs.Core.Owner.{Place}
 use Rattle.pd_core.specs.Exit.{refusal_of, IsScriptRole}
@@ -140,6 +140,18 @@ module _ (store : Store) (components : List Component) (i : ℕ) (d : Component)
             its = names.its;
           }
 
+      -- its reserve is what it was
+      has_reserve : (account : ℕ) → reserve_in (roles' i) ≡ Some account → reserve_in (roles i) ≡ Some account
+      has_reserve account is = ap reserve_in is_caller ∙ sym keeps.reserve ∙ ap reserve_in (sym is_after) ∙ is
+
+      reserve_rests : (account : ℕ) → reserve_in (roles i) ≡ Some account → IsReserve store' account
+      reserve_rests account is =
+          let before = core.reserved i account is in
+          record {
+            child = ap (λ (m : NatMap ℕ). get m account) keeps.parents ∙ before.child ∙ ap Some (sym keeps.root);
+            unused = subst (λ p. p ≡ opened_part (account_of p).ram_limit (account_of p).caps_limit) (sym (rest.reserve account is)) before.unused;
+          }
+
       module _ (call : Call) (on : is_exit call ≡ false) (rules : Rules)
           (next : own (sessions_in store' roles') store' after ≡ (own_step (entry_of (rules i) caller) call (own S store caller)).next) where
         own_next : own_in (sessions_in store' roles') store' (roles' i) ≡ (own_step (entry_of (rules i) caller) call (own_in S store (roles i))).next
@@ -151,6 +163,8 @@ module _ (store : Store) (components : List Component) (i : ℕ) (d : Component)
               (rest.follows k other);
           sound = subst (IsSoundRole store') (sym is_after) keeps.sound;
           pays = λ account its. subst (λ r. Pays r account) (sym is_caller) (keeps.pays account (subst (λ r. Pays r account) is_after its));
+          reserve = λ account is. has_reserve account is;
+          reserved = λ account is. reserve_rests account (has_reserve account is);
           rows = λ server id _. ap (λ (m : NatMap (Row Labelled)). get m id) (same_rows server);
           row = inl (ap (λ (m : NatMap (Row Labelled)). get m 0) (same_rows 0));
           named = named;

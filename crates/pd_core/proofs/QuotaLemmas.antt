@@ -1,5 +1,5 @@
 -- The accounts of components and of their sessions, as own states tell them.
-use Rattle.std.proofs.Common.{◌≡◌, ℕ, ◌<◌, ◌≤◌, List, Some, IsSome, is_some, length, get_or, refl, sym, ap, subst, ◌∙◌, arith, true≢false}
+use Rattle.std.proofs.Common.{◌≡◌, ◌≢◌, ℕ, ◌<◌, ◌≤◌, List, Some, IsSome, is_some, length, get_or, refl, sym, ap, subst, ◌∙◌, arith, true≢false}
 use Rattle.std.proofs.lemmas.List.{get_or-map}
 use Rattle.std.specs.Prelude.{Option, None, IfSome, Result, Ok, Err}
 use Rattle.std.specs.Option.{option_map, option_and_then, ok_or}
@@ -12,6 +12,7 @@ use Rattle.own_model.specs.NatMap.{NatMap, picked}
 use Rattle.own_model.specs.OwnState.{OwnState, session_named}
 use Rattle.own_model.specs.OwnState.Object.{OpenSession}
 use Rattle.own_model.specs.Reserve.{no_reserve}
+use Rattle.pd_core.specs.declared.script.Script.{Script}
 use Rattle.own_model.specs.Session.{Session as AnOpenSession, Labelled}
 use Rattle.own_model.specs.Transcript.{nothing, state_at}
 use Rattle.own_model.proofs.NatMapLemmas.{get-empty, get-picked, get-picked_none}
@@ -55,13 +56,13 @@ pub account_of_known : (sessions : Sessions) (store : Store) (role known : Role)
 account_of_known sessions store role known account is pays =
     sym (account_of_role sessions store known account pays) ∙ ap (λ r. (own_in sessions store r).account) (sym is)
 
--- no role has anything in reserve
-pub no_reserve_of_role : (sessions : Sessions) (store : Store) (role : Role) → no_reserve ≡ (own_in sessions store role).reserve
+-- who is no script has nothing in reserve
+pub none_in_reserve : (sessions : Sessions) (store : Store) (role : Role) → ((script : Script) → role ≢ AScript script) → no_reserve ≡ (own_in sessions store role).reserve
 unfolding own_of
-no_reserve_of_role sessions store (AScript script) = refl
-no_reserve_of_role sessions store (ALog account server) = refl
-no_reserve_of_role sessions store (AFiles account server) = refl
-no_reserve_of_role sessions store AGone = refl
+none_in_reserve sessions store (AScript script) other = absurd (other script refl)
+none_in_reserve sessions store (ALog account server) other = refl
+none_in_reserve sessions store (AFiles account server) other = refl
+none_in_reserve sessions store AGone other = refl
 
 -- a component's own state is the one at its place of the world
 own_at_place : (rules : Rules) (store : Store) (components : List Component) (i : ℕ) (d : Component) → i < length components →

@@ -27,11 +27,11 @@ use Rattle.pd_core.specs.Own.{Sessions, no_sessions, object_of, regions_of, own_
 use Rattle.pd_core.specs.declared.script.Script.{Script}
 use Rattle.pd_core.specs.Sessions.{log_value, log_buffer, IsLogKept, files_value, files_buffer, IsFilesKept}
 use Rattle.pd_core.specs.Sound.{session_at, buffer_at, IsSoundScript}
-use Rattle.pd_core.specs.Component.{Pays, caps_in, rows_in, own_in, IsSoundServer, IsSoundRole}
+use Rattle.pd_core.specs.Component.{Pays, amounts_in, with_reserve, reserve_in, caps_in, rows_in, own_in, IsSoundServer, IsSoundRole}
 use Rattle.pd_core.specs.declared.component.Role.{Role}
 use Rattle.pd_core.specs.declared.component.Role.TheVariants.{Script as AScript, Log as ALog, Files as AFiles, Gone as AGone}
 use Rattle.pd_core.specs.Core.{Roles, rows_at, Owner, Owns, IsSoundCore}
-use Rattle.pd_core.specs.Core.Owner.{Place, SessionAt}
+use Rattle.pd_core.specs.Core.Owner.{Place, ReserveAt, SessionAt}
 use Rattle.pd_core.proofs.ChangeLemmas.{AgreeOn, Follows}
 use Rattle.pd_core.proofs.HeldLemmas.{lender}
 use Rattle.pd_core.proofs.ScriptLemmas.{Stays as StaysScript, stays_elsewhere}
@@ -126,14 +126,19 @@ module _ (store store' : Store) (Beside : ℕ → Type 0) (stays : (regions : Re
   server_own regions account apart = ap (λ p. own_of no_lent no_sessions p empty empty no_heap empty) (stays regions account apart).own
 
   -- and with the own state that it had, where the sessions that it names are the same
-  pub own_stays : (S S' : Sessions) (role : Role) → IsSoundRole store role → ((account : ℕ) → Pays role account → Beside account) → AreLentBeside role →
+  pub own_stays : (S S' : Sessions) (role : Role) → IsSoundRole store role → ((account : ℕ) → Pays role account → Beside account) → ((account : ℕ) → reserve_in role ≡ Some account → Beside account) → AreLentBeside role →
       AgreeOn (caps_in role) S S' → own_in S' store' role ≡ own_in S store role
-  own_stays S S' (AScript script) sound apart lent agrees =
-      own_alike S S' script (λ q server session is. agrees q server session (ap session_at is)) store'
-      ∙ (script_stays script sound (apart _ refl) lent).own S
-  own_stays S S' (ALog account server) sound apart lent agrees = server_own server.map account.0 (apart _ refl)
-  own_stays S S' (AFiles account server) sound apart lent agrees = server_own server.map account.0 (apart _ refl)
-  own_stays S S' AGone sound apart lent agrees = refl
+  own_stays S S' (AScript script) sound apart kept lent agrees =
+      let same : own_at S' store' script ≡ own_at S store script = own_alike S S' script (λ q server session is. agrees q server session (ap session_at is)) store'
+      ∙ (script_stays script sound (apart _ refl) lent).own S in
+      λ j. with_reserve (amounts_in ((stays script.regions script.reserve.0 (kept _ refl)).own j)) (same j)
+  own_stays S S' (ALog account server) sound apart kept lent agrees = server_own server.map account.0 (apart _ refl)
+  own_stays S S' (AFiles account server) sound apart kept lent agrees = server_own server.map account.0 (apart _ refl)
+  own_stays S S' AGone sound apart kept lent agrees = refl
+
+-- a map without a region, since what stays does so whatever the map is
+no_regions : Regions
+no_regions = record { user = empty; most = 0; heap = empty; tags = empty; heap_most = 0; pages = 0 }
 
 -- ---- the roles of a core
 
@@ -158,19 +163,22 @@ module _ {store store' : Store} {roles : Roles} {Touched : Owner → Type 0} (le
   pub rows_left : rows_in store' (roles k) ≡ rows_in store (roles k)
   rows_left = rows_stay store store' IsBeside stays_beside leaves.ram leaves.caps (roles k) rows_beside
 
-  -- and is what it was, where none of its sessions is touched
-  pub role_left : IsSoundCore store roles → (Touched (Place k) → ⊥) →
+  -- and is what it was, where none of its sessions is touched, nor its reserve
+  pub role_left : IsSoundCore store roles → (Touched (Place k) → ⊥) → (Touched (ReserveAt k) → ⊥) →
       ((server id : ℕ) (row : Row Labelled) → get (rows_at store roles server) id ≡ Some row → Pays (roles k) row.client → Touched (SessionAt server id) → ⊥) → Follows store (roles k) store' (roles k)
-  role_left core other others =
+  role_left core other kept others =
       let its : (account : ℕ) → Pays (roles k) account → IsBeside account = λ account pays. (Place k, (other, pays)) in
+      let reserve : (account : ℕ) → reserve_in (roles k) ≡ Some account → IsBeside account = λ account is. (ReserveAt k, (kept, is)) in
       let lent : AreLentBeside store store' IsBeside stays_beside leaves.ram leaves.caps (roles k) = λ s q key names.
       let by = lender core k s q key names in
       (SessionAt by.server by.id, (others by.server by.id by.row by.there by.its, by.owns)) in
       record {
         sound = role_sound store store' IsBeside stays_beside leaves.ram leaves.caps (roles k) (core.sound k) its rows_beside lent;
-        own = λ S S'. own_stays store store' IsBeside stays_beside leaves.ram leaves.caps S S' (roles k) (core.sound k) its lent;
+        own = λ S S'. own_stays store store' IsBeside stays_beside leaves.ram leaves.caps S S' (roles k) (core.sound k) its reserve lent;
         caps = refl;
         places = refl;
         pays = λ account pays. pays;
         paid = λ account pays. pays;
+        reserve = refl;
+        reserved = λ account is. let same = stays_beside no_regions account (reserve account is) in record { own = same.own; parent = same.parent };
       }

@@ -86,7 +86,7 @@ module _ {rules : Rules} {leads : Leads} {store : Store} {components : List Comp
       Goes rules (Open service text) i (told_alone (reply_text (Refused refusal))) store components store components
   unfolding own_of
   led_refused refusal is =
-      let before = own_at S store script in
+      let before = own_in S store (AScript script) in
       refused_goes rules components i d (Open service text) refusal core here
       (subst (λ r. own_step (entry_of (rules i) (get_or components i d)) (Open service text) (own_in S store r) ≡ refused (own_in S store r) refusal) (sym is_script)
       (is_step (entry_of (rules i) (get_or components i d)) (Open service text) before (ap kind_of is_script) refl
@@ -165,6 +165,6 @@ module _ {rules : Rules} {leads : Leads} {store : Store} {components : List Comp
           ∙ (λ j. record { name = name; kind = kind_of (sym same_role j); service = served_by (sym same_role j) }))
           ∙ face_set components s host' e (face_is (get_or components s e) host' stays.entry stays.service) in
           let ready : HasSessions S script.caps.caps = subst (λ r. HasSessions S (caps_in r)) led_two.is_script (all_open core i) in
-          step_goes components after led_two d host_is replaced faces alone changes stays rules (Open service text) refl (Selected selector.0) [] (told_alone (reply_text (Selected selector.0))) refl refl
+          step_goes components after led_two d host_is replaced faces alone changes stays rules (Open service text) refl refl (Selected selector.0) [] (told_alone (reply_text (Selected selector.0))) refl refl
           (for_it.does (entry_of (rules i) (get_or components i d)) S (sessions_in store' (roles_of after)) service text wished ready asks refl refl
           (sessions_agree led_two host_is replaced alone changes stays) (ap (option_map row_session) (now_there led_two host_is replaced alone changes stays)))

@@ -150,6 +150,7 @@ module _ (store : Store) (script : Script) (sound : IsSoundScript store script) 
             };
           };
           account = refl;
+          reserve = refl;
           ram_limit = made.leaves.ram_limit;
           caps_limit = made.leaves.caps_limit;
           places = made.leaves.places;

@@ -177,7 +177,7 @@ module _ {store : Store} (components : List Component) {i s : ℕ} {script : Scr
       session_goes components components' two d host_is replaced faces (row_alone two q session names)
       (changes_written two q session names store' keeps has turns.tables.after refl refl serves.sessions
       (serve_moves two q session names store' serves paid.opens (ap (λ (a : Account). a.caps_limit) paid.account ∙ limit)) done.sound stays.machine) stays
-      rules (CallSession q request) refl (AnswerTold (completed (option_map (named_at (lent_in store) k) its_row.buffer) (option_map (lent_in store') serves.lent) k o.reply)) o.lines told text lines done.does
+      rules (CallSession q request) refl refl (AnswerTold (completed (option_map (named_at (lent_in store) k) its_row.buffer) (option_map (lent_in store') serves.lent) k o.reply)) o.lines told text lines done.does
 
   -- the server's face stays
   host_face : face_of host' ≡ face_of host

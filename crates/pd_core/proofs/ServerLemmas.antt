@@ -29,7 +29,7 @@ use Rattle.log_service.specs.Session.{LabelledLine}
 use Rattle.file_service.specs.Aside.{lends_aside}
 use Rattle.file_service.specs.declared.service.FileService.{FileService}
 use Rattle.file_service.specs.declared.session.FileSession.{FileSession}
-use Rattle.pd_core.specs.Component.{payer_in, caps_in, places_in, rows_in, capacity_in, served_by, own_in, HasPlace, HasSession, Works, IsSoundRole}
+use Rattle.pd_core.specs.Component.{payer_in, reserve_in, caps_in, places_in, rows_in, capacity_in, served_by, own_in, HasPlace, HasSession, Works, IsSoundRole}
 use Rattle.pd_core.specs.Own.{Sessions, no_sessions, own_of, no_lent}
 use Rattle.pd_core.specs.Sessions.{log_value, log_buffer, IsLogKept, files_value, files_buffer, IsFilesKept}
 use Rattle.pd_core.specs.declared.component.Role.{Role}
@@ -103,6 +103,12 @@ caps_of_server (AScript script) serving = absurd (cc)
 caps_of_server (ALog account server) serving = refl
 caps_of_server (AFiles account server) serving = refl
 caps_of_server AGone serving = absurd (cc)
+
+pub reserve_of_server : (role : Role) → IsSome (served_by role) → reserve_in role ≡ None
+reserve_of_server (AScript script) serving = absurd (cc)
+reserve_of_server (ALog account server) serving = refl
+reserve_of_server (AFiles account server) serving = refl
+reserve_of_server AGone serving = absurd (cc)
 
 pub places_of_server : (role : Role) → IsSome (served_by role) → places_in role ≡ None
 places_of_server (AScript script) serving = absurd (cc)

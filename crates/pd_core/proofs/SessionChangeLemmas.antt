@@ -18,14 +18,14 @@ use Rattle.own_model.proofs.NatMapLemmas.{some_of}
 use Rattle.cap_space.specs.declared.cap.Cap.{Cap}
 use Rattle.dataspace_core.specs.Room.{HasRoom}
 use Rattle.dataspace_core.specs.Share.{share_in}
-use Rattle.dataspace_core.specs.Store.{Store, Part, part, root_in, parents_in, ram_limits_in, caps_limits_in, IsChildIn}
+use Rattle.dataspace_core.specs.Store.{Store, Part, part, account_of, opened_part, root_in, parents_in, ram_limits_in, caps_limits_in, IsChildIn}
 use Rattle.dataspace_core.proofs.PartLaws.{open_in_part, part_open}
 use Rattle.server_frame.specs.Frame.{Row}
 use Rattle.server_frame.specs.Session.{holding}
 use Rattle.server_frame.specs.Told.{Told}
-use Rattle.pd_core.specs.Component.{Pays, caps_in, entry_of, kind_of, payer_in, payer_of, served_by, places_in, rows_in, own_in, lent_of, lent_by, NamesItsSessions, HasPlaces, IsSoundRole, StaysServer}
+use Rattle.pd_core.specs.Component.{Pays, amounts_in, with_reserve, reserve_in, caps_in, entry_of, kind_of, payer_in, payer_of, served_by, places_in, rows_in, own_in, lent_of, lent_by, NamesItsSessions, HasPlaces, IsSoundRole, StaysServer}
 use Rattle.pd_core.specs.Core.{Rules, Roles, roles_of, rows_at, sessions_in, Owner, Owns, NamesAccount, IsSoundCore}
-use Rattle.pd_core.specs.Core.Owner.{Init, Place, SessionAt}
+use Rattle.pd_core.specs.Core.Owner.{Init, Place, ReserveAt, SessionAt}
 use Rattle.pd_core.specs.Own.{Sessions, HasSessions, no_sessions, own_of, own_at, no_lent}
 use Rattle.pd_core.specs.Sessions.{row_session, AgreeBut, IsLentAt, DoesSession}
 use Rattle.pd_core.specs.SessionCalls.{Goes}
@@ -35,12 +35,14 @@ use Rattle.pd_core.specs.declared.component.Component.{Component}
 use Rattle.pd_core.specs.declared.component.Role.{Role}
 use Rattle.pd_core.specs.declared.component.Role.TheVariants.{Script as AScript, Gone}
 use Rattle.pd_core.specs.declared.script.Script.{Script}
+use Rattle.pd_core.specs.Call.{is_of_reserve}
+use Rattle.pd_core.proofs.AsideLemmas.{outcome_with, stands_aside}
 use Rattle.pd_core.proofs.ChangeLemmas.{ChangesCore, Follows}
 use Rattle.pd_core.proofs.ComponentLemmas.{account_open, pays_is, pays_server}
-use Rattle.pd_core.proofs.HeldLemmas.{names_open, same_place, no_place, same_session, not_session, pays_alone, pays_no_init, held_by}
+use Rattle.pd_core.proofs.HeldLemmas.{names_open, same_place, no_place, no_reserve_place, no_reserve_session, same_session, not_session, pays_alone, pays_no_init, held_by}
 use Rattle.pd_core.proofs.NameLemmas.{buffer_key, lent_aside}
 use Rattle.pd_core.proofs.RoleLemmas.{Leaves, role_left, rows_left}
-use Rattle.pd_core.proofs.ServerLemmas.{caps_of_server, places_of_server, own_of_server, enough_places, sound_server}
+use Rattle.pd_core.proofs.ServerLemmas.{caps_of_server, places_of_server, reserve_of_server, own_of_server, enough_places, sound_server}
 use Rattle.pd_core.proofs.SessionOwnLemmas.{is_step}
 use Rattle.pd_core.proofs.WorldLemmas.{SameFaces, goes, places_kept, place_of, role_at, same_init}
 
@@ -76,9 +78,10 @@ pub record IsTied (payer account s q k : ℕ) (session : SessionId) (caps : NatM
   pub key : (r : Row Labelled) → row ≡ Some r → r.key ≡ account
   pub lent : IsLentAt caps q k (lent_of row)
 
--- a script keeps its account, its places and what its selectors have but these two
+-- a script keeps its account, its reserve, its places and what its selectors have but these two
 pub record KeepsBut (before after : Script) (q k : ℕ) : Type 0 where
   pub account : after.account ≡ before.account
+  pub reserve : after.reserve ≡ before.reserve
   pub places : after.caps.places ≡ before.caps.places
   pub caps : (p : ℕ) → p ≢ q → p ≢ k → get after.caps.caps p ≡ get before.caps.caps p
 
@@ -189,6 +192,9 @@ module _ {store : Store} {roles : Roles} {i s : ℕ} {script : Script} (two : Ar
     other_place : (k : ℕ) → k ≢ i → Touched (Place k) → ⊥
     other_place k other touched = elim touched [ inl e ↦ other (same_place k i e) | inr e ↦ no_place k s session.0 (sym e) ]
 
+    other_reserve : (k : ℕ) → Touched (ReserveAt k) → ⊥
+    other_reserve k touched = elim touched [ inl e ↦ no_reserve_place i k (sym e) | inr e ↦ no_reserve_session s session.0 k (sym e) ]
+
     other_server : (k : ℕ) → k ≢ s → (id : ℕ) → Touched (SessionAt k id) → ⊥
     other_server k other id touched = elim touched [ inl e ↦ no_place i k id e | inr e ↦ other (same_session k id s session.0 e).0 ]
 
@@ -255,6 +261,8 @@ module _ {store : Store} {roles : Roles} {i s : ℕ} {script : Script} (two : Ar
           places = places_of_server host'.role still_serving ∙ sym (places_of_server host.role host_serving);
           pays = λ one its. subst (Pays host.role) (sym stays.account ∙ pays_is host'.role one its) (pays_server host.role host_serving);
           paid = λ one its. subst (Pays host'.role) (stays.account ∙ pays_is host.role one its) (pays_server host'.role still_serving);
+          reserve = reserve_of_server host'.role still_serving ∙ sym (reserve_of_server host.role host_serving);
+          reserved = λ one is. absurd (none-some one (sym (reserve_of_server host.role host_serving) ∙ is));
         }
 
     follows : (k : ℕ) → k ≢ i → Follows store (roles k) store' (roles' k)
@@ -264,7 +272,7 @@ module _ {store : Store} {roles : Roles} {i s : ℕ} {script : Script} (two : Ar
           (subst (λ r. Follows store (roles s) store' r) (sym replaced.host_at) (subst (λ r. Follows store r store' host'.role) (sym host_is) host_follows))
       | inr not_host ↦
           subst (Follows store (roles k) store') (sym (replaced.others k other not_host))
-          (role_left leaves k (other_server k not_host) core (other_place k other) (other_client k other))
+          (role_left leaves k (other_server k not_host) core (other_place k other) (other_reserve k) (other_client k other))
     ]
 
     -- ---- the client's selectors
@@ -417,12 +425,30 @@ module _ {store : Store} {roles : Roles} {i s : ℕ} {script : Script} (two : Ar
     same_root : part (root_in store) store' ≡ part (root_in store) store
     same_root = others (root_in store) (λ e. pays_no_init core i payer pays_client (sym e)) (λ e. not_session s session.0 (alone Init e))
 
+    -- a reserve's account rests
+    reserve_rests : (one : ℕ) → reserve_in (roles i) ≡ Some one → part one store' ≡ part one store
+    reserve_rests one is = others one (not_payer (ReserveAt i) one (other_reserve i) is) (not_account (ReserveAt i) one (other_reserve i) is)
+
+    pub its_reserve : part script.reserve.0 store' ≡ part script.reserve.0 store
+    its_reserve = reserve_rests script.reserve.0 (ap reserve_in is_script)
+
+    has_reserve : (one : ℕ) → reserve_in (roles' i) ≡ Some one → reserve_in (roles i) ≡ Some one
+    has_reserve one is = ap reserve_in is_script ∙ ap (λ (a : AccountId). Some a.0) (sym changes.stays.reserve) ∙ ap reserve_in (sym replaced.client_at) ∙ is
+
     -- so the core changes
     pub session_change : HasPlaces (sessions_in store' roles') store' (roles' i) → ChangesCore i s session.0 store roles store' roles'
     session_change placed = record {
       others = follows;
       sound = subst (IsSoundRole store') (sym replaced.client_at) changes.sound;
       pays = λ one its. subst (λ r. Pays r one) (sym is_script) (ap (λ (a : AccountId). a.0) (sym changes.stays.account) ∙ subst (λ r. Pays r one) replaced.client_at its);
+      reserve = has_reserve;
+      reserved = λ one is.
+          let was = has_reserve one is in
+          let before = core.reserved i one was in
+          record {
+            child = parents one (not_account (ReserveAt i) one (other_reserve i) was) ∙ before.child ∙ ap Some (sym root);
+            unused = subst (λ p. p ≡ opened_part (account_of p).ram_limit (account_of p).caps_limit) (sym (reserve_rests one was)) before.unused;
+          };
       rows = other_row;
       row = inr (record {
         was_its = λ row there. subst (λ r. Pays r row.client) (sym is_script) (sym (changes.tied.client row (sym changes.tied.there ∙ there)));
@@ -450,7 +476,7 @@ module _ {store store' : Store} (components components' : List Component) {i s :
     (host_is : roles_of components s ≡ host.role) (replaced : ReplacesTwo (roles_of components) (roles_of components') i s (AScript script') host'.role) (faces : SameFaces components components')
     (alone : (owner : Owner) → Owns store (roles_of components) owner account → owner ≡ SessionAt s session.0)
     (changes : ChangesSession account s q k session store store' script script' (rows_in store (roles_of components s)) (rows_in store' host'.role) was is) (stays : StaysServer store host store' host')
-    (rules : Rules) (call : Call) (on : is_exit call ≡ false) (reply : Reply) (lines : List LogLine) (told : Told) (text : told.text ≡ reply_text reply) (finished : told.lines ≡ flat_map log_text lines) where
+    (rules : Rules) (call : Call) (on : is_exit call ≡ false) (aside : is_of_reserve call ≡ false) (reply : Reply) (lines : List LogLine) (told : Told) (text : told.text ≡ reply_text reply) (finished : told.lines ≡ flat_map log_text lines) where
   abbrev roles : Roles
   roles = roles_of components
 
@@ -473,14 +499,20 @@ module _ {store store' : Store} (components components' : List Component) {i s :
       Goes rules call i told store components store' components'
   unfolding own_of
   step_goes outcome =
-      let step : own_step (entry_of (rules i) caller) call (own_at S store script) ≡ record { reply = reply; lines = lines; next = own_at S' store' script' }
-      = is_step (entry_of (rules i) caller) call (own_at S store script) (ap kind_of caller_is) refl ∙ outcome in
-      let own_after : own_in S' store' (roles_of components' i) ≡ own_at S' store' script' = ap (own_in S' store') replaced.client_at in
+      let has = amounts_in (part script.reserve.0 store) in
+      let now : amounts_in (part script'.reserve.0 store') ≡ amounts_in (part script.reserve.0 store)
+      = ap (λ (a : AccountId). amounts_in (part a.0 store')) changes.stays.reserve ∙ ap amounts_in (its_reserve two host_is replaced alone changes stays) in
+      let step : own_step (entry_of (rules i) caller) call (with_reserve (amounts_in (part script.reserve.0 store)) (own_at S store script))
+      ≡ record { reply = reply; lines = lines; next = with_reserve (amounts_in (part script.reserve.0 store)) (own_at S' store' script') }
+      = is_step (entry_of (rules i) caller) call (with_reserve has (own_at S store script)) (ap kind_of caller_is) refl
+      ∙ stands_aside has (own_at S store script) (entry_of (rules i) caller) call aside on ∙ ap (outcome_with has) outcome in
+      let own_after : own_in S' store' (roles_of components' i) ≡ with_reserve (amounts_in (part script.reserve.0 store)) (own_at S' store' script')
+      = ap (own_in S' store') replaced.client_at ∙ ap (λ r. with_reserve r (own_at S' store' script')) now in
       let next = own_after ∙ ap (λ (o : Outcome). o.next) (sym step) ∙ ap (λ r. (own_step (entry_of (rules i) caller) call (own_in S store r)).next) (sym two.is_script) in
       let placed = places_kept S S' store store' (roles i) (roles_of components' i) (entry_of (rules i) caller) call on next
       (ap places_in replaced.client_at ∙ ap Some changes.stays.places ∙ ap places_in (sym two.is_script)) (two.core.placed i) in
       goes components components' two.core (session_change two host_is replaced alone changes stays placed) faces here d rules call on
-      (same_init store store' changes.moves.root (same_root two host_is replaced alone changes stays)) told (record { reply = reply; lines = lines; next = own_at S' store' script' })
+      (same_init store store' changes.moves.root (same_root two host_is replaced alone changes stays)) told (record { reply = reply; lines = lines; next = with_reserve has (own_at S' store' script') })
       (ap (λ r. own_step (entry_of (rules i) caller) call (own_in S store r)) caller_is ∙ step) text finished (sym own_after)
 
   -- and so does one that is this to the model

@@ -102,7 +102,7 @@ module _ (S : Sessions) (store : Store) (name : List ℕ) (rules : List Rule) wh
   unfolding own_of
   unnamed_step call selector asks (AScript script) refusal is =
       let why = err_is (session_at (get script.caps.caps selector)) InvalidSession refusal is in
-      asks (record { name = name; kind = kind_of (AScript script); routes = rules }) (own_at S store script) (unnamed S store script selector why.0) ∙ ap (refused (own_at S store script)) why.1
+      asks (record { name = name; kind = kind_of (AScript script); routes = rules }) (own_in S store (AScript script)) (unnamed S store script selector why.0) ∙ ap (refused (own_in S store (AScript script))) why.1
   unnamed_step call selector asks (ALog account server) refusal is = ap (refused (own_in S store (ALog account server))) (same_Some NotAScript refusal (ap result_err is))
   unnamed_step call selector asks (AFiles account server) refusal is = ap (refused (own_in S store (AFiles account server))) (same_Some NotAScript refusal (ap result_err is))
   unnamed_step call selector asks AGone refusal is = ap (refused gone_state) (same_Some Gone refusal (ap result_err is))
@@ -118,7 +118,7 @@ module _ (S : Sessions) (store : Store) (name : List ℕ) (rules : List Rule) wh
   unasked : (role : Role) (script : Script) (service text : List ℕ) (refusal : Refusal) → role ≡ AScript script → wish name rules service text ≡ Err refusal → Refuses role (Open service text) refusal
   unfolding own_of
   unasked role script service text refusal it is =
-      subst (λ r. Refuses r (Open service text) refusal) (sym it) (ap (λ w. opened_by w (own_at S store script)) is)
+      subst (λ r. Refuses r (Open service text) refusal) (sym it) (ap (λ w. opened_by w (own_in S store (AScript script))) is)
 
 -- the component at a place calls
 module _ (rules : Rules) {store : Store} (components : List Component) {i : ℕ} (d : Component) (core : IsCore store components) (here : i < length components) where

@@ -133,10 +133,10 @@ module _ (store store' : Store) (script : Script) (account : Option Account) (so
         ∙ stands_still (part (sliced_payer script.sliced) store) account script.regions.heap script.regions.tags)
         (λ s r _. ap (λ (q : Part). get q.spaces r.of) sliced_own)
 
-    same_sliced : sliced_at store' script' ≡ sliced_at store script
+    pub same_sliced : sliced_at store' script' ≡ sliced_at store script
     same_sliced = subst (λ a. blocks_at a store' regions' ≡ blocks_at a store script.regions) sound.heaps.sliced_pays sliced_stays.blocks
 
-    heaps_stay : HasHeaps store' script'
+    pub heaps_stay : HasHeaps store' script'
     heaps_stay = record {
       heap = heap_sound;
       sliced = sliced_stays.sound;

@@ -27,7 +27,7 @@ use Rattle.dataspace_core.proofs.PartLaws.{paid_in_part}
 use Rattle.server_frame.specs.Frame.{Row}
 use Rattle.server_frame.specs.Lent.{key_of}
 use Rattle.pd_core.specs.Answer.{told_alone}
-use Rattle.pd_core.specs.Component.{entry_of, kind_of, served_by, caps_in, rows_in, rows_of, own_in, IsSoundRole, Serves, StaysServer}
+use Rattle.pd_core.specs.Component.{amounts_in, entry_of, kind_of, served_by, caps_in, rows_in, rows_of, own_in, IsSoundRole, Serves, StaysServer}
 use Rattle.pd_core.specs.Core.{Rules, roles_of, sessions_in, IsCore}
 use Rattle.pd_core.specs.Own.{Sessions, own_of, own_at, lent_in}
 use Rattle.pd_core.specs.Sessions.{row_session, NamesSession}
@@ -37,6 +37,7 @@ use Rattle.pd_core.specs.declared.component.Component.{Component}
 use Rattle.pd_core.specs.declared.component.Role.{Role}
 use Rattle.pd_core.specs.declared.component.Role.TheVariants.{Script as AScript, Log as ALog, Files as AFiles, Gone as AGone}
 use Rattle.pd_core.specs.declared.script.Script.{Script}
+use Rattle.pd_core.proofs.AsideLemmas.{refused_aside}
 use Rattle.pd_core.proofs.PlainLemmas.{face_is}
 use Rattle.pd_core.proofs.ServerLemmas.{lent_paid}
 use Rattle.pd_core.proofs.ClientServerLemmas.{its as its_row, under, holds_lent, its_lent, lent_alike, are_others, row_paid, names_session, row_alone, raise_moves, changes_written, script_sound}
@@ -177,7 +178,8 @@ module _ {store : Store} (components : List Component) {i s : ℕ} {script : Scr
     refused_step refusal is =
         refused_goes rules components i d (Upgrade q text) refusal two.core (caller_within components two)
         (subst (λ r. own_step (entry_of (rules i) (get_or components i d)) (Upgrade q text) (own_in S store r) ≡ refused (own_in S store r) refusal) (sym caller_is)
-        (is_step (entry_of (rules i) (get_or components i d)) (Upgrade q text) (own_at S store script) (ap kind_of caller_is) refl ∙ is))
+        (is_step (entry_of (rules i) (get_or components i d)) (Upgrade q text) (own_in S store (AScript script)) (ap kind_of caller_is) refl
+        ∙ refused_aside (amounts_in (part script.reserve.0 store)) (own_at S store script) (entry_of (rules i) (get_or components i d)) (Upgrade q text) refusal refl refl is))
 
     -- arguments that can't be read
     pub unread_goes : arguments_of text ≡ None → Goes rules (Upgrade q text) i (told_alone (reply_text (Refused BadArgs))) store components store components
@@ -214,7 +216,7 @@ module _ {store : Store} (components : List Component) {i s : ℕ} {script : Scr
         let others : (other : ℕ) → other ≢ script.account.0 → other ≢ row.key → part other store' ≡ part other store = λ other client account. raises.others other (λ e. client (e ∙ pays)) account in
         let alike = lent_alike two q session names store' others in
         let turns = turns_same script q (under two q session names) s session names row.buffer (holds_lent two q session names).at (script_sound two).own.named.one in
-        let keeps : KeepsBut script script q (under two q session names) = record { account = refl; places = refl; caps = λ p _ _. refl } in
+        let keeps : KeepsBut script script q (under two q session names) = record { account = refl; reserve = refl; places = refl; caps = λ p _ _. refl } in
         let paid = are_others two q session names store' others row.buffer (λ key is. lent_paid store' host'.role stays.works session.0 key next now is) keeps (ap buffer_at names) (holds_lent two q session names).at in
         let done = upgrades_done store store' script script (rows_in store (roles_of components s)) q s session (script_sound two) named stays.machine row.buffer turns alike paid names text more reads enough raises
         (lent_raised row.buffer (its_lent two q session names) raises) (regions_same row.buffer script.regions.user) refl in
@@ -222,4 +224,4 @@ module _ {store : Store} (components : List Component) {i s : ℕ} {script : Scr
         (covers (account_in store script.account.0) more.ram more.caps (ap (λ k. shortage (account_in store k) more.ram more.caps) (sym pays) ∙ enough)) in
         session_goes components (set components s host') two d host_is (host_put components two host') (face_set components s host' e (face ∙ ap face_of read)) (row_alone two q session names)
         (changes_written two q session names store' keeps names (holds_lent two q session names).at refl refl written moves done.sound stays.machine) stays
-        rules (Upgrade q text) refl Done [] (told_alone (reply_text Done)) refl refl done.does
+        rules (Upgrade q text) refl refl Done [] (told_alone (reply_text Done)) refl refl done.does

@@ -117,6 +117,7 @@ module _ (store : Store) (script : Script) (sound : IsSoundScript store script) 
             heaps = has;
           };
           account = refl;
+          reserve = refl;
           ram_limit = changes.ram_limit;
           caps_limit = changes.caps_limit;
           places = refl;

@@ -15,25 +15,26 @@ use Rattle.server_frame.specs.Frame.{Row}
 use Rattle.server_frame.specs.Laws.{WritesLent as WritesRow}
 use Rattle.server_frame.proofs.FrameLaws.{stays_of_others}
 use Rattle.server_frame.proofs.LentLaws.{lends_nothing, writes_leave_sessions}
-use Rattle.pd_core.specs.Component.{Pays, caps_in, rows_in, own_in, Works, IsSoundRole}
+use Rattle.pd_core.specs.Component.{Pays, reserve_in, caps_in, rows_in, own_in, Works, IsSoundRole}
 use Rattle.pd_core.specs.Core.{Roles, rows_at, Owner, Owns, IsSoundCore}
-use Rattle.pd_core.specs.Core.Owner.{Init, Place, SessionAt}
+use Rattle.pd_core.specs.Core.Owner.{Init, Place, ReserveAt, SessionAt}
 use Rattle.pd_core.specs.Own.{Sessions, no_sessions, no_lent, own_of}
 use Rattle.pd_core.specs.Sessions.{log_value, log_buffer, IsLogKept, files_value, files_buffer, IsFilesKept}
 use Rattle.pd_core.specs.Sound.{WritesLent}
 use Rattle.pd_core.specs.declared.component.Role.{Role}
 use Rattle.pd_core.specs.declared.component.Role.TheVariants.{Script as AScript, Log as ALog, Files as AFiles, Gone as AGone}
 use Rattle.pd_core.proofs.ChangeLemmas.{Follows}
-use Rattle.pd_core.proofs.HeldLemmas.{IsLender, lender, same_place, no_place, not_session, same_session, pays_alone, pays_no_init}
+use Rattle.pd_core.proofs.HeldLemmas.{IsLender, lender, same_place, no_place, no_reserve_place, no_reserve_session, not_session, same_session, pays_alone, pays_no_init}
 use Rattle.pd_core.proofs.LentWriteLemmas.{same_books, room_by_books}
 use Rattle.pd_core.proofs.RoleLemmas.{Leaves, role_left, rows_left}
 use Rattle.pd_core.proofs.ServerLemmas.{sound_works}
 
--- all sessions of the others and all their roles stay, and so do init's part and the room for accounts
+-- all sessions of the others and all their roles stay, and so do init's part, the caller's reserve and the room for accounts
 pub record SparesRest (i : ℕ) (store : Store) (roles : Roles) (store' : Store) : Type 0 where
   pub rows : (k : ℕ) → k ≢ i → rows_in store' (roles k) ≡ rows_in store (roles k)
   pub follows : (k : ℕ) → k ≢ i → Follows store (roles k) store' (roles k)
   pub init : part (root_in store) store' ≡ part (root_in store) store
+  pub reserve : (account : ℕ) → reserve_in (roles i) ≡ Some account → part account store' ≡ part account store
   pub caps : caps_limits_in store' ≡ caps_limits_in store
   pub room : HasRoom store'
 
@@ -52,8 +53,9 @@ module _ {store store' : Store} {roles : Roles} (core : IsSoundCore store roles)
   pub spares_beside : SparesRest i store roles store'
   spares_beside = record {
     rows = λ k other. rows_left leaves k (λ id. no_place i k id);
-    follows = λ k other. role_left leaves k (λ id. no_place i k id) core (λ e. other (same_place k i e)) (λ server id _ _ _. no_place i server id);
+    follows = λ k other. role_left leaves k (λ id. no_place i k id) core (λ e. other (same_place k i e)) (λ e. no_reserve_place i k (sym e)) (λ server id _ _ _. no_place i server id);
     init = becomes.others (root_in store) (λ e. pays_no_init core i payer pays (sym e));
+    reserve = λ account is. becomes.others account (λ e. no_reserve_place i i (sym (pays_alone core i payer pays (ReserveAt i) (is ∙ ap Some e))));
     caps = caps;
     room = room;
   }
@@ -83,6 +85,8 @@ server_follows store store' id row (ALog account server) there sound works same 
   places = refl;
   pays = λ a pays. pays;
   paid = λ a pays. pays;
+  reserve = refl;
+  reserved = λ a is. absurd (none-some a is);
 }
 server_follows store store' id row (AFiles account server) there sound works same caps = record {
   sound = record { is_open = ap (λ (p : Part). is_some p.account) (same account.0 refl) ∙ sound.is_open; server = works; places = omega (arith, sound.places, caps) };
@@ -91,6 +95,8 @@ server_follows store store' id row (AFiles account server) there sound works sam
   places = refl;
   pays = λ a pays. pays;
   paid = λ a pays. pays;
+  reserve = refl;
+  reserved = λ a is. absurd (none-some a is);
 }
 server_follows store store' id row AGone there sound works same caps = absurd (none-some row (sym (get-empty id) ∙ there))
 
@@ -166,9 +172,10 @@ module _ {store store' : Store} {roles : Roles} (core : IsSoundCore store roles)
     ];
     follows = λ k other. elim (cases_eq k by.server) [
       | inl at ↦ subst (λ n. Follows store (roles n) store' (roles n)) (sym at) host_follows
-      | inr differs ↦ role_left leaves_session k (other_server k differs) core (λ e. no_place k by.server by.id (sym e)) (other_client k other)
+      | inr differs ↦ role_left leaves_session k (other_server k differs) core (λ e. no_place k by.server by.id (sym e)) (λ e. no_reserve_session by.server by.id k (sym e)) (other_client k other)
     ];
     init = writes.becomes.others (root_in store) (not_its Init (root_in store) (not_session by.server by.id) refl);
+    reserve = λ account is. writes.becomes.others account (not_its (ReserveAt i) account (λ e. no_reserve_session by.server by.id i (sym e)) is);
     caps = caps;
     room = room_by_books books core.room;
   }

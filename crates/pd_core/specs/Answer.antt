@@ -7,10 +7,10 @@ use Rattle.own_model.specs.Amounts.{Amounts}
 use Rattle.own_model.specs.OwnState.{OwnState}
 use Rattle.own_model.specs.OwnStep.{Outcome}
 use Rattle.own_model.specs.Reply.{Reply as Modelled, reply_text, log_text}
-use Rattle.own_model.specs.Reply.Reply.{Selected as ModelledSelected, Attached as ModelledAttached, Done as ModelledDone, Quotas as ModelledQuotas, Refused as ModelledRefused}
+use Rattle.own_model.specs.Reply.Reply.{Selected as ModelledSelected, Attached as ModelledAttached, Done as ModelledDone, Quotas as ModelledQuotas, Reserved as ModelledReserved, Refused as ModelledRefused}
 use Rattle.server_frame.specs.Told.{Told as Written}
 use Rattle.pd_core.specs.declared.answer.Answer.{Answer}
-use Rattle.pd_core.specs.declared.answer.Answer.TheVariants.{Selected, Attached, Done, Quotas}
+use Rattle.pd_core.specs.declared.answer.Answer.TheVariants.{Selected, Attached, Done, Quotas, Reserved}
 use Rattle.pd_core.specs.declared.answer.Quotas.{Quotas as QuotasTold}
 use Rattle.pd_core.specs.declared.answer.Reserve.{Reserve as ReserveTold}
 
@@ -33,6 +33,7 @@ model_answer (Selected selector) = ModelledSelected selector.0
 model_answer (Attached address) = ModelledAttached address
 model_answer Done = ModelledDone
 model_answer (Quotas quotas) = ModelledQuotas (quotas_account quotas)
+model_answer (Reserved reserve) = ModelledReserved (reserve_amounts reserve)
 
 -- and for what a call gives back
 abbrev pub reply_of : Result Answer Refusal → Modelled

@@ -1,11 +1,11 @@
 -- A call as the model sees it.
-use Rattle.std.specs.Prelude.{◌≡◌, ◌||◌, ℕ, Bool, false, List, [], IsSome}
+use Rattle.std.specs.Prelude.{◌≡◌, ◌||◌, ℕ, Bool, true, false, List, [], IsSome}
 use Rattle.std.specs.Option.{unwrap_or}
 use Rattle.own_model.specs.Call.{Call as Modelled, is_of_session, is_exit}
-use Rattle.own_model.specs.Call.Call.{Alloc as ModelledAlloc, Free as ModelledFree, Attach as ModelledAttach, AttachAt as ModelledAttachAt, Detach as ModelledDetach, Peek as ModelledPeek, Poke as ModelledPoke, Capalloc as ModelledCapalloc, Capfree as ModelledCapfree, New as ModelledNew, Del as ModelledDel, Snew as ModelledSnew, Sdel as ModelledSdel, Quota as ModelledQuota, Open as ModelledOpen, Upgrade as ModelledUpgrade, CallSession as ModelledCallSession, Close as ModelledClose, Exit as ModelledExit}
+use Rattle.own_model.specs.Call.Call.{Alloc as ModelledAlloc, Free as ModelledFree, Attach as ModelledAttach, AttachAt as ModelledAttachAt, Detach as ModelledDetach, Peek as ModelledPeek, Poke as ModelledPoke, Capalloc as ModelledCapalloc, Capfree as ModelledCapfree, New as ModelledNew, Del as ModelledDel, Snew as ModelledSnew, Sdel as ModelledSdel, Quota as ModelledQuota, Reserve as ModelledReserve, Request as ModelledRequest, Yield as ModelledYield, Open as ModelledOpen, Upgrade as ModelledUpgrade, CallSession as ModelledCallSession, Close as ModelledClose, Exit as ModelledExit}
 use Rattle.own_model.specs.Text.{bytes_of_hex}
 use Rattle.pd_core.specs.declared.call.Call.{Call}
-use Rattle.pd_core.specs.declared.call.Call.TheVariants.{Alloc, Free, Attach, AttachAt, Detach, Peek, Poke, Capalloc, Capfree, New, Del, Snew, Sdel, Quota, Open, Upgrade, CallSession, Close, Exit}
+use Rattle.pd_core.specs.declared.call.Call.TheVariants.{Alloc, Free, Attach, AttachAt, Detach, Peek, Poke, Capalloc, Capfree, New, Del, Snew, Sdel, Quota, Reserve, Request, Yield, Open, Upgrade, CallSession, Close, Exit}
 
 -- the bytes that a text of hexadecimal digits stands for
 abbrev pub bytes_in : List ℕ → List ℕ
@@ -27,19 +27,30 @@ model_call (Del address) = ModelledDel address
 model_call (Snew n) = ModelledSnew n
 model_call (Sdel address) = ModelledSdel address
 model_call Quota = ModelledQuota
+model_call Reserve = ModelledReserve
+model_call (Request args) = ModelledRequest args.now
+model_call (Yield args) = ModelledYield args.now
 model_call (Open service args) = ModelledOpen service.now args.now
 model_call (Upgrade selector args) = ModelledUpgrade selector args.now
 model_call (CallSession selector request) = ModelledCallSession selector request.now
 model_call (Close selector) = ModelledClose selector
 model_call Exit = ModelledExit
 
--- it goes beyond the component that makes it: it is one of a session, or an exit
-abbrev pub goes_beyond : Modelled → Bool
-goes_beyond call = is_of_session call || is_exit call
+-- a call is of the reserve: it tells it or moves limits from it or to it
+abbrev pub is_of_reserve : Modelled → Bool
+is_of_reserve ModelledReserve = true
+is_of_reserve (ModelledRequest text) = true
+is_of_reserve (ModelledYield text) = true
+is_of_reserve call = false
 
--- it is none of a session, and no exit
+-- it goes beyond what a script has alone: it is one of a session or of the reserve, or an exit
+abbrev pub goes_beyond : Modelled → Bool
+goes_beyond call = is_of_session call || (is_of_reserve call || is_exit call)
+
+-- it is none of a session, none of the reserve, and no exit
 pub record IsPlain (call : Call) : Type 0 where
   pub of_no_session : is_of_session (model_call call) ≡ false
+  pub of_no_reserve : is_of_reserve (model_call call) ≡ false
   pub no_exit : is_exit (model_call call) ≡ false
 
 -- a poke's text is hexadecimal digits

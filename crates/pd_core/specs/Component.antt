@@ -1,13 +1,16 @@
 -- A component as the model sees it.
 use Rattle.std.specs.Prelude.{◌≡◌, ◌≢◌, ℕ, List, ◌+◌, ◌*◌, ◌<◌, ◌≤◌, Option, Some, None, IsSome, IfSome}
 use Rattle.std.specs.FinMap.{get, empty}
+use Rattle.std.specs.Option.{option_map, unwrap_or}
 use Rattle.slab.specs.Slab.{Slab, ContainsKey, slab_len}
 use Rattle.trade_base.specs.declared.id.SessionId.{SessionId}
+use Rattle.own_model.specs.Amounts.{Amounts}
 use Rattle.own_model.specs.Limits.{caps_limits}
 use Rattle.own_model.specs.NatMap.{NatMap}
 use Rattle.own_model.specs.OwnHeap.{no_heap}
 use Rattle.own_model.specs.OwnState.{OwnState}
 use Rattle.own_model.specs.OwnStep.{gone_state}
+use Rattle.own_model.specs.Reserve.{no_reserve}
 use Rattle.own_model.specs.Routes.{Rule, Service}
 use Rattle.own_model.specs.Routes.Service.{Log as LogKind, Files as FilesKind}
 use Rattle.own_model.specs.StartList.{Entry, Kind}
@@ -16,7 +19,7 @@ use Rattle.own_model.specs.Session.{Labelled, donation_refusal}
 use Rattle.cap_space.specs.Space.{Space}
 use Rattle.cap_space.specs.declared.cap.Cap.{Cap}
 use Rattle.region_map.specs.Regions.{Regions}
-use Rattle.dataspace_core.specs.Store.{Store, part, account_of, account_in, root_in, parents_in, room_in, ram_limits_in, caps_limits_in, IsOpenIn}
+use Rattle.dataspace_core.specs.Store.{Store, Part, part, account_of, account_in, opened_part, root_in, parents_in, room_in, ram_limits_in, caps_limits_in, IsOpenIn, IsChildIn, IsLeafIn}
 use Rattle.heap_core.specs.Heap.{payer_of as heap_payer}
 use Rattle.sliced_heap.specs.Heap.{payer_of as sliced_payer}
 use Rattle.dataspace_core.specs.Share.{Share}
@@ -47,6 +50,40 @@ payer_in Gone = 0
 -- that of a component
 abbrev pub payer_of : Component → ℕ
 payer_of component = payer_in component.role
+
+-- the key of the account that a role has for its reserve
+abbrev pub reserve_in : Role → Option ℕ
+reserve_in (Script script) = Some script.reserve.0
+reserve_in (Log account server) = None
+reserve_in (Files account server) = None
+reserve_in Gone = None
+
+-- that of a component
+abbrev pub reserve_of : Component → Option ℕ
+reserve_of component = reserve_in component.role
+
+-- an account is open, with limits and nothing else
+abbrev pub IsUnused : Store → ℕ → Type 0
+IsUnused store account = part account store ≡ opened_part (account_of (part account store)).ram_limit (account_of (part account store)).caps_limit
+
+-- an account is that of a reserve: below the root's, and unused
+pub record IsReserve (store : Store) (account : ℕ) : Type 0 where
+  pub child : IsChildIn store account (root_in store)
+  pub unused : IsUnused store account
+
+-- a role's reserve is another account than the role's own
+abbrev pub HasReserveApart : Role → Type 0
+HasReserveApart role = IfSome (reserve_in role) (λ reserve. reserve ≢ payer_in role)
+
+-- it is one, and neither init's nor one with an account below it
+pub record IsOwnReserve (store : Store) (payer reserve : ℕ) : Type 0 where
+  pub apart : reserve ≢ payer
+  pub not_root : reserve ≢ root_in store
+  pub is_reserve : IsReserve store reserve
+  pub leaf : IsLeafIn store reserve
+
+abbrev pub HasOwnReserve : Store → Role → Type 0
+HasOwnReserve store role = IfSome (reserve_in role) (λ reserve. IsOwnReserve store (payer_in role) reserve)
 
 abbrev pub kind_of : Role → Kind
 kind_of (Script script) = AScript
@@ -181,9 +218,21 @@ pub record NamesItsSessions (rows : ℕ → NatMap (Row Labelled)) (role : Role)
 
 -- ---- the own state
 
--- the own state of a role: a server has its account alone, and who is gone has nothing
+-- what the account of a reserve has
+abbrev pub amounts_in : Part → Amounts
+amounts_in part = record { ram = (account_of part).ram_limit; caps = (account_of part).caps_limit }
+
+-- what a role has in reserve
+abbrev pub reserve_held : Store → Role → Amounts
+reserve_held store role = unwrap_or (option_map (λ account. amounts_in (part account store)) (reserve_in role)) no_reserve
+
+-- an own state with a reserve
+abbrev pub with_reserve : Amounts → OwnState → OwnState
+with_reserve reserve s = record s { reserve = reserve }
+
+-- the own state of a role: a script's has its reserve, a server has its account alone, and who is gone has nothing
 abbrev pub own_in : Sessions → Store → Role → OwnState
-own_in sessions store (Script script) = own_at sessions store script
+own_in sessions store (Script script) = with_reserve (amounts_in (part script.reserve.0 store)) (own_at sessions store script)
 own_in sessions store (Log account server) = own_of no_lent no_sessions (part account.0 store) empty empty no_heap empty
 own_in sessions store (Files account server) = own_of no_lent no_sessions (part account.0 store) empty empty no_heap empty
 own_in sessions store Gone = gone_state
@@ -237,8 +286,8 @@ pub record Admits (store : Store) (component : Component) (client ram caps : ℕ
   pub place : donation_refusal (account_in store client) ram caps ≡ None → HasPlace component.role
   pub room : donation_refusal (account_in store client) ram caps ≡ None → 0 < room_in store
 
--- what a script's call that is none of a session and no exit keeps: the component is sound after it; its entry, service and account, its limit of
--- capabilities and its places for them, what sessions and buffers its selectors name and what it serves, the root's key, who is whose
+-- what a script's call that is none of a session and no exit keeps: the component is sound after it; its entry, service, account and
+-- reserve, its limit of capabilities and its places for them, what sessions and buffers its selectors name and what it serves, the root's key, who is whose
 -- parent, the places for accounts and the sum of all limits of RAM stay, and so do the parts of all other accounts, but for what a
 -- session lends and the call writes into
 pub record Keeps (old : Store) (before : Component) (new : Store) (after : Component) : Type 0 where
@@ -247,6 +296,7 @@ pub record Keeps (old : Store) (before : Component) (new : Store) (after : Compo
   pub service : service_of after ≡ service_of before
   pub pays : (account : ℕ) → Pays after.role account → Pays before.role account
   pub paid : (account : ℕ) → Pays before.role account → Pays after.role account
+  pub reserve : reserve_of after ≡ reserve_of before
   pub is_open : IsSome (part (payer_of before) new).account
   pub caps_limit : (account_of (part (payer_of before) new)).caps_limit ≡ (account_of (part (payer_of before) old)).caps_limit
   pub places : places_of after ≡ places_of before

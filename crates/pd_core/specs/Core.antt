@@ -15,7 +15,7 @@ use Rattle.pd_core.specs.Own.{Sessions}
 use Rattle.pd_core.specs.Sessions.{row_session}
 use Rattle.trade_base.specs.declared.id.SessionId.{SessionId}
 use Rattle.pd_core.specs.Sound.{session_at}
-use Rattle.pd_core.specs.Component.{Pays, entry_of, caps_in, rows_in, own, NamesItsSessions, HasPlaces, IsSoundRole}
+use Rattle.pd_core.specs.Component.{Pays, reserve_in, IsReserve, entry_of, caps_in, rows_in, own, NamesItsSessions, HasPlaces, IsSoundRole}
 use Rattle.pd_core.specs.declared.component.Component.{Component}
 use Rattle.pd_core.specs.declared.component.Role.{Role}
 use Rattle.pd_core.specs.declared.component.Role.TheVariants.{Gone}
@@ -51,16 +51,18 @@ world_of rules store components = record {
   states = map (own (sessions_in store (roles_of components)) store) components;
 }
 
--- who has accounts: init, the component at a place, and the session of the server at a place under a key
+-- who has accounts: init, the component at a place, its reserve, and the session of the server at a place under a key
 pub data Owner : Type 0 where
   Init : Owner
   Place : ℕ → Owner
+  ReserveAt : ℕ → Owner
   SessionAt : ℕ → ℕ → Owner
 
 -- an account is an owner's
 abbrev pub Owns : Store → Roles → Owner → ℕ → Type 0
 Owns store roles Init account = root_in store ≡ account
 Owns store roles (Place place) account = Pays (roles place) account
+Owns store roles (ReserveAt place) account = reserve_in (roles place) ≡ Some account
 Owns store roles (SessionAt server id) account = option_map (λ (row : Row Labelled). row.key) (get (rows_at store roles server) id) ≡ Some account
 
 -- a selector of a role names the session on an account, whose client has the other account
@@ -80,13 +82,14 @@ AreHeld store roles =
     (child parent : ℕ) → IsChildIn store child parent → parent ≢ root_in store →
     (place : ℕ) × NamesAccount (rows_at store roles) (roles place) child parent
 
--- init's account is open; each component is sound, and its accounts are below init's; no account has two owners, and init is
--- no session's client; each session that a component names is its own, and so is what that lends; its capabilities find places;
+-- init's account is open; each component is sound, its account is below init's, and so is that of its reserve, of which nothing is
+-- used; no account has two owners, and init is no session's client; each session that a component names is its own, and so is what that lends; its capabilities find places;
 -- each session is named; and the memory has room for those still to be opened
 pub record IsSoundCore (store : Store) (roles : Roles) : Type 0 where
   pub init : IsOpenIn store (root_in store)
   pub sound : (place : ℕ) → IsSoundRole store (roles place)
   pub children : (place account : ℕ) → Pays (roles place) account → IsChildIn store account (root_in store)
+  pub reserved : (place account : ℕ) → reserve_in (roles place) ≡ Some account → IsReserve store account
   pub apart : (one other : Owner) (account : ℕ) → Owns store roles one account → Owns store roles other account → one ≡ other
   pub clients : (server id : ℕ) (row : Row Labelled) → get (rows_at store roles server) id ≡ Some row → row.client ≢ root_in store
   pub named : (place : ℕ) → NamesItsSessions (rows_at store roles) (roles place)

@@ -8,7 +8,7 @@ use Rattle.own_model.specs.OwnState.{OwnState, session_named}
 use Rattle.own_model.specs.Transcript.{state_at}
 use Rattle.own_model.specs.World.{World}
 use Rattle.pd_core.specs.Component.{caps_in}
-use Rattle.dataspace_core.specs.Store.{Store}
+use Rattle.dataspace_core.specs.Store.{Store, ClosesPart, caps_limits_in}
 use Rattle.pd_core.specs.Core.{Rules, world_of, IsCore}
 use Rattle.pd_core.specs.SessionCalls.{Agrees, Leads}
 use Rattle.pd_core.specs.declared.component.Component.{Component}
@@ -24,6 +24,13 @@ refusal_of Gone = Some IsGone
 
 abbrev pub IsScriptRole : Role → Type 0
 IsScriptRole role = refusal_of role ≡ None
+
+-- an account closes and then another, both below the same one
+pub record ClosesBoth (account reserve parent : ℕ) (old new : Store) : Type 0 where
+  pub between : Store
+  pub first : ClosesPart account parent old between
+  pub caps : caps_limits_in between ≡ caps_limits_in old
+  pub last : ClosesPart reserve parent between new
 
 -- for how many selectors a role has places, or why for none
 abbrev pub places_told : Role → Result ℕ Refusal

@@ -174,11 +174,12 @@ pub record WritesLent (caps : NatMap Cap) (old new : Store) : Type 0 where
 abbrev pub SparesOthers : ℕ → NatMap Cap → Store → Store → Type 0
 SparesOthers account caps old new = OthersStay account old new ⊎ WritesLent caps old new
 
--- the script is sound after a call; its account, its limits, its places for capabilities, its sessions and their buffers, the
+-- the script is sound after a call; its account, its reserve, its limits, its places for capabilities, its sessions and their buffers, the
 -- root's key, who is whose parent, the places for accounts and the sum of all limits of RAM stay
 pub record Keeps (old : Store) (before : Script) (new : Store) (after : Script) : Type 0 where
   pub sound : IsSoundScript new after
   pub account : after.account ≡ before.account
+  pub reserve : after.reserve ≡ before.reserve
   pub ram_limit : (account_of (part_at new after)).ram_limit ≡ (account_of (part_at old before)).ram_limit
   pub caps_limit : (account_of (part_at new after)).caps_limit ≡ (account_of (part_at old before)).caps_limit
   pub places : after.caps.places ≡ before.caps.places

@@ -1,11 +1,11 @@
 //! The accounts of a core: their limits, and what of them is used.
-ghost use Rattle.std.specs.Prelude.{◌≡◌, ◌<◌, length};
+ghost use Rattle.std.specs.Prelude.{◌≡◌};
 ghost use Rattle.std.specs.FinMap.{get};
 ghost use Rattle.std.specs.Option.{option_map};
 ghost use Rattle.own_model.specs.OwnState.{session_named};
 ghost use Rattle.own_model.specs.Session.{Session as AnOpenSession};
 ghost use Rattle.own_model.specs.Transcript.{state_at};
-ghost use Rattle.dataspace_core.specs.Store.{Store, account_in, IsOpenIn};
+ghost use Rattle.dataspace_core.specs.Store.{account_in, IsOpenIn};
 ghost use Rattle.pd_core.specs.Answer.{quotas_account, reserve_amounts};
 ghost use Rattle.pd_core.specs.Core.{Rules, world_of, IsCoreAt};
 
@@ -61,7 +61,7 @@ impl<R: Router + Drop> Core<R> {
         requires { component < length self.now.entries }
         ensures { reserve_amounts result ≡ (state_at self.now.states component).reserve }
     {
-        component_reserve(self.components.as_slice(), component)
+        component_reserve(&self.memory, self.components.as_slice(), component)
     }
 
     /// The limits and the use of init's account.
@@ -100,11 +100,11 @@ impl<R: Router + Drop> Core<R> {
 }
 
 impl Component {
-    ghost use Rattle.std.specs.Prelude.{◌≡◌, ◌≤◌};
-    ghost use Rattle.dataspace_core.specs.Store.{Store};
+    ghost use Rattle.std.specs.Prelude.{◌≡◌, ◌≤◌, IfSome};
+    ghost use Rattle.dataspace_core.specs.Store.{IsOpenIn};
     ghost use Rattle.server_frame.specs.Frame.{AtRow};
     ghost use Rattle.pd_core.specs.Answer.{quotas_account, reserve_amounts};
-    ghost use Rattle.pd_core.specs.Component.{rows_of, own, IsSound, Serves};
+    ghost use Rattle.pd_core.specs.Component.{reserve_of, rows_of, own, IsSound, Serves};
     ghost use Rattle.pd_core.specs.Exit.{HasSelectorsTo};
     ghost use Rattle.pd_core.specs.Own.{Sessions};
 
@@ -127,14 +127,21 @@ impl Component {
         }
     }
 
-    /// What the component has in reserve: nothing.
-    fn reserve(&self) -> Reserve
-        ensures { (sessions : Sessions) (store : Store) → reserve_amounts result
-            ≡ (own sessions store self.now).reserve }
+    /// What the component has in reserve: nothing where it is a server or has exited.
+    pub(crate) fn reserve(&self, memory: &Memory) -> Reserve
+        requires { IfSome (reserve_of self.now) (IsOpenIn memory.now) }
+        ensures { (sessions : Sessions) → reserve_amounts result
+            ≡ (own sessions memory.now self.now).reserve }
     {
-        Reserve {
-            ram: Ram(0),
-            caps: Caps(0),
+        match &self.role {
+            Role::Script(script) => {
+                let (ram, caps) = memory.limits(script.reserve);
+                Reserve { ram, caps }
+            }
+            _ => Reserve {
+                ram: Ram(0),
+                caps: Caps(0),
+            },
         }
     }
 
@@ -175,12 +182,12 @@ fn component_quotas(memory: &Memory, components: &[Component], place: usize) -> 
 }
 
 // What the component at a place has in reserve.
-fn component_reserve(components: &[Component], place: usize) -> Reserve
-    requires { place < length components.now }
-    ensures { (rules : Rules) (store : Store) → reserve_amounts result
-        ≡ (state_at (world_of rules store components.now).states place).reserve }
+fn component_reserve(memory: &Memory, components: &[Component], place: usize) -> Reserve
+    requires { IsCoreAt place memory.now components.now }
+    ensures { (rules : Rules) → reserve_amounts result
+        ≡ (state_at (world_of rules memory.now components.now).states place).reserve }
 {
-    components[place].reserve()
+    components[place].reserve(memory)
 }
 
 // The same of the session that a selector of the component names, or `None` where it names none.

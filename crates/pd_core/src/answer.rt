@@ -20,6 +20,8 @@ pub(crate) enum Answer {
     Done,
     /// The use and the limits of the caller's account.
     Quotas(Quotas),
+    /// What the caller has in reserve.
+    Reserved(Reserve),
 }
 
 /// What of an account is used, and its limits.
@@ -36,7 +38,7 @@ pub struct Quotas {
 }
 
 /// What a component has in reserve: limits of which nothing is in use.
-#[derive(Clone, Copy)]
+#[derive(Clone, Copy, Debug)]
 pub struct Reserve {
     /// Bytes of RAM.
     pub ram: Ram,
@@ -88,6 +90,7 @@ impl Answer {
             Answer::Attached(address) => tell_address(address, reply),
             Answer::Done => tell_text(b"ok", reply),
             Answer::Quotas(quotas) => quotas.tell(reply),
+            Answer::Reserved(reserve) => reserve.tell(reply),
         }
     }
 }
@@ -105,6 +108,22 @@ impl Quotas {
         reply.add_share(self.ram_used.0, self.ram_limit.0);
         reply.add_text(b" caps ");
         reply.add_share(u64::from(self.caps_used.0), u64::from(self.caps_limit.0));
+    }
+}
+
+impl Reserve {
+    ghost use Rattle.std.specs.Prelude.{◌≡◌};
+    ghost use Rattle.own_model.specs.Reply.{amounts_text};
+    ghost use Rattle.pd_core.specs.Answer.{reserve_amounts, told_alone};
+
+    /// Writes the amounts in place of what the reply was.
+    fn tell(self, reply: &mut Reply)
+        ensures { reply.new ≡ told_alone (amounts_text (reserve_amounts self)) }
+    {
+        tell_text(b"ram ", reply);
+        reply.add_number(self.ram.0);
+        reply.add_text(b" caps ");
+        reply.add_number(u64::from(self.caps.0));
     }
 }
 
@@ -153,6 +172,12 @@ mod tests {
             reply.text(),
             b"ram 8192/18446744073709551615 caps 1/16".as_slice()
         );
+        let reserve = Reserve {
+            ram: Ram(8192),
+            caps: Caps(17),
+        };
+        tell(Ok(Answer::Reserved(reserve)), &mut reply);
+        assert_eq!(rt; reply.text(), b"ram 8192 caps 17".as_slice());
         tell(Err(Refusal::OutOfRam), &mut reply);
         assert_eq!(rt; reply.text(), b"Out_of_ram".as_slice());
         Ok(())

@@ -31,6 +31,12 @@ pub enum Call<'a> {
     Sdel(u64),
     /// The use and the limits of the caller's account are told.
     Quota,
+    /// What the caller has in reserve is told.
+    Reserve,
+    /// Limits move from the reserve to the account, so many as these arguments say.
+    Request(&'a [u8]),
+    /// Limits move from the account to the reserve, the same.
+    Yield(&'a [u8]),
     /// A session of the service, with these arguments.
     Open { service: &'a [u8], args: &'a [u8] },
     /// More is donated for the session that a selector names.

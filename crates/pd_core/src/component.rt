@@ -37,7 +37,7 @@ pub struct Component {
 }
 
 impl Component {
-    ghost use Rattle.std.specs.Prelude.{◌≡◌, ◌≤◌, ℕ, List, length, Some, None, IsSome, IfOk, OnErr};
+    ghost use Rattle.std.specs.Prelude.{◌≡◌, ◌≤◌, ℕ, List, length, Some, None, IsSome, IfSome, IfOk, OnErr};
     ghost use Rattle.std.specs.FinMap.{get};
     ghost use Rattle.std.specs.Option.{option_or};
     ghost use Rattle.trade_base.specs.declared.refusal.Refusal.TheVariants.{NotAScript};
@@ -48,22 +48,29 @@ impl Component {
     ghost use Rattle.own_model.specs.StartList.Kind.{Script as AScript, Server as AServer};
     ghost use Rattle.pd_core.specs.Answer.{told, told_of};
     ghost use Rattle.pd_core.specs.Call.{model_call, IsPlain, IsWellFormed};
-    ghost use Rattle.dataspace_core.specs.Store.{Store, root_in, ram_limits_in, caps_limits_in, IsChildIn, IsLeafIn, ClosesPart};
-    ghost use Rattle.pd_core.specs.Exit.{places_told, refusal_of, IsScriptRole, HasSelectorsTo};
+    ghost use Rattle.dataspace_core.specs.Store.{Store, root_in, ram_limits_in, caps_limits_in, IsChildIn, IsLeafIn};
+    ghost use Rattle.pd_core.specs.Exit.{places_told, refusal_of, IsScriptRole, HasSelectorsTo, ClosesBoth};
     ghost use Rattle.pd_core.specs.Sound.{session_at, buffer_at};
     ghost use Rattle.pd_core.specs.declared.component.Role.TheVariants.{Gone as GoneRole};
-    ghost use Rattle.pd_core.specs.Component.{entry_of, payer_of, service_of, tables_of, caps_of, HasNewHeap, own, IsSound, Keeps};
+    ghost use Rattle.pd_core.specs.Component.{entry_of, payer_of, reserve_of, service_of, HasReserveApart, HasOwnReserve, tables_of, caps_of, HasNewHeap, own, IsSound, Keeps};
     ghost use Rattle.pd_core.specs.Fresh.{HasNoSessions, IsNewServer};
     ghost use Rattle.pd_core.specs.Own.{Sessions, HasSessions};
     ghost use Rattle.pd_core.specs.SessionCalls.{named_in, with_session, with_buffer, without_selector, HasSelectorLeft, NamesBuffer, DropsBuffer};
 
-    /// A script of a name of at most 32 bytes that is charged on the account, with these capabilities and regions, and with
-    /// empty heaps.
-    pub fn script(name: &[u8], account: AccountId, caps: CapSpace, regions: RegionMap) -> Component
+    /// A script of a name of at most 32 bytes that is charged on the account, with the account of its reserve, with these
+    /// capabilities and regions, and with empty heaps.
+    pub fn script(
+        name: &[u8],
+        account: AccountId,
+        reserve: AccountId,
+        caps: CapSpace,
+        regions: RegionMap,
+    ) -> Component
         requires { length name.now ≤ 32 }
         ensures entry { (rules : List Rule) → entry_of rules result
             ≡ record { name = name.now; kind = AScript; routes = rules } }
         ensures account { payer_of result ≡ account.0 }
+        ensures reserve { reserve_of result ≡ Some reserve.0 }
         ensures tables { tables_of result ≡ Some (caps, regions) }
         ensures heap { HasNewHeap result.role }
         ensures server { (store : Store) → IsNewServer store result.role }
@@ -73,6 +80,7 @@ impl Component {
             name: name_of(name),
             role: Role::Script(Script {
                 account,
+                reserve,
                 caps,
                 regions,
                 heap: Heap::new(account),
@@ -87,6 +95,7 @@ impl Component {
         ensures entry { (rules : List Rule) → entry_of rules result
             ≡ record { name = name.now; kind = AServer; routes = rules } }
         ensures account { payer_of result ≡ account.0 }
+        ensures reserve { reserve_of result ≡ None }
         ensures tables { tables_of result ≡ None }
         ensures heap { HasNewHeap result.role }
         ensures server { (store : Store) → HasNoSessions store server.sessions server.map →
@@ -105,6 +114,7 @@ impl Component {
         ensures entry { (rules : List Rule) → entry_of rules result
             ≡ record { name = name.now; kind = AServer; routes = rules } }
         ensures account { payer_of result ≡ account.0 }
+        ensures reserve { reserve_of result ≡ None }
         ensures tables { tables_of result ≡ None }
         ensures heap { HasNewHeap result.role }
         ensures server { (store : Store) → HasNoSessions store server.sessions server.map →
@@ -215,8 +225,8 @@ impl Component {
         }
     }
 
-    /// A script without a session and without a buffer exits: all that it holds goes, its account closes, and its limits go
-    /// back to init's.
+    /// A script without a session and without a buffer exits: all that it holds goes, its account and its reserve close, and
+    /// their limits go back to init's.
     pub(crate) fn end(&mut self, memory: &mut Memory)
         requires sound { IsSound memory.old self.old }
         requires script { IsScriptRole self.old.role }
@@ -224,13 +234,19 @@ impl Component {
         requires unlent { (selector : ℕ) → buffer_at (get (caps_of self.old) selector) ≡ None }
         requires child { IsChildIn memory.old (payer_of self.old) (root_in memory.old) }
         requires leaf { IsLeafIn memory.old (payer_of self.old) }
+        requires reserve { HasOwnReserve memory.old self.old.role }
         ensures gone { self.new ≡ record self.old { role = GoneRole } }
-        ensures closes { ClosesPart (payer_of self.old) (root_in memory.old) memory.old memory.new }
+        ensures closes { IfSome (reserve_of self.old) (λ reserve.
+            ClosesBoth (payer_of self.old) reserve (root_in memory.old) memory.old memory.new) }
         ensures machine { ram_limits_in memory.new ≡ ram_limits_in memory.old }
         ensures caps { caps_limits_in memory.new ≡ caps_limits_in memory.old }
     {
         match mem::replace(&mut self.role, Role::Gone) {
-            Role::Script(script) => script.end(memory),
+            Role::Script(script) => {
+                let reserve = script.reserve;
+                script.end(memory);
+                memory.close(reserve);
+            }
             _ => unreachable!(),
         }
     }
@@ -241,6 +257,7 @@ impl Component {
         requires sound { IsSound memory.old self.old }
         requires call { IsWellFormed call }
         requires plain { IsPlain call }
+        requires reserve { HasReserveApart self.old.role }
         ensures outcome { (rules : List Rule) (sessions : Sessions) →
             HasSessions sessions (caps_of self.old) →
             told reply.new (own sessions memory.new self.new)

@@ -13,6 +13,7 @@ mod host;
 mod label;
 mod machine;
 mod release;
+mod reserves;
 mod router;
 mod script;
 mod session_calls;

@@ -114,7 +114,10 @@ fn carry_out<R: Router>(
         memory.old components.old memory.new components.new }
 {
     match call {
-        Call::Open { .. }
+        Call::Reserve
+        | Call::Request(_)
+        | Call::Yield(_)
+        | Call::Open { .. }
         | Call::Upgrade { .. }
         | Call::CallSession { .. }
         | Call::Close(_)

@@ -13,10 +13,12 @@ use sliced_heap::SlicedHeap;
 use text_read::decode_hex;
 use trade_base::{AccountId, DsId, Refusal};
 
-/// A script: the account that it is charged on, its capabilities, its regions, its heap and the heap of its sliced blocks.
+/// A script: the account that it is charged on, the account of its reserve, its capabilities, its regions, its heap and the heap
+/// of its sliced blocks. Of the reserve nothing is ever used.
 #[derive(Drop)]
 pub(crate) struct Script {
     pub(crate) account: AccountId,
+    pub(crate) reserve: AccountId,
     pub(crate) caps: CapSpace,
     pub(crate) regions: RegionMap,
     pub(crate) heap: Heap,
@@ -39,7 +41,7 @@ impl Script {
     ghost use Rattle.pd_core.specs.Own.{part_at, own_heap_at, sliced_at, lent_in, sized_at, range_refusal, IsFound};
     ghost use Rattle.pd_core.specs.Sound.{IsSoundScript, SparesOthers, Keeps};
 
-    /// Carries a call out that is none of a session and no exit, and writes what it is answered in place of what the reply was.
+    /// Carries a call out that is none of a session, none of the reserve and no exit, and writes what it is answered in place of what the reply was.
     /// Its arms share one place for their outcomes, which a function clears as it is entered.
     pub(crate) fn step(&mut self, memory: &mut Memory, call: Call<'_>, reply: &mut Reply)
         requires { CanDo call memory.old self.old }
@@ -63,7 +65,10 @@ impl Script {
             Call::Snew(bytes) => self.snew(memory, bytes),
             Call::Sdel(address) => self.sdel(memory, address),
             Call::Quota => Ok(Answer::Quotas(self.quota(memory))),
-            Call::Open { .. }
+            Call::Reserve
+            | Call::Request(_)
+            | Call::Yield(_)
+            | Call::Open { .. }
             | Call::Upgrade { .. }
             | Call::CallSession { .. }
             | Call::Close(_)

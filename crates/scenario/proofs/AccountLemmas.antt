@@ -1,5 +1,5 @@
 -- The account list: its lines one after another, and what is left of it where a write fails.
-use Rattle.std.proofs.Common.{◌≡◌, ℕ, ◌+◌, ◌<◌, ◌≤◌, ◌-◌, true, false, eqb, eqb-true, zero, suc, T, List, [], ◌∷◌, ◌++◌, length, take, drop, Option, Some, None, Result, Ok, Err, OnOk, OnErr, inl, inr, refl, sym, ap, ◌∙◌, subst, arith, nat_cmp, Less, append_assoc, append-nil}
+use Rattle.std.proofs.Common.{◌≡◌, ℕ, ◌+◌, ◌<◌, ◌≤◌, ◌-◌, true, false, eqb, eqb-true, get_or, zero, suc, T, List, [], ◌∷◌, ◌++◌, length, map, take, drop, Option, Some, None, Result, Ok, Err, OnOk, OnErr, inl, inr, refl, sym, ap, ◌∙◌, subst, arith, nat_cmp, Less, append_assoc, append-nil}
 use Rattle.std.proofs.Math.Seq.{take-suc}
 use Rattle.std.proofs.lemmas.Bool.{cases_lt, eq-eqb}
 use Rattle.std.proofs.lemmas.Bool.Decides.{nat_tests}
@@ -17,9 +17,11 @@ use Rattle.std.specs.Option.{option_map_or}
 use Rattle.own_model.proofs.EntryLemmas.{value_of, value_of_first, value_of_later}
 use Rattle.own_model.proofs.NatMapLemmas.{both_parts, is_less}
 use Rattle.own_model.specs.AccountList.{object_line, session_lines}
+use Rattle.own_model.specs.Listed.{Listed, start_list_of, start_of}
 use Rattle.own_model.specs.OwnState.{OwnState}
-use Rattle.own_model.specs.StartList.{Entry}
-use Rattle.own_model.specs.Transcript.{entry_at, state_at, nobody, nothing}
+use Rattle.own_model.specs.StartList.{entries_of}
+use Rattle.own_model.specs.World.{World}
+use Rattle.own_model.specs.Transcript.{state_at, nothing}
 use Rattle.scenario.specs.Gathered.{Tells, TellsPart, TellsUnless}
 use Rattle.scenario.specs.Stops.{AppendsPart}
 use Rattle.scenario.proofs.GatheredLemmas.{Tells-more, Tells-front}
@@ -150,26 +152,26 @@ sessions_last name s i none =
 
 -- ---- components in their order
 
-module _ (f : Entry × OwnState → List ℕ) (es : List Entry) (ss : List OwnState) (same : length ss ≡ length es) where
+module _ {X : Type 0} (missing : X) (f : X × OwnState → List ℕ) (es : List X) (ss : List OwnState) (same : length ss ≡ length es) where
   -- there are as many
   length_both : length (zip es ss) ≡ length es
-  length_both = sym (length-map (zip es ss) (λ (p : Entry × OwnState). p.0)) ∙ ap length (firsts-zip es ss same)
+  length_both = sym (length-map (zip es ss) (λ (p : X × OwnState). p.0)) ∙ ap length (firsts-zip es ss same)
 
   -- one component more
-  pub component_more : (i : ℕ) → i < length es → flat_map f (take (i + 1) (zip es ss)) ≡ flat_map f (take i (zip es ss)) ++ f (entry_at es i, state_at ss i)
+  pub component_more : (i : ℕ) → i < length es → flat_map f (take (i + 1) (zip es ss)) ≡ flat_map f (take i (zip es ss)) ++ f (get_or es i missing, state_at ss i)
   component_more i within =
       let next : i + 1 ≡ suc i = omega arith in
       let inside : i < length (zip es ss) = omega (arith, within, length_both) in
       let beside : i < length ss = omega (arith, within, same) in
-      let here : Entry × OwnState = (entry_at es i, state_at ss i) in
+      let here : X × OwnState = (get_or es i missing, state_at ss i) in
       ap (λ n. flat_map f (take n (zip es ss))) next
-      ∙ ap (flat_map f) (take-suc (zip es ss) i (nobody, nothing) inside ∙ ap (λ p. take i (zip es ss) ++ p ∷ []) (get_or-zip es ss i (nobody, nothing) within beside))
+      ∙ ap (flat_map f) (take-suc (zip es ss) i (missing, nothing) inside ∙ ap (λ p. take i (zip es ss) ++ p ∷ []) (get_or-zip es ss i (missing, nothing) within beside))
       ∙ flat_map-append f (take i (zip es ss)) (here ∷ [])
       ∙ ap (λ l. flat_map f (take i (zip es ss)) ++ l) (flat_map-cons f here [] ∙ append-nil (f here))
 
   -- the first, then one, and then the others
   pub component_cut : (i : ℕ) → i < length es →
-      flat_map f (zip es ss) ≡ (flat_map f (take i (zip es ss)) ++ f (entry_at es i, state_at ss i)) ++ flat_map f (drop (i + 1) (zip es ss))
+      flat_map f (zip es ss) ≡ (flat_map f (take i (zip es ss)) ++ f (get_or es i missing, state_at ss i)) ++ flat_map f (drop (i + 1) (zip es ss))
   component_cut i within =
       ap (flat_map f) (sym (take-append-drop (i + 1) (zip es ss)))
       ∙ flat_map-append f (take (i + 1) (zip es ss)) (drop (i + 1) (zip es ss))
@@ -178,6 +180,13 @@ module _ (f : Entry × OwnState → List ℕ) (es : List Entry) (ss : List OwnSt
   -- all of them
   pub component_all : (n : ℕ) → length es ≤ n → flat_map f (take n (zip es ss)) ≡ flat_map f (zip es ss)
   component_all n enough = ap (flat_map f) (take_all n (zip es ss) (omega (arith, enough, length_both)))
+
+-- a world with a list's entries has as many, and as many states where these are as many
+pub entries_listed : (list : Listed) (world : World) → world.entries ≡ entries_of (start_list_of list) → length world.entries ≡ length list.entries
+entries_listed list world listed = ap length listed ∙ length-map (map (start_of list) list.entries) (λ start. start.entry) ∙ length-map list.entries (start_of list)
+
+pub states_listed : (list : Listed) (world : World) → world.entries ≡ entries_of (start_list_of list) → length world.states ≡ length world.entries → length world.states ≡ length list.entries
+states_listed list world listed same = same ∙ entries_listed list world listed
 
 -- ---- what is told
 

@@ -15,7 +15,7 @@ use Rattle.init_core.specs.declared.fault.BootFault.{BootFault}
 use Rattle.init_core.specs.declared.fault.BootFault.TheVariants.{NoMemory}
 use Rattle.std.proofs.lemmas.List.Elements.{All-nil}
 use Rattle.scenario.specs.Lines.{longest_read}
-use Rattle.scenario.specs.Program.{IsAnswered, IsBoundedFor, IsMachine, IsDone, FailsFor, StopsScenario, TotalsAre, boot_fault, lines_run, ok_line, scenario_text}
+use Rattle.scenario.specs.Program.{IsAnswered, IsBoundedFor, IsMachine, IsDone, FailsFor, StopsScenario, TotalsAre, boot_fault, lines_run, ok_line, scenario_text, world_of}
 use Rattle.scenario.specs.Runs.{Completes}
 use Rattle.std.specs.Option.{option_copied}
 use Rattle.scenario.specs.Stops.{Stops, AppendsPart}
@@ -45,8 +45,8 @@ pub fault_of_list : (text : List ℕ) (listed : Listed) (fault : BootFault) → 
 fault_of_list text listed fault reads told other = rw reads (told other)
 
 -- a scenario from the machine's start
-from_start : (list : StartList) (world : World) → world ≡ start_world list → (P : World → List ℕ → Type 0) (input : Option (List ℕ)) →
-    IfSome input (λ bytes. P world bytes) → IfSome input (λ bytes. P (start_world list) bytes)
+from_start : (list : Listed) (world : World) → world ≡ world_of list → (P : World → List ℕ → Type 0) (input : Option (List ℕ)) →
+    IfSome input (λ bytes. P world bytes) → IfSome input (λ bytes. P (world_of list) bytes)
 from_start list world starts P None holds = tt
 from_start list world starts P (Some bytes) holds = subst (λ w. P w bytes) starts holds
 
@@ -58,15 +58,15 @@ totals_after list covered lines =
 
 -- a text that is read as a list that boots
 module _ {text : List ℕ} {listed : Listed} (reads : list_in text ≡ Ok listed) (boots : Boots (start_list_of listed)) where
-  machine : IsMachine text (start_list_of listed)
-  machine = record { listed = listed; reads = reads; list_is = refl; boots = boots }
+  machine : IsMachine text listed
+  machine = record { reads = reads; boots = boots }
 
   -- `ok` is told
   pub done_check : (asked : Task) (input written now_written : Option (List ℕ)) (lines : ℕ) → asked ≡ task.Check →
       lines ≡ 0 → Appends written now_written ok_line → IsDone asked text input lines written now_written
   done_check asked input written now_written lines is none tells =
       rw is (record {
-        list = start_list_of listed;
+        list = listed;
         machine = machine;
         done = record { counted = none; readable = All-nil (λ line. length line ≤ longest_read); tells = tells };
         totals = totals_after (start_list_of listed) boots;
@@ -75,30 +75,30 @@ module _ {text : List ℕ} {listed : Listed} (reads : list_in text ≡ Ok listed
   -- or not all of it
   pub stopped_check : (asked : Task) (fault : RunFault) (max_lines : ℕ) (input rest written now_written : Option (List ℕ)) (failed : Bool) → asked ≡ task.Check →
       fault ≡ WriteFault → AppendsPart written now_written ok_line → FailsFor (failure.Run fault) asked text max_lines input rest failed written now_written
-  stopped_check asked fault max_lines input rest written now_written failed is writes tells = rw is (start_list_of listed, machine, (writes, tells))
+  stopped_check asked fault max_lines input rest written now_written failed is writes tells = rw is (listed, machine, (writes, tells))
 
   module _ {world : World} (starts : world ≡ start_world (start_list_of listed)) where
     -- the scenario is answered
     pub done_run : (asked : Task) (accounts : Bool) (only : Option (Bor (List ℕ))) (input written now_written : Option (List ℕ)) (lines : ℕ) → asked ≡ task.Run accounts only →
-        IfSome input (λ bytes. IsAnswered (scenario_text accounts (option_copied only) world bytes) bytes lines written now_written) → IsDone asked text input lines written now_written
+        IfSome input (λ bytes. IsAnswered (scenario_text accounts (option_copied only) listed world bytes) bytes lines written now_written) → IsDone asked text input lines written now_written
     done_run asked accounts only input written now_written lines is answered =
         rw is (record {
-          list = start_list_of listed;
+          list = listed;
           machine = machine;
-          done = from_start (start_list_of listed) world starts (λ w bytes. IsAnswered (scenario_text accounts (option_copied only) w bytes) bytes lines written now_written) input answered;
+          done = from_start listed world starts (λ w bytes. IsAnswered (scenario_text accounts (option_copied only) listed w bytes) bytes lines written now_written) input answered;
           totals = totals_after (start_list_of listed) boots;
         })
 
     -- or it was stopped
     pub stopped_run : (asked : Task) (accounts : Bool) (only : Option (Bor (List ℕ))) (fault : RunFault) (max_lines : ℕ) (input rest written now_written : Option (List ℕ)) (failed : Bool) →
         asked ≡ task.Run accounts only →
-        IfSome input (λ bytes. StopsScenario accounts (option_copied only) fault max_lines world bytes rest failed written now_written) →
+        IfSome input (λ bytes. StopsScenario accounts (option_copied only) fault max_lines listed world bytes rest failed written now_written) →
         FailsFor (failure.Run fault) asked text max_lines input rest failed written now_written
     stopped_run asked accounts only fault max_lines input rest written now_written failed is stops =
         rw is (
-          start_list_of listed,
+          listed,
           machine,
-          from_start (start_list_of listed) world starts (λ w bytes. StopsScenario accounts (option_copied only) fault max_lines w bytes rest failed written now_written) input stops,
+          from_start listed world starts (λ w bytes. StopsScenario accounts (option_copied only) fault max_lines listed w bytes rest failed written now_written) input stops,
         )
 
 -- a scenario that was answered is within the bounds
@@ -115,48 +115,48 @@ pub listed_at_start : (list : StartList) (world : World) → world ≡ start_wor
 listed_at_start list world starts = ap (λ w. w.entries) starts
 
 -- a run is all that is told
-pub told_alone : (accounts : Bool) (only : Option (List ℕ)) (world last : World) (lines : ℕ) (input written now_written : Option (List ℕ)) → accounts ≡ false →
+pub told_alone : (accounts : Bool) (only : Option (List ℕ)) (list : Listed) (world last : World) (lines : ℕ) (input written now_written : Option (List ℕ)) → accounts ≡ false →
     IfSome input (λ bytes. Completes only lines world last bytes written now_written) →
-    IfSome input (λ bytes. IsAnswered (scenario_text accounts only world bytes) bytes lines written now_written)
-told_alone accounts only world last lines None written now_written unasked done = tt
-told_alone accounts only world last lines (Some bytes) written now_written unasked done =
+    IfSome input (λ bytes. IsAnswered (scenario_text accounts only list world bytes) bytes lines written now_written)
+told_alone accounts only list world last lines None written now_written unasked done = tt
+told_alone accounts only list world last lines (Some bytes) written now_written unasked done =
     rw unasked (record { counted = done.counted; readable = done.readable; tells = subst (Appends written now_written) (sym (append-nil _)) done.transcript })
 
 -- or the account list of the last states is told behind it
-pub told_with_list : (accounts : Bool) → accounts ≡ true → (only : Option (List ℕ)) (world last : World) (lines : ℕ) (input w w' w'' : Option (List ℕ)) →
-    IfSome input (λ bytes. Completes only lines world last bytes w w') → Appends w' w'' (account_list_text last) →
-    IfSome input (λ bytes. IsAnswered (scenario_text accounts only world bytes) bytes lines w w'')
-told_with_list accounts asked only world last lines None w w' w'' done lists = tt
-told_with_list accounts asked only world last lines (Some bytes) w w' w'' done lists =
+pub told_with_list : (accounts : Bool) → accounts ≡ true → (only : Option (List ℕ)) (list : Listed) (world last : World) (lines : ℕ) (input w w' w'' : Option (List ℕ)) →
+    IfSome input (λ bytes. Completes only lines world last bytes w w') → Appends w' w'' (account_list_text list last) →
+    IfSome input (λ bytes. IsAnswered (scenario_text accounts only list world bytes) bytes lines w w'')
+told_with_list accounts asked only list world last lines None w w' w'' done lists = tt
+told_with_list accounts asked only list world last lines (Some bytes) w w' w'' done lists =
     rw asked (record {
       counted = done.counted;
       readable = done.readable;
       tells =
           Appends-more w w' w'' _ _ _ done.transcript lists
-          (ap (λ l. told_after world.entries world.states [] (lines_run only bytes) ++ l) (ap account_list_text (sym done.world)));
+          (ap (λ l. told_after world.entries world.states [] (lines_run only bytes) ++ l) (ap (account_list_text list) (sym done.world)));
     })
 
 -- the run was stopped
-pub stopped_in_run : (only : Option (List ℕ)) (world new : World) (accounts : Bool) (fault : RunFault) (max_lines : ℕ) (input rest written now_written : Option (List ℕ)) (failed : Bool) →
+pub stopped_in_run : (only : Option (List ℕ)) (list : Listed) (world new : World) (accounts : Bool) (fault : RunFault) (max_lines : ℕ) (input rest written now_written : Option (List ℕ)) (failed : Bool) →
     IfSome input (λ bytes. Stops only fault max_lines world new bytes rest failed written now_written) →
-    IfSome input (λ bytes. StopsScenario accounts only fault max_lines world bytes rest failed written now_written)
-stopped_in_run only world new accounts fault max_lines None rest written now_written failed stops = tt
-stopped_in_run only world new accounts fault max_lines (Some bytes) rest written now_written failed stops = inl (new, stops)
+    IfSome input (λ bytes. StopsScenario accounts only fault max_lines list world bytes rest failed written now_written)
+stopped_in_run only list world new accounts fault max_lines None rest written now_written failed stops = tt
+stopped_in_run only list world new accounts fault max_lines (Some bytes) rest written now_written failed stops = inl (new, stops)
 
 -- or the account list behind it
-pub stopped_in_list : (only : Option (List ℕ)) (world last : World) (accounts : Bool) (fault : RunFault) (max_lines lines : ℕ) (input rest w w' w'' : Option (List ℕ)) (failed : Bool) →
+pub stopped_in_list : (only : Option (List ℕ)) (list : Listed) (world last : World) (accounts : Bool) (fault : RunFault) (max_lines lines : ℕ) (input rest w w' w'' : Option (List ℕ)) (failed : Bool) →
     accounts ≡ true → fault ≡ WriteFault → lines ≤ max_lines →
-    IfSome input (λ bytes. Completes only lines world last bytes w w') → AppendsPart w' w'' (account_list_text last) →
-    IfSome input (λ bytes. StopsScenario accounts only fault max_lines world bytes rest failed w w'')
-stopped_in_list only world last accounts fault max_lines lines None rest w w' w'' failed asked fails few done part = tt
-stopped_in_list only world last accounts fault max_lines lines (Some bytes) rest w w' w'' failed asked fails few done part = inr (record {
+    IfSome input (λ bytes. Completes only lines world last bytes w w') → AppendsPart w' w'' (account_list_text list last) →
+    IfSome input (λ bytes. StopsScenario accounts only fault max_lines list world bytes rest failed w w'')
+stopped_in_list only list world last accounts fault max_lines lines None rest w w' w'' failed asked fails few done part = tt
+stopped_in_list only list world last accounts fault max_lines lines (Some bytes) rest w w' w'' failed asked fails few done part = inr (record {
   asked = asked;
   fault_is = fails;
   few = omega (arith, few, done.counted);
   readable = done.readable;
   part = part.part;
   left = part.left;
-  parts = ap account_list_text (sym done.world) ∙ part.parts;
+  parts = ap (account_list_text list) (sym done.world) ∙ part.parts;
   grows = Appends-more w w' w'' _ _ _ done.transcript part.grows refl;
 })
 

@@ -1,9 +1,19 @@
--- A line of the account list that may not be there.
-use Rattle.std.specs.Prelude.{ℕ, List, []}
+-- The entries of the account list, and a line of it that may not be there.
+use Rattle.std.specs.Prelude.{ℕ, false, List, [], slice_index_or, None}
 use Rattle.std.specs.FinMap.{get}
 use Rattle.std.specs.Option.{option_map_or}
 use Rattle.own_model.specs.AccountList.{object_line}
+use Rattle.own_model.specs.Listed.{Listed, ListedEntry}
+use Rattle.own_model.specs.Listed.Binary.{Script}
 use Rattle.own_model.specs.OwnState.{OwnState}
+
+-- a place that no list has is a script without anything
+abbrev pub unlisted : ListedEntry
+unlisted = record { name = []; binary = Script; ram = 0; caps = 0; provides = false; route = None; reserve = None }
+
+-- the entry of a list at a place
+abbrev pub listed_at : Listed → ℕ → ListedEntry
+listed_at list place = slice_index_or list.entries place unlisted
 
 -- the line of what a component's selector names, where it names a session
 abbrev pub selected_line : List ℕ → OwnState → ℕ → List ℕ

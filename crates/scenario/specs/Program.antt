@@ -30,11 +30,13 @@ AsksFor check accounts only (task.Run listed name) =
     (check ≡ false) × (listed ≡ accounts) × (option_copied name ≡ only)
 
 -- a text is read as this start list, and the list boots
-pub record IsMachine (text : List ℕ) (list : StartList) : Type 0 where
-  pub listed : Listed
-  pub reads : list_in text ≡ Ok listed
-  pub list_is : list ≡ start_list_of listed
-  pub boots : Boots list
+pub record IsMachine (text : List ℕ) (list : Listed) : Type 0 where
+  pub reads : list_in text ≡ Ok list
+  pub boots : Boots (start_list_of list)
+
+-- the world with which it starts
+abbrev pub world_of : Listed → World
+world_of list = start_world (start_list_of list)
 
 -- the fault of a list that was read, or why none was
 abbrev fault_of : Result Listed BootFault → Option BootFault
@@ -55,19 +57,19 @@ abbrev pub ok_line : List ℕ
 ok_line = codes "ok" ++ 10 ∷ []
 
 -- the account list, where it is asked for
-abbrev pub accounts_for : Bool → World → List ℕ
-accounts_for true world = account_list_text world
-accounts_for false world = []
+abbrev pub accounts_for : Bool → Listed → World → List ℕ
+accounts_for true list world = account_list_text list world
+accounts_for false list world = []
 
 -- the lines of an input that are run: all, or a name's alone
 abbrev pub lines_run : Option (List ℕ) → List ℕ → List (List ℕ)
 lines_run only input = said_by only (lines_of input)
 
--- what a world is asked and told: the transcript of the lines that are run, and the account list of the last states
-abbrev pub scenario_text : Bool → Option (List ℕ) → World → List ℕ → List ℕ
-scenario_text accounts only world input =
+-- what a world of a list is asked and told: the transcript of the lines that are run, and the account list of the last states
+abbrev pub scenario_text : Bool → Option (List ℕ) → Listed → World → List ℕ → List ℕ
+scenario_text accounts only list world input =
     told_after world.entries world.states [] (lines_run only input)
-    ++ accounts_for accounts (world_running world (lines_run only input))
+    ++ accounts_for accounts list (world_running world (lines_run only input))
 
 -- an input was read to its end, and this text is told
 pub record IsAnswered (text input : List ℕ) (lines : ℕ) (written now_written : Option (List ℕ)) : Type 0 where
@@ -86,10 +88,10 @@ IsBoundedFor task.Check max_lines input = ⊤
 IsBoundedFor (task.Run accounts only) max_lines input = IsWithinBounds max_lines input
 
 -- what a task writes
-abbrev pub written_for : Task → StartList → List ℕ → List ℕ
+abbrev pub written_for : Task → Listed → List ℕ → List ℕ
 written_for task.Check list input = ok_line
 written_for (task.Run accounts only) list input =
-    scenario_text accounts (option_copied only) (start_world list) input
+    scenario_text accounts (option_copied only) list (world_of list) input
 
 -- the sums that an account list tells after any lines are the machine's
 abbrev pub TotalsAre : StartList → List (List ℕ) → Type 0
@@ -99,14 +101,14 @@ TotalsAre list lines =
 
 -- a task was done to its end, on the machine of a text
 pub record IsDone (asked : Task) (text : List ℕ) (input : Option (List ℕ)) (lines : ℕ) (written now_written : Option (List ℕ)) : Type 0 where
-  pub list : StartList
+  pub list : Listed
   pub machine : IsMachine text list
   pub done : IfSome (read_for asked input) (λ bytes.
       IsAnswered (written_for asked list bytes) bytes lines written now_written)
-  pub totals : (lines : List (List ℕ)) → TotalsAre list lines
+  pub totals : (lines : List (List ℕ)) → TotalsAre (start_list_of list) lines
 
 -- a write of the account list failed, once all lines were answered and told
-pub record StopsList (accounts : Bool) (only : Option (List ℕ)) (fault : RunFault) (max_lines : ℕ) (world : World) (input : List ℕ)
+pub record StopsList (accounts : Bool) (only : Option (List ℕ)) (fault : RunFault) (max_lines : ℕ) (list : Listed) (world : World) (input : List ℕ)
     (written now_written : Option (List ℕ)) : Type 0 where
   pub asked : accounts ≡ true
   pub fault_is : fault ≡ WriteFault
@@ -114,24 +116,24 @@ pub record StopsList (accounts : Bool) (only : Option (List ℕ)) (fault : RunFa
   pub readable : AreReadable (lines_of input)
   pub part : List ℕ
   pub left : List ℕ
-  pub parts : account_list_text (world_running world (lines_run only input)) ≡ part ++ left
+  pub parts : account_list_text list (world_running world (lines_run only input)) ≡ part ++ left
   pub grows : Appends written now_written
       (told_after world.entries world.states [] (lines_run only input) ++ part)
 
 -- a scenario was stopped: its run, and then no account list is told, or the account list
-abbrev pub StopsScenario : Bool → Option (List ℕ) → RunFault → ℕ → World →
+abbrev pub StopsScenario : Bool → Option (List ℕ) → RunFault → ℕ → Listed → World →
     List ℕ → Option (List ℕ) → Bool → Option (List ℕ) → Option (List ℕ) → Type 0
-StopsScenario accounts only fault max_lines world input rest failed written now_written =
+StopsScenario accounts only fault max_lines list world input rest failed written now_written =
     ((new : World) × Stops only fault max_lines world new input rest failed written now_written)
-    ⊎ StopsList accounts only fault max_lines world input written now_written
+    ⊎ StopsList accounts only fault max_lines list world input written now_written
 
 -- a task that had begun was stopped by a fault: the run from the machine's start, or the one write of a check
-abbrev pub StopsTask : Task → RunFault → ℕ → StartList →
+abbrev pub StopsTask : Task → RunFault → ℕ → Listed →
     List ℕ → Option (List ℕ) → Bool → Option (List ℕ) → Option (List ℕ) → Type 0
 StopsTask task.Check fault max_lines list input rest failed written now_written =
     (fault ≡ WriteFault) × AppendsPart written now_written ok_line
 StopsTask (task.Run accounts only) fault max_lines list input rest failed written now_written =
-    StopsScenario accounts (option_copied only) fault max_lines (start_world list) input rest failed written now_written
+    StopsScenario accounts (option_copied only) fault max_lines list (world_of list) input rest failed written now_written
 
 -- a task failed: the text boots no machine, or the task was stopped on its machine
 abbrev pub FailsFor : Failure → Task → List ℕ → ℕ →
@@ -139,7 +141,7 @@ abbrev pub FailsFor : Failure → Task → List ℕ → ℕ →
 FailsFor (failure.Boot fault) asked text max_lines input rest failed written now_written =
     fault ≢ NoMemory → boot_fault text ≡ Some fault
 FailsFor (failure.Run fault) asked text max_lines input rest failed written now_written =
-    (list : StartList) × IsMachine text list
+    (list : Listed) × IsMachine text list
     × IfSome (read_for asked input) (λ bytes. StopsTask asked fault max_lines list bytes rest failed written now_written)
 
 -- the same of bytes, which no read fails to give
@@ -147,7 +149,7 @@ abbrev pub FailsIn : Failure → Task → List ℕ → ℕ → List ℕ → List
 FailsIn (failure.Boot fault) asked text max_lines input written =
     (written ≡ []) × (fault ≢ NoMemory → boot_fault text ≡ Some fault)
 FailsIn (failure.Run fault) asked text max_lines input written =
-    (list : StartList) × IsMachine text list
+    (list : Listed) × IsMachine text list
     × ((rest : Option (List ℕ)) × StopsTask asked fault max_lines list input rest false (Some []) (Some written))
 
 -- the exit status

@@ -2,31 +2,31 @@
 ghost use Rattle.std.specs.Prelude.{◌≡◌, ◌<◌, ◌++◌, false, true, length, codes, Err, IfErr, OnErr, OnOk, is_err};
 ghost use Rattle.std.specs.List.{flat_map, zip};
 ghost use Rattle.std.specs.Io.KnownBytes.{Appends};
-ghost use Rattle.own_model.specs.AccountList.{account_line, account_list_text, session_line, session_lines, total_line};
+ghost use Rattle.own_model.specs.AccountList.{account_line, account_list_text, component_lines, reserve_line, session_line, session_lines, total_line};
 ghost use Rattle.own_model.specs.Listed.{start_list_of};
 ghost use Rattle.own_model.specs.StartList.{entries_of};
-ghost use Rattle.own_model.specs.Transcript.{entry_at, state_at};
+ghost use Rattle.own_model.specs.Transcript.{state_at};
 ghost use Rattle.own_model.specs.World.{all_ram, all_caps};
-ghost use Rattle.pd_core.specs.Answer.{quotas_account};
-ghost use Rattle.scenario.specs.Accounts.{selected_line};
+ghost use Rattle.pd_core.specs.Answer.{quotas_account, reserve_amounts};
+ghost use Rattle.scenario.specs.Accounts.{listed_at, selected_line};
 ghost use Rattle.scenario.specs.Gathered.{TellsUnless};
 ghost use Rattle.scenario.specs.Stops.{AppendsPart, is_write_fault};
 ghost use Rattle.scenario.specs.declared.running.RunFault.TheVariants.{WriteFault};
 
 use crate::account_sums::sum_all;
-use crate::account_text::{add, add_number, add_quotas};
+use crate::account_text::{add, add_number, add_quotas, add_reserve};
 use crate::device::{DeviceFault, Sink};
 use crate::gather::Gather;
 use crate::running::RunFault;
 use arrayvec::ArrayVec;
 use init_core::StartList;
-use pd_core::{Core, Quotas, Router};
+use pd_core::{Core, Quotas, Reserve, Router};
 
 /// Room for what follows the name in a line.
 const LONGEST_REST: usize = 160;
 
-/// Writes the account list: init's account, those of the components in the order of the list, those of each one's open
-/// sessions by rising selector, and the sums of all these limits. A write that fails leaves a part of it, and a writer that
+/// Writes the account list: init's account, those of the components in the order of the list, each with its reserve where the
+/// list gives one or it has anything, those of each one's open sessions by rising selector, and the sums of all these limits. A write that fails leaves a part of it, and a writer that
 /// had failed before is not tried again. The components may have any own states, on a machine of any size.
 pub fn write_accounts<R: Router + Drop, K: Sink>(
     core: &Core<R>,
@@ -34,9 +34,9 @@ pub fn write_accounts<R: Router + Drop, K: Sink>(
     writer: &mut K,
 ) -> Result<(), RunFault>
     requires listed { core.now.entries ≡ entries_of (start_list_of list.now) }
-    ensures told { OnOk result (Appends (K.contents writer.old) (K.contents writer.new) (account_list_text core.now)) }
+    ensures told { OnOk result (Appends (K.contents writer.old) (K.contents writer.new) (account_list_text list.now core.now)) }
     ensures fault { IfErr result (λ fault. fault ≡ WriteFault) }
-    ensures part { OnErr result (AppendsPart (K.contents writer.old) (K.contents writer.new) (account_list_text core.now)) }
+    ensures part { OnErr result (AppendsPart (K.contents writer.old) (K.contents writer.new) (account_list_text list.now core.now)) }
     ensures writing { K.has_failed writer.new ≡ is_write_fault result }
     ensures before { K.has_failed writer.old ≡ true → (result ≡ Err WriteFault) × (writer.new ≡ writer.old) }
 {
@@ -57,8 +57,8 @@ fn write_list<R: Router + Drop, K: Sink>(
 ) -> Result<(), DeviceFault>
     requires listed { core.now.entries ≡ entries_of (start_list_of list.now) }
     requires writes { K.has_failed sink.old ≡ false }
-    ensures told { OnOk result (Appends (K.contents sink.old) (K.contents sink.new) (account_list_text core.now)) }
-    ensures part { OnErr result (AppendsPart (K.contents sink.old) (K.contents sink.new) (account_list_text core.now)) }
+    ensures told { OnOk result (Appends (K.contents sink.old) (K.contents sink.new) (account_list_text list.now core.now)) }
+    ensures part { OnErr result (AppendsPart (K.contents sink.old) (K.contents sink.new) (account_list_text list.now core.now)) }
     ensures failing { K.has_failed sink.new ≡ is_err result }
 {
     let mut gathered = Gather::new();
@@ -76,7 +76,7 @@ fn put_list<R: Router + Drop, K: Sink>(
     requires listed { core.now.entries ≡ entries_of (start_list_of list.now) }
     requires writes { K.has_failed sink.old ≡ false }
     ensures told { TellsUnless result (K.contents sink.old) gathered.old (K.contents sink.new) gathered.new
-        (account_list_text core.now) }
+        (account_list_text list.now core.now) }
     ensures failing { K.has_failed sink.new ≡ is_err result }
 {
     put_init(core, gathered, sink)?;
@@ -99,7 +99,7 @@ fn put_init<R: Router + Drop, K: Sink>(
     put_account(b"init", core.init_account(), gathered, sink)
 }
 
-// Gathers the line of each component.
+// Gathers the lines of each component.
 fn put_components<R: Router + Drop, K: Sink>(
     core: &Core<R>,
     list: &StartList,
@@ -109,7 +109,7 @@ fn put_components<R: Router + Drop, K: Sink>(
     requires listed { core.now.entries ≡ entries_of (start_list_of list.now) }
     requires writes { K.has_failed sink.old ≡ false }
     ensures told { TellsUnless result (K.contents sink.old) gathered.old (K.contents sink.new) gathered.new
-        (flat_map (λ p. account_line p.0.name p.1.account) (zip core.now.entries core.now.states)) }
+        (flat_map (λ p. component_lines p.0 p.1) (zip list.now.entries core.now.states)) }
     ensures failing { K.has_failed sink.new ≡ is_err result }
 {
     for component in 0..core.count() {
@@ -118,7 +118,7 @@ fn put_components<R: Router + Drop, K: Sink>(
     Ok(())
 }
 
-// Gathers the line of a component.
+// Gathers the line of a component's account, and that of its reserve where it is told.
 fn put_component<R: Router + Drop, K: Sink>(
     core: &Core<R>,
     list: &StartList,
@@ -130,15 +130,17 @@ fn put_component<R: Router + Drop, K: Sink>(
     requires component { component < length core.now.entries }
     requires writes { K.has_failed sink.old ≡ false }
     ensures told { TellsUnless result (K.contents sink.old) gathered.old (K.contents sink.new) gathered.new
-        (account_line (entry_at core.now.entries component).name (state_at core.now.states component).account) }
+        (component_lines (listed_at list.now component) (state_at core.now.states component)) }
     ensures failing { K.has_failed sink.new ≡ is_err result }
 {
-    put_account(
-        list.name(component),
-        core.account(component),
-        gathered,
-        sink,
-    )
+    let name = list.name(component);
+    put_account(name, core.account(component), gathered, sink)?;
+    let reserve = core.reserve(component);
+    if list.gives_reserve(component) || reserve.ram.0 > 0 || reserve.caps.0 > 0 {
+        put_reserve(name, reserve, gathered, sink)
+    } else {
+        Ok(())
+    }
 }
 
 // Gathers the lines of each component's open sessions.
@@ -151,7 +153,7 @@ fn put_sessions<R: Router + Drop, K: Sink>(
     requires listed { core.now.entries ≡ entries_of (start_list_of list.now) }
     requires writes { K.has_failed sink.old ≡ false }
     ensures told { TellsUnless result (K.contents sink.old) gathered.old (K.contents sink.new) gathered.new
-        (flat_map (λ p. session_lines p.0.name p.1) (zip core.now.entries core.now.states)) }
+        (flat_map (λ p. session_lines p.0.name p.1) (zip list.now.entries core.now.states)) }
     ensures failing { K.has_failed sink.new ≡ is_err result }
 {
     for component in 0..core.count() {
@@ -172,7 +174,7 @@ fn put_sessions_of<R: Router + Drop, K: Sink>(
     requires component { component < length core.now.entries }
     requires writes { K.has_failed sink.old ≡ false }
     ensures told { TellsUnless result (K.contents sink.old) gathered.old (K.contents sink.new) gathered.new
-        (session_lines (entry_at core.now.entries component).name (state_at core.now.states component)) }
+        (session_lines (listed_at list.now component).name (state_at core.now.states component)) }
     ensures failing { K.has_failed sink.new ≡ is_err result }
 {
     for selector in 0..=core.last_selector(component) {
@@ -194,7 +196,7 @@ fn put_selected<R: Router + Drop, K: Sink>(
     requires component { component < length core.now.entries }
     requires writes { K.has_failed sink.old ≡ false }
     ensures told { TellsUnless result (K.contents sink.old) gathered.old (K.contents sink.new) gathered.new
-        (selected_line (entry_at core.now.entries component).name (state_at core.now.states component) selector) }
+        (selected_line (listed_at list.now component).name (state_at core.now.states component) selector) }
     ensures failing { K.has_failed sink.new ≡ is_err result }
 {
     match core.session_account(component, selector) {
@@ -220,6 +222,25 @@ fn put_account<K: Sink>(
     add_quotas(&mut rest, account);
     add(&mut rest, b"\n");
     put_named(b"account ", name, rest.as_slice(), gathered, sink)
+}
+
+// Gathers the line of a reserve by its component's name.
+fn put_reserve<K: Sink>(
+    name: &[u8],
+    reserve: Reserve,
+    gathered: &mut Gather,
+    sink: &mut K,
+) -> Result<(), DeviceFault>
+    requires { K.has_failed sink.old ≡ false }
+    ensures told { TellsUnless result (K.contents sink.old) gathered.old (K.contents sink.new) gathered.new
+        (reserve_line name.now (reserve_amounts reserve)) }
+    ensures failing { K.has_failed sink.new ≡ is_err result }
+{
+    let mut rest: ArrayVec<u8, LONGEST_REST> = ArrayVec::new();
+    add(&mut rest, b" ");
+    add_reserve(&mut rest, reserve);
+    add(&mut rest, b"\n");
+    put_named(b"reserve ", name, rest.as_slice(), gathered, sink)
 }
 
 // Gathers the line of a session's account by its client's name and its selector.

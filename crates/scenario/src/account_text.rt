@@ -1,12 +1,12 @@
 //! The texts of accounts, in a fixed buffer.
 ghost use Rattle.std.specs.Prelude.{◌≡◌, ◌+◌, ◌≤◌, ◌++◌, length};
 ghost use Rattle.arrayvec.specs.ArrayVec.{array_vec_len};
-ghost use Rattle.own_model.specs.Reply.{quota_text, share_text};
-ghost use Rattle.pd_core.specs.Answer.{quotas_account};
+ghost use Rattle.own_model.specs.Reply.{amounts_text, quota_text, share_text};
+ghost use Rattle.pd_core.specs.Answer.{quotas_account, reserve_amounts};
 
 use arrayvec::ArrayVec;
 use itoa::{Buffer, Integer};
-use pd_core::Quotas;
+use pd_core::{Quotas, Reserve};
 
 /// Appends use and limit of RAM and of capabilities.
 pub fn add_quotas<const N: usize>(text: &mut ArrayVec<u8, N>, quotas: Quotas)
@@ -22,6 +22,18 @@ pub fn add_quotas<const N: usize>(text: &mut ArrayVec<u8, N>, quotas: Quotas)
         u64::from(quotas.caps_used.0),
         u64::from(quotas.caps_limit.0),
     );
+}
+
+/// Appends the RAM and the capabilities of a reserve.
+pub fn add_reserve<const N: usize>(text: &mut ArrayVec<u8, N>, reserve: Reserve)
+    requires { array_vec_len text.old + 100 ≤ N }
+    ensures items { text.new.items ≡ text.old.items ++ amounts_text (reserve_amounts reserve) }
+    ensures len { array_vec_len text.new ≤ array_vec_len text.old + 100 }
+{
+    add(text, b"ram ");
+    add_number(text, reserve.ram.0);
+    add(text, b" caps ");
+    add_number(text, u64::from(reserve.caps.0));
 }
 
 // Appends a use and a limit.

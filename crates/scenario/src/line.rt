@@ -101,6 +101,15 @@ fn call_from<'a>(word: &[u8], arguments: Option<&'a [u8]>) -> Option<Call<'a>>
     if word == b"quota".as_slice() {
         return read_none(Call::Quota, arguments);
     }
+    if word == b"reserve".as_slice() {
+        return read_none(Call::Reserve, arguments);
+    }
+    if word == b"request".as_slice() {
+        return Some(Call::Request(text_or_none(arguments)));
+    }
+    if word == b"yield".as_slice() {
+        return Some(Call::Yield(text_or_none(arguments)));
+    }
     None
 }
 

@@ -2,8 +2,8 @@
 ghost use Rattle.std.specs.Prelude.{◌≡◌, ◌≤◌, length, Bool, IfOk, IfErr, IfSome, OnOk, Err, [], true};
 ghost use Rattle.std.specs.Option.{option_copied, option_map};
 ghost use Rattle.std.specs.Io.KnownBytes.{Appends};
-ghost use Rattle.own_model.specs.Listed.{start_list_of};
-ghost use Rattle.own_model.specs.StartList.{StartList as Machine, entries_of};
+ghost use Rattle.own_model.specs.Listed.{Listed as Machine, start_list_of};
+ghost use Rattle.own_model.specs.StartList.{entries_of};
 ghost use Rattle.own_model.specs.Text.{lines_of};
 ghost use Rattle.init_core.specs.declared.fault.BootFault.{BootFault as Unbooted};
 ghost use Rattle.init_core.specs.declared.fault.BootFault.TheVariants.{NoMemory as NoRoom};
@@ -145,10 +145,10 @@ fn answer_scenario<R: Router + Drop, S: Source, K: Sink>(
     requires listed { core.old.entries ≡ entries_of (start_list_of list.now) }
     ensures few { IfOk result (λ summary. summary.lines ≤ MAX_LINES) }
     ensures told { IfOk result (λ summary. IfSome (S.remaining reader.old) (λ input.
-        IsAnswered (scenario_text accounts (option_copied only.entry) core.old input)
+        IsAnswered (scenario_text accounts (option_copied only.entry) list.now core.old input)
         input summary.lines (K.contents writer.old) (K.contents writer.new))) }
     ensures stops { IfErr result (λ fault. IfSome (S.remaining reader.old) (λ input.
-        StopsScenario accounts (option_copied only.entry) fault MAX_LINES core.old input
+        StopsScenario accounts (option_copied only.entry) fault MAX_LINES list.now core.old input
         (S.remaining reader.new) (S.has_failed reader.new)
         (K.contents writer.old) (K.contents writer.new))) }
     ensures writing { K.has_failed writer.new ≡ is_write_fault result }

@@ -11,6 +11,7 @@ mod files;
 mod heap;
 mod hostile;
 mod lists;
+mod reserves;
 mod rounds;
 mod rows;
 mod sessions;

@@ -1,15 +1,25 @@
 -- A component's reserve is the one at its place of the world.
-use Rattle.std.proofs.Common.{ap, sym, ◌∙◌}
-use Rattle.pd_core.specs.Component.{own}
+use Rattle.std.proofs.Common.{ap, subst, sym, ◌∙◌}
+use Rattle.pd_core.specs.Component.{own, reserve_in}
 use Rattle.pd_core.specs.Core.{roles_of, sessions_in}
 use Rattle.pd_core.specs.declared.component.Component.{Component}
+use Rattle.std.specs.Prelude.{IfSome}
+use Rattle.dataspace_core.specs.Store.{IsOpenIn}
+use Rattle.pd_core.proofs.HeldLemmas.{reserve_open}
+use Rattle.pd_core.proofs.WorldLemmas.{role_read}
 use Rattle.pd_core.proofs.QuotaLemmas.{reserve_at_place}
 use Rattle.pd_core.proofs.accounts.component_reserve.Goals as goal
 
-pub returns : goal.returns
-returns c = λ rules store.
-    let components = c.args.components.now in
-    let sessions = sessions_in store (roles_of components) in
+pub reserve-requires : goal.reserve-requires
+reserve-requires c =
     let at = c.index-components-place in
-    c.reserve.ensures sessions store ∙ ap (λ (d : Component). (own sessions store d).reserve) at.is
-    ∙ sym (reserve_at_place rules store components c.args.place at.result c.requires)
+    subst (λ r. IfSome (reserve_in r) (IsOpenIn c.args.memory.now)) (role_read c.args.components.now c.args.place at.result c.requires.caller at.is) (reserve_open c.requires.core c.args.place)
+
+pub returns : goal.returns
+returns c = λ rules.
+    let memory = c.args.memory.now in
+    let components = c.args.components.now in
+    let sessions = sessions_in memory (roles_of components) in
+    let at = c.index-components-place in
+    c.reserve.ensures sessions ∙ ap (λ (d : Component). (own sessions memory d).reserve) at.is
+    ∙ sym (reserve_at_place rules memory components c.args.place at.result c.requires.caller)

@@ -1,4 +1,4 @@
--- Calls of sessions, and the exit, do what they promise.
+-- Calls of sessions and of reserves, and the exit, do what they promise.
 use Rattle.std.proofs.Common.{◌≡◌, ◌∙◌, ap, refl, Result}
 use Rattle.trade_base.specs.declared.refusal.Refusal.{Refusal}
 use Rattle.own_model.specs.Reply.{reply_text}
@@ -6,7 +6,7 @@ use Rattle.pd_core.specs.declared.answer.Answer.{Answer}
 use Rattle.pd_core.specs.Answer.{reply_of, told_alone}
 use Rattle.pd_core.specs.Call.{model_call}
 use Rattle.pd_core.proofs.WorldLemmas.{goes_as}
-use Rattle.pd_core.proofs.beyond.carry_out_beyond.Goals.{in-Open, in-Upgrade, in-Close, in-Exit}
+use Rattle.pd_core.proofs.beyond.carry_out_beyond.Goals.{in-Open, in-Upgrade, in-Close, in-Reserve, in-Request, in-Yield, in-Exit}
 use Rattle.pd_core.proofs.beyond.carry_out_beyond.Goals as goal
 
 pub returns-in-CallSession : goal.returns-in-CallSession
@@ -21,5 +21,8 @@ returns g c =
       | in-Open w ↦ rw (w.memory-is, w.components-is) (goes_as (ap model_call w.in-Open.is) (told _ w.outcome-is) w.open-outcome.ensures)
       | in-Upgrade w ↦ rw (w.memory-is, w.components-is) (goes_as (ap model_call w.in-Upgrade.is) (told _ w.outcome-is) (w.upgrade-outcome.ensures rules))
       | in-Close w ↦ rw (w.memory-is, w.components-is) (goes_as (ap model_call w.in-Close.is) (told _ w.outcome-is) (w.close-outcome.ensures rules))
+      | in-Reserve w ↦ rw (w.memory-is, w.components-is) (goes_as (ap model_call w.in-Reserve.is) (told _ w.outcome-is) (w.reserve-outcome.ensures rules))
+      | in-Request w ↦ rw (w.memory-is, w.components-is) (goes_as (ap model_call w.in-Request.is) (told _ w.outcome-is) (w.request-outcome.ensures rules))
+      | in-Yield w ↦ rw (w.memory-is, w.components-is) (goes_as (ap model_call w.in-Yield.is) (told _ w.outcome-is) (w.give-outcome.ensures rules))
       | in-Exit w ↦ rw (w.memory-is, w.components-is) (goes_as (ap model_call w.in-Exit.is) (told _ w.outcome-is) (w.exit-outcome.ensures rules))
     ]

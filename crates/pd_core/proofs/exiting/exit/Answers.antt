@@ -2,7 +2,7 @@
 use Rattle.std.proofs.Common.{subst}
 use Rattle.pd_core.specs.Component.{IsSoundRole}
 use Rattle.pd_core.proofs.ExitCallLemmas.{alone_after, exit_goes, exit_refused_goes}
-use Rattle.pd_core.proofs.ExitLemmas.{alone_child, alone_leaf, alone_unlent}
+use Rattle.pd_core.proofs.ExitLemmas.{alone_child, alone_leaf, alone_unlent, alone_reserve}
 use Rattle.pd_core.proofs.SessionRefusedLemmas.{passed_on}
 use Rattle.pd_core.proofs.WorldLemmas.{role_at}
 use Rattle.pd_core.proofs.exiting.exit.Goals as goal
@@ -26,6 +26,7 @@ end-requires c =
       unlent = alone_unlent alone;
       child = alone_child alone;
       leaf = alone_leaf alone;
+      reserve = alone_reserve alone;
     }
 
 pub returns : goal.returns

@@ -5,9 +5,9 @@ use Rattle.own_model.specs.Call.{is_exit}
 use Rattle.pd_core.specs.Call.{model_call}
 use Rattle.pd_core.specs.Core.{roles_of, sessions_in}
 use Rattle.pd_core.proofs.PlainLemmas.{plain_goes}
-use Rattle.pd_core.proofs.HeldLemmas.{names_open}
+use Rattle.pd_core.proofs.HeldLemmas.{names_open, reserve_apart}
 use Rattle.pd_core.proofs.WorldLemmas.{role_at}
-use Rattle.pd_core.specs.Component.{caps_in, IsSoundRole}
+use Rattle.pd_core.specs.Component.{HasReserveApart, caps_in, IsSoundRole}
 use Rattle.pd_core.specs.Own.{HasSessions}
 use Rattle.pd_core.proofs.machine.carry_out.Goals as goal
 
@@ -17,6 +17,10 @@ step-requires-clause-sound g c =
 
 pub step-requires-clause-plain : goal.step-requires-clause-plain
 step-requires-clause-plain g c = search rules
+
+pub step-requires-clause-reserve : goal.step-requires-clause-reserve
+step-requires-clause-reserve g c =
+    subst HasReserveApart (role_at c.args.components.now c.args.caller c.index-components-caller.result c.requires.at.caller) (reserve_apart c.requires.at.core c.args.caller)
 
 pub returns-in_default : goal.returns-in_default
 returns-in_default g c =

@@ -1,0 +1,24 @@
+-- A file server is what its entry says, without sessions.
+use Rattle.std.proofs.Common.{[], length, subst, sym, ◌∙◌, ap, arith}
+use Rattle.std.specs.Prelude.{IfSome}
+use Rattle.own_model.specs.Listed.{kind_of, service_of}
+use Rattle.own_model.specs.StartList.{Entry}
+use Rattle.pd_core.specs.Fresh.{AreEmpty}
+use Rattle.init_core.proofs.StartLemmas.{server_empty}
+use Rattle.init_core.proofs.startup.files_of.Goals as goal
+
+pub returns-clause-made : goal.returns-clause-made
+returns-clause-made c =
+    let booted = c.in_ok-server.ensures in
+    record {
+      entry_is = λ rules. c.files.ensures.entry rules ∙ (λ j. record { name = c.name.ensures.name j; kind = kind_of (sym c.requires j); routes = rules });
+      short = omega (arith, ap (λ (e : Entry). length e.name) (c.files.ensures.entry []), c.name.ensures.short);
+      account_is = c.files.ensures.account;
+      reserve_is = c.files.ensures.reserve;
+      service = c.files.ensures.service ∙ ap service_of (sym c.requires);
+      tables = λ store most machine covered. subst (λ tables. IfSome tables (λ t. AreEmpty store most t.0 t.1)) (sym c.files.ensures.tables) tt;
+      heap = c.files.ensures.heap;
+      server = λ store machine all_caps. c.files.ensures.server store
+          (server_empty store c.pages.result c.args.list.now.caps c.sessions_of.result c.in_ok-server.server.sessions c.in_ok-server.server.map
+          (omega (arith, machine, c.pages.ensures.value)) all_caps c.sessions_of.ensures.half booted.none booted.places booted.map);
+    }

@@ -1,0 +1,23 @@
+-- A script is what its entry says, with tables that have just booted.
+use Rattle.std.proofs.Common.{[], length, subst, sym, ◌∙◌, ap, arith}
+use Rattle.std.specs.Prelude.{IfSome}
+use Rattle.own_model.specs.Listed.{kind_of, service_of}
+use Rattle.own_model.specs.StartList.{Entry}
+use Rattle.pd_core.specs.Fresh.{AreEmpty}
+use Rattle.init_core.proofs.StartLemmas.{script_empty}
+use Rattle.init_core.proofs.startup.script_of.Goals as goal
+
+pub returns-clause-made : goal.returns-clause-made
+returns-clause-made c = record {
+  entry_is = λ rules. c.script.ensures.entry rules ∙ (λ j. record { name = c.name.ensures.name j; kind = kind_of (sym c.requires j); routes = rules });
+  short = omega (arith, ap (λ (e : Entry). length e.name) (c.script.ensures.entry []), c.name.ensures.short);
+  account_is = c.script.ensures.account;
+  reserve_is = c.script.ensures.reserve;
+  service = c.script.ensures.service ∙ ap service_of (sym c.requires);
+  tables = λ store most machine covered.
+      let empty = script_empty store c.pages-pages.result c.caps.result most c.in_ok-caps.caps c.in_ok-regions.regions (omega (arith, machine, c.pages-pages.ensures.value))
+      c.pages-pages.ensures.most (omega (arith, covered, c.caps.ensures.value)) c.in_ok-caps.ensures c.in_ok-regions.ensures in
+      subst (λ tables. IfSome tables (λ t. AreEmpty store most t.0 t.1)) (sym c.script.ensures.tables) empty;
+  heap = c.script.ensures.heap;
+  server = λ store machine all_caps. c.script.ensures.server store;
+}

@@ -1,0 +1,70 @@
+//! The calls of a reserve: it is told, and limits move between it and its script's account.
+ghost use Rattle.own_model.specs.Call.Call.{Reserve as ModelledReserve, Request as ModelledRequest, Yield as ModelledYield};
+ghost use Rattle.pd_core.specs.Core.{Rules, IsCoreAt};
+ghost use Rattle.pd_core.specs.SessionCalls.{GoesWith};
+
+use crate::answer::Answer;
+use crate::component::{Component, Role};
+use dataspace_core::Memory;
+use session_proto::SessionArgs;
+use trade_base::Refusal;
+
+/// What the component at a place has in reserve, or why it has none: `NotAScript`, then `Gone`.
+pub(crate) fn reserve(
+    memory: &Memory,
+    components: &[Component],
+    caller: usize,
+) -> Result<Answer, Refusal>
+    requires { IsCoreAt caller memory.now components.now }
+    ensures { (rules : Rules) → GoesWith rules ModelledReserve caller result
+        memory.now components.now memory.now components.now }
+{
+    let component = &components[caller];
+    let Role::Script(_) = &component.role else {
+        return Err(component.refusal());
+    };
+    Ok(Answer::Reserved(component.reserve(memory)))
+}
+
+/// Limits move from the reserve of the component at a place to its account, by the text of arguments, or why not:
+/// `NotAScript`, then `Gone`, then `BadArgs`, then `OutOfRam`, then `OutOfCaps`, where the reserve doesn't cover them.
+pub(crate) fn request(
+    memory: &mut Memory,
+    components: &[Component],
+    caller: usize,
+    text: &[u8],
+) -> Result<Answer, Refusal>
+    requires { IsCoreAt caller memory.old components.now }
+    ensures { (rules : Rules) → GoesWith rules (ModelledRequest text.now) caller result
+        memory.old components.now memory.new components.now }
+{
+    let component = &components[caller];
+    let Role::Script(script) = &component.role else {
+        return Err(component.refusal());
+    };
+    let more = SessionArgs::read(text)?;
+    memory.shift(script.reserve, script.account, more.ram(), more.caps())?;
+    Ok(Answer::Done)
+}
+
+/// Limits move from the account of the component at a place to its reserve, by the text of arguments, or why not:
+/// `NotAScript`, then `Gone`, then `BadArgs`, then `OutOfRam`, then `OutOfCaps`, where what the account doesn't use doesn't
+/// cover them.
+pub(crate) fn give(
+    memory: &mut Memory,
+    components: &[Component],
+    caller: usize,
+    text: &[u8],
+) -> Result<Answer, Refusal>
+    requires { IsCoreAt caller memory.old components.now }
+    ensures { (rules : Rules) → GoesWith rules (ModelledYield text.now) caller result
+        memory.old components.now memory.new components.now }
+{
+    let component = &components[caller];
+    let Role::Script(script) = &component.role else {
+        return Err(component.refusal());
+    };
+    let more = SessionArgs::read(text)?;
+    memory.shift(script.account, script.reserve, more.ram(), more.caps())?;
+    Ok(Answer::Done)
+}
