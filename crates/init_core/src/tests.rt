@@ -273,17 +273,19 @@ fn reserves_are_given(rt: HostRuntime) -> Result<(), Fail> {
         "{\"name\":\"dave\",\"binary\":\"script\",\"quantum\":\"0\",\"caps\":0,\"reserve-caps\":3}"
     )?;
     let list = StartList::read(rt.alloc(), text.as_str().as_bytes())?;
-    for (component, given) in [None, None, Some((8192, 2)), Some((0, 0)), Some((0, 3))]
-        .iter()
-        .enumerate()
-    {
+    let mut given = String::new(rt.alloc());
+    for component in 0..list.count() {
         let reserve = list.entries()[component].reserve();
-        assert_eq!(rt; list.gives_reserve(component), given.is_some());
-        assert_eq!(rt;
-            reserve.map(|reserve| (reserve.ram.0, reserve.caps.0)),
-            *given
-        );
+        assert_eq!(rt; list.gives_reserve(component), reserve.is_some());
+        if let Some(reserve) = reserve {
+            let told = format!(in rt.alloc();
+                "{component}: {} {}\n",
+                reserve.ram.0, reserve.caps.0
+            )?;
+            given.push_str(told.as_str())?;
+        }
     }
+    assert_eq!(rt; given.as_str(), "2: 8192 2\n3: 0 0\n4: 0 3\n");
     Ok(())
 }
 
