@@ -248,16 +248,20 @@ record PassesAll (form : List ℕ) (arguments : Option (List ℕ)) : Type 0 wher
       spaced (word_text form (word_behind form (behind_word arguments)).word) ++ tail_text (tail_of form (word_behind form (behind_word arguments)).rest)
       ≡ behind_word arguments
 
+-- what follows a form of words begins with a word
+words_behind : (form : List ℕ) → takes_text form ≡ false → (rest : List ℕ) → word_behind form rest ≡ next_word rest
+words_behind form words rest = rw words refl
+
 -- a word and what follows it do
 all_pass : (form : List ℕ) → takes_text form ≡ false → (arguments : Option (List ℕ)) → PassesBehind form arguments → PassesAll form arguments
-all_pass form words None nothing = record { whole = rw words (λ unquoted. rw (nothing.sized, nothing.tail) refl) }
+all_pass form words None nothing = record { whole = rw (words_behind form words []) (λ unquoted. rw (nothing.sized, nothing.tail) refl) }
 all_pass form words (Some arguments) passes =
     let word : List ℕ = (first_word arguments).word in
     let rest : Option (List ℕ) = (first_word arguments).rest in
     let whole : arguments ≡ word ++ behind_word rest = word_and_behind arguments in
     let next : next_word (32 ∷ arguments) ≡ record { word = word; rest = behind_word rest } = ap next_word whole ∙ next_is word rest passes.word in
     record {
-      whole = rw (words, next) (λ unquoted. rw (passes.sized, passes.tail unquoted, spaced_word word passes.word) (ap (λ a. 32 ∷ a) (sym whole)));
+      whole = rw (words_behind form words (32 ∷ arguments), next) (λ unquoted. rw (passes.sized, passes.tail unquoted, spaced_word word passes.word) (ap (λ a. 32 ∷ a) (sym whole)));
     }
 
 -- and so does a text alone

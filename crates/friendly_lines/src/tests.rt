@@ -143,7 +143,13 @@ fn blanks_part_the_words(rt: HostRuntime) -> Result<(), Fail> {
     assert!(rt; is_call(b"alice\tcall\t1\t  STAT ", b"alice call 1   STAT ", None));
     assert!(rt; is_call(b" alice   exit  => ok", b"alice exit", Some(b"ok")));
     assert!(rt; is_call(b" alice  reserve ", b"alice reserve", None));
-    assert!(rt; is_call(b" alice  request\t ram_quota=4K,  x=1 ", b"alice request  ram_quota=4K,  x=1 ", None));
+    assert!(rt;
+        is_call(
+            b" alice  request\t ram_quota=4K,  x=1 ",
+            b"alice request  ram_quota=4K,  x=1 ",
+            None
+        )
+    );
     assert!(rt; is_call(b"alice  yield", b"alice yield", None));
     Ok(())
 }
