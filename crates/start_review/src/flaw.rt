@@ -243,12 +243,7 @@ fn in_entry(value: &Value, place: usize, member: &'static str, expected: Expecte
 }
 
 // The same of a member of its reserve, which has no value where the entry isn't a script's.
-fn in_reserve(
-    value: &Value,
-    place: usize,
-    member: &'static str,
-    expected: Expected,
-) -> Option<Flaw>
+fn in_reserve(value: &Value, place: usize, member: &'static str, expected: Expected) -> Option<Flaw>
     ensures { IfSome result
         (λ flaw. spot_of_flaw flaw ≡ Some (OfEntry place (Some member.now))) }
 {
