@@ -1,11 +1,11 @@
 //! Which component serves the sessions that are asked for.
 ghost use Rattle.std.specs.Prelude.{◌≡◌, ℕ, List, Option};
-ghost use Rattle.own_model.specs.Routes.{Rule};
+ghost use Rattle.pd_core.specs.Component.{Place};
 
 /// Which component serves what a component asks for.
 pub trait Router {
-    // The rules by which the wishes of the component at a place lead, as the model sees them.
-    ghost rules: { Self → ℕ → List Rule };
+    // What the start list says of a place: the name of the component there, its init, and where its wishes lead.
+    ghost places: { Self → ℕ → Place };
 
     // The place of the component that serves what the component at a place asks for: a service by its name, with a given
     // label.
