@@ -39,12 +39,12 @@ by_refusal (AnInit key) X calls refused = refused refl
 by_refusal AGone X calls refused = refused refl
 
 -- a place of which a start list says nothing
-pub nowhere : Place
-nowhere = record { name = []; home = 0; routes = [] }
+pub unlisted : Place
+unlisted = record { name = []; home = 0; routes = [] }
 
 -- what an entry and a service say is a face
 pub face_is : (before after : Component) → ((place : Place) → entry_of place after ≡ entry_of place before) → service_of after ≡ service_of before → face_of after ≡ face_of before
-face_is before after entry service j = record { label = (entry nowhere j).label; kind = (entry nowhere j).kind; service = service j }
+face_is before after entry service j = record { label = (entry unlisted j).label; kind = (entry unlisted j).kind; service = service j }
 
 module _ (store : Store) (components : List Component) (i : ℕ) (d : Component) (here : i < length components) (core : IsCore store components) where
   abbrev caller : Component

@@ -43,7 +43,7 @@ use Rattle.pd_core.specs.declared.component.Component.{Component}
 use Rattle.pd_core.specs.declared.component.Role.{Role}
 use Rattle.pd_core.specs.declared.component.Role.TheVariants.{Script as AScript}
 use Rattle.pd_core.specs.declared.script.Script.{Script}
-use Rattle.pd_core.proofs.PlainLemmas.{nowhere}
+use Rattle.pd_core.proofs.PlainLemmas.{unlisted}
 use Rattle.pd_core.proofs.ClientServerLemmas.{under, holds_lent, lent_alike, are_others, fresh_lent, row_paid, row_alone, serve_moves, changes_written, keeps_but, script_sound}
 use Rattle.pd_core.proofs.NameLemmas.{buffer_key, buffer_test, tested_key}
 use Rattle.pd_core.proofs.NamedSessionLemmas.{serves_done}
@@ -182,7 +182,7 @@ module _ {store : Store} (components : List Component) {i s : ℕ} {script : Scr
 
   -- the server's face stays
   host_face : face_of host' ≡ face_of host
-  host_face = face components two d host host_is q session names store' host' stays (λ _. nowhere)
+  host_face = face components two d host host_is q session names store' host' stays (λ _. unlisted)
 
   module _ (e : Component) (read : host ≡ get_or components s e) (places : Places) where
     host_faces : SameFaces components (set components s host')
