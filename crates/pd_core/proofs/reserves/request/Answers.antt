@@ -1,5 +1,5 @@
 -- A refused call changes nothing; else limits move.
-use Rattle.std.proofs.Common.{◌≡◌, [], Some, subst, refl, sym, ap, ◌∙◌}
+use Rattle.std.proofs.Common.{◌≡◌, Some, subst, refl, sym, ap, ◌∙◌}
 use Rattle.std.specs.Prelude.{IsErrAnd}
 use Rattle.trade_base.specs.declared.refusal.Refusal.TheVariants.{BadArgs, NotAScript}
 use Rattle.own_model.specs.Call.Call.{Request}

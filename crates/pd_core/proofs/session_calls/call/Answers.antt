@@ -1,5 +1,5 @@
 -- A refused call changes nothing; else a session serves.
-use Rattle.std.proofs.Common.{[], rules, get_or, refl, sym, subst, ◌∙◌}
+use Rattle.std.proofs.Common.{rules, get_or, refl, sym, subst, ◌∙◌}
 use Rattle.own_model.specs.Call.Call.{CallSession}
 use Rattle.pd_core.specs.SessionCalls.{Goes}
 use Rattle.pd_core.proofs.PlainLemmas.{unlisted}

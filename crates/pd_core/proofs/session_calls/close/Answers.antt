@@ -1,5 +1,5 @@
 -- A refused call changes nothing; else a session goes.
-use Rattle.std.proofs.Common.{[], rules, get_or, set, length-set, refl, sym, ◌∙◌, arith}
+use Rattle.std.proofs.Common.{rules, get_or, set, length-set, refl, sym, ◌∙◌, arith}
 use Rattle.own_model.specs.Call.Call.{Close}
 use Rattle.pd_core.proofs.PlainLemmas.{unlisted}
 use Rattle.pd_core.proofs.SessionRefusedLemmas.{close_asks, unnamed_goes, passed_on, unchanged}
