@@ -3,7 +3,7 @@ use Rattle.std.specs.Option.{option_copied}
 use Rattle.own_model.specs.Listed as listed
 use Rattle.own_model.specs.Listed.{ListedRule}
 use Rattle.init_core.specs.declared.entry.Binary.{Binary}
-use Rattle.init_core.specs.declared.entry.Binary.TheVariants.{Script, Log, Files}
+use Rattle.init_core.specs.declared.entry.Binary.TheVariants.{Script, Log, Files, Init}
 use Rattle.init_core.specs.declared.rule.Target.{Target}
 use Rattle.init_core.specs.declared.rule.Target.TheVariants.{Child, AnyChild, Parent}
 use Rattle.init_core.specs.declared.rule.Told.{Told}
@@ -27,3 +27,4 @@ abbrev pub model_binary : Binary → listed.Binary
 model_binary Script = listed.Binary.Script
 model_binary Log = listed.Binary.LogServer
 model_binary Files = listed.Binary.FileServer
+model_binary Init = listed.Binary.Init
