@@ -1,6 +1,6 @@
 -- What a call leaves of limits.
 use Rattle.std.proofs.lemmas.Bool.Decides.{nat_tests}
-use Rattle.std.proofs.Common.{rules, ◌≡◌, ℕ, false, cond, lit≤, Option, Some, None, List, [], ◌∷◌, refl, sym, ◌∙◌, true≢false, arith}
+use Rattle.std.proofs.Common.{rules, ◌≡◌, ℕ, false, cond, lit≤, Option, Some, None, List, [], ◌∷◌, refl, sym, ap, ◌∙◌, true≢false, arith}
 use Rattle.own_model.proofs.BufferKeptLemmas.{all_keep_limits, all_keep_within}
 use Rattle.std.specs.FinMap.{get, insert}
 use Rattle.own_model.proofs.LentLemmas.{lent_still, total_lent}
@@ -12,8 +12,8 @@ use Rattle.own_model.specs.BufferService.{session_request}
 use Rattle.own_model.specs.Call.{Call, is_exit}
 use Rattle.own_model.specs.Call.Call.{Capalloc}
 use Rattle.own_model.specs.OwnState.{OwnState, Object, EachSession, new_selector, object_with, buffer_of, bytes_of_buffer}
-use Rattle.own_model.specs.OwnStep.{gone_state, own_step, own_run, script_step, unless, cap_allocated, selectors_lent, session_called, session_closed}
-use Rattle.own_model.specs.Laws.{StepKeepsLimits, OthersKeepOwnLimits, ExitsReturnLimits}
+use Rattle.own_model.specs.OwnStep.{gone_state, own_step, own_run, entry_step, script_step, turned_away, unless, cap_allocated, selectors_lent, session_called, session_closed}
+use Rattle.own_model.specs.Laws.{ServersStay, StepKeepsLimits, OthersKeepOwnLimits, ExitsReturnLimits}
 use Rattle.own_model.specs.Donation.{raised}
 use Rattle.own_model.specs.Reply.Reply.{Refused}
 use Rattle.own_model.proofs.NewSelector.{new_selector_free}
@@ -22,18 +22,17 @@ use Rattle.own_model.proofs.Totals.{total-empty, total-insert_new, total-insert_
 use Rattle.own_model.specs.Limits.{ram_with, caps_with, ram_limits, caps_limits, init_after, AreWithinLimits}
 use Rattle.own_model.specs.NatMap.{total}
 use Rattle.own_model.specs.OwnState.Object.{Dataspace, RpcObject, OpenSession, Buffer}
-use Rattle.own_model.specs.Routes.{Rule}
 use Rattle.own_model.specs.Session.{Session, ServiceState, served, served_by}
 use Rattle.own_model.specs.Session.ServiceState.{Logging, Filing}
 use Rattle.own_model.specs.StartList.{Entry}
-use Rattle.own_model.specs.StartList.Kind.{Server}
 use Rattle.own_model.proofs.TableLemmas.{step_keeps, others_go_on, goes_on}
 use Rattle.own_model.proofs.ExitLemmas.{by_exit}
 
 -- every call leaves a server
-pub server_stays : (name : List ℕ) (routes : List Rule) (calls : List Call) (s : OwnState) → own_run (record { name = name; kind = Server; routes = routes }) calls s ≡ s
-server_stays name routes [] s = refl
-server_stays name routes (call ∷ calls) s = server_stays name routes calls s
+pub server_stays : ServersStay
+server_stays entry [] s server = refl
+server_stays entry (call ∷ calls) s server =
+    ap (λ kind. own_run entry calls (unless (turned_away kind s) s (entry_step entry call s)).next) server ∙ server_stays entry calls s server
 
 -- what is told of an RPC object that is refused is why
 capalloc_told : (why : Option Refusal) (s : OwnState) (refusal : Refusal) → (unless why s (cap_allocated s)).reply ≡ Refused refusal → Some refusal ≡ why

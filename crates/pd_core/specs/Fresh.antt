@@ -93,16 +93,20 @@ Has component account = (payer_of component ≡ account) ⊎ (reserve_of compone
 abbrev pub ShareNone : Component → Component → Type 0
 ShareNone c d = (account : ℕ) → Has c account → Has d account → ⊥
 
--- the machine's init's account is open, and each other one is below an init's; each component is fresh, no two share an account,
--- and the memory has room for the sessions to come
-pub record AreFresh (store : Store) (components : List Component) : Type 0 where
-  pub heads : Heads
+-- by which accounts are inits': the machine's init's is one, and open, and each other account is below an init's; each component
+-- is fresh, and no two share an account
+pub record AreFreshBelow (heads : Heads) (store : Store) (components : List Component) : Type 0 where
   pub root_head : heads (root_in store) ≡ true
   pub inits : (account : ℕ) → heads account ≡ true → IsInits store (roles_of components) account
   pub init : IsOpenIn store (root_in store)
   pub outer : (account : ℕ) → IsOuter heads store account
   pub each : All (IsFresh heads store) components
   pub apart : AllPairs ShareNone components
+
+-- so it is, and the memory has room for the sessions to come
+pub record AreFresh (store : Store) (components : List Component) : Type 0 where
+  pub heads : Heads
+  pub parts : AreFreshBelow heads store components
   pub room : HasRoom heads store
 
 -- the world of these starts, in which inits keep what their accounts have
