@@ -1,9 +1,8 @@
 -- Where the fault of a value that is no start list is; and what a binary's service is called.
-use Rattle.std.specs.Prelude.{ℕ, ◌+◌, List, [], ◌∷◌, ◌++◌, codes, Option, Some, None, Result, Ok, Err}
+use Rattle.std.specs.Prelude.{ℕ, List, codes, Option, Some, None, Result, Ok, Err}
 use Rattle.std.specs.Option.{option_and_then}
 use Rattle.std.specs.Result.{result_ok}
 use Rattle.serde_json.specs.Data.{Data}
-use Rattle.serde_json.specs.Find.{get}
 use Rattle.own_model.specs.Listed.{Binary, log_service, file_service}
 use Rattle.own_model.specs.Listed.Binary.{Script, LogServer, FileServer, Init}
 use Rattle.init_core.specs.declared.fault.BootFault.{BootFault}
