@@ -151,7 +151,7 @@ module _ (r : Amounts) (s : OwnState) where
   stands_aside entry Reserve other on = absurd (true≢false other)
   stands_aside entry (Request text) other on = absurd (true≢false other)
   stands_aside entry (Yield text) other on = absurd (true≢false other)
-  stands_aside entry (Open service text) other on = opens (wish entry.name entry.routes service text)
+  stands_aside entry (Open service text) other on = opens (wish entry.label entry.routes service text)
   stands_aside entry (Upgrade q text) other on = upgrades q (session_named (get s.selectors q)) (arguments_of text)
   stands_aside entry (CallSession q request) other on = serves q (session_named (get s.selectors q)) request
   stands_aside entry (Close q) other on = closes q (session_named (get s.selectors q))
