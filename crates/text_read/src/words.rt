@@ -1,7 +1,7 @@
 //! Words, parted by single spaces, and names.
-ghost use Rattle.std.specs.Prelude.{◌≡◌, IfSome, is_some, position, not};
+ghost use Rattle.std.specs.Prelude.{◌≡◌, ◌==◌, IfSome, is_some, length, position, not};
 ghost use Rattle.std.specs.Option.{option_copied};
-ghost use Rattle.std.specs.List.{list_all};
+ghost use Rattle.std.specs.List.{list_all, slice_split};
 ghost use Rattle.own_model.specs.Text.{first_word, is_name_byte, is_name, is_path};
 ghost use Rattle.text_read.specs.Names.{name_len};
 
@@ -79,8 +79,21 @@ fn split_names(text: &[u8]) -> Option<(&[u8], Option<&[u8]>)>
 pub fn is_path(word: &[u8]) -> bool
     ensures { result ≡ is_path word.now }
 {
-    word.split(|byte| *byte == b'/').count() <= MOST_NAMES
-        && word.split(|byte| *byte == b'/').all(is_name)
+    part_count(word) <= MOST_NAMES && are_names(word)
+}
+
+/// How many parts a word has between its `/`.
+fn part_count(word: &[u8]) -> usize
+    ensures { result ≡ length (slice_split (λ b. b == 47) word.now) }
+{
+    word.split(|byte| *byte == b'/').count()
+}
+
+/// Whether each of them is a name.
+fn are_names(word: &[u8]) -> bool
+    ensures { result ≡ list_all is_name (slice_split (λ b. b == 47) word.now) }
+{
+    word.split(|byte| *byte == b'/').all(|name| is_name(name))
 }
 
 /// How many bytes at the front may stand in a name. It stands alone, so that its loop has registers of its own.
