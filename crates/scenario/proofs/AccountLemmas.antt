@@ -180,7 +180,22 @@ module _ {X : Type 0} (missing : X) (f : ℕ × X → List ℕ) (es : List X) wh
 pub entries_listed : (list : Listed) (world : World) → world.entries ≡ entries_of (start_list_of list) → length world.entries ≡ length list.entries
 entries_listed list world listed = ap length listed ∙ length-map (map (start_of list) list.entries) (λ start. start.entry) ∙ length-map list.entries (start_of list)
 
+-- a place of the world is one of the list
+pub entries_within : (list : Listed) (world : World) {place : ℕ} → world.entries ≡ entries_of (start_list_of list) → place < length world.entries → place < length list.entries
+entries_within list world listed within = omega (arith, within, entries_listed list world listed)
+
 -- ---- what is told
+
+-- a text by another that it is
+pub told_as : {T E : Type 0} (r : Result T E) (w w' : Option (List ℕ)) (g g' : List ℕ) {xs whole : List ℕ} → whole ≡ xs → TellsUnless r w g w' g' xs → TellsUnless r w g w' g' whole
+told_as r w w' g g' is told = subst (λ text. TellsUnless r w g w' g' text) (sym is) told
+
+pub told_by : {w w' : Option (List ℕ)} {g g' xs whole : List ℕ} → whole ≡ xs → Tells w g w' g' xs → Tells w g w' g' whole
+told_by {w} {w'} {g} {g'} is told = subst (λ text. Tells w g w' g' text) (sym is) told
+
+-- the line that comes first is told only in part
+pub told_first : {w w' : Option (List ℕ)} {g line whole : List ℕ} (rest : List ℕ) → whole ≡ line ++ rest → TellsPart w g w' line → TellsPart w g w' whole
+told_first {w} {w'} {g} rest is part = (part.0 ++ rest, subst (λ text. Tells w g w' (part.0 ++ rest) text) (sym is) (Tells-front rest (part.1)))
 
 module _ {w w' w'' : Option (List ℕ)} {g g' xs line whole : List ℕ} where
   -- a text, and then a line

@@ -1,6 +1,7 @@
 pub mod AccountLemmas
 pub mod ConfigLemmas
 pub mod BlockLemmas
+pub mod ComponentLines
 pub mod LineLemmas
 pub mod GatheredLemmas
 pub mod FaultLemmas

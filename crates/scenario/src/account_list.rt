@@ -25,9 +25,10 @@ use pd_core::{Core, Quotas, Reserve, Router};
 /// Room for what follows the name in a line.
 const LONGEST_REST: usize = 160;
 
-/// Writes the account list: init's account, those of the components in the order of the list, each with its reserve where the
-/// list gives one or it has anything, those of each one's open sessions by rising selector, and the sums of all these limits. A write that fails leaves a part of it, and a writer that
-/// had failed before is not tried again. The components may have any own states, on a machine of any size.
+/// Writes the account list: init's account, those of the components in the order of the list, each with its reserve where
+/// the list gives one or it has anything, those of each one's open sessions by rising selector, and the sums of all these
+/// limits. A write that fails leaves a part of it, and a writer that had failed before is not tried again. The components
+/// may have any own states, on a machine of any size.
 pub fn write_accounts<R: Router + Drop, K: Sink>(
     core: &Core<R>,
     list: &StartList,
