@@ -14,7 +14,9 @@ use Rattle.own_model.specs.OwnState.Object.{OpenSession}
 use Rattle.own_model.specs.Reserve.{no_reserve}
 use Rattle.pd_core.specs.declared.script.Script.{Script}
 use Rattle.own_model.specs.Session.{Session as AnOpenSession, Labelled}
+use Rattle.own_model.specs.Account.{Account}
 use Rattle.own_model.specs.StartList.{Entry, init_at, no_account}
+use Rattle.pd_core.specs.Answer.{CountsLimits}
 use Rattle.own_model.specs.Transcript.{nothing, state_at}
 use Rattle.own_model.specs.World.{account_at, account_by}
 use Rattle.own_model.proofs.NatMapLemmas.{get-empty, get-picked, get-picked_none}
@@ -84,6 +86,26 @@ account_at_place places store components i d here =
     = ap (init_at (inits_of store components)) (add-one i) ∙ get_or-map (λ (c : Component). init_in store c.role) components i d no_account here in
     let own = ap (λ (s : OwnState). s.account) (own_at_place places store components i d here) in
     λ j. account_by (kind j) (init j) (own j)
+
+-- the limits of that are those of both together
+limits_of_role : (sessions : Sessions) (store : Store) (role : Role) →
+    CountsLimits (account_by (kind_of role) (init_in store role) (own_in sessions store role).account) (init_in store role) (own_in sessions store role).account
+unfolding own_of
+limits_of_role sessions store (AScript script) = record { ram = omega arith; caps = omega arith }
+limits_of_role sessions store (ALog key server) = record { ram = omega arith; caps = omega arith }
+limits_of_role sessions store (AFiles key server) = record { ram = omega arith; caps = omega arith }
+limits_of_role sessions store (AnInit key) = record { ram = omega arith; caps = omega arith }
+limits_of_role sessions store AGone = record { ram = omega arith; caps = omega arith }
+
+pub limits_at_place : (places : Places) (store : Store) (components : List Component) (i : ℕ) (d : Component) (told : Account) → i < length components →
+    told ≡ account_by (kind_of (get_or components i d).role) (init_in store (get_or components i d).role) (own (sessions_in store (roles_of components)) store (get_or components i d)).account →
+    CountsLimits told (init_at (world_of places store components).inits (i + 1)) (state_at (world_of places store components).states i).account
+limits_at_place places store components i d told here is =
+    let init : init_at (inits_of store components) (i + 1) ≡ init_in store (get_or components i d).role
+    = ap (init_at (inits_of store components)) (add-one i) ∙ get_or-map (λ (c : Component). init_in store c.role) components i d no_account here in
+    let own = ap (λ (s : OwnState). s.account) (own_at_place places store components i d here) in
+    subst (λ (a : Account × (Account × Account)). CountsLimits a.0 a.1.0 a.1.1) (λ j. (sym is j, (sym init j, sym own j)))
+    (limits_of_role (sessions_in store (roles_of components)) store (get_or components i d).role)
 
 -- and its reserve
 pub reserve_at_place : (places : Places) (store : Store) (components : List Component) (i : ℕ) (d : Component) → i < length components →

@@ -1,5 +1,5 @@
 //! The accounts of a core: their limits, and what of them is used.
-ghost use Rattle.std.specs.Prelude.{◌≡◌};
+ghost use Rattle.std.specs.Prelude.{◌≡◌, ◌+◌};
 ghost use Rattle.std.specs.FinMap.{get};
 ghost use Rattle.std.specs.Option.{option_map};
 ghost use Rattle.own_model.specs.OwnState.{session_named};
@@ -7,7 +7,8 @@ ghost use Rattle.own_model.specs.Session.{Session as AnOpenSession};
 ghost use Rattle.own_model.specs.Transcript.{state_at};
 ghost use Rattle.own_model.specs.World.{account_at};
 ghost use Rattle.dataspace_core.specs.Store.{account_in, IsOpenIn};
-ghost use Rattle.pd_core.specs.Answer.{quotas_account, reserve_amounts};
+ghost use Rattle.own_model.specs.StartList.{init_at};
+ghost use Rattle.pd_core.specs.Answer.{quotas_account, reserve_amounts, CountsLimits};
 ghost use Rattle.pd_core.specs.Core.{Places, world_of, IsCoreAt};
 
 use crate::answer::{Quotas, Reserve};
@@ -33,19 +34,21 @@ pub(crate) fn quotas_of(memory: &Memory, account: AccountId) -> Quotas
 }
 
 impl<R: Router + Drop> Core<R> {
-    ghost use Rattle.std.specs.Prelude.{◌≡◌, ◌<◌, ◌≤◌, ℕ, length, None};
+    ghost use Rattle.std.specs.Prelude.{◌≡◌, ◌+◌, ◌<◌, ◌≤◌, ℕ, length, None};
     ghost use Rattle.std.specs.FinMap.{get};
     ghost use Rattle.std.specs.Option.{option_map};
     ghost use Rattle.own_model.specs.OwnState.{session_named};
     ghost use Rattle.own_model.specs.Session.{Session as AnOpenSession};
     ghost use Rattle.own_model.specs.Transcript.{state_at};
     ghost use Rattle.own_model.specs.World.{account_at, machine_init};
-    ghost use Rattle.pd_core.specs.Answer.{quotas_account, reserve_amounts};
+    ghost use Rattle.own_model.specs.StartList.{init_at};
+    ghost use Rattle.pd_core.specs.Answer.{quotas_account, reserve_amounts, CountsLimits};
 
-    /// How many components there are: each has an entry and an own state.
+    /// How many components there are: each has an entry, an own state, and a place among inits, where the machine's comes first.
     pub fn count(&self) -> usize
         ensures entries { result ≡ length self.now.entries }
         ensures states { result ≡ length self.now.states }
+        ensures inits { length self.now.inits ≡ result + 1 }
     {
         self.components.as_slice().len()
     }
@@ -53,7 +56,9 @@ impl<R: Router + Drop> Core<R> {
     /// The limits and the use of the account of the component at a place: of an init, what it has for those that it starts.
     pub fn account(&self, component: usize) -> Quotas
         requires { component < length self.now.entries }
-        ensures { quotas_account result ≡ account_at self.now component }
+        ensures value { quotas_account result ≡ account_at self.now component }
+        ensures limits { CountsLimits (quotas_account result) (init_at self.now.inits (component + 1))
+            (state_at self.now.states component).account }
     {
         component_quotas(&self.memory, self.components.as_slice(), component)
     }
@@ -181,8 +186,11 @@ impl Component {
 // The limits and the use of the account of the component at a place.
 fn component_quotas(memory: &Memory, components: &[Component], place: usize) -> Quotas
     requires { IsCoreAt place memory.now components.now }
-    ensures { (places : Places) → quotas_account result
+    ensures value { (places : Places) → quotas_account result
         ≡ account_at (world_of places memory.now components.now) place }
+    ensures limits { (places : Places) → CountsLimits (quotas_account result)
+        (init_at (world_of places memory.now components.now).inits (place + 1))
+        (state_at (world_of places memory.now components.now).states place).account }
 {
     components[place].quotas(memory)
 }
