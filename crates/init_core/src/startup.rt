@@ -43,8 +43,9 @@ pub fn boot(alloc: Global, list: &StartList) -> Result<Core<RouteTable<'_>>, Boo
         1 + list.count() * 2 + sessions_of(list),
     )?;
     let mut components = Vec::new(alloc);
+    let mut accounts = Vec::new(alloc);
     for place in 0..list.count() {
-        start(&mut memory, &mut components, list, place, alloc)?;
+        start(&mut memory, &mut components, &mut accounts, list, place, alloc)?;
     }
     Ok(Core::from_parts(memory, components, RouteTable::new(list)))
 }
