@@ -1,5 +1,5 @@
 -- A start list as its text tells it, and where its rules lead.
-use Rattle.std.specs.Prelude.{◌≡◌, ℕ, ◌-◌, ◌&&◌, ◌==◌, zero, suc, Bool, false, List, [], ◌∷◌, ◌++◌, map, position, count_by, codes, nat_eq, if◌then◌else◌, Option, Some, None}
+use Rattle.std.specs.Prelude.{◌≡◌, ℕ, ◌&&◌, ◌==◌, zero, suc, Bool, false, List, [], ◌∷◌, ◌++◌, map, position, count_by, codes, nat_eq, if◌then◌else◌, Option, Some, None}
 use Rattle.std.specs.List.{starts_with, ends_with, slice_get}
 use Rattle.std.specs.Option.{option_and_then, option_map, unwrap_or}
 use Rattle.std.specs.Str.{bytes_eq}
