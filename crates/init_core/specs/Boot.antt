@@ -1,5 +1,5 @@
 -- What a boot does to the parts of the machine, entry by entry.
-use Rattle.std.specs.Prelude.{◌≡◌, ℕ, ◌+◌, ◌*◌, ◌≤◌, List, [], ◌∷◌, length, map, take, drop, Option, Some, None, IfSome}
+use Rattle.std.specs.Prelude.{◌≡◌, ℕ, zero, suc, ◌+◌, ◌*◌, ◌≤◌, true, List, [], ◌∷◌, length, map, take, drop, Option, Some, None, IfSome}
 use Rattle.std.specs.List.{All, slice_get}
 use Rattle.std.specs.Option.{option_map}
 use Rattle.std.specs.FinMap.{get}
@@ -7,11 +7,11 @@ use Rattle.trade_base.specs.declared.refusal.Refusal.{Refusal}
 use Rattle.trade_base.specs.declared.id.AccountId.{AccountId}
 use Rattle.own_model.specs.Account.{Account, shortage}
 use Rattle.own_model.specs.Listed.{Listed, ListedEntry, service_of, kind_of, levels_within, most_lists, start_of, start_list_of}
-use Rattle.own_model.specs.StartList.{StartEntry, budget, init_at, inits_at_first, inits_keep, inits_kept, start_state, with_started}
-use Rattle.dataspace_core.specs.Store.{Store, OpensPart, accounts_in, room_in, ram_limits_in, caps_limits_in, IsOpenIn, IsChildIn}
+use Rattle.own_model.specs.StartList.{StartEntry, AllCovered, Boots, budget, init_at, inits_at_first, inits_keep, inits_kept, start_state, with_started}
+use Rattle.dataspace_core.specs.Store.{Store, OpensPart, accounts_in, root_in, room_in, ram_limits_in, caps_limits_in, IsOpenIn, IsChildIn}
 use Rattle.pd_core.specs.Component.{Place, entry_of, payer_of, reserve_of, tables_of, HasNewHeap}
 use Rattle.pd_core.specs.Component.{service_of as service_in}
-use Rattle.pd_core.specs.Core.{Heads, Places, entries_of, inits_of}
+use Rattle.pd_core.specs.Core.{Heads, Places, Roles, IsInitOf, IsInits, entries_of, inits_of, roles_of}
 use Rattle.pd_core.specs.Fresh.{starts_of, AreEmpty, AreFreshBelow, IsNewServer}
 use Rattle.pd_core.specs.SessionCalls.{AreAtHome}
 use Rattle.pd_core.specs.declared.component.Component.{Component}
@@ -40,10 +40,14 @@ quota_fault list =
 
 -- ---- how far a boot is
 
+-- a place of which nothing is said
+abbrev pub nowhere : Place
+nowhere = record { name = []; home = 0; routes = [] }
+
 -- what a list says of a place; of one past its entries nothing
 abbrev pub place_of : Listed → Option ListedEntry → Place
 place_of list (Some entry) = record { name = entry.path; home = entry.home; routes = levels_within most_lists list entry }
-place_of list None = record { name = []; home = 0; routes = [] }
+place_of list None = nowhere
 
 abbrev pub places_at : Listed → Places
 places_at list place = place_of list (slice_get list.entries place)
@@ -59,21 +63,33 @@ pub record Opens (old : Store) (init account ram caps : ℕ) (new : Store) : Typ
   pub ram_moved : ram_limits_in new ≡ ram_limits_in old
   pub caps_moved : caps_limits_in new ≡ caps_limits_in old
 
--- so many entries of a list have started: the parts are fresh, by which accounts are inits'; each component is what its entry
--- says, starts with what that gives it, and is below its init; what inits will keep and what they don't cover hang on what they
--- have left and on what is still to start; there is room for the accounts to come; and all limits together are the machine's
-pub record HasStarted (list : Listed) (store : Store) (components : List Component) (accounts : List AccountId) (count : ℕ) : Type 0 where
+-- each account that was opened below another is open
+abbrev pub AreThere : Store → Type 0
+AreThere store = (account parent : ℕ) → IsChildIn store account parent → IsOpenIn store account
+
+-- the account of the init of a number: the root's, or that of the init at the place before the number
+abbrev pub IsInitAt : Store → Roles → ℕ → ℕ → Type 0
+IsInitAt store roles zero account = root_in store ≡ account
+IsInitAt store roles (suc place) account = IsInitOf (roles place) account
+
+-- so many entries of a list have started. The parts are fresh, by which accounts are inits', and the keys are those of the root
+-- and of each component; each component is what its entry says, starts with what that gives it, and is below its init. What inits
+-- will keep, what they don't cover, and whether the list boots hang on what they have left and on what is still to start. There
+-- is room for the accounts to come, and all limits together are the machine's
+pub record HasStarted (list : Listed) (store : Store) (components : List Component) (keys : List AccountId) (count : ℕ) : Type 0 where
   pub heads : Heads
   pub parts : AreFreshBelow heads store components
-  pub there : (account parent : ℕ) → IsChildIn store account parent → IsOpenIn store account
-  pub accounts : map (λ account. account.0) accounts ≡ map payer_of components
+  pub are_heads : (account : ℕ) → IsInits store (roles_of components) account → heads account ≡ true
+  pub there : AreThere store
+  pub keys_are : map (λ key. key.0) keys ≡ root_in store ∷ map payer_of components
   pub entries : entries_of (places_at list) components ≡ map (λ entry. (start_of list entry).entry) (take count list.entries)
   pub states : map start_state (starts_of (places_at list) store components) ≡ map (λ entry. start_state (start_of list entry)) (take count list.entries)
   pub services : map service_in components ≡ map (λ entry. service_of entry.binary) (take count list.entries)
   pub names : All (λ c. length c.name.items ≤ 140) components
   pub homes : AreAtHome (places_at list) store components
   pub inits : inits_kept (start_list_of list) ≡ inits_keep (inits_of store components) (to_come list count)
-  pub covered : first_uncovered (inits_at_first (start_list_of list)) (start_list_of list).starts ≡ first_uncovered (inits_of store components) (to_come list count)
+  pub uncovered : first_uncovered (inits_at_first (start_list_of list)) (start_list_of list).starts ≡ first_uncovered (inits_of store components) (to_come list count)
+  pub covered : AllCovered (inits_of store components) (to_come list count) → Boots (start_list_of list)
   pub room : list.caps + length list.entries * 4 ≤ (room_in store + count * 2) * 2 + 1
   pub machine : ram_limits_in store ≡ list.pages * 4096
   pub all_caps : caps_limits_in store ≡ list.caps
