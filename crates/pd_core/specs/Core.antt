@@ -1,5 +1,5 @@
 -- The core as the model sees it, and what is true of it between calls.
-use Rattle.std.specs.Prelude.{◌≡◌, ◌⊎◌, ℕ, Bool, true, false, List, ◌∷◌, map, get_or, Some, None, ◌<◌, length}
+use Rattle.std.specs.Prelude.{◌≡◌, ◌⊎◌, ℕ, Bool, true, false, List, ◌∷◌, map, get_or, Some, ◌<◌, length}
 use Rattle.std.specs.FinMap.{get}
 use Rattle.std.specs.List.{enumerate_from}
 use Rattle.std.specs.Option.{option_map}
@@ -15,7 +15,7 @@ use Rattle.pd_core.specs.Own.{Sessions}
 use Rattle.pd_core.specs.Sessions.{row_session}
 use Rattle.trade_base.specs.declared.id.SessionId.{SessionId}
 use Rattle.pd_core.specs.Sound.{session_at}
-use Rattle.pd_core.specs.Component.{Place, Pays, payer_in, reserve_in, IsReserve, entry_of, caps_in, rows_in, own, NamesItsSessions, HasPlaces, IsSoundRole}
+use Rattle.pd_core.specs.Component.{Place as ListedPlace, Pays, payer_in, reserve_in, IsReserve, entry_of, caps_in, rows_in, own, NamesItsSessions, HasPlaces, IsSoundRole}
 use Rattle.pd_core.specs.declared.component.Component.{Component}
 use Rattle.pd_core.specs.declared.component.Role.{Role}
 use Rattle.pd_core.specs.declared.component.Role.TheVariants.{Script, Log, Files, Init as AnInit, Gone}
@@ -37,7 +37,7 @@ sessions_in store roles server session = option_map row_session (get (rows_at st
 
 -- what a start list says of each place
 abbrev pub Places : Type 0
-Places = ℕ → Place
+Places = ℕ → ListedPlace
 
 -- and of the components there
 abbrev pub entries_of : Places → List Component → List Entry

@@ -10,7 +10,7 @@ use Rattle.own_model.specs.World.{World}
 use Rattle.pd_core.specs.Component.{caps_in}
 use Rattle.dataspace_core.specs.Store.{Store, ClosesPart, caps_limits_in}
 use Rattle.pd_core.specs.Core.{Places, world_of, IsCore}
-use Rattle.pd_core.specs.SessionCalls.{Agrees, Leads}
+use Rattle.pd_core.specs.SessionCalls.{Agrees, AreAtHome, Leads}
 use Rattle.pd_core.specs.declared.component.Component.{Component}
 use Rattle.pd_core.specs.declared.component.Role.{Role}
 use Rattle.pd_core.specs.declared.component.Role.TheVariants.{Script, Log, Files, Init, Gone}
@@ -58,8 +58,10 @@ pub record HasClosedAt (i count : ℕ) (old new : World) : Type 0 where
   pub closed : HasClosed count (state_at old.states i) (state_at new.states i)
   pub others : new ≡ record old { states = slice_set old.states i (state_at new.states i) }
 
--- so many sessions of the component at a place are closed, the core is sound after it, and routes lead where they did
+-- so many sessions of the component at a place are closed, the core is sound after it, each account is below its init's still, and
+-- routes lead where they did
 pub record ClosesTo (i count : ℕ) (old : Store) (before : List Component) (new : Store) (after : List Component) : Type 0 where
   pub closed : (places : Places) → HasClosedAt i count (world_of places old before) (world_of places new after)
   pub core : IsCore new after
+  pub homes : (places : Places) → AreAtHome places old before → AreAtHome places new after
   pub leads : (places : Places) (leads : Leads) → Agrees places leads old before → Agrees places leads new after

@@ -139,10 +139,11 @@ pub record Answers (places : Places) (call : Call) (i : ℕ) (reply : Told) (old
   pub lines : reply.lines ≡ flat_map log_text (outcome_at (world_of places old before) i call).lines
   pub stepped : world_of places new after ≡ with_state (world_of places old before) i (outcome_at (world_of places old before) i call).next
 
--- so it goes, the core is sound after it, and routes lead where they did
+-- so it goes, the core is sound after it, each account is below its init's still, and routes lead where they did
 pub record Goes (places : Places) (call : Call) (i : ℕ) (reply : Told) (old : Store) (before : List Component) (new : Store) (after : List Component) : Type 0 where
   pub answers : Answers places call i reply old before new after
   pub core : IsCore new after
+  pub homes : (all : Places) → AreAtHome all old before → AreAtHome all new after
   pub leads : (all : Places) (leads : Leads) → Agrees all leads old before → Agrees all leads new after
 
 -- so does one that is answered alone

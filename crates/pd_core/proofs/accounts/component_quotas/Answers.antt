@@ -1,7 +1,8 @@
 -- A component's own state is the one at its place of the world.
 use Rattle.std.proofs.Common.{ap, subst, sym, ◌∙◌}
-use Rattle.pd_core.specs.Component.{own, IsSoundRole}
-use Rattle.pd_core.specs.Core.{roles_of, sessions_in}
+use Rattle.own_model.specs.World.{account_by}
+use Rattle.pd_core.specs.Component.{kind_of, own, IsSoundRole}
+use Rattle.pd_core.specs.Core.{init_in, roles_of, sessions_in}
 use Rattle.pd_core.specs.declared.component.Component.{Component}
 use Rattle.pd_core.proofs.WorldLemmas.{role_read}
 use Rattle.pd_core.proofs.QuotaLemmas.{account_at_place}
@@ -13,10 +14,10 @@ quotas-requires c =
     subst (IsSoundRole c.args.memory.now) (role_read c.args.components.now c.args.place at.result c.requires.caller at.is) (c.requires.core.sound c.args.place)
 
 pub returns : goal.returns
-returns c = λ rules.
+returns c = λ places.
     let memory = c.args.memory.now in
     let components = c.args.components.now in
     let sessions = sessions_in memory (roles_of components) in
     let at = c.index-components-place in
-    c.quotas.ensures sessions ∙ ap (λ (d : Component). (own sessions memory d).account) at.is
-    ∙ sym (account_at_place rules memory components c.args.place at.result c.requires.caller)
+    c.quotas.ensures sessions ∙ ap (λ (d : Component). account_by (kind_of d.role) (init_in memory d.role) (own sessions memory d).account) at.is
+    ∙ sym (account_at_place places memory components c.args.place at.result c.requires.caller)

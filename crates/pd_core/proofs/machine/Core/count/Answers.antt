@@ -11,7 +11,7 @@ use Rattle.pd_core.proofs.machine.Core.count.Goals as goal
 pub returns-clause-entries : goal.returns-clause-entries
 returns-clause-entries g c =
     ap length c.as_slice.ensures.value
-    ∙ sym (length-entries (g.R.Router.rules c.self.inside.routes) (boxed_slice_items c.self.inside.components))
+    ∙ sym (length-entries (g.R.Router.places c.self.inside.routes) (boxed_slice_items c.self.inside.components))
     ∙ ap (λ (w : World). length w.entries) c.self.view_is
 
 pub returns-clause-states : goal.returns-clause-states
