@@ -222,9 +222,9 @@ module _ {list : Listed} {store : Store} {components : List Component} {keys : L
       inits_after old_parts beside entry.home init_is component start refl refl refl
       (made_init store' component.role (kind_of entry.binary) (budget start) (ap (λ e. e.kind) place_is)
       (λ kind.
-          let none = init_alone entry.binary entry.reserve kind in
-          account_after component kept reserve made.account_is made.reserve_is own held
-          ∙ (λ j. opened (more_by_none entry.ram kept.ram (ap (λ a. a.ram) none) j) (more_by_none entry.caps kept.caps (ap (λ a. a.caps) none) j)))) in
+      let none = init_alone entry.binary entry.reserve kind in
+      account_after component kept reserve made.account_is made.reserve_is own held
+      ∙ (λ j. opened (more_by_none entry.ram kept.ram (ap (λ a. a.ram) none) j) (more_by_none entry.caps kept.caps (ap (λ a. a.caps) none) j)))) in
       record {
         heads = heads;
         parts = record {

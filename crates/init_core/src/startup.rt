@@ -48,7 +48,14 @@ pub fn boot(alloc: Global, list: &StartList) -> Result<Core<RouteTable<'_>>, Boo
     let mut accounts = Vec::new(alloc);
     accounts.push(memory.root())?;
     for place in 0..list.count() {
-        start(&mut memory, &mut components, &mut accounts, list, place, alloc)?;
+        start(
+            &mut memory,
+            &mut components,
+            &mut accounts,
+            list,
+            place,
+            alloc,
+        )?;
     }
     Ok(Core::from_parts(memory, components, RouteTable::new(list)))
 }
