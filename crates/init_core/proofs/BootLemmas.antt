@@ -12,18 +12,17 @@ use Rattle.trade_base.specs.declared.id.AccountId.{AccountId}
 use Rattle.own_model.specs.Account.{Account, Fits, opened, parted_with, shortage}
 use Rattle.own_model.specs.Amounts.{Amounts}
 use Rattle.own_model.specs.Reserve.{no_reserve}
-use Rattle.own_model.proofs.ReserveLemmas.{covered_in_turn, parted_in_turn}
+use Rattle.own_model.proofs.ReserveLemmas.{covered_in_turn}
 use Rattle.own_model.proofs.StepLemmas.{covers}
 use Rattle.own_model.specs.Listed.{Listed, ListedEntry, Binary, service_of, kind_of, reserve_by, reserve_of, start_of, start_list_of}
 use Rattle.own_model.specs.Listed.Binary.{Script, LogServer, FileServer, Init}
-use Rattle.own_model.specs.StartList.{StartEntry, AllCovered, IsCovered, budget, init_account, init_at, inits_at_first, inits_keep, start_state, with_started}
+use Rattle.own_model.specs.StartList.{StartEntry, AllCovered, IsCovered, budget, init_at, inits_at_first, inits_keep, start_state, with_started}
 use Rattle.own_model.specs.StartList.Kind.{Script as AScript, Init as AnInit}
 use Rattle.dataspace_core.specs.Store.{Store, IsOpenIn, IsChildIn, account_in, root_in, room_in}
 use Rattle.pd_core.specs.Component.{Place, entry_of, payer_in, payer_of}
 use Rattle.pd_core.specs.Component.{kind_of as kind_in, service_of as service_in}
-use Rattle.pd_core.specs.Core.{Places, IsInitOf, IsInits, entries_of, init_in, inits_of, roles_of}
-use Rattle.pd_core.specs.Fresh.{start_of as start_in, starts_of, AreFreshBelow, IsFresh}
-use Rattle.pd_core.specs.declared.component.Role.{Role}
+use Rattle.pd_core.specs.Core.{IsInitOf, IsInits, inits_of, roles_of}
+use Rattle.pd_core.specs.Fresh.{start_of as start_in, starts_of, IsFresh}
 use Rattle.pd_core.specs.declared.component.Role.TheVariants.{Gone}
 use Rattle.pd_core.specs.declared.component.Component.{Component}
 use Rattle.init_core.specs.Depth.{IsHome, is_init, is_list, runs_init}

@@ -1,7 +1,7 @@
 -- Which accounts are inits', and what inits have, when one more component starts.
 use Rattle.std.proofs.Common.{◌≡◌, ◌≢◌, ◌⊎◌, ℕ, zero, suc, ◌+◌, ◌<◌, ◌≤◌, ◌||◌, ◌==◌, Bool, true, false, inl, inr, List, [], ◌∷◌, ◌++◌, length, get_or, map, set, Some, subst, refl, sym, ap, ◌∙◌, arith}
 use Rattle.std.specs.Prelude.{IfSome}
-use Rattle.std.specs.List.{All, AllPairs, enumerate_from}
+use Rattle.std.specs.List.{All, enumerate_from}
 use Rattle.std.proofs.lemmas.Bool.{cases_eq, cases_lt, eqb-true, eq-eqb, false≢true}
 use Rattle.std.proofs.lemmas.List.{get_or-map, get_or_append_left, get_or_past, length-map, length_push, map_push}
 use Rattle.std.proofs.lemmas.List.Elements.{All-head, All-tail}
@@ -11,11 +11,11 @@ use Rattle.own_model.specs.Amounts.{Amounts, no_amounts}
 use Rattle.own_model.specs.OwnHeap.{no_heap}
 use Rattle.own_model.specs.OwnState.{OwnState}
 use Rattle.std.specs.FinMap.{empty, get}
-use Rattle.own_model.specs.StartList.{Kind, StartEntry, account_at_start, budget, init_account, init_at, no_account, of_component, of_init, start_state, with_started}
+use Rattle.own_model.specs.StartList.{Kind, StartEntry, budget, init_account, init_at, no_account, of_component, of_init, start_state, with_started}
 use Rattle.own_model.specs.StartList.Kind.{Script as AScript, Server as AServer, Init as AnInit}
 use Rattle.dataspace_core.specs.Store.{Store, IsOpenIn, IsChildIn, account_in, parents_in, root_in}
-use Rattle.pd_core.specs.Component.{Place, Pays, payer_in, payer_of, reserve_of, kind_of}
-use Rattle.pd_core.specs.Core.{Heads, Places, Roles, IsInitOf, IsInits, init_in, inits_of, roles_of}
+use Rattle.pd_core.specs.Component.{Place, Pays, payer_in, payer_of, kind_of}
+use Rattle.pd_core.specs.Core.{Heads, Places, IsInitOf, IsInits, init_in, inits_of, roles_of}
 use Rattle.pd_core.specs.Fresh.{start_of, starts_of, AreFreshBelow, IsFresh, IsFreshReserve, Has, ShareNone}
 use Rattle.pd_core.specs.SessionCalls.{IsBelowInit, IsAtHome, AreAtHome}
 use Rattle.pd_core.specs.declared.component.Role.{Role}

@@ -1,5 +1,5 @@
 -- The parts of the machine when one more component starts.
-use Rattle.std.proofs.Common.{◌≡◌, ◌≢◌, ◌⊎◌, ℕ, ◌+◌, ◌-◌, ◌*◌, ◌≤◌, true, is_some, inl, inr, List, [], ◌∷◌, ◌++◌, length, get_or, map, Option, Some, None, IsSome, subst, refl, sym, ap, ◌∙◌, arith}
+use Rattle.std.proofs.Common.{◌≡◌, ◌≢◌, ℕ, ◌+◌, ◌-◌, ◌*◌, ◌≤◌, true, is_some, inl, inr, List, [], ◌∷◌, ◌++◌, get_or, Option, Some, None, IsSome, subst, refl, sym, ap, ◌∙◌, arith}
 use Rattle.std.specs.Prelude.{IfSome}
 use Rattle.std.specs.List.{All, AllPairs}
 use Rattle.std.specs.FinMap.{get}

@@ -1,5 +1,5 @@
 -- A file server is what its entry says, without sessions.
-use Rattle.std.proofs.Common.{[], length, subst, sym, ◌∙◌, ap, arith}
+use Rattle.std.proofs.Common.{length, subst, sym, ◌∙◌, ap, arith}
 use Rattle.std.specs.Prelude.{IfSome}
 use Rattle.own_model.specs.Listed.{kind_of, service_of}
 use Rattle.own_model.specs.StartList.{Entry}
