@@ -2,6 +2,7 @@ pub mod MemberLemmas
 pub mod EntryLemmas
 pub mod JsonLemmas
 pub mod StartLemmas
+pub mod InitLemmas
 pub mod BootLemmas
 pub mod BootedLemmas
 pub mod ListLemmas

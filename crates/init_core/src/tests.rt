@@ -2,6 +2,7 @@
 mod boots;
 mod inits;
 mod outward;
+mod tenants;
 mod wants;
 
 use crate::{BootFault, MACHINE_A, StartList, route};

@@ -1,5 +1,5 @@
 //! Which component serves the sessions that are asked for.
-ghost use Rattle.std.specs.Prelude.{◌≡◌, ℕ, List, Option};
+ghost use Rattle.std.specs.Prelude.{◌≡◌, ◌≤◌, ℕ, List, Option, length};
 ghost use Rattle.pd_core.specs.Component.{Place};
 
 /// Which component serves what a component asks for.
@@ -12,7 +12,8 @@ pub trait Router {
     ghost leads: { Self → ℕ → List ℕ → List ℕ → Option ℕ };
 
     /// The place of the component that serves what the component at a place asks for: a service by its name, with a given
-    /// label; or `None` where no route leads to one.
+    /// label of at most 64 bytes; or `None` where no route leads to one.
     fn provider(&self, client: usize, service: &[u8], label: &[u8]) -> Option<usize>
+        requires { length label.now ≤ 64 }
         ensures { result ≡ leads self.now client service.now label.now };
 }
