@@ -260,8 +260,8 @@ fn read_json(alloc: Global, text: &[u8]) -> Result<Value, BootFault>
     }
 }
 
-/// The place of the entry whose fault is told of a value that is no start list. It is `None` where it isn't an entry's.
-/// `NoMemory` is told where the host has no room.
+/// The place, among the entries of all lists, of the entry whose fault is told of a value that is no start list: an init counts
+/// before its own. It is `None` where the fault isn't an entry's. `NoMemory` is told where the host has no room.
 pub fn entry_at_fault(alloc: Global, value: &Value) -> Result<Option<usize>, BootFault>
     ensures place { IfOk result (λ place. place ≡ entry_at_fault (view value.now)) }
     ensures memory { IfErr result (λ fault. fault ≡ NoMemory) }
