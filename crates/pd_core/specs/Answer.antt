@@ -1,5 +1,5 @@
 -- An answer as the model sees it.
-use Rattle.std.specs.Prelude.{ℕ, List, [], Result, Ok, Err}
+use Rattle.std.specs.Prelude.{◌≡◌, ◌+◌, ℕ, List, [], Result, Ok, Err}
 use Rattle.std.specs.List.{flat_map}
 use Rattle.trade_base.specs.declared.refusal.Refusal.{Refusal}
 use Rattle.own_model.specs.Account.{Account}

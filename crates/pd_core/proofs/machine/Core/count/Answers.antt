@@ -26,5 +26,5 @@ pub returns-clause-inits : goal.returns-clause-inits
 returns-clause-inits g c =
     let items = boxed_slice_items c.self.inside.components in
     let memory = c.self.inside.memory in
-    let all : length (inits_of memory items) ≡ c.as_slice_len + 1 = omega (arith, length-map items (λ (d : Component). init_in memory d.role), ap length c.as_slice.ensures.value) in
+    let all : length (inits_of memory items) ≡ length c.as_slice.result.now + 1 = omega (arith, length-map items (λ (d : Component). init_in memory d.role), ap length c.as_slice.ensures.value) in
     ap (λ (w : World). length w.inits) (sym c.self.view_is) ∙ all
