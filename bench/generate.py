@@ -13,11 +13,12 @@ same of 1 to 16 bytes), regions (attaches and detaches, up to 128 regions), full
 128 regions attached), caps (selectors taken and given back, up to 16), sliced (sliced blocks taken and given back, up to
 16), heap (small blocks of the heap taken and given back, up to 64), turns (a block of the heap and its release in turn, one
 at a time), holes (blocks taken and given back among 48 holes), sessions (sessions of the log service opened, written to and
-closed, up to 8), log (log lines of 1 to 200 bytes), files (small files made, written, read and dropped), contents (the same
-with writes of up to 1,000 bytes), buffers (puts and gets of up to 512 bytes, pokes and peeks of the buffer, which is made anew
-now and then), lent (pokes and peeks of a buffer, of 1 to 180 bytes), eight (eight clients of the machine `eight.json` that use everything at once), hostile
-(lines that are refused, of all kinds), every (rounds of every call, by both scripts in turn, some refused; at the end both
-hold something of each kind, and exit).
+closed, up to 8), reserves (what a reserve has, a request, a yield and what the account has, in turn), log (log lines of 1 to
+200 bytes), files (small files made, written, read and dropped), contents (the same with writes of up to 1,000 bytes), buffers
+(puts and gets of up to 512 bytes, pokes and peeks of the buffer, which is made anew now and then), lent (pokes and peeks of a
+buffer, of 1 to 180 bytes), eight (eight clients of the machine `eight.json` that use everything at once), hostile (lines that
+are refused, of all kinds), every (rounds of every call, by both scripts in turn, some refused; at the end both hold something
+of each kind, and exit).
 """
 import bisect
 import random
@@ -27,6 +28,18 @@ import sys
 def quota(lines, _):
     for number in range(lines):
         yield "alice quota" if number % 2 == 0 else "bob quota"
+
+
+def reserves(lines, _):
+    """What the reserve has, a request of half of it, a yield of as much, and what the account has, in turn."""
+    yield "alice yield ram_quota=8K, cap_quota=2"
+    for number in range(lines - 1):
+        yield (
+            "alice reserve",
+            "alice request ram_quota=4K, cap_quota=1",
+            "alice yield ram_quota=4K, cap_quota=1",
+            "alice quota",
+        )[number % 4]
 
 
 def churn(lines, _):
@@ -454,11 +467,13 @@ ROUND = [
     "call 3 CREATE a", "call 3 WRITE a 0 6869", "call 3 WRITE a 2 00", "call 3 READ a 0 9", "call 3 SIZE a", "call 3 NAME 0",
     "call 3 BUFFER 4096", "attach 4", "poke 0x10000000 6162", "call 3 PUT a 0 0 2", "call 3 GET a 0 9 9", "free 4", "call 3 UNBUFFER",
     "call 3 STAT", "call 3 CREATE a", "call 3 CLEAR a", "call 3 DROP a", "call 3 NAME 0",
+    "yield ram_quota=4K, cap_quota=1", "reserve", "request ram_quota=5K", "request ram_quota=4K, cap_quota=1", "request",
+    "yield x",
     "open Nic", "open LOG x", "upgrade 1", "close 2", "close 3", "close 3", "free 1", "free 1", "frob",
 ]
 
 HELD = [
-    "alloc 5000", "attach 1", "new 100", "snew 256", "capalloc",
+    "yield ram_quota=4K, cap_quota=1", "alloc 5000", "attach 1", "new 100", "snew 256", "capalloc",
     "open LOG ram_quota=4K, cap_quota=2", "call 3 WRITE 6869",
     "open File_system ram_quota=28K, cap_quota=5", "call 4 CREATE a", "call 4 WRITE a 0 68", "call 4 BUFFER 1", "attach 5",
 ]
@@ -474,7 +489,7 @@ def every(lines, _):
         yield f"{name} {ROUND[number % len(ROUND)]}"
     for name in ("alice", "bob"):
         # What an unfinished round left.
-        yield from (f"{name} {call}" for call in ("close 2", "close 3", "free 1"))
+        yield from (f"{name} {call}" for call in ("close 2", "close 3", "free 1", "request ram_quota=4K, cap_quota=1"))
     yield from tail
 
 
@@ -566,6 +581,7 @@ STEADY = {
 
 SHAPES = {
     "quota": quota,
+    "reserves": reserves,
     "churn": churn,
     "limit": limit,
     "bytes": bytes_of_all_lengths,

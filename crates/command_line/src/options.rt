@@ -17,7 +17,8 @@ const FORMS: &str = "A line is NAME CALL, with one space between two words. CALL
   alloc N       capalloc      attach S        new N     open SERVICE ARGS
   free S        capfree S     attach_at S A   del A     upgrade S ARGS
   peek A LEN    quota         detach A        snew N    call S REQUEST
-  poke A HEX    exit                          sdel A    close S
+  poke A HEX    exit          reserve         sdel A    close S
+  request ARGS  yield ARGS
 N, S and LEN are decimal numbers, A is 0x and hexadecimal digits, HEX an even
 number of those digits. ARGS and REQUEST are the rest of the line, or nothing.
 

@@ -9,12 +9,12 @@ use Rattle.std.proofs.lemmas.Bool.Decides.{nat_tests}
 use Rattle.std.proofs.lemmas.Option.{none-some}
 use Rattle.std.proofs.lemmas.Slice.Eq.{bytes_eq-Decides}
 use Rattle.trade_base.specs.Amount.{number_of}
-use Rattle.own_model.specs.Call.{Call, Form, Spoken, call_in, form_of, forms, name_of, of_none, of_one, of_text, of_two, some_bytes_of_hex, spoken}
+use Rattle.own_model.specs.Call.{Call, Form, Spoken, call_in, form_of, forms, name_of, of_none, of_one, of_rest, of_text, of_two, some_bytes_of_hex, spoken}
 use Rattle.own_model.specs.Text.{FirstWord, address_of, bytes_of_hex, first_word, hex_digit_of, hex_number_after, is_name, is_name_byte}
 use Rattle.own_model.specs.Transcript.{longest_line}
 use Rattle.friendly_lines.specs.Friendly.{Said, fault_in, said_of_both, said_of_call, said_of_signs, said_of_text, without_return}
 use Rattle.friendly_lines.specs.Laws.{IsPlain, PlainLinesPass, is_quoted}
-use Rattle.friendly_lines.specs.Parts.{Tail, parts_of, quoted_or, request_tail, size_text, spelled, tail_of, tail_text, text_written, word_text}
+use Rattle.friendly_lines.specs.Parts.{Tail, parts_of, quoted_or, request_tail, size_text, spelled, tail_of, tail_text, takes_text, text_written, word_behind, word_text}
 use Rattle.friendly_lines.specs.Parts.Tail.{Words, Kept, Quoted}
 use Rattle.friendly_lines.specs.Quotes.{inside_quotes}
 use Rattle.friendly_lines.specs.Words.{Word, is_blank, next_word, skip_blanks, spaced, up_to_blank, words_spaced}
@@ -242,22 +242,49 @@ abbrev PassesBehind : List ℕ → Option (List ℕ) → Type 0
 PassesBehind form None = PassesNone form
 PassesBehind form (Some arguments) = Passes form arguments
 
+-- all that stands behind a form's word passes, where that is no text in quotes
+record PassesAll (form : List ℕ) (arguments : Option (List ℕ)) : Type 0 where
+  whole : is_quoted (tail_of form (word_behind form (behind_word arguments)).rest) ≡ false →
+      spaced (word_text form (word_behind form (behind_word arguments)).word) ++ tail_text (tail_of form (word_behind form (behind_word arguments)).rest)
+      ≡ behind_word arguments
+
+-- a word and what follows it do
+all_pass : (form : List ℕ) → takes_text form ≡ false → (arguments : Option (List ℕ)) → PassesBehind form arguments → PassesAll form arguments
+all_pass form words None nothing = record { whole = rw words (λ unquoted. rw (nothing.sized, nothing.tail) refl) }
+all_pass form words (Some arguments) passes =
+    let word : List ℕ = (first_word arguments).word in
+    let rest : Option (List ℕ) = (first_word arguments).rest in
+    let whole : arguments ≡ word ++ behind_word rest = word_and_behind arguments in
+    let next : next_word (32 ∷ arguments) ≡ record { word = word; rest = behind_word rest } = ap next_word whole ∙ next_is word rest passes.word in
+    record {
+      whole = rw (words, next) (λ unquoted. rw (passes.sized, passes.tail unquoted, spaced_word word passes.word) (ap (λ a. 32 ∷ a) (sym whole)));
+    }
+
+-- and so does a text alone
+text_passes : (form : List ℕ) → takes_text form ≡ true → word_text form [] ≡ [] → (arguments : Option (List ℕ)) → PassesAll form arguments
+text_passes form text sized None = record { whole = rw text (λ unquoted. rw sized refl) }
+text_passes form text sized (Some arguments) = record { whole = rw text (λ unquoted. rw sized refl) }
+
 -- a form lets through what it reads
 record Lets (form : Form) : Type 0 where
   word : is_word form.word ≡ true
-  passes : (arguments : Option (List ℕ)) (call : Call) → form.call arguments ≡ Some call → PassesBehind form.word arguments
+  passes : (arguments : Option (List ℕ)) (call : Call) → form.call arguments ≡ Some call → PassesAll form.word arguments
 
-none_lets : (form : List ℕ) (call : Call) → is_word form ≡ true → PassesNone form → Lets (record { word = form; call = of_none call })
-none_lets form call word nothing = record { word = word; passes = go }
+-- a form of a text alone
+rest_lets : (form : List ℕ) (call : List ℕ → Call) → is_word form ≡ true → takes_text form ≡ true → word_text form [] ≡ [] → Lets (record { word = form; call = of_rest call })
+rest_lets form call word text sized = record { word = word; passes = λ arguments made is. text_passes form text sized arguments }
+
+none_lets : (form : List ℕ) (call : Call) → is_word form ≡ true → takes_text form ≡ false → PassesNone form → Lets (record { word = form; call = of_none call })
+none_lets form call word words nothing = record { word = word; passes = λ arguments made is. all_pass form words arguments (go arguments made is) }
   where
     go : (arguments : Option (List ℕ)) (made : Call) → of_none call arguments ≡ Some made → PassesBehind form arguments
     go None made is = nothing
     go (Some arguments) made is = absurd (none-some made is)
 
-one_lets : {X : Type 0} (form : List ℕ) (call : X → Call) (read : List ℕ → Option X) → is_word form ≡ true → ReadsWords read
+one_lets : {X : Type 0} (form : List ℕ) (call : X → Call) (read : List ℕ → Option X) → is_word form ≡ true → takes_text form ≡ false → ReadsWords read
     → ((text : List ℕ) (x : X) → read text ≡ Some x → word_text form text ≡ text) → tail_text (tail_of form []) ≡ []
     → Lets (record { word = form; call = of_one call read })
-one_lets {X = X} form call read word reads sized none = record { word = word; passes = go }
+one_lets {X = X} form call read word words reads sized none = record { word = word; passes = λ arguments made is. all_pass form words arguments (go arguments made is) }
   where
     passes : (arguments : List ℕ) (x : X) → read arguments ≡ Some x → Passes form arguments
     passes arguments x is =
@@ -279,10 +306,10 @@ HasWords form = (rest : List ℕ) → is_quoted (tail_of form rest) ≡ false �
 abbrev Keeps : List ℕ → Type 0
 Keeps form = (rest : List ℕ) → is_quoted (tail_of form rest) ≡ false → tail_of form rest ≡ Kept rest
 
-two_lets : {X Y : Type 0} (form : List ℕ) (call : X → Y → Call) (first : List ℕ → Option X) (second : List ℕ → Option Y) → is_word form ≡ true
+two_lets : {X Y : Type 0} (form : List ℕ) (call : X → Y → Call) (first : List ℕ → Option X) (second : List ℕ → Option Y) → is_word form ≡ true → takes_text form ≡ false
     → ReadsWords first → ReadsWords second → ((text : List ℕ) → word_text form text ≡ text) → HasWords form
     → Lets (record { word = form; call = of_two call first second })
-two_lets {X = X} {Y = Y} form call first second word reads_first reads_second sized words = record { word = word; passes = go }
+two_lets {X = X} {Y = Y} form call first second word no_text reads_first reads_second sized words = record { word = word; passes = λ arguments made is. all_pass form no_text arguments (go arguments made is) }
   where
     passes : (arguments rest : List ℕ) (x : X) (y : Y) → (first_word arguments).rest ≡ Some rest → first (first_word arguments).word ≡ Some x → second rest ≡ Some y → Passes form arguments
     passes arguments rest x y more one two = record {
@@ -308,10 +335,10 @@ two_lets {X = X} {Y = Y} form call first second word reads_first reads_second si
               ] refl
         ] refl is
 
-text_lets : {X : Type 0} (form : List ℕ) (call : X → List ℕ → Call) (first : List ℕ → Option X) → is_word form ≡ true
+text_lets : {X : Type 0} (form : List ℕ) (call : X → List ℕ → Call) (first : List ℕ → Option X) → is_word form ≡ true → takes_text form ≡ false
     → ReadsWords first → ((text : List ℕ) → word_text form text ≡ text) → Keeps form
     → Lets (record { word = form; call = of_text call first })
-text_lets {X = X} form call first word reads sized keeps = record { word = word; passes = go }
+text_lets {X = X} form call first word no_text reads sized keeps = record { word = word; passes = λ arguments made is. all_pass form no_text arguments (go arguments made is) }
   where
     kept : (rest : Option (List ℕ)) → tail_text (Kept (behind_word rest)) ≡ behind_word rest
     kept None = refl
@@ -355,44 +382,47 @@ size_is text n is = rw is refl
 
 forms_let : AllLet forms
 forms_let = (
-  one_lets (codes "alloc") _ number_of refl number_is_word size_is refl,
+  one_lets (codes "alloc") _ number_of refl refl number_is_word size_is refl,
   (
-    one_lets (codes "free") _ number_of refl number_is_word (λ text n is. refl) refl,
+    one_lets (codes "free") _ number_of refl refl number_is_word (λ text n is. refl) refl,
     (
-      one_lets (codes "attach") _ number_of refl number_is_word (λ text n is. refl) refl,
+      one_lets (codes "attach") _ number_of refl refl number_is_word (λ text n is. refl) refl,
       (
-        two_lets (codes "attach_at") _ number_of address_of refl number_is_word address_is_word (λ text. refl) (λ rest unquoted. refl),
+        two_lets (codes "attach_at") _ number_of address_of refl refl number_is_word address_is_word (λ text. refl) (λ rest unquoted. refl),
         (
-          one_lets (codes "detach") _ address_of refl address_is_word (λ text a is. refl) refl,
+          one_lets (codes "detach") _ address_of refl refl address_is_word (λ text a is. refl) refl,
           (
-            two_lets (codes "peek") _ address_of number_of refl address_is_word number_is_word (λ text. refl) (λ rest unquoted. refl),
+            two_lets (codes "peek") _ address_of number_of refl refl address_is_word number_is_word (λ text. refl) (λ rest unquoted. refl),
             (
-              two_lets (codes "poke") _ address_of some_bytes_of_hex refl address_is_word bytes_are_word (λ text. refl) (λ rest. unquoted_other (Words rest) [] (skip_blanks rest)),
+              two_lets (codes "poke") _ address_of some_bytes_of_hex refl refl address_is_word bytes_are_word (λ text. refl) (λ rest. unquoted_other (Words rest) [] (skip_blanks rest)),
               (
-                none_lets (codes "capalloc") _ refl (record { sized = refl; tail = refl }),
+                none_lets (codes "capalloc") _ refl refl (record { sized = refl; tail = refl }),
                 (
-                  one_lets (codes "capfree") _ number_of refl number_is_word (λ text n is. refl) refl,
+                  one_lets (codes "capfree") _ number_of refl refl number_is_word (λ text n is. refl) refl,
                   (
-                    one_lets (codes "new") _ number_of refl number_is_word size_is refl,
+                    one_lets (codes "new") _ number_of refl refl number_is_word size_is refl,
                     (
-                      one_lets (codes "del") _ address_of refl address_is_word (λ text a is. refl) refl,
+                      one_lets (codes "del") _ address_of refl refl address_is_word (λ text a is. refl) refl,
                       (
-                        one_lets (codes "snew") _ number_of refl number_is_word size_is refl,
+                        one_lets (codes "snew") _ number_of refl refl number_is_word size_is refl,
                         (
-                          one_lets (codes "sdel") _ address_of refl address_is_word (λ text a is. refl) refl,
+                          one_lets (codes "sdel") _ address_of refl refl address_is_word (λ text a is. refl) refl,
                           (
-                            text_lets (codes "open") Call.Open name_of refl name_is_word (λ text. refl) (λ rest unquoted. refl),
+                            text_lets (codes "open") Call.Open name_of refl refl name_is_word (λ text. refl) (λ rest unquoted. refl),
                             (
-                              text_lets (codes "upgrade") Call.Upgrade number_of refl number_is_word (λ text. refl) (λ rest unquoted. refl),
+                              text_lets (codes "upgrade") Call.Upgrade number_of refl refl number_is_word (λ text. refl) (λ rest unquoted. refl),
                               (
-                                text_lets (codes "call") Call.CallSession number_of refl number_is_word (λ text. refl) keeps_request,
+                                text_lets (codes "call") Call.CallSession number_of refl refl number_is_word (λ text. refl) keeps_request,
                                 (
-                                  one_lets (codes "close") _ number_of refl number_is_word (λ text n is. refl) refl,
+                                  one_lets (codes "close") _ number_of refl refl number_is_word (λ text n is. refl) refl,
                                   (
-                                    none_lets (codes "exit") _ refl (record { sized = refl; tail = refl }),
+                                    none_lets (codes "exit") _ refl refl (record { sized = refl; tail = refl }),
                                     (
-                                      none_lets (codes "quota") _ refl (record { sized = refl; tail = refl }),
-                                      tt,
+                                      none_lets (codes "quota") _ refl refl (record { sized = refl; tail = refl }),
+                                      (
+                                        none_lets (codes "reserve") _ refl refl (record { sized = refl; tail = refl }),
+                                        (rest_lets (codes "request") Call.Request refl refl refl, (rest_lets (codes "yield") Call.Yield refl refl refl, tt)),
+                                      ),
                                     ),
                                   ),
                                 ),
@@ -416,7 +446,7 @@ forms_let = (
 -- the form of a call, and what stands behind it
 record IsForm (word : List ℕ) (arguments : Option (List ℕ)) : Type 0 where
   word_is : is_word word ≡ true
-  passes : PassesBehind word arguments
+  passes : PassesAll word arguments
 
 form_in : (list : List Form) → AllLet list → (word : List ℕ) (arguments : Option (List ℕ)) (call : Call) → call_in list word arguments ≡ Some call → IsForm word arguments
 form_in [] all word arguments call is = absurd (none-some call is)
@@ -434,17 +464,9 @@ form_in (form ∷ rest) all word arguments call is =
 spells : (name form : List ℕ) (arguments : Option (List ℕ)) → is_word name ≡ true → IsForm form arguments
     → is_quoted (parts_of (name ++ behind_word (Some (form ++ behind_word arguments)))).tail ≡ false
     → spelled (parts_of (name ++ behind_word (Some (form ++ behind_word arguments)))) ≡ name ++ behind_word (Some (form ++ behind_word arguments))
-spells name form None is call =
-    rw (next_is name (Some (form ++ behind_word None)) is, next_is form None call.word_is)
-    (λ unquoted. rw (call.passes.sized, call.passes.tail, spaced_word form call.word_is) refl)
-spells name form (Some arguments) is call =
-    let word : List ℕ = (first_word arguments).word in
-    let rest : Option (List ℕ) = (first_word arguments).rest in
-    let whole : arguments ≡ word ++ behind_word rest = word_and_behind arguments in
-    let third : next_word arguments ≡ record { word = word; rest = behind_word rest } = ap next_word whole ∙ next_is word rest call.passes.word in
-    rw (next_is name (Some (form ++ behind_word (Some arguments))) is, next_is form (Some arguments) call.word_is, third)
-    (λ unquoted. rw (call.passes.sized, call.passes.tail unquoted, spaced_word form call.word_is, spaced_word word call.passes.word)
-    (ap (λ a. name ++ 32 ∷ (form ++ 32 ∷ a)) (sym whole)))
+spells name form arguments is call =
+    rw (next_is name (Some (form ++ behind_word arguments)) is, next_is form arguments call.word_is)
+    (λ unquoted. rw (call.passes.whole unquoted, spaced_word form call.word_is) refl)
 
 -- what a call of the grammar says
 record SaysCall (line : List ℕ) : Type 0 where

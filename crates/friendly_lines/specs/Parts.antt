@@ -9,7 +9,7 @@ use Rattle.own_model.specs.Reply.{hex_text}
 use Rattle.own_model.specs.Text.{first_word}
 use Rattle.friendly_lines.specs.Quotes.{inside_quotes, is_quote}
 use Rattle.friendly_lines.specs.Signs.{bytes_of}
-use Rattle.friendly_lines.specs.Words.{next_word, skip_blanks, spaced, words_spaced}
+use Rattle.friendly_lines.specs.Words.{Word, next_word, skip_blanks, spaced, words_spaced}
 
 -- what follows the first words of a call: more words; what is kept as it stands, behind one blank; or a text in quotes, with
 -- what is kept before it, and how many bytes the call has from the text's first sign on
@@ -56,10 +56,18 @@ request_tail rest =
     option_map_or (λ text. quoted_or (Kept rest) (take (length (drop 1 rest) - (length text + 1)) (drop 1 rest)) text)
     (text_written (drop 1 rest)) (Kept rest)
 
+-- a form whose arguments are a text alone
+abbrev pub takes_text : List ℕ → Bool
+takes_text form = bytes_eq form (codes "request") || bytes_eq form (codes "yield")
+
+-- the word behind a form, and what follows it: where a text alone follows, there is no word
+abbrev pub word_behind : List ℕ → List ℕ → Word
+word_behind form rest = if takes_text form then record { word = []; rest = rest } else next_word rest
+
 -- what follows the first words, by the form
 abbrev pub tail_of : List ℕ → List ℕ → Tail
 tail_of form rest =
-    if bytes_eq form (codes "open") || bytes_eq form (codes "upgrade") then Kept rest
+    if takes_text form || (bytes_eq form (codes "open") || bytes_eq form (codes "upgrade")) then Kept rest
     else (if bytes_eq form (codes "call") then request_tail rest
     else (if bytes_eq form (codes "poke") then quoted_or (Words rest) [] (skip_blanks rest)
     else Words rest))
@@ -69,8 +77,8 @@ abbrev pub parts_of : List ℕ → Parts
 parts_of call = record {
   name = (next_word call).word;
   form = (next_word (next_word call).rest).word;
-  word = (next_word (next_word (next_word call).rest).rest).word;
-  tail = tail_of (next_word (next_word call).rest).word (next_word (next_word (next_word call).rest).rest).rest;
+  word = (word_behind (next_word (next_word call).rest).word (next_word (next_word call).rest).rest).word;
+  tail = tail_of (next_word (next_word call).rest).word (word_behind (next_word (next_word call).rest).word (next_word (next_word call).rest).rest).rest;
 }
 
 -- ---- the engine's line

@@ -5,7 +5,7 @@ ghost use Rattle.std.specs.List.{list_all};
 ghost use Rattle.std.specs.Char.{is_ascii_digit};
 ghost use Rattle.own_model.specs.Reply.{hex_text};
 ghost use Rattle.friendly_lines.specs.Friendly.{fault_in};
-ghost use Rattle.friendly_lines.specs.Parts.{is_sized, kept_text, parts_of, quoted_or, request_tail, size_text, spelled, tail_of, tail_text, text_behind, text_behind_file, text_behind_place, text_written, word_text};
+ghost use Rattle.friendly_lines.specs.Parts.{is_sized, kept_text, parts_of, quoted_or, request_tail, size_text, spelled, takes_text, tail_of, tail_text, text_behind, text_behind_file, text_behind_place, text_written, word_text, word_behind};
 ghost use Rattle.friendly_lines.specs.Signs.{bytes_of};
 ghost use Rattle.friendly_lines.specs.Views.{LiesIn, parts_in, tail_in};
 ghost use Rattle.friendly_lines.specs.Words.{spaced};
@@ -52,7 +52,7 @@ impl<'a> Parts<'a> {
     {
         let (name, rest) = next_word(call);
         let (form, rest) = next_word(rest);
-        let (word, rest) = next_word(rest);
+        let (word, rest) = word_behind(form, rest);
         Parts {
             name,
             form,
@@ -73,13 +73,33 @@ impl<'a> Parts<'a> {
     }
 }
 
+// Whether the arguments of a form are a text alone.
+fn takes_text(form: &[u8]) -> bool
+    ensures { result ≡ takes_text form.now }
+{
+    form == b"request".as_slice() || form == b"yield".as_slice()
+}
+
+// The word behind a form, and what follows it: where a text alone follows, there is no word.
+fn word_behind<'a>(form: &[u8], rest: &'a [u8]) -> (&'a [u8], &'a [u8])
+    ensures word { result.0.now ≡ (word_behind form.now rest.now).word }
+    ensures rest { result.1.now ≡ (word_behind form.now rest.now).rest }
+    ensures within { length result.1.now ≤ length rest.now }
+{
+    if takes_text(form) {
+        (&rest[..0], rest)
+    } else {
+        next_word(rest)
+    }
+}
+
 // What follows the first words of a call, by its form.
 #[tactic(auto, using(crate::proofs::TailLemmas::lies))]
 fn tail_of<'a>(form: &[u8], rest: &'a [u8]) -> Tail<'a>
     ensures value { tail_in result ≡ tail_of form.now rest.now }
     ensures lies { LiesIn (length rest.now) (tail_in result) }
 {
-    if form == b"open".as_slice() || form == b"upgrade".as_slice() {
+    if takes_text(form) || form == b"open".as_slice() || form == b"upgrade".as_slice() {
         return Tail::Kept(rest);
     }
     if form == b"call".as_slice() {

@@ -142,6 +142,9 @@ fn blanks_part_the_words(rt: HostRuntime) -> Result<(), Fail> {
     assert!(rt; is_call(b" alice  open  LOG\tx\ty ", b"alice open LOG x\ty ", None));
     assert!(rt; is_call(b"alice\tcall\t1\t  STAT ", b"alice call 1   STAT ", None));
     assert!(rt; is_call(b" alice   exit  => ok", b"alice exit", Some(b"ok")));
+    assert!(rt; is_call(b" alice  reserve ", b"alice reserve", None));
+    assert!(rt; is_call(b" alice  request\t ram_quota=4K,  x=1 ", b"alice request  ram_quota=4K,  x=1 ", None));
+    assert!(rt; is_call(b"alice  yield", b"alice yield", None));
     Ok(())
 }
 
@@ -201,6 +204,9 @@ fn arguments_are_never_translated(rt: HostRuntime) -> Result<(), Fail> {
     assert!(rt; passes(b"alice open LOG \"\\q\""));
     assert!(rt; passes(b"alice upgrade 1 \"hi\""));
     assert!(rt; passes(b"alice open LOG ram_quota=4K"));
+    assert!(rt; passes(b"alice request ram_quota=4K,  label=\"a  b\""));
+    assert!(rt; passes(b"alice yield  cap_quota=1 "));
+    assert!(rt; passes(b"alice request "));
     Ok(())
 }
 

@@ -1,6 +1,6 @@
 -- The built-in machine's text, read by computing.
-use Rattle.std.proofs.Common.{◌≡◌, ℕ, List, [], ◌∷◌, true, false, Some, Ok, refl, ap, ◌∙◌}
-use Rattle.std.specs.Prelude.{codes, option_and_then}
+use Rattle.std.proofs.Common.{◌≡◌, List, [], ◌∷◌, true, Some, Ok, refl}
+use Rattle.std.specs.Prelude.{codes}
 use Rattle.std.specs.Float.Numeral.{scan_numeral}
 use Rattle.std.specs.Str.{is_utf8, chars}
 use lib.Utf8.{encode}

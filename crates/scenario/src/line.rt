@@ -255,6 +255,32 @@ mod tests {
     }
 
     #[test]
+    fn reserve_calls_are_read(rt: HostRuntime) {
+        assert!(rt; matches!(call_of_alice(b"alice reserve"), Some(Call::Reserve)));
+        assert!(rt; matches!(call_of_alice(b"alice request"), Some(Call::Request(b""))));
+        assert!(rt; matches!(call_of_alice(b"alice request "), Some(Call::Request(b""))));
+        assert!(rt; matches!(call_of_alice(b"alice yield"), Some(Call::Yield(b""))));
+        assert!(rt;
+            matches!(
+                call_of_alice(b"alice request  ram_quota=4K "),
+                Some(Call::Request(b" ram_quota=4K "))
+            )
+        );
+        assert!(rt; matches!(call_of_alice(b"alice yield x y"), Some(Call::Yield(b"x y"))));
+        for line in [
+            b"alice reserve ".as_slice(),
+            b"alice reserve 0",
+            b"alice reserves",
+            b"alice requests",
+            b"alice YIELD",
+            b"alice  request",
+            b"yield",
+        ] {
+            assert!(rt; is_bad(line));
+        }
+    }
+
+    #[test]
     fn sizes_are_read(rt: HostRuntime) {
         assert!(rt; matches!(call_of_alice(b"alice alloc 5000"), Some(Call::Alloc(5000))));
         assert!(rt;

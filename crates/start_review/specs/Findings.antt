@@ -3,15 +3,16 @@ use Rattle.std.specs.Prelude.{◌≡◌, ℕ, ◌%◌, ◌==◌, ◌&&◌, Bool,
 use Rattle.std.specs.List.{All, enumerate_from, list_any, slice_get}
 use Rattle.std.specs.Option.{option_map}
 use Rattle.std.specs.Str.{bytes_eq}
-use Rattle.own_model.specs.Listed.{Binary, Listed, ListedEntry, ListedRule, Target, child_at, file_service, log_service}
+use Rattle.own_model.specs.Listed.{Binary, Listed, ListedEntry, ListedRule, Target, child_at, file_service, log_service, reserve_of}
 use Rattle.own_model.specs.Listed.Binary.{Script, LogServer, FileServer}
 use Rattle.own_model.specs.Listed.Target.{Child, AnyChild, Parent}
 use Rattle.start_review.specs.Hiding.{decides_some, hides}
+use Rattle.start_review.specs.Left.{budget_of}
 use Rattle.start_review.specs.Near.{nearest}
 use Rattle.start_review.specs.Wishes.{is_led_to, is_provided, leads_somewhere}
 use Rattle.start_review.specs.declared.finding.Finding.{Finding}
 use Rattle.start_review.specs.declared.finding.Remark.{Remark}
-use Rattle.start_review.specs.declared.finding.Remark.TheVariants.{Unread, NoChild, NotProvided, NoProvider, SeveralProviders, Hidden, Unreached, LowRam, LowCaps, PartPages}
+use Rattle.start_review.specs.declared.finding.Remark.TheVariants.{Unread, NoChild, NotProvided, NoProvider, SeveralProviders, Hidden, Unreached, LowRam, LowCaps, PartPages, PartReserve}
 use Rattle.start_review.specs.declared.findings.Owner.{Owner}
 use Rattle.start_review.specs.declared.findings.Owner.TheVariants as owner
 use Rattle.start_review.specs.declared.part.Part.{Part}
@@ -92,15 +93,24 @@ rules_findings list owner rules = flat_map (findings_at list owner rules) (enume
 abbrev pub part_pages : ListedEntry → Option Remark
 part_pages entry = if entry.ram % 4096 == 0 then None else Some (PartPages entry.ram)
 
--- a route of a client leads to a server, and the RAM pays for no session
+-- the same of its reserve
+abbrev pub part_reserve : ListedEntry → Option Remark
+part_reserve entry = if (reserve_of entry).ram % 4096 == 0 then None else Some (PartReserve (reserve_of entry).ram)
+
+abbrev pub pages_findings : Part → ListedEntry → List Finding
+pages_findings part entry = told part (part_pages entry) ++ told part (part_reserve entry)
+
+-- a route of a client leads to a server, and its RAM, with what it can request of its reserve, pays for no session
 abbrev pub low_ram : Listed → ℕ × ListedEntry → Option Remark
 low_ram list client =
-    if leads_somewhere list client.0 && nat_lt client.1.ram 4096 then Some (LowRam client.1.ram) else None
+    if leads_somewhere list client.0 && nat_lt (budget_of client.1).ram 4096 then Some (LowRam client.1.ram (reserve_of client.1).ram)
+    else None
 
 -- the same of the capabilities
 abbrev pub low_caps : Listed → ℕ × ListedEntry → Option Remark
 low_caps list client =
-    if leads_somewhere list client.0 && nat_lt client.1.caps 2 then Some (LowCaps client.1.caps) else None
+    if leads_somewhere list client.0 && nat_lt (budget_of client.1).caps 2 then Some (LowCaps client.1.caps (reserve_of client.1).caps)
+    else None
 
 -- no script's route leads to the server of a service at a place
 abbrev pub unreached : Listed → List ℕ → ℕ → Option Remark
@@ -121,7 +131,7 @@ route_findings list place (Some rules) = rules_findings list (owner.Entry place)
 abbrev pub entry_findings : Listed → ℕ × ListedEntry → List Finding
 entry_findings list entry =
     let part = parts.Entry entry.0 (Some entry.1.name) in
-    told part (part_pages entry.1) ++ use_findings list part entry entry.1.binary
+    pages_findings part entry.1 ++ use_findings list part entry entry.1.binary
     ++ route_findings list entry.0 entry.1.route
 
 -- ---- of the whole list

@@ -36,6 +36,8 @@ member_of field.Binary = codes "binary"
 member_of field.Quantum = codes "quantum"
 member_of field.Provides = codes "provides"
 member_of field.Route = codes "route"
+member_of field.Reserve = codes "reserve"
+member_of field.ReserveCaps = codes "reserve-caps"
 
 -- before the entries
 abbrev pub spot_before : Field → Spot

@@ -1,4 +1,5 @@
 //! What a start list says that its writer can hardly have meant.
+use crate::asked::Asked;
 use crate::part::Part;
 use crate::quoted::Quoted;
 use init_core::Name;
@@ -36,12 +37,14 @@ pub enum Remark {
     Hidden(usize),
     /// No script's route leads to the server.
     Unreached,
-    /// A route leads to a server, but the RAM pays for no session.
-    LowRam(u64),
-    /// A route leads to a server, but the capabilities pay for no session.
-    LowCaps(u32),
+    /// A route leads to a server, but the RAM of the account and the reserve together pays for no session.
+    LowRam(u64, u64),
+    /// A route leads to a server, but the capabilities of the account and the reserve together pay for no session.
+    LowCaps(u32, u32),
     /// The RAM isn't whole pages.
     PartPages(u64),
+    /// The RAM of the reserve isn't whole pages.
+    PartReserve(u64),
 }
 
 impl fmt::Display for Remark {
@@ -72,16 +75,21 @@ impl fmt::Display for Remark {
                 )
             }
             Remark::Unreached => f.write_str("no script's route leads to this server"),
-            Remark::LowRam(ram) => write!(
+            Remark::LowRam(own, kept) => write!(
                 f,
-                "quantum: {ram} bytes pay for no session, which takes at least 4096"
+                "{} bytes pay for no session, which takes at least 4096",
+                Asked::ram(*own, *kept)
             ),
-            Remark::LowCaps(caps) => write!(
+            Remark::LowCaps(own, kept) => write!(
                 f,
-                "caps: {caps} capabilities pay for no session, which takes at least 2"
+                "{} capabilities pay for no session, which takes at least 2",
+                Asked::caps(*own, *kept)
             ),
             Remark::PartPages(ram) => {
                 write!(f, "quantum: {ram} bytes aren't whole pages of 4096 bytes")
+            }
+            Remark::PartReserve(ram) => {
+                write!(f, "reserve: {ram} bytes aren't whole pages of 4096 bytes")
             }
         }
     }

@@ -5,7 +5,7 @@ ghost use Rattle.std.specs.List.{slice_get};
 ghost use Rattle.std.specs.Option.{option_map};
 ghost use Rattle.init_core.specs.Members.{name_in};
 ghost use Rattle.init_core.specs.View.{model_target};
-ghost use Rattle.start_review.specs.Findings.{entry_findings, findings_of, has_name, hidden, low_caps, low_ram, misled, no_child, part_pages, rule_findings, rule_part, rules_findings, stray_findings, strays, strays_if_provided, told, unreached, use_findings};
+ghost use Rattle.start_review.specs.Findings.{entry_findings, findings_of, has_name, hidden, low_caps, low_ram, misled, no_child, pages_findings, part_pages, part_reserve, rule_findings, rule_part, rules_findings, stray_findings, strays, strays_if_provided, told, unreached, use_findings};
 
 use crate::finding::{Finding, Remark};
 use crate::hiding::{decides_some, hidden_by};
@@ -56,12 +56,21 @@ fn tell_entry(
         (found.new.items ≡ found.old.items ++ entry_findings list.now (place, entry.now)) }
 {
     let part = Part::Entry(place, Some(entry.to_name()));
-    tell(found, &part, part_pages(entry))?;
+    tell_pages(found, &part, entry)?;
     tell_use(found, list, &part, place, entry)?;
     match entry.route() {
         Some(rules) => tell_rules(found, alloc, list, Owner::Entry(place), rules),
         None => Ok(()),
     }
+}
+
+// Tells whether an entry's RAM, or its reserve's, isn't whole pages.
+fn tell_pages(found: &mut Vec<Finding>, part: &Part, entry: &Entry) -> Result<(), AllocError>
+    ensures { OnOk result
+        (found.new.items ≡ found.old.items ++ pages_findings part.now entry.now) }
+{
+    tell(found, part, part_pages(entry))?;
+    tell(found, part, part_reserve(entry))
 }
 
 // Tells of a script's means, or whether a server is reached.
@@ -96,12 +105,25 @@ fn part_pages(entry: &Entry) -> Option<Remark>
     }
 }
 
-// Whether a client that has a route to a server has too little RAM for a session.
+// The same of its reserve.
+fn part_reserve(entry: &Entry) -> Option<Remark>
+    ensures { result ≡ part_reserve entry.now }
+{
+    let kept = entry.reserve_at_start().ram.0;
+    if kept % 4096 == 0 {
+        None
+    } else {
+        Some(Remark::PartReserve(kept))
+    }
+}
+
+// Whether a client that has a route to a server has too little RAM for a session, in its account and its reserve together.
 fn low_ram(list: &StartList, place: usize, entry: &Entry) -> Option<Remark>
     ensures { result ≡ low_ram list.now (place, entry.now) }
 {
-    if leads_somewhere(list, place) && entry.ram() < SESSION_RAM {
-        Some(Remark::LowRam(entry.ram()))
+    let kept = entry.reserve_at_start().ram.0;
+    if leads_somewhere(list, place) && entry.ram().saturating_add(kept) < SESSION_RAM {
+        Some(Remark::LowRam(entry.ram(), kept))
     } else {
         None
     }
@@ -111,8 +133,9 @@ fn low_ram(list: &StartList, place: usize, entry: &Entry) -> Option<Remark>
 fn low_caps(list: &StartList, place: usize, entry: &Entry) -> Option<Remark>
     ensures { result ≡ low_caps list.now (place, entry.now) }
 {
-    if leads_somewhere(list, place) && entry.caps() < SESSION_CAPS {
-        Some(Remark::LowCaps(entry.caps()))
+    let kept = entry.reserve_at_start().caps.0;
+    if leads_somewhere(list, place) && entry.caps().saturating_add(kept) < SESSION_CAPS {
+        Some(Remark::LowCaps(entry.caps(), kept))
     } else {
         None
     }

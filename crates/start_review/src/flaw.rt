@@ -83,6 +83,8 @@ pub enum Expected {
     Amount,
     /// A number of capabilities.
     Caps,
+    /// No such member, since the entry isn't a script's.
+    NoReserve,
     /// The service of the entry's binary.
     Provides,
     /// `true`.
@@ -107,6 +109,7 @@ impl fmt::Display for Expected {
             Expected::Binary => "`script`, `log` or `files`",
             Expected::Amount => "an amount as text",
             Expected::Caps => "a whole number from 0 to 4294967295",
+            Expected::NoReserve => "none, since only a script has a reserve",
             Expected::Provides => {
                 "a list of at most the binary's service: `LOG` of `log`, `File_system` of `files`"
             }
@@ -213,6 +216,8 @@ fn flaw_of_entry(value: &Value, field: Field, place: usize) -> Option<Flaw>
         Field::Caps => in_entry(value, place, "caps", Expected::Caps),
         Field::Provides => in_entry(value, place, "provides", Expected::Provides),
         Field::Route => in_route(value, place),
+        Field::Reserve => in_reserve(value, place, "reserve", Expected::Amount),
+        Field::ReserveCaps => in_reserve(value, place, "reserve-caps", Expected::Caps),
         _ => None,
     }
 }
@@ -235,6 +240,31 @@ fn in_entry(value: &Value, place: usize, member: &'static str, expected: Expecte
 {
     let found = item(value.get("start"), place)?;
     Some(at(Part::Entry(place, name_of(found)), found, member, expected))
+}
+
+// The same of a member of its reserve, which has no value where the entry isn't a script's.
+fn in_reserve(
+    value: &Value,
+    place: usize,
+    member: &'static str,
+    expected: Expected,
+) -> Option<Flaw>
+    ensures { IfSome result
+        (λ flaw. spot_of_flaw flaw ≡ Some (OfEntry place (Some member.now))) }
+{
+    if runs_script(item(value.get("start"), place)?) {
+        in_entry(value, place, member, expected)
+    } else {
+        in_entry(value, place, member, Expected::NoReserve)
+    }
+}
+
+// Whether an entry is a script's: without the member it runs what has its name.
+fn runs_script(entry: &Value) -> bool {
+    match entry.get("binary").or(entry.get("name")) {
+        Some(binary) => binary.as_str() == Some("script"),
+        None => false,
+    }
 }
 
 // The flaw of a member of an object.

@@ -1,7 +1,7 @@
 //! The components of a start list, and where their wishes for sessions lead, as a graph.
 use crate::hiding::decides_some;
 use crate::left::kept;
-use crate::tree::{Amount, LabelAsked, decides_all, route_name};
+use crate::tree::{Amount, LabelAsked, decides_all, route_name, show_reserve};
 use crate::wishes::{SERVICES, before, provider, rules_of};
 use init_core::{Binary, Entry, StartList};
 use std::fmt;
@@ -63,6 +63,7 @@ fn show_node<W: fmt::Write>(f: &mut fmt::Formatter<W>, entry: &Entry) -> fmt::Re
         binary.as_str()
     )?;
     write!(f, "\\n{}, {} caps", Amount(entry.ram()), entry.caps())?;
+    show_reserve(f, entry, "\\n")?;
     match binary.service() {
         Some(service) if entry.provides() => writeln!(f, "\\nprovides {service}\"];"),
         _ => writeln!(f, "\"];"),

@@ -1,13 +1,14 @@
 //! What init has of RAM and capabilities while a machine starts.
-ghost use Rattle.std.specs.Prelude.{◌≡◌, None, not};
+ghost use Rattle.std.specs.Prelude.{◌≡◌, ◌+◌, None, nat_lt, not};
 ghost use Rattle.std.specs.Option.{is_some, option_map};
 ghost use Rattle.own_model.specs.Account.{parted_with, shortage};
 ghost use Rattle.own_model.specs.Listed.{start_list_of};
 ghost use Rattle.own_model.specs.StartList.{init_keeps, machine_account};
 ghost use Rattle.init_core.specs.Boot.{quota_fault};
 ghost use Rattle.init_core.specs.declared.fault.BootFault.TheVariants.{QuotaExceeded};
-ghost use Rattle.start_review.specs.Left.{account_of, first_lack, lack_of};
+ghost use Rattle.start_review.specs.Left.{account_of, budget_of, first_lack, lack_of};
 
+use crate::asked::Asked;
 use init_core::{Entry, Name, StartList};
 use std::fmt;
 
@@ -31,22 +32,44 @@ impl Left {
         }
     }
 
-    /// Whether it covers an entry.
+    /// Whether it covers an entry's account and its reserve together.
     pub(crate) fn covers(self, entry: &Entry) -> bool
-        ensures { is_some (shortage (account_of self) entry.now.ram entry.now.caps) ≡ not result }
+        ensures { is_some (shortage (account_of self) (budget_of entry.now).ram (budget_of entry.now).caps)
+            ≡ not result }
     {
-        entry.ram() <= self.ram && entry.caps() <= self.caps
+        let kept = entry.reserve_at_start();
+        covers_both(self.ram, entry.ram(), kept.ram.0)
+            && covers_both(
+                u64::from(self.caps),
+                u64::from(entry.caps()),
+                u64::from(kept.caps.0),
+            )
     }
 
     /// What is left once an entry has its budget.
     pub(crate) fn without(self, entry: &Entry) -> Left
-        ensures { account_of result ≡ parted_with (account_of self) entry.now.ram entry.now.caps }
+        ensures { account_of result
+            ≡ parted_with (account_of self) (budget_of entry.now).ram (budget_of entry.now).caps }
     {
+        let kept = entry.reserve_at_start();
         Left {
-            ram: self.ram.saturating_sub(entry.ram()),
-            caps: self.caps.saturating_sub(entry.caps()),
+            ram: self
+                .ram
+                .saturating_sub(entry.ram())
+                .saturating_sub(kept.ram.0),
+            caps: self
+                .caps
+                .saturating_sub(entry.caps())
+                .saturating_sub(kept.caps.0),
         }
     }
+}
+
+// Whether what is left covers two parts together. Their sum may be past 64 bits.
+fn covers_both(left: u64, own: u64, kept: u64) -> bool
+    ensures { nat_lt left (own + kept) ≡ not result }
+{
+    own <= left && kept <= left - own
 }
 
 /// An entry that what init still has doesn't cover.
@@ -56,10 +79,14 @@ pub struct Lack {
     pub entry: usize,
     /// Its name.
     pub name: Name,
-    /// The RAM in bytes that it asks for.
+    /// The RAM in bytes that it asks for in its account.
     pub ram: u64,
-    /// The capabilities that it asks for.
+    /// The capabilities that it asks for there.
     pub caps: u32,
+    /// The RAM in bytes that it asks for in its reserve.
+    pub reserve_ram: u64,
+    /// The capabilities that it asks for there.
+    pub reserve_caps: u32,
     /// The RAM in bytes that init still had.
     pub ram_left: u64,
     /// The capabilities that init still had.
@@ -69,18 +96,12 @@ pub struct Lack {
 impl fmt::Display for Lack {
     fn fmt<W: fmt::Write>(&self, f: &mut fmt::Formatter<W>) -> fmt::Result {
         write!(f, "start[{}] \"{}\": ", self.entry, self.name)?;
-        if self.ram > self.ram_left {
-            write!(
-                f,
-                "quantum: {} bytes, and init still had {}",
-                self.ram, self.ram_left
-            )
+        if covers_both(self.ram_left, self.ram, self.reserve_ram) {
+            let asked = Asked::caps(self.caps, self.reserve_caps);
+            write!(f, "{asked}, and init still had {}", self.caps_left)
         } else {
-            write!(
-                f,
-                "caps: {}, and init still had {}",
-                self.caps, self.caps_left
-            )
+            let asked = Asked::ram(self.ram, self.reserve_ram);
+            write!(f, "{asked} bytes, and init still had {}", self.ram_left)
         }
     }
 }
@@ -107,11 +128,14 @@ pub(crate) fn first_lack(list: &StartList) -> Option<Lack>
 fn lack_of(left: Left, place: usize, entry: &Entry) -> Lack
     ensures { result ≡ lack_of place (account_of left) entry.now }
 {
+    let kept = entry.reserve_at_start();
     Lack {
         entry: place,
         name: entry.to_name(),
         ram: entry.ram(),
         caps: entry.caps(),
+        reserve_ram: kept.ram.0,
+        reserve_caps: kept.caps.0,
         ram_left: left.ram,
         caps_left: left.caps,
     }

@@ -2,6 +2,7 @@
 //! the wishes of each script lead.
 #![tactic(auto)]
 
+mod asked;
 mod fault;
 mod finding;
 mod findings;

@@ -19,7 +19,16 @@ impl Table {
         match self {
             Table::List => &["machine", "default-route", "start"],
             Table::Machine => &["pages", "caps"],
-            Table::Entry => &["name", "binary", "quantum", "caps", "provides", "route"],
+            Table::Entry => &[
+                "name",
+                "binary",
+                "quantum",
+                "caps",
+                "provides",
+                "route",
+                "reserve",
+                "reserve-caps",
+            ],
             Table::Rule => &[
                 "service",
                 "any-service",

@@ -6,8 +6,8 @@ use crate::wishes::{SERVICES, before, provider, rules_of};
 use init_core::{Binary, Entry, Rule, StartList};
 use std::fmt;
 
-/// A start list's machine, what init keeps, each component with its budget, and for each script and service where an `open`
-/// leads, by which rule and under which condition on the label.
+/// A start list's machine, what init keeps, each component with what it starts with, and for each script and service where an
+/// `open` leads, by which rule and under which condition on the label.
 #[derive(Clone, Copy, Debug)]
 pub struct Tree<'a> {
     list: &'a StartList,
@@ -52,7 +52,7 @@ impl fmt::Display for Amount {
     }
 }
 
-// A component with its budget, and what it provides.
+// A component with what its account starts with, its reserve, and what it provides.
 fn show_entry<W: fmt::Write>(f: &mut fmt::Formatter<W>, entry: &Entry) -> fmt::Result {
     let name = entry.to_name();
     let binary = entry.binary();
@@ -63,6 +63,7 @@ fn show_entry<W: fmt::Write>(f: &mut fmt::Formatter<W>, entry: &Entry) -> fmt::R
         binary.as_str(),
         entry.caps()
     )?;
+    show_reserve(f, entry, ", ")?;
     if let Some(service) = binary.service() {
         if entry.provides() {
             write!(f, ", provides {service}")?;
@@ -71,6 +72,21 @@ fn show_entry<W: fmt::Write>(f: &mut fmt::Formatter<W>, entry: &Entry) -> fmt::R
         }
     }
     writeln!(f)
+}
+
+/// The reserve of an entry that is given one, and what stands before it.
+pub(crate) fn show_reserve<W: fmt::Write>(
+    f: &mut fmt::Formatter<W>,
+    entry: &Entry,
+    before: &str,
+) -> fmt::Result {
+    match entry.reserve() {
+        Some(reserve) => {
+            let ram = Amount(reserve.ram.0);
+            write!(f, "{before}reserve {ram}, {} caps", reserve.caps.0)
+        }
+        None => Ok(()),
+    }
 }
 
 // Where a client's wishes for a service lead, by each rule that decides some of them in turn.

@@ -18,8 +18,8 @@ use std::alloc::Global;
 /// Room for use and limits.
 const LONGEST_QUOTAS: usize = 100;
 
-/// Plays a scenario, and then writes the account list: init's account, those of the components, and those of the open sessions,
-/// each with its peak, a session also with its server and its label; and the sums of all limits. A peak is the most that was in
+/// Plays a scenario, and then writes the account list: init's account, those of the components with their reserves, and those of
+/// the open sessions, each account with its peak, a session also with its server and its label; and the sums of all limits. A peak is the most that was in
 /// use after any line. Complaints are written as they come.
 pub fn accounts<S: Source, K: Sink, E: Sink>(
     alloc: Global,
@@ -74,7 +74,7 @@ fn write_list<R: Router + Drop, K: Sink>(
     Ok(())
 }
 
-// Gathers the line of each component.
+// Gathers the line of each component, and that of its reserve.
 fn put_components<R: Router + Drop, K: Sink>(
     core: &Core<R>,
     list: &StartList,
@@ -90,8 +90,35 @@ fn put_components<R: Router + Drop, K: Sink>(
         let account = core.account(component);
         let peak = peaks.component(component, account);
         put_account(list.name(component), account, peak, gathered, writer)?;
+        put_reserve(core, list, component, gathered, writer)?;
     }
     Ok(())
+}
+
+// Gathers the line of what a component has in reserve, where the list gives it one, or it has anything.
+fn put_reserve<R: Router + Drop, K: Sink>(
+    core: &Core<R>,
+    list: &StartList,
+    component: usize,
+    gathered: &mut Gather,
+    writer: &mut K,
+) -> Result<(), DeviceFault>
+    requires listed { core.now.entries ≡ entries_of (start_list_of list.now) }
+    requires component { component < length core.now.entries }
+    requires writes { K.has_failed writer.old ≡ false }
+    ensures failing { K.has_failed writer.new ≡ is_err result }
+{
+    let reserve = core.reserve(component);
+    if !list.gives_reserve(component) && reserve.ram.0 == 0 && reserve.caps.0 == 0 {
+        return Ok(());
+    }
+    gathered.put(writer, b"reserve ")?;
+    gathered.put(writer, list.name(component))?;
+    gathered.put(writer, b" ram ")?;
+    put_number(reserve.ram.0, gathered, writer)?;
+    gathered.put(writer, b" caps ")?;
+    put_number(u64::from(reserve.caps.0), gathered, writer)?;
+    gathered.put(writer, b"\n")
 }
 
 // Gathers the line of each open session, by its component and its selector.

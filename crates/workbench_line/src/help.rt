@@ -25,7 +25,8 @@ CALL is one of
   alloc N       capalloc      attach S        new N     open SERVICE ARGS
   free S        capfree S     attach_at S A   del A     upgrade S ARGS
   peek A LEN    quota         detach A        snew N    call S REQUEST
-  poke A HEX    exit                          sdel A    close S
+  poke A HEX    exit          reserve         sdel A    close S
+  request ARGS  yield ARGS
 N is bytes, also as 4K or 2M; S a selector as a reply told it; A an address as
 0x10000000; HEX hexadecimal digits or \"text\". ARGS is ram_quota=8K, cap_quota=3 and,
 at will, label=\"..\". SERVICE is LOG or File_system.

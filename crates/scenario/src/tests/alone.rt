@@ -2,6 +2,7 @@
 
 use super::exits::EVERYTHING;
 use super::files::{DONATION_ANSWERED, beside_a_neighbour};
+use super::reserves::RESERVED;
 use super::rows::FREED_PAGE;
 use super::sessions::labelled_lines;
 use super::*;
@@ -160,7 +161,7 @@ fn next(seed: u64) -> u64 {
 
 const CALLERS: [&[u8]; 4] = [b"alice ", b"bob ", b"al ", b"log "];
 
-const CALLS: [&[u8]; 26] = [
+const CALLS: [&[u8]; 29] = [
     b"alloc 5000",
     b"alloc 4096",
     b"attach 1",
@@ -185,18 +186,21 @@ const CALLS: [&[u8]; 26] = [
     b"poke 0x10001000 62",
     b"close 1",
     b"close 2",
+    b"reserve",
+    b"request ram_quota=4K, cap_quota=1",
+    b"yield ram_quota=8K, cap_quota=2",
     b"quotas",
     b"exit",
 ];
 
 // Adds so many lines of these calls, in an order by the seed. The last call is picked half as often as the others.
-fn mix(input: &mut Vec<u8>, seed: u64, lines: u64, calls: &[&[u8]; 26]) -> Result<(), Fail> {
+fn mix(input: &mut Vec<u8>, seed: u64, lines: u64, calls: &[&[u8]; 29]) -> Result<(), Fail> {
     let mut state = seed;
     for _ in 0..lines {
         state = next(state);
         input.extend_from_slice(CALLERS[(state >> 33) as usize % 4])?;
         state = next(state);
-        input.extend_from_slice(calls[(state >> 33) as usize % 51 % 26])?;
+        input.extend_from_slice(calls[(state >> 33) as usize % 57 % 29])?;
         input.push(b'\n')?;
     }
     Ok(())
@@ -207,7 +211,8 @@ fn mixes_are_told_alone_as_among_others(rt: HostRuntime) -> Result<(), Fail> {
     for seed in 1..5 {
         let mut input = Vec::new(rt.alloc());
         mix(&mut input, seed, 100, &CALLS)?;
-        compare(&rt, MACHINE_A, &["alice", "bob", "al", "log"], &input)?;
+        let machine = if seed % 2 == 0 { RESERVED } else { MACHINE_A };
+        compare(&rt, machine, &["alice", "bob", "al", "log"], &input)?;
     }
     Ok(())
 }
@@ -217,7 +222,7 @@ const LENT: &[u8] = b"alice open File_system ram_quota=40K, cap_quota=6\n\
     bob open File_system ram_quota=36K, cap_quota=5\nalice call 1 CREATE a\nbob call 1 CREATE a\n\
     bob call 1 BUFFER 8192\nalice call 1 BUFFER 8192\nalice attach 2\nbob attach 2\n";
 
-const BUFFER_CALLS: [&[u8]; 26] = [
+const BUFFER_CALLS: [&[u8]; 29] = [
     b"poke 0x10000000 61",
     b"poke 0x10000ffe 62636465",
     b"poke 0x10001ffe 6667",
@@ -243,6 +248,9 @@ const BUFFER_CALLS: [&[u8]; 26] = [
     b"detach 0x10000000",
     b"alloc 4096",
     b"free 2",
+    b"yield ram_quota=4K, cap_quota=1",
+    b"reserve",
+    b"request ram_quota=4K, cap_quota=1",
     b"close 1",
 ];
 

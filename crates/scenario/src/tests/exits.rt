@@ -147,7 +147,7 @@ impl Random {
 fn some_call(alloc: Global, random: &mut Random) -> Result<String, AllocError> {
     let selector = random.next() % 5;
     let size = SIZES[random.next() % 4];
-    match random.next() % 22 {
+    match random.next() % 25 {
         0 | 1 => format!(in alloc; "alloc {size}"),
         2 => format!(in alloc; "free {selector}"),
         3 => format!(in alloc; "attach {selector}"),
@@ -168,6 +168,9 @@ fn some_call(alloc: Global, random: &mut Random) -> Result<String, AllocError> {
         18 => format!(in alloc; "call {selector} UNBUFFER"),
         19 => String::from_str(alloc, "poke 0x10000000 6162"),
         20 => String::from_str(alloc, "peek 0x10000000 4"),
+        21 => String::from_str(alloc, "reserve"),
+        22 => format!(in alloc; "request ram_quota={size}, cap_quota=1"),
+        23 => format!(in alloc; "yield ram_quota={size}, cap_quota=1"),
         _ => String::from_str(alloc, "quota"),
     }
 }
@@ -187,14 +190,14 @@ fn lines_of(alloc: Global, text: &[u8], name: &str) -> Result<Vec<u8>, AllocErro
     Ok(lines)
 }
 
-// The number behind the slash of a word, if it has one.
+// The number behind the slash of a word, or that it is where it has none.
 fn limit_in(word: &[u8]) -> Option<u64> {
     let mut parts = word.split(|byte| *byte == b'/');
-    let _ = parts.next();
-    read_number(parts.next()?)
+    let first = parts.next()?;
+    read_number(parts.next().unwrap_or(first))
 }
 
-// The last two limits that a line tells: of RAM and of capabilities.
+// The last two limits that a line tells, or what a reserve has: of RAM and of capabilities.
 fn limits_in(line: &[u8]) -> (u64, u64) {
     let mut limits = (0, 0);
     for word in line.split(|byte| *byte == b' ') {
@@ -210,7 +213,10 @@ fn check_totals<R: Abort + AllocGlobal>(rt: &R, told: &[u8]) {
     let mut ram: u64 = 0;
     let mut caps: u64 = 0;
     for line in told.split(|byte| *byte == b'\n') {
-        if line.starts_with(b"account ") || line.starts_with(b"session ") {
+        if line.starts_with(b"account ")
+            || line.starts_with(b"reserve ")
+            || line.starts_with(b"session ")
+        {
             let (more_ram, more_caps) = limits_in(line);
             ram = ram.saturating_add(more_ram);
             caps = caps.saturating_add(more_caps);

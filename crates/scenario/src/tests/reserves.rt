@@ -4,7 +4,7 @@ use super::exits::told_with_list;
 use super::*;
 
 /// The built-in machine with a reserve of alice's.
-const RESERVED: &str = r#"{"machine":{"pages":64,"caps":64},
+pub(super) const RESERVED: &str = r#"{"machine":{"pages":64,"caps":64},
  "default-route":[{"any-service":true,"any-child":true}],
  "start":[
   {"name":"log","quantum":"16K","caps":8,"provides":["LOG"]},
@@ -22,11 +22,13 @@ fn check<R: Abort + AllocGlobal>(
     let mut input = String::new(rt.alloc());
     let mut want = String::new(rt.alloc());
     for (call, answer) in calls {
-        let name = call.split(' ').next().ok_or("a name")?;
-        let line = format!(in rt.alloc(); "{call}\n")?;
-        let told = format!(in rt.alloc(); "{name}: {answer}\n")?;
-        input.push_str(line.as_str())?;
-        want.push_str(told.as_str())?;
+        let (name, _) = call.split_once(' ').ok_or("a name")?;
+        for text in [*call, "\n"] {
+            input.push_str(text)?;
+        }
+        for text in [name, ": ", *answer, "\n"] {
+            want.push_str(text)?;
+        }
     }
     want.push_str(listed)?;
     let told = told_with_list(rt.alloc(), machine, input.as_str().as_bytes())?;
@@ -153,16 +155,49 @@ fn exit_returns_session_and_reserve(rt: HostRuntime) -> Result<(), Fail> {
     )
 }
 
-// What reading and booting a list with one script of these members comes to.
-fn booted<R: Abort + AllocGlobal>(rt: &R, members: &str, want: &str) -> Result<(), Fail> {
+/// A machine whose scripts are given one member of a reserve, both, or none.
+const GIVEN: &str = r#"{"machine":{"pages":16,"caps":16},"start":[
+  {"name":"none","binary":"script","quantum":"4K","caps":1},
+  {"name":"ram","binary":"script","quantum":"4K","caps":1,"reserve":"8K"},
+  {"name":"caps","binary":"script","quantum":"4K","caps":1,"reserve-caps":3},
+  {"name":"both","binary":"script","quantum":"4K","caps":1,"reserve":"1","reserve-caps":1},
+  {"name":"zero","binary":"script","quantum":"4K","caps":1,"reserve":"0"}]}"#;
+
+#[test]
+fn given_reserves_are_told(rt: HostRuntime) -> Result<(), Fail> {
+    check(
+        &rt,
+        GIVEN,
+        &[
+            ("none reserve", "ram 0 caps 0"),
+            ("ram reserve", "ram 8192 caps 0"),
+            ("caps reserve", "ram 0 caps 3"),
+            ("zero request cap_quota=1", "Out_of_caps"),
+            ("both request ram_quota=1, cap_quota=1", "ok"),
+        ],
+        "account init ram 0/36863 caps 0/7\naccount none ram 0/4096 caps 0/1\n\
+         account ram ram 0/4096 caps 0/1\nreserve ram ram 8192 caps 0\n\
+         account caps ram 0/4096 caps 0/1\nreserve caps ram 0 caps 3\n\
+         account both ram 0/4097 caps 0/2\nreserve both ram 0 caps 0\n\
+         account zero ram 0/4096 caps 0/1\nreserve zero ram 0 caps 0\ntotal ram 65536 caps 16\n",
+    )
+}
+
+// What reading and booting a list comes to, with one entry of a binary and these members.
+fn booted<R: Abort + AllocGlobal>(
+    rt: &R,
+    binary: &str,
+    members: &str,
+    want: &str,
+) -> Result<(), Fail> {
     let text = format!(in rt.alloc();
-        "{{\"machine\":{{\"pages\":16,\"caps\":16}},\"start\":[{{\"name\":\"alice\",\"binary\":\"script\",{members}}}]}}"
+        "{{\"machine\":{{\"pages\":16,\"caps\":16}},\"start\":[{{\"name\":\"alice\",\"binary\":\"{binary}\",{members}}}]}}"
     )?;
     match run_bytes(rt.alloc(), text.as_str().as_bytes(), Task::Check, b"") {
-        Ok(told) => assert!(rt; told.as_slice() == want.as_bytes()),
+        Ok(told) => assert_eq!(rt; told.as_slice(), want.as_bytes(), "{members}"),
         Err(stopped) => {
             let told = format!(in rt.alloc(); "{}", stopped.failure)?;
-            assert!(rt; told.as_str() == want);
+            assert_eq!(rt; told.as_str(), want, "{members}");
         }
     }
     Ok(())
@@ -170,41 +205,89 @@ fn booted<R: Abort + AllocGlobal>(rt: &R, members: &str, want: &str) -> Result<(
 
 #[test]
 fn budgets_and_reserves_are_covered_together(rt: HostRuntime) -> Result<(), Fail> {
+    let lacking = "boot: Quota_exceeded alice";
     for (members, want) in [
         (
             "\"quantum\":\"32K\",\"caps\":8,\"reserve\":\"32K\",\"reserve-caps\":8",
             "ok\n",
         ),
         (
+            "\"quantum\":\"0\",\"caps\":0,\"reserve\":\"64K\",\"reserve-caps\":16",
+            "ok\n",
+        ),
+        (
             "\"quantum\":\"32K\",\"caps\":8,\"reserve\":\"32769\",\"reserve-caps\":8",
-            "boot: Quota_exceeded alice",
+            lacking,
         ),
         (
             "\"quantum\":\"32K\",\"caps\":8,\"reserve\":\"32K\",\"reserve-caps\":9",
-            "boot: Quota_exceeded alice",
+            lacking,
         ),
         (
             "\"quantum\":\"18446744073709551615\",\"caps\":0,\"reserve\":\"1\"",
-            "boot: Quota_exceeded alice",
+            lacking,
         ),
         (
             "\"quantum\":\"1\",\"caps\":0,\"reserve\":\"18446744073709551615\"",
-            "boot: Quota_exceeded alice",
+            lacking,
+        ),
+        (
+            "\"quantum\":\"18446744073709551615\",\"caps\":0,\"reserve\":\"18446744073709551615\"",
+            lacking,
         ),
         (
             "\"quantum\":\"0\",\"caps\":4294967295,\"reserve-caps\":1",
-            "boot: Quota_exceeded alice",
+            lacking,
         ),
         (
             "\"quantum\":\"0\",\"caps\":1,\"reserve-caps\":4294967295",
-            "boot: Quota_exceeded alice",
+            lacking,
         ),
         (
-            "\"quantum\":\"0\",\"caps\":0,\"reserve\":8192",
-            "boot: Bad_config reserve",
+            "\"quantum\":\"0\",\"caps\":4294967295,\"reserve-caps\":4294967295",
+            lacking,
         ),
     ] {
-        booted(&rt, members, want)?;
+        booted(&rt, "script", members, want)?;
     }
     Ok(())
+}
+
+// The same of an entry with a budget of nothing and these members.
+fn read_with<R: Abort + AllocGlobal>(
+    rt: &R,
+    binary: &str,
+    members: &str,
+    want: &str,
+) -> Result<(), Fail> {
+    let members = format!(in rt.alloc(); "\"quantum\":\"0\",\"caps\":0,{members}")?;
+    booted(rt, binary, members.as_str(), want)
+}
+
+#[test]
+fn members_of_reserves_are_read(rt: HostRuntime) -> Result<(), Fail> {
+    let ram = "boot: Bad_config reserve";
+    let caps = "boot: Bad_config reserve-caps";
+    for (binary, members, want) in [
+        ("script", "\"reserve\":8192", ram),
+        ("script", "\"reserve-caps\":\"2\"", caps),
+        ("script", "\"reserve-caps\":4294967296", caps),
+        ("script", "\"reserve-caps\":-1,\"reserve\":\"8k\"", ram),
+        ("script", "\"reserve\":\"8K\",\"reserve-caps\":0.5", caps),
+        ("log", "\"reserve\":\"0\"", ram),
+        ("log", "\"reserve-caps\":0", caps),
+        ("log", "\"reserve\":\"0\",\"reserve-caps\":0", ram),
+        ("files", "\"reserve-caps\":0,\"reserve\":\"0\"", ram),
+        ("files", "\"reserve-caps\":\"x\",\"reserve\":8192", ram),
+        ("files", "\"reserve-caps\":null", caps),
+        ("shell", "\"reserve\":8192", "boot: Unknown_binary shell"),
+    ] {
+        read_with(&rt, binary, members, want)?;
+    }
+    booted(
+        &rt,
+        "log",
+        "\"quantum\":7,\"caps\":0,\"reserve\":7",
+        "boot: Bad_config quantum",
+    )
 }

@@ -307,17 +307,20 @@ fn region_limit_comes_first(rt: HostRuntime) -> Result<(), Fail> {
 }
 
 // Lines that scripts call in turn, by the number of the turn.
-const TURNS: [&[u8]; 12] = [
+const TURNS: [&[u8]; 15] = [
     b"alloc 5000",
     b"attach 1",
     b"poke 0x10000ffe 01020304",
     b"capalloc",
     b"quota",
+    b"yield ram_quota=8K, cap_quota=1",
     b"peek 0x10000ffd 8",
     b"attach_at 1 0x10003000",
     b"free 2",
     b"capfree 2",
     b"detach 0x10000000",
+    b"reserve",
+    b"request ram_quota=4K, cap_quota=1",
     b"alloc 1",
     b"free 1",
 ];
@@ -352,7 +355,7 @@ fn lines_of_script(alloc: Global, name: &[u8], places: usize) -> Result<Vec<u8>,
     let mut lines = Vec::new(alloc);
     for turn in 0usize..100 {
         lines.extend_from_slice(name)?;
-        say(&mut lines, TURNS[turn.wrapping_mul(places) % 12])?;
+        say(&mut lines, TURNS[turn.wrapping_mul(places) % 15])?;
     }
     Ok(lines)
 }

@@ -67,6 +67,35 @@ fn bad_values_of_an_entry_have_its_place(rt: HostRuntime) -> Result<(), Fail> {
 }
 
 #[test]
+fn bad_values_of_a_reserve_have_its_place(rt: HostRuntime) -> Result<(), Fail> {
+    for (members, want) in [
+        (
+            "\"name\":\"gina\",\"binary\":\"script\",\"quantum\":\"8K\",\"caps\":2,\"reserve\":8192",
+            "Bad_config reserve: start[6] \"gina\": reserve: a number, expected an amount as text",
+        ),
+        (
+            "\"name\":\"gina\",\"binary\":\"script\",\"quantum\":\"8K\",\"caps\":2,\"reserve-caps\":\"2\"",
+            "Bad_config reserve-caps: start[6] \"gina\": reserve-caps: a text, expected a whole number from 0 to 4294967295",
+        ),
+        (
+            "\"name\":\"files\",\"quantum\":\"8K\",\"caps\":2,\"reserve\":\"4K\"",
+            "Bad_config reserve: start[6] \"files\": reserve: a text, expected none, since only a script has a reserve",
+        ),
+        (
+            "\"name\":\"script\",\"binary\":\"log\",\"quantum\":\"8K\",\"caps\":2,\"reserve-caps\":2",
+            "Bad_config reserve-caps: start[6] \"script\": reserve-caps: a number, expected none, since only a script has a reserve",
+        ),
+        (
+            "\"name\":\"script\",\"quantum\":\"8K\",\"caps\":2,\"reserve\":null",
+            "Bad_config reserve: start[6] \"script\": reserve: null, expected an amount as text",
+        ),
+    ] {
+        assert_eq!(rt; seventh(rt.alloc(), members)?.as_str(), want);
+    }
+    Ok(())
+}
+
+#[test]
 fn bad_values_before_the_entries_have_their_places(rt: HostRuntime) -> Result<(), Fail> {
     for (text, want) in [
         (
@@ -126,5 +155,42 @@ fn budgets_past_what_init_has_are_told_with_it(rt: HostRuntime) -> Result<(), Fa
     );
     let text = format!(in rt.alloc(); "{{{MACHINE},\"start\":[]}}")?;
     assert_eq!(rt; told(rt.alloc(), text.as_str())?.as_str(), "");
+    Ok(())
+}
+
+/// What a list comes to with a script `a` of these means, and a script `b` of those.
+fn two_scripts(alloc: Global, first: &str, second: &str) -> Result<String, AllocError> {
+    let entries = format!(in alloc;
+        "{{\"name\":\"a\",\"binary\":\"script\",{first}}},{{\"name\":\"b\",\"binary\":\"script\",{second}}}"
+    )?;
+    told_of(alloc, ANY, entries.as_str())
+}
+
+#[test]
+fn reserves_past_what_init_has_are_told_with_it(rt: HostRuntime) -> Result<(), Fail> {
+    for (first, second, want) in [
+        (
+            "\"quantum\":\"100K\",\"caps\":2,\"reserve\":\"100K\"",
+            "\"quantum\":\"40K\",\"caps\":2,\"reserve\":\"16K\"",
+            "",
+        ),
+        (
+            "\"quantum\":\"100K\",\"caps\":2,\"reserve\":\"100K\"",
+            "\"quantum\":\"40K\",\"caps\":2,\"reserve\":\"20K\"",
+            "Quota_exceeded b: start[1] \"b\": quantum and reserve: 40960 + 20480 bytes, and init still had 57344",
+        ),
+        (
+            "\"quantum\":\"4K\",\"caps\":50,\"reserve-caps\":10",
+            "\"quantum\":\"4K\",\"caps\":2,\"reserve-caps\":3",
+            "Quota_exceeded b: start[1] \"b\": caps and reserve-caps: 2 + 3, and init still had 4",
+        ),
+        (
+            "\"quantum\":\"18446744073709551615\",\"caps\":2,\"reserve\":\"1\"",
+            "\"quantum\":\"4K\",\"caps\":2",
+            "Quota_exceeded a: start[0] \"a\": quantum and reserve: 18446744073709551615 + 1 bytes, and init still had 262144",
+        ),
+    ] {
+        assert_eq!(rt; two_scripts(rt.alloc(), first, second)?.as_str(), want);
+    }
     Ok(())
 }

@@ -162,3 +162,38 @@ fn budgets_that_pay_for_no_session_are_told(rt: HostRuntime) -> Result<(), Fail>
     assert_eq!(rt; told(alloc, text.as_str())?.as_str(), "");
     Ok(())
 }
+
+/// What a list comes to with a log server and a script of these means.
+fn beside_log(alloc: Global, means: &str) -> Result<String, AllocError> {
+    let entries = format!(in alloc; "{LOG},{{\"name\":\"bob\",\"binary\":\"script\",{means}}}")?;
+    told_of(alloc, ANY, entries.as_str())
+}
+
+#[test]
+fn reserves_are_read_and_told(rt: HostRuntime) -> Result<(), Fail> {
+    for (means, want) in [
+        (
+            "\"quantum\":\"0\",\"caps\":0,\"reserve\":\"4K\",\"reserve-caps\":2",
+            "",
+        ),
+        (
+            "\"quantum\":\"4K\",\"caps\":2,\"reserv\":\"4K\"",
+            "start[1] \"bob\": \"reserv\": nothing reads this member; did you mean \"reserve\"?\n",
+        ),
+        (
+            "\"quantum\":\"4K\",\"caps\":2,\"reserve_caps\":2",
+            "start[1] \"bob\": \"reserve_caps\": nothing reads this member; did you mean \"reserve-caps\"?\n",
+        ),
+        (
+            "\"quantum\":\"4K\",\"caps\":2,\"reserve\":\"1000\"",
+            "start[1] \"bob\": reserve: 1000 bytes aren't whole pages of 4096 bytes\n",
+        ),
+        (
+            "\"quantum\":\"0\",\"caps\":0,\"reserve\":\"0\",\"reserve-caps\":1",
+            "start[1] \"bob\": quantum: 0 bytes pay for no session, which takes at least 4096\nstart[1] \"bob\": caps and reserve-caps: 0 + 1 capabilities pay for no session, which takes at least 2\n",
+        ),
+    ] {
+        assert_eq!(rt; beside_log(rt.alloc(), means)?.as_str(), want);
+    }
+    Ok(())
+}

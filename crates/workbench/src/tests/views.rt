@@ -58,6 +58,25 @@ fn the_account_list_stands_behind_the_transcript(rt: HostRuntime) -> Result<(), 
 }
 
 #[test]
+fn reserves_stand_behind_their_accounts(rt: HostRuntime) -> Result<(), Fail> {
+    let outcome = listed(
+        rt.alloc(),
+        b"alice yield ram_quota=4K, cap_quota=2\nalice  request cap_quota=1 => ok\nbob yield cap_quota=1\n\
+          bob request cap_quota=1\n",
+    );
+    assert_eq!(rt;
+        outcome.written.as_slice(),
+        b"account init ram 0/98304 caps 0/16 peak ram 0 caps 0\naccount log ram 0/16384 caps 0/8 peak ram 0 caps 0\n\
+          account files ram 0/16384 caps 0/8 peak ram 0 caps 0\n\
+          account alice ram 0/61440 caps 0/15 peak ram 0 caps 0\nreserve alice ram 4096 caps 1\n\
+          account bob ram 0/65536 caps 0/16 peak ram 0 caps 0\ntotal ram 262144 caps 64\n"
+            .as_slice()
+    );
+    assert_eq!(rt; outcome.status, 0);
+    Ok(())
+}
+
+#[test]
 fn a_row_for_each_call(rt: HostRuntime) -> Result<(), Fail> {
     let outcome = traced(rt.alloc(), SCENARIO);
     assert_eq!(rt;
