@@ -5,4 +5,7 @@ pub mod StartLemmas
 pub mod BootLemmas
 pub mod BootedLemmas
 pub mod ListLemmas
+pub mod DepthLemmas
+pub mod RouteLemmas
+pub mod ReadLemmas
 mod MachineLemmas

@@ -1,5 +1,7 @@
 //! Start lists that are read, and those that aren't.
 mod boots;
+mod inits;
+mod outward;
 mod wants;
 
 use crate::{BootFault, MACHINE_A, StartList, route};

@@ -18,8 +18,7 @@ use Rattle.own_model.proofs.NatMapLemmas.{apart_from_free, some_of, value_at, ge
 use Rattle.own_model.proofs.NewSelector.{new_selector_free}
 use Rattle.own_model.proofs.SessionLemmas.{donation_covered, large_enough}
 use Rattle.own_model.proofs.Totals.{total-remove, total_le, total-picked, total-insert_same}
-use Rattle.cap_space.specs.declared.cap.Cap.{Cap}
-use Rattle.cap_space.specs.declared.cap.Cap.TheVariants.{Dataspace, RpcObject, Session, Buffer}
+use Rattle.cap_space.specs.declared.cap.Cap.TheVariants.{Session}
 use Rattle.dataspace_core.specs.Room.{IsOuter}
 use Rattle.dataspace_core.specs.Store.{Store, Part, part, space_at, account_in, account_of, accounts_in, parents_in, room_in, ram_limits_in, IsChildIn, IsOpenIn, PartBecomes, RaisesPart, ClosesPart}
 use Rattle.dataspace_core.proofs.LimitLaws.{accounts_after}

@@ -1,5 +1,5 @@
 -- A session that a selector names is closed, with its buffer if it has one: that it goes as the model's.
-use Rattle.std.proofs.Common.{◌≡◌, ◌≢◌, ℕ, ◌<◌, List, Option, None, Some, length, get_or, set, refl, sym, ap, subst, ◌∙◌, [], ◌+◌}
+use Rattle.std.proofs.Common.{◌≡◌, ◌≢◌, ℕ, ◌<◌, List, Option, None, Some, get_or, set, refl, sym, ap, subst, ◌∙◌, [], ◌+◌}
 use Rattle.std.proofs.lemmas.Grind.{get_or-set_at}
 use Rattle.std.proofs.lemmas.List.{get_or-set_other, length-set}
 use Rattle.std.proofs.lemmas.Option.{none-some}

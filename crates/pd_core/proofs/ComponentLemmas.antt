@@ -1,5 +1,5 @@
 -- A component that is a script; the accounts of components; and what a plain call keeps of the memory.
-use Rattle.std.proofs.Common.{◌≡◌, ◌≢◌, ℕ, List, ◌∙◌, Some, IsSome, unwrap_or, refl, sym, ap, subst, inl, inr}
+use Rattle.std.proofs.Common.{◌≡◌, ◌≢◌, ℕ, ◌∙◌, Some, IsSome, unwrap_or, refl, sym, ap, subst, inl, inr}
 use Rattle.std.specs.Prelude.{Option}
 use Rattle.own_model.specs.Account.{Account, opened}
 use Rattle.own_model.specs.NatMap.{NatMap, total}
@@ -18,7 +18,7 @@ use Rattle.pd_core.specs.declared.script.Script.{Script}
 use Rattle.trade_base.specs.declared.id.AccountId.{AccountId}
 use Rattle.pd_core.specs.Own.{Sessions, own_of, own_at}
 use Rattle.pd_core.specs.Sound.{OthersStay, SparesOthers, Keeps as ScriptKeeps}
-use Rattle.pd_core.specs.Component.{Place, Pays, amounts_in, entry_of, payer_in, payer_of, reserve_in, served_by, own_in, own, IsSoundRole, IsSound, Keeps}
+use Rattle.pd_core.specs.Component.{Place, Pays, amounts_in, entry_of, payer_in, payer_of, served_by, own_in, own, IsSoundRole, IsSound, Keeps}
 use Rattle.pd_core.specs.Core.{Heads}
 use Rattle.pd_core.specs.Exit.{IsScriptRole}
 use Rattle.trade_base.specs.declared.refusal.Refusal.TheVariants.{Gone as IsGone, NotAScript}

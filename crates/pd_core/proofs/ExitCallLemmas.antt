@@ -1,5 +1,5 @@
 -- An exit in the core: the closes of all sessions, and then the end.
-use Rattle.std.proofs.Common.{◌≡◌, ℕ, ◌+◌, ◌<◌, ◌≤◌, false, true, List, [], Option, None, Some, Ok, Err, is_some, length, get_or, set, refl, sym, ap, subst, ◌∙◌, inl, inr, arith}
+use Rattle.std.proofs.Common.{◌≡◌, ℕ, ◌+◌, ◌<◌, ◌≤◌, false, true, List, Option, None, Some, Ok, Err, is_some, length, get_or, set, refl, sym, ap, subst, ◌∙◌, inl, inr, arith}
 use Rattle.std.proofs.lemmas.Bool.{cases_lt}
 use Rattle.std.proofs.lemmas.Option.{none-some, same_Some}
 use Rattle.std.proofs.lemmas.List.{get_or-map, length-map}
@@ -34,7 +34,7 @@ use Rattle.pd_core.specs.Sound.{session_at}
 use Rattle.pd_core.specs.declared.component.Component.{Component}
 use Rattle.pd_core.specs.declared.component.Role.{Role}
 use Rattle.pd_core.specs.declared.component.Role.TheVariants.{Script as AScript, Log as ALog, Files as AFiles, Init as AnInit, Gone as AGone}
-use Rattle.pd_core.proofs.PlainLemmas.{nowhere}
+use Rattle.pd_core.proofs.PlainLemmas.{unlisted}
 use Rattle.pd_core.proofs.ExitLemmas.{IsAlone, closes_reserve, world_alone, core_alone, homes_alone, leads_alone, kind_of_script}
 use Rattle.pd_core.proofs.ExitWorldLemmas.{closed_at_first, closed_more, gone_world, exit_outcome}
 use Rattle.pd_core.proofs.QuotaLemmas.{found_in, session_at_place}
@@ -132,7 +132,7 @@ closes_at_first {i} {store} {components} core =
 -- the components are as many
 closes_many : (i count : ℕ) (old mid : Store) (before between : List Component) → ((places : Places) → HasClosedAt i count (world_of places old before) (world_of places mid between)) → length between ≡ length before
 closes_many i count old mid before between closed =
-    let none : Places = λ _. nowhere in
+    let none : Places = λ _. unlisted in
     sym (length-entries none between) ∙ ap (λ (w : World). length w.entries) (closed none).others ∙ length-entries none before
 
 -- and one more by each close
@@ -144,7 +144,7 @@ closes_on {i} {count} {old} {mid} {new} {before} {between} {after} q here script
       let seen = script_seen places old before i d here (script d) in
       closed_more i q count (world_of places old before) (world_of places mid between) (world_of places new after) (closes.closed places) is seen.kind seen.here
       (omega (arith, here, length-map before (own (sessions_in old (roles_of before)) old))) (goes places).answers.stepped;
-  core = (goes (λ _. nowhere)).core;
+  core = (goes (λ _. unlisted)).core;
   homes = λ places at. (goes places).homes places (closes.homes places at);
   leads = λ places leads agrees. (goes places).leads places leads (closes.leads places leads agrees);
 }
@@ -165,7 +165,7 @@ module _ {i count : ℕ} {old mid : Store} {before between : List Component} (d 
   still_here = omega (arith, here, closes_many i count old mid before between closes.closed)
 
   no_places : Places
-  no_places = λ _. nowhere
+  no_places = λ _. unlisted
 
   script_before : (places : Places) → IsScriptAt (world_of places old before) i
   script_before places = script_seen places old before i d here (script_with_places (get_or before i d).role count (sym told))

@@ -3,7 +3,6 @@ use Rattle.std.proofs.Common.{◌≡◌, ◌≢◌, arith, ℕ, ◌<◌, List, N
 use Rattle.std.proofs.lemmas.Bool.{cases_eq}
 use Rattle.std.proofs.lemmas.Option.{none-some}
 use Rattle.std.proofs.lemmas.List.{get_or-map}
-use Rattle.trade_base.specs.declared.id.SessionId.{SessionId}
 use Rattle.own_model.specs.OwnState.{OwnState}
 use Rattle.std.specs.FinMap.{get, empty}
 use Rattle.std.specs.Prelude.{◌⊎◌, ◌+◌, IfSome, IsSome}
@@ -15,10 +14,10 @@ use Rattle.own_model.specs.Session.{Labelled}
 use Rattle.own_model.specs.StartList.{Entry, init_at}
 use Rattle.own_model.specs.StartList.Kind.{Script as AScriptKind}
 use Rattle.own_model.specs.Transcript.{nothing, entry_at, state_at}
-use Rattle.own_model.proofs.NatMapLemmas.{none_if, before_remove, get-empty, get-remove_other}
+use Rattle.own_model.proofs.NatMapLemmas.{none_if, before_remove, get-remove_other}
 use Rattle.dataspace_core.specs.Room.{HasRoom}
 use Rattle.dataspace_core.specs.Share.{share_in}
-use Rattle.dataspace_core.specs.Store.{Store, Part, part, account_of, account_in, parents_in, parent_in, root_in, ram_limits_in, caps_limits_in, IsOpenIn, IsChildIn, IsLeafIn, ClosesPart}
+use Rattle.dataspace_core.specs.Store.{Store, Part, part, account_of, account_in, parents_in, parent_in, root_in, ram_limits_in, caps_limits_in, IsOpenIn, IsChildIn, IsLeafIn}
 use Rattle.dataspace_core.proofs.PartLaws.{account_of-part, open_in_part, part_open}
 use Rattle.server_frame.specs.Frame.{Row}
 use Rattle.server_frame.specs.Session.{holding}

@@ -32,7 +32,7 @@ use Rattle.server_frame.specs.Frame.{Row, row_of}
 use Rattle.server_frame.specs.declared.server.Session.{Session as Kept}
 use Rattle.server_frame.proofs.FrameLaws.{server_at_first}
 use Rattle.cap_space.specs.declared.cap.Cap.{Cap}
-use Rattle.dataspace_core.specs.Store.{Store, Part, part, root_in, account_in, accounts_in, account_of, IsOpenIn, IsChildIn, ram_limits_in, caps_limits_in}
+use Rattle.dataspace_core.specs.Store.{Store, Part, part, root_in, accounts_in, account_of, IsOpenIn, ram_limits_in, caps_limits_in}
 use Rattle.dataspace_core.specs.Share.{Share}
 use Rattle.dataspace_core.proofs.PartLaws.{open_in_part}
 use Rattle.own_model.specs.Use.{heap_count}
@@ -49,8 +49,8 @@ use Rattle.pd_core.specs.declared.component.Role.TheVariants.{Script as AScript,
 use Rattle.pd_core.specs.declared.script.Script.{Script}
 use Rattle.sliced_heap.proofs.HeapLaws.{empty_map}
 use Rattle.pd_core.specs.Own.{Sessions, no_sessions, own_of, own_at, part_at, own_heap_at, sliced_at, object_of, regions_of, selector_of, Lent, lent_in, no_lent}
-use Rattle.pd_core.specs.Sound.{session_at, buffer_at, rpc_weight, session_weight, IsLawful, IsSoundScript}
-use Rattle.pd_core.specs.Component.{Place, Pays, amounts_in, with_reserve, reserve_in, reserve_of, reserve_held, entry_of, kind_of, payer_in, payer_of, caps_in, caps_of, places_in, places_of, rows_in, tables_in, NamesItsSessions, HasPlaces, HasNewHeap, HasNewHeaps, own_in, own, IsSoundServer, IsSoundRole}
+use Rattle.pd_core.specs.Sound.{buffer_at, rpc_weight, session_weight, IsLawful, IsSoundScript}
+use Rattle.pd_core.specs.Component.{Place, Pays, amounts_in, with_reserve, reserve_in, reserve_of, reserve_held, entry_of, kind_of, payer_in, payer_of, caps_in, rows_in, tables_in, NamesItsSessions, HasPlaces, HasNewHeap, HasNewHeaps, own_in, own, IsSoundServer, IsSoundRole}
 use Rattle.pd_core.specs.Core.{Heads, Places, Roles, roles_of, rows_at, sessions_in, inits_of, world_of, Owner, Owns, IsBelowHead, IsCore}
 use Rattle.pd_core.specs.Core.Owner.{Init, Place as PlaceAt, ReserveAt, SessionAt}
 use Rattle.pd_core.proofs.NameLemmas.{cap_named}
@@ -58,7 +58,7 @@ use Rattle.pd_core.proofs.ComponentLemmas.{pays_is}
 use Rattle.pd_core.proofs.HeldLemmas.{names_none}
 use Rattle.pd_core.proofs.WorldLemmas.{all_roles, place_of, role_at, one_of}
 use Rattle.std.proofs.lemmas.Bool.{cases_lt}
-use Rattle.pd_core.specs.Fresh.{Has, IsFreshReserve, reserve_at, account_at, start_of, opened_part, started_world, AreEmpty, HasNoSessions, IsNewServer, IsFresh, AreFresh}
+use Rattle.pd_core.specs.Fresh.{Has, IsFreshReserve, account_at, start_of, opened_part, started_world, AreEmpty, HasNoSessions, IsNewServer, IsFresh, AreFresh}
 
 -- a start of a component of this kind, with these limits and this reserve
 abbrev beginning : Kind → ℕ → ℕ → Amounts → StartEntry

@@ -1,5 +1,5 @@
 -- What an exit leaves of inits' accounts: its caller's init has more, by its number, and the others have what they had.
-use Rattle.std.proofs.Common.{◌≡◌, ◌≢◌, ℕ, zero, suc, ◌<◌, List, ◌∷◌, Some, length, map, get_or, set, refl, sym, ap, subst, ◌∙◌, inl, inr, arith, length-set, get_or-set_other}
+use Rattle.std.proofs.Common.{◌≡◌, ◌≢◌, ℕ, zero, suc, ◌<◌, List, ◌∷◌, length, map, get_or, set, refl, sym, ap, subst, ◌∙◌, inl, inr, arith, length-set, get_or-set_other}
 use Rattle.std.proofs.lemmas.Bool.{cases_eq}
 use Rattle.std.proofs.lemmas.Grind.{get_or-set_at}
 use Rattle.std.proofs.lemmas.List.{get_or-map, ext_get_or, length-map}
@@ -12,7 +12,6 @@ use Rattle.pd_core.specs.Core.{roles_of, IsInitOf, IsInits, init_in, inits_of, I
 use Rattle.pd_core.specs.Core.Owner.{Init, Place}
 use Rattle.pd_core.specs.SessionCalls.{IsAtHome}
 use Rattle.pd_core.specs.declared.component.Component.{Component}
-use Rattle.pd_core.specs.declared.component.Role.TheVariants.{Gone}
 use Rattle.pd_core.proofs.ChangeLemmas.{ChangesCore, init_follows}
 use Rattle.pd_core.proofs.HeldLemmas.{same_place, not_place, init_pays, below_init}
 use Rattle.pd_core.proofs.WorldLemmas.{SameFaces, as_many, init_is, init_seen, account_kept, place_of, role_at}

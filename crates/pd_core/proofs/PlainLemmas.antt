@@ -9,13 +9,13 @@ use Rattle.own_model.specs.Call.{Call, is_exit}
 use Rattle.own_model.specs.NatMap.{NatMap}
 use Rattle.own_model.specs.OwnStep.{own_step}
 use Rattle.own_model.specs.Session.{Labelled}
-use Rattle.dataspace_core.specs.Store.{Store, Part, part, account_of, opened_part, parents_in, root_in}
+use Rattle.dataspace_core.specs.Store.{Store, Part, account_of, opened_part, parents_in, root_in}
 use Rattle.dataspace_core.proofs.PartLaws.{open_in_part, part_open}
 use Rattle.server_frame.specs.Frame.{Row}
 use Rattle.server_frame.specs.Told.{Told as Written}
 use Rattle.pd_core.specs.Answer.{Told, told, told_of}
 use Rattle.pd_core.specs.Component.{Place, Pays, IsReserve, reserve_in, entry_of, payer_in, payer_of, service_of, caps_in, places_in, rows_in, own_in, own, lent_by, NamesItsSessions, IsSoundRole, IsSound, Keeps}
-use Rattle.pd_core.specs.Core.{Places, Roles, roles_of, rows_at, sessions_in, Owns, NamesAccount, IsCore}
+use Rattle.pd_core.specs.Core.{Places, Roles, roles_of, rows_at, sessions_in, NamesAccount, IsCore}
 use Rattle.pd_core.specs.Exit.{refusal_of, IsScriptRole}
 use Rattle.pd_core.specs.Own.{Sessions}
 use Rattle.pd_core.specs.SessionCalls.{Goes}
@@ -39,12 +39,12 @@ by_refusal (AnInit key) X calls refused = refused refl
 by_refusal AGone X calls refused = refused refl
 
 -- a place of which a start list says nothing
-pub nowhere : Place
-nowhere = record { name = []; home = 0; routes = [] }
+pub unlisted : Place
+unlisted = record { name = []; home = 0; routes = [] }
 
 -- what an entry and a service say is a face
 pub face_is : (before after : Component) → ((place : Place) → entry_of place after ≡ entry_of place before) → service_of after ≡ service_of before → face_of after ≡ face_of before
-face_is before after entry service j = record { label = (entry nowhere j).label; kind = (entry nowhere j).kind; service = service j }
+face_is before after entry service j = record { label = (entry unlisted j).label; kind = (entry unlisted j).kind; service = service j }
 
 module _ (store : Store) (components : List Component) (i : ℕ) (d : Component) (here : i < length components) (core : IsCore store components) where
   abbrev caller : Component

@@ -1,10 +1,9 @@
 -- The calls of a reserve go as the model's.
-use Rattle.std.proofs.Common.{◌≡◌, ◌≢◌, ℕ, ◌+◌, ◌<◌, ◌≤◌, is_some, List, [], Option, Some, None, Err, length, get_or, false, refl, sym, ap, subst, ◌∙◌, arith}
+use Rattle.std.proofs.Common.{◌≡◌, ◌≢◌, ℕ, ◌+◌, ◌<◌, ◌≤◌, is_some, List, [], Some, None, length, get_or, false, refl, sym, ap, subst, ◌∙◌, arith}
 use Rattle.std.specs.FinMap.{get}
-use Rattle.std.proofs.lemmas.Option.{same_Some}
 use Rattle.trade_base.specs.declared.refusal.Refusal.{Refusal}
 use Rattle.trade_base.specs.declared.refusal.Refusal.TheVariants.{BadArgs}
-use Rattle.own_model.specs.Account.{Account, Fits, WithinLimits, shortage, parted_with}
+use Rattle.own_model.specs.Account.{Account, WithinLimits, shortage, parted_with}
 use Rattle.own_model.specs.Amounts.{Amounts}
 use Rattle.own_model.specs.Call.{Call, is_exit}
 use Rattle.own_model.specs.Call.Call.{Reserve, Request, Yield}
@@ -17,7 +16,6 @@ use Rattle.own_model.specs.Reply.Reply.{Done, Refused, Reserved}
 use Rattle.own_model.specs.Reserve.{reserve_account, filled, drawn}
 use Rattle.own_model.specs.SessionArgs.{Arguments, arguments_of}
 use Rattle.own_model.proofs.StepLemmas.{covers}
-use Rattle.dataspace_core.specs.Room.{IsOuter}
 use Rattle.dataspace_core.specs.Store.{Store, part, account_of, account_in, opened_part, parted_part, raised_part, parents_in, ram_limits_in, caps_limits_in, IsChildIn, IsOpenIn, AreSiblingsIn, ShiftsPart}
 use Rattle.dataspace_core.proofs.PartLaws.{account_of-part}
 use Rattle.dataspace_core.proofs.RoomLaws.{room_is_shifted}

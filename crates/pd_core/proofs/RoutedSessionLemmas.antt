@@ -22,7 +22,7 @@ use Rattle.server_frame.proofs.RowLaws.{IsNoRows}
 use Rattle.pd_core.specs.Answer.{told_alone}
 use Rattle.pd_core.specs.Component.{entry_of, kind_of, served_by, caps_of, caps_in, rows_in, rows_of, service_of, own_in, HasPlace, IsSoundRole, Admits, StaysServer}
 use Rattle.pd_core.specs.Core.{Places, Roles, roles_of, sessions_in, IsCore}
-use Rattle.pd_core.specs.Own.{Sessions, HasSessions, own_of, own_at}
+use Rattle.pd_core.specs.Own.{Sessions, HasSessions, own_of}
 use Rattle.pd_core.specs.Sessions.{row_session}
 use Rattle.pd_core.specs.SessionCalls.{Agrees, Goes, HasSelectorLeft, Leads, with_session}
 use Rattle.pd_core.specs.declared.component.Component.{Component}

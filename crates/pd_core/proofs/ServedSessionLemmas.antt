@@ -1,10 +1,8 @@
 -- A request of a session that a selector names, by what it does to the session's buffer: that it goes as the model's.
-use Rattle.std.proofs.Common.{◌≡◌, ◌≢◌, ℕ, ◌+◌, [], ◌<◌, ◌≤◌, ◌++◌, List, Option, None, Some, is_some, length, get_or, set, codes, decimal, refl, sym, ap, subst, ◌∙◌, arith}
-use Rattle.std.proofs.lemmas.Bool.{cases_eq}
+use Rattle.std.proofs.Common.{◌≡◌, ◌≢◌, ℕ, ◌+◌, ◌<◌, ◌≤◌, ◌++◌, List, Option, None, Some, length, get_or, set, codes, decimal, refl, sym, ap, subst, ◌∙◌, arith}
 use Rattle.std.proofs.lemmas.List.{get_or-set_other, get_or_default, length-append}
-use Rattle.std.proofs.lemmas.Option.{none-some, same_Some}
 use Rattle.std.specs.Prelude.{false}
-use Rattle.std.specs.FinMap.{get, insert, empty, len}
+use Rattle.std.specs.FinMap.{get, insert, empty}
 use Rattle.std.specs.Option.{option_map}
 use Rattle.trade_base.specs.declared.id.DsId.{DsId}
 use Rattle.trade_base.specs.declared.id.Selector.{Selector}
@@ -15,7 +13,7 @@ use Rattle.own_model.specs.NatMap.{NatMap, total}
 use Rattle.own_model.specs.OwnState.{OwnState, Object, is_buffer_of, buffer_of, bytes_of_buffer, new_selector, session_named}
 use Rattle.own_model.specs.OwnState.Object.{OpenSession}
 use Rattle.own_model.specs.OwnStep.{session_called, session_served, completed, script_step, gone_state}
-use Rattle.own_model.specs.Reply.{reply_text, log_text}
+use Rattle.own_model.specs.Reply.{reply_text}
 use Rattle.own_model.specs.Reply.Reply.{Told as AnswerTold}
 use Rattle.own_model.specs.Session.{Session as AnOpenSession, Served as ModelServed, served, Labelled}
 use Rattle.own_model.specs.Sound.{AreLent}
@@ -25,7 +23,7 @@ use Rattle.own_model.proofs.LimitLemmas.{serve_keeps}
 use Rattle.own_model.proofs.NatMapLemmas.{alike_insert, get-empty, get-insert_same}
 use Rattle.cap_space.specs.Space.{is_buffer}
 use Rattle.cap_space.specs.declared.cap.Cap.TheVariants.{Session}
-use Rattle.dataspace_core.specs.Store.{Store, Part, part, space_at, account_of, account_in}
+use Rattle.dataspace_core.specs.Store.{Store, Part, part, space_at, account_of}
 use Rattle.dataspace_core.proofs.PartLaws.{account_of-part}
 use Rattle.server_frame.specs.Frame.{Row, row_served, ServesSession}
 use Rattle.server_frame.specs.Lent.{IsEffect}
@@ -34,16 +32,16 @@ use Rattle.server_frame.specs.declared.effect.Effect.TheVariants.{Nothing, Buffe
 use Rattle.server_frame.specs.Session.{Served, service_step}
 use Rattle.server_frame.specs.Told.{Told}
 use Rattle.pd_core.specs.Component.{kind_of, served_by, caps_of, caps_in, rows_in, rows_of, StaysServer}
-use Rattle.pd_core.specs.Core.{Places, Roles, roles_of}
+use Rattle.pd_core.specs.Core.{Places, roles_of}
 use Rattle.pd_core.specs.Own.{Lent, lent_in, own_of}
 use Rattle.pd_core.specs.Sessions.{row_session, IsLentAt}
 use Rattle.pd_core.specs.SessionCalls.{Goes, HasSelectorLeft, NamesBuffer, DropsBuffer, with_buffer, without_buffer}
-use Rattle.pd_core.specs.Sound.{session_weight, lent_weight, buffer_at, lent_from}
+use Rattle.pd_core.specs.Sound.{session_weight, lent_weight, buffer_at}
 use Rattle.pd_core.specs.declared.component.Component.{Component}
 use Rattle.pd_core.specs.declared.component.Role.{Role}
 use Rattle.pd_core.specs.declared.component.Role.TheVariants.{Script as AScript}
 use Rattle.pd_core.specs.declared.script.Script.{Script}
-use Rattle.pd_core.proofs.PlainLemmas.{nowhere}
+use Rattle.pd_core.proofs.PlainLemmas.{unlisted}
 use Rattle.pd_core.proofs.ClientServerLemmas.{under, holds_lent, lent_alike, are_others, fresh_lent, row_paid, row_alone, serve_moves, changes_written, keeps_but, script_sound}
 use Rattle.pd_core.proofs.NameLemmas.{buffer_key, buffer_test, tested_key}
 use Rattle.pd_core.proofs.NamedSessionLemmas.{serves_done}
@@ -182,7 +180,7 @@ module _ {store : Store} (components : List Component) {i s : ℕ} {script : Scr
 
   -- the server's face stays
   host_face : face_of host' ≡ face_of host
-  host_face = face components two d host host_is q session names store' host' stays (λ _. nowhere)
+  host_face = face components two d host host_is q session names store' host' stays (λ _. unlisted)
 
   module _ (e : Component) (read : host ≡ get_or components s e) (places : Places) where
     host_faces : SameFaces components (set components s host')

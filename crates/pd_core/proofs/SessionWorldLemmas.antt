@@ -40,7 +40,7 @@ use Rattle.pd_core.specs.declared.script.Script.{Script}
 use Rattle.pd_core.proofs.AsideLemmas.{refused_aside}
 use Rattle.pd_core.proofs.PlainLemmas.{face_is}
 use Rattle.pd_core.proofs.ServerLemmas.{lent_paid}
-use Rattle.pd_core.proofs.ClientServerLemmas.{its as its_row, under, holds_lent, its_lent, lent_alike, are_others, row_paid, names_session, row_alone, raise_moves, changes_written, script_sound}
+use Rattle.pd_core.proofs.ClientServerLemmas.{its as its_row, under, holds_lent, its_lent, lent_alike, are_others, names_session, row_alone, raise_moves, changes_written, script_sound}
 use Rattle.pd_core.proofs.SessionChangeLemmas.{AreTwo, ReplacesTwo, KeepsBut, session_goes, two_places}
 use Rattle.pd_core.proofs.NamedSessionLemmas.{upgrades_done, upgrade_unread, upgrade_refused}
 use Rattle.pd_core.proofs.SessionOwnLemmas.{is_step, regions_same}

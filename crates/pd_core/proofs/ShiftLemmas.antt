@@ -1,16 +1,14 @@
 -- Limits move between a script's account and its reserve: what that makes of the script, and the change that it makes to the core.
-use Rattle.std.proofs.Common.{◌≡◌, ◌≢◌, ℕ, ◌+◌, ◌*◌, ◌≤◌, ◌<◌, List, [], length, get_or, Some, None, is_some, IsSome, false, refl, sym, ap, subst, ◌∙◌, inl, inr, arith}
-use Rattle.std.proofs.lemmas.Bool.{cases_eq}
+use Rattle.std.proofs.Common.{◌≡◌, ◌≢◌, ℕ, ◌+◌, ◌*◌, ◌≤◌, List, Some, is_some, false, refl, sym, ap, subst, ◌∙◌, inl, inr, arith}
 use Rattle.std.proofs.lemmas.Option.{same_Some}
-use Rattle.std.specs.FinMap.{get, len}
+use Rattle.std.specs.FinMap.{get}
 use Rattle.std.specs.Option.{option_map}
-use Rattle.std.specs.Prelude.{◌⊎◌, Option}
+use Rattle.std.specs.Prelude.{◌⊎◌}
 use Rattle.own_model.specs.Account.{Account, WithinLimits}
 use Rattle.own_model.specs.Amounts.{Amounts}
 use Rattle.own_model.specs.Call.{Call, is_exit}
 use Rattle.own_model.specs.NatMap.{NatMap, total}
 use Rattle.own_model.specs.OwnHeap.{OwnHeap}
-use Rattle.own_model.specs.OwnState.{OwnState}
 use Rattle.own_model.specs.OwnStep.{own_step}
 use Rattle.own_model.specs.Region.{Region}
 use Rattle.own_model.specs.Reserve.{no_reserve}
@@ -23,24 +21,22 @@ use Rattle.cap_space.specs.declared.cap.Cap.TheVariants.{Dataspace, RpcObject, S
 use Rattle.region_map.specs.Regions.{Regions}
 use Rattle.dataspace_core.specs.Room.{HasRoom}
 use Rattle.dataspace_core.specs.Share.{share_in}
-use Rattle.dataspace_core.specs.Store.{Store, Part, part, account_of, accounts_in, opened_part, root_in, parents_in, ram_limits_in, caps_limits_in, space_at, IsChildIn}
+use Rattle.dataspace_core.specs.Store.{Store, Part, part, account_of, accounts_in, opened_part, root_in, parents_in, ram_limits_in, caps_limits_in, space_at}
 use Rattle.dataspace_core.proofs.PartLaws.{open_in_part, part_open}
 use Rattle.dataspace_core.proofs.RoomLaws.{account_in_part}
 use Rattle.server_frame.specs.Frame.{Row}
 use Rattle.server_frame.specs.Session.{holding}
-use Rattle.trade_base.specs.declared.id.SessionId.{SessionId}
-use Rattle.pd_core.specs.Component.{Pays, IsReserve, payer_in, reserve_in, amounts_in, with_reserve, caps_in, places_in, rows_in, own_in, entry_of, IsSoundRole, NamesItsSessions}
+use Rattle.pd_core.specs.Component.{Pays, IsReserve, payer_in, reserve_in, amounts_in, with_reserve, caps_in, own_in, entry_of, IsSoundRole, NamesItsSessions}
 use Rattle.pd_core.specs.Core.{Heads, Places, Roles, rows_at, sessions_in, Owner, Owns, NamesAccount, IsInits, IsSoundCore}
 use Rattle.pd_core.specs.Exit.{IsScriptRole}
 use Rattle.pd_core.specs.Core.Owner.{Place, ReserveAt, SessionAt}
-use Rattle.pd_core.specs.Own.{Sessions, HasSessions, Lent, lent_in, object_of, regions_of, own_of, own_at, own_heap_at, sliced_at, part_at}
+use Rattle.pd_core.specs.Own.{Sessions, Lent, lent_in, object_of, regions_of, own_of, own_at, own_heap_at, sliced_at, part_at}
 use Rattle.pd_core.specs.Sessions.{row_session}
-use Rattle.pd_core.specs.Sound.{session_at, buffer_at, session_weight, IsLawful, IsScript, IsSoundScript, HasHeaps}
+use Rattle.pd_core.specs.Sound.{buffer_at, session_weight, IsLawful, IsScript, IsSoundScript}
 use Rattle.pd_core.specs.declared.component.Component.{Component}
-use Rattle.pd_core.specs.declared.component.Role.{Role}
 use Rattle.pd_core.specs.declared.component.Role.TheVariants.{Script as AScript}
 use Rattle.pd_core.specs.declared.script.Script.{Script}
-use Rattle.pd_core.proofs.ChangeLemmas.{ChangesCore, Follows}
+use Rattle.pd_core.proofs.ChangeLemmas.{ChangesCore}
 use Rattle.pd_core.proofs.HeldLemmas.{lender, same_place, same_reserve, no_place, no_reserve_place, no_reserve_session, reserve_no_init, script_inits, held_by}
 use Rattle.pd_core.proofs.LentLemmas.{LendersStay, LendAlike, own_lent, script_lent, others_still, lent_still}
 use Rattle.pd_core.proofs.RoleLemmas.{Leaves, role_left, rows_left}

@@ -15,11 +15,11 @@ use Rattle.server_frame.specs.Frame.{Row}
 use Rattle.server_frame.specs.Laws.{WritesLent as WritesRow}
 use Rattle.server_frame.proofs.FrameLaws.{stays_of_others}
 use Rattle.server_frame.proofs.LentLaws.{lends_nothing, writes_leave_sessions}
-use Rattle.pd_core.specs.Component.{Pays, reserve_in, caps_in, rows_in, own_in, Works, IsSoundRole}
+use Rattle.pd_core.specs.Component.{Pays, reserve_in, caps_in, rows_in, Works, IsSoundRole}
 use Rattle.pd_core.specs.Core.{Heads, Roles, rows_at, Owner, Owns, IsInits, IsSoundCore}
 use Rattle.pd_core.specs.Exit.{IsScriptRole}
 use Rattle.pd_core.specs.Core.Owner.{Place, ReserveAt, SessionAt}
-use Rattle.pd_core.specs.Own.{Sessions, no_sessions, no_lent, own_of}
+use Rattle.pd_core.specs.Own.{no_sessions, no_lent, own_of}
 use Rattle.pd_core.specs.Sessions.{log_value, log_buffer, IsLogKept, files_value, files_buffer, IsFilesKept}
 use Rattle.pd_core.specs.Sound.{WritesLent}
 use Rattle.pd_core.specs.declared.component.Role.{Role}

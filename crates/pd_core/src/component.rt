@@ -70,12 +70,12 @@ impl Component {
     ) -> Component
         requires { length name.now ≤ 140 }
         ensures entry { (place : Place) → entry_of place result ≡ record {
-              name = place.name;
-              label = name.now;
-              kind = AScript;
-              home = place.home;
-              routes = place.routes;
-            } }
+          name = place.name;
+          label = name.now;
+          kind = AScript;
+          home = place.home;
+          routes = place.routes;
+        } }
         ensures account { payer_of result ≡ account.0 }
         ensures reserve { reserve_of result ≡ Some reserve.0 }
         ensures tables { tables_of result ≡ Some (caps, regions) }
@@ -100,12 +100,12 @@ impl Component {
     pub fn log(name: &[u8], account: AccountId, server: Server<LogService>) -> Component
         requires { length name.now ≤ 140 }
         ensures entry { (place : Place) → entry_of place result ≡ record {
-              name = place.name;
-              label = name.now;
-              kind = AServer;
-              home = place.home;
-              routes = place.routes;
-            } }
+          name = place.name;
+          label = name.now;
+          kind = AServer;
+          home = place.home;
+          routes = place.routes;
+        } }
         ensures account { payer_of result ≡ account.0 }
         ensures reserve { reserve_of result ≡ None }
         ensures tables { tables_of result ≡ None }
@@ -124,12 +124,12 @@ impl Component {
     pub fn files(name: &[u8], account: AccountId, server: Server<FileService>) -> Component
         requires { length name.now ≤ 140 }
         ensures entry { (place : Place) → entry_of place result ≡ record {
-              name = place.name;
-              label = name.now;
-              kind = AServer;
-              home = place.home;
-              routes = place.routes;
-            } }
+          name = place.name;
+          label = name.now;
+          kind = AServer;
+          home = place.home;
+          routes = place.routes;
+        } }
         ensures account { payer_of result ≡ account.0 }
         ensures reserve { reserve_of result ≡ None }
         ensures tables { tables_of result ≡ None }
@@ -148,12 +148,12 @@ impl Component {
     pub fn init(name: &[u8], account: AccountId) -> Component
         requires { length name.now ≤ 140 }
         ensures entry { (place : Place) → entry_of place result ≡ record {
-              name = place.name;
-              label = name.now;
-              kind = AnInit;
-              home = place.home;
-              routes = place.routes;
-            } }
+          name = place.name;
+          label = name.now;
+          kind = AnInit;
+          home = place.home;
+          routes = place.routes;
+        } }
         ensures account { payer_of result ≡ account.0 }
         ensures init { IsInitOf result.role account.0 }
         ensures reserve { reserve_of result ≡ None }
@@ -311,9 +311,7 @@ impl Component {
     {
         match &mut self.role {
             Role::Script(script) => script.step(memory, call, reply),
-            Role::Log(..) | Role::Files(..) | Role::Init(_) => {
-                refuse(Refusal::NotAScript, reply)
-            },
+            Role::Log(..) | Role::Files(..) | Role::Init(_) => refuse(Refusal::NotAScript, reply),
             Role::Gone => refuse(Refusal::Gone, reply),
         }
     }

@@ -12,7 +12,7 @@ use server_frame::Reply;
 use std::boxed::BoxedSlice;
 use std::marker::Model;
 
-/// The machine's memory with its components. Contracts see the entries of the start list, what init keeps, and each
+/// The machine's memory with its components. Contracts see the entries of the start list, what inits keep, and each
 /// component's own state.
 #[derive(Drop)]
 pub struct Core<R: Router + Drop> {

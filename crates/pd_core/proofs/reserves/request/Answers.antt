@@ -1,5 +1,5 @@
 -- A refused call changes nothing; else limits move.
-use Rattle.std.proofs.Common.{◌≡◌, [], Some, subst, refl, sym, ap, ◌∙◌}
+use Rattle.std.proofs.Common.{◌≡◌, Some, subst, refl, sym, ap, ◌∙◌}
 use Rattle.std.specs.Prelude.{IsErrAnd}
 use Rattle.trade_base.specs.declared.refusal.Refusal.TheVariants.{BadArgs, NotAScript}
 use Rattle.own_model.specs.Call.Call.{Request}
@@ -9,7 +9,7 @@ use Rattle.pd_core.specs.SessionCalls.{Goes}
 use Rattle.std.specs.Option.{option_or}
 use Rattle.pd_core.specs.Exit.{refusal_of}
 use Rattle.pd_core.specs.declared.component.Component.{Component}
-use Rattle.pd_core.proofs.PlainLemmas.{nowhere}
+use Rattle.pd_core.proofs.PlainLemmas.{unlisted}
 use Rattle.pd_core.proofs.ReserveCallLemmas.{from_reserve, request_unread, request_short, request_goes}
 use Rattle.pd_core.proofs.SessionRefusedLemmas.{no_script_goes, passed_on, arguments_are}
 use Rattle.pd_core.proofs.reserves.request.Goals as goal
@@ -26,7 +26,7 @@ returns-in_err-more c = λ places.
     (request_unread places c.args.components.now c.index-components-caller.result c.requires.core c.requires.caller c.in-Script.script (ap (λ (d : Component). d.role) (sym c.index-components-caller.is) ∙ c.in-Script.is) c.args.text.now c.in_err-more.ensures.none)
 
 pub shift-requires : goal.shift-requires
-shift-requires c = from_reserve (λ _. nowhere) c.args.components.now c.index-components-caller.result c.requires.core c.requires.caller c.in-Script.script (ap (λ (d : Component). d.role) (sym c.index-components-caller.is) ∙ c.in-Script.is)
+shift-requires c = from_reserve (λ _. unlisted) c.args.components.now c.index-components-caller.result c.requires.core c.requires.caller c.in-Script.script (ap (λ (d : Component). d.role) (sym c.index-components-caller.is) ∙ c.in-Script.is)
 
 pub returns-in_err-shift : goal.returns-in_err-shift
 returns-in_err-shift c = λ places.

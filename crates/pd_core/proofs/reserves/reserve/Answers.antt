@@ -1,5 +1,5 @@
 -- What is told is the own state's.
-use Rattle.std.proofs.Common.{◌≡◌, [], Some, subst, refl, sym, ap, ◌∙◌}
+use Rattle.std.proofs.Common.{Some, subst, sym, ap, ◌∙◌}
 use Rattle.std.specs.Prelude.{IfSome}
 use Rattle.own_model.specs.Call.Call.{Reserve}
 use Rattle.dataspace_core.specs.Store.{IsOpenIn}

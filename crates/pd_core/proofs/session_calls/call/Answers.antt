@@ -1,8 +1,8 @@
 -- A refused call changes nothing; else a session serves.
-use Rattle.std.proofs.Common.{[], rules, get_or, refl, sym, subst, ◌∙◌}
+use Rattle.std.proofs.Common.{rules, get_or, refl, sym, subst, ◌∙◌}
 use Rattle.own_model.specs.Call.Call.{CallSession}
 use Rattle.pd_core.specs.SessionCalls.{Goes}
-use Rattle.pd_core.proofs.PlainLemmas.{nowhere}
+use Rattle.pd_core.proofs.PlainLemmas.{unlisted}
 use Rattle.pd_core.proofs.SessionRefusedLemmas.{call_asks, unnamed_goes}
 use Rattle.pd_core.proofs.SessionWorldLemmas.{its as named_role, Names, named_two, named_cap, host_within, host_serves}
 use Rattle.pd_core.proofs.ServedSessionLemmas.{nothing_goes, has_left, has_room, made_goes, given_named, given_goes}
@@ -57,7 +57,7 @@ keep_buffer-kept-requires c =
     let done = c.serve_session in
     record {
       room = has_left components two c.index-components-caller.result (get_or components c.in-Ok.named.0 e) (role_at components c.in-Ok.named.0 e (host_within components c.in-Ok.named.0 two.serving)) c.args.selector c.in-Ok.named.1
-          (named_cap names) done.new.memory done.new.self done.ensures.stays c.args.request.now done.result done.ensures.serves e refl (λ _. nowhere) c.requires.caller (named_role names).1 c.index-components-caller-in-Buffer.result c.in-Buffer.space c.in-Buffer.is;
+          (named_cap names) done.new.memory done.new.self done.ensures.stays c.args.request.now done.result done.ensures.serves e refl (λ _. unlisted) c.requires.caller (named_role names).1 c.index-components-caller-in-Buffer.result c.in-Buffer.space c.in-Buffer.is;
     }
 
 pub add_number-requires : goal.add_number-requires
@@ -69,7 +69,7 @@ add_number-requires c =
     let e = c.index-components-entry.result in
     let done = c.serve_session in
     has_room components two c.index-components-caller.result (get_or components c.in-Ok.named.0 e) (role_at components c.in-Ok.named.0 e (host_within components c.in-Ok.named.0 two.serving)) c.args.selector c.in-Ok.named.1
-    (named_cap names) done.new.memory done.new.self done.ensures.stays c.args.request.now done.result done.ensures.serves e refl (λ _. nowhere) c.requires.caller (named_role names).1 c.index-components-caller-in-Buffer.result c.in-Buffer.space c.in-Buffer.is done.new.reply done.ensures.text
+    (named_cap names) done.new.memory done.new.self done.ensures.stays c.args.request.now done.result done.ensures.serves e refl (λ _. unlisted) c.requires.caller (named_role names).1 c.index-components-caller-in-Buffer.result c.in-Buffer.space c.in-Buffer.is done.new.reply done.ensures.text
 
 pub returns-in-Buffer : goal.returns-in-Buffer
 returns-in-Buffer c = λ places.
@@ -95,7 +95,7 @@ drop_buffer-requires c =
     let done = c.serve_session in
     record {
       lent = given_named components two c.index-components-caller.result (get_or components c.in-Ok.named.0 e) (role_at components c.in-Ok.named.0 e (host_within components c.in-Ok.named.0 two.serving)) c.args.selector c.in-Ok.named.1
-          (named_cap names) done.new.memory done.new.self done.ensures.stays c.args.request.now done.result done.ensures.serves e refl (λ _. nowhere) c.requires.caller (named_role names).1 c.index-components-caller-in-Gone.result c.in-Gone.space c.in-Gone.is;
+          (named_cap names) done.new.memory done.new.self done.ensures.stays c.args.request.now done.result done.ensures.serves e refl (λ _. unlisted) c.requires.caller (named_role names).1 c.index-components-caller-in-Gone.result c.in-Gone.space c.in-Gone.is;
     }
 
 pub returns-in-Gone : goal.returns-in-Gone

@@ -1,7 +1,7 @@
 -- A refused call changes nothing; else a session goes.
-use Rattle.std.proofs.Common.{[], rules, get_or, set, length-set, refl, sym, ◌∙◌, arith}
+use Rattle.std.proofs.Common.{rules, get_or, set, length-set, refl, sym, ◌∙◌, arith}
 use Rattle.own_model.specs.Call.Call.{Close}
-use Rattle.pd_core.proofs.PlainLemmas.{nowhere}
+use Rattle.pd_core.proofs.PlainLemmas.{unlisted}
 use Rattle.pd_core.proofs.SessionRefusedLemmas.{close_asks, unnamed_goes, passed_on, unchanged}
 use Rattle.pd_core.proofs.SessionWorldLemmas.{Names, named_two, named_cap, host_within, host_read, host_serves}
 use Rattle.pd_core.proofs.ClosedSessionLemmas.{closed_goes, lent_named, ended_goes}
@@ -72,7 +72,7 @@ drop_buffer-requires c =
     let done = c.close_session in
     record {
       lent = lent_named components two c.index-components-caller.result (get_or (set components c.args.caller client) c.in_ok-entry.entry e) (host_read components two client e) c.args.selector c.in_ok-entry.session (named_cap names)
-          done.new.memory done.new.self done.ensures.stays done.ensures.closes done.ensures.sessions client e refl c.in_ok-entry.ensures.gone (λ _. nowhere) c.buffer_of_session-lent.result c.buffer_of_session-lent.ensures c.in-Some.space c.in-Some.is c.index-components-caller-in-Some.result;
+          done.new.memory done.new.self done.ensures.stays done.ensures.closes done.ensures.sessions client e refl c.in_ok-entry.ensures.gone (λ _. unlisted) c.buffer_of_session-lent.result c.buffer_of_session-lent.ensures c.in-Some.space c.in-Some.is c.index-components-caller-in-Some.result;
     }
 
 pub returns-in-Some : goal.returns-in-Some

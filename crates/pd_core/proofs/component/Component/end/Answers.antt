@@ -1,5 +1,5 @@
 -- The reserve is as it was when the account closes, and closes after it.
-use Rattle.std.proofs.Common.{◌≡◌, sym, ap, subst, ◌∙◌}
+use Rattle.std.proofs.Common.{◌≡◌, sym, subst, ◌∙◌}
 use Rattle.std.specs.FinMap.{get}
 use Rattle.std.specs.Prelude.{IfSome, IsSome}
 use Rattle.dataspace_core.specs.Store.{parents_in, parent_in}
