@@ -2,6 +2,7 @@ pub mod Mark
 pub mod Members
 pub mod Rules
 pub mod Entries
+pub mod Depth
 pub mod StartText
 pub mod View
 pub mod Range
