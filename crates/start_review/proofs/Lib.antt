@@ -1,2 +1,3 @@
 mod HidingLemmas
 mod LeftLemmas
+mod NestLemmas

@@ -1,17 +1,17 @@
 //! Where in a start list a fault is, what is there, and what is expected.
-ghost use Rattle.std.specs.Prelude.{◌≡◌, IfErr, IfOk, IfSome, Some, codes};
+ghost use Rattle.std.specs.Prelude.{◌≡◌, IfErr, IfOk, IfSome, None, Some, codes};
 ghost use Rattle.std.specs.Option.{option_copied};
 ghost use Rattle.serde_json.specs.View.{view};
 ghost use Rattle.init_core.specs.Misread.{entry_at_fault};
 ghost use Rattle.init_core.specs.declared.fault.BootFault.TheVariants.{NoMemory};
-ghost use Rattle.start_review.specs.Places.{spot_before, spot_in, spot_of, spot_of_flaw};
+ghost use Rattle.start_review.specs.Places.{member_of, spot_before, spot_of, spot_of_flaw};
 ghost use Rattle.start_review.specs.Places.Spot.{OfEntry, OfMachine};
 
-use crate::part::Part;
-use crate::unread::item;
+use crate::part::{Part, Steps};
+use crate::values::{member, runs, steps_at, value_at};
 use init_core::{BootFault, Field, Name, entry_at_fault};
 use serde_json::Value;
-use std::alloc::Global;
+use std::alloc::{AllocError, Global};
 use std::fmt;
 
 /// What a value is.
@@ -73,6 +73,10 @@ pub enum Expected {
     Rules,
     /// A list of entries.
     Entries,
+    /// A list of an init's entries.
+    InnerEntries,
+    /// No init so deep.
+    NoInit,
     /// A name.
     Name,
     /// A name that no earlier entry has.
@@ -104,9 +108,11 @@ impl fmt::Display for Expected {
             Expected::MachineSize => "a whole number from 16 to 4096",
             Expected::Rules => "a list of at most 32 rules",
             Expected::Entries => "a list of at most 32 entries",
+            Expected::InnerEntries => "a list of entries, at most 32 with those of all other lists",
+            Expected::NoInit => "none, since inits nest at most 3 deep",
             Expected::Name => "a name as text: 1 to 32 letters, digits, `_`, `-` and `.`",
             Expected::NewName => "a name that no earlier entry has",
-            Expected::Binary => "`script`, `log` or `files`",
+            Expected::Binary => "`script`, `log`, `files` or `init`",
             Expected::Amount => "an amount as text",
             Expected::Caps => "a whole number from 0 to 4294967295",
             Expected::NoReserve => "none, since only a script has a reserve",
@@ -156,18 +162,20 @@ impl Flaw {
             spot_of_flaw flaw ≡ spot_of (entry_at_fault (view value.now)) fault.now)) }
         ensures memory { IfErr result (λ want. want ≡ NoMemory) }
     {
-        let entry = entry_at_fault(alloc, value)?;
-        Ok(match (fault, entry) {
-            (BootFault::BadConfig(field), None) => flaw_of_list(value, *field),
-            (BootFault::BadConfig(field), Some(place)) => flaw_of_entry(value, *field, place),
-            (BootFault::DuplicateName(_), Some(place)) => {
-                in_entry(value, place, "name", Expected::NewName)
+        let number = entry_at_fault(alloc, value)?;
+        match (fault, number) {
+            (BootFault::BadConfig(field), None) => Ok(flaw_of_list(value, *field)),
+            (BootFault::BadConfig(field), Some(number)) => {
+                Ok(flaw_of_entry(alloc, value, *field, number)?)
             }
-            (BootFault::UnknownBinary(_), Some(place)) => {
-                in_entry(value, place, "binary", Expected::Binary)
+            (BootFault::DuplicateName(_), Some(number)) => {
+                Ok(in_entry_at(alloc, value, number, "name", Expected::NewName)?)
             }
-            _ => None,
-        })
+            (BootFault::UnknownBinary(_), Some(number)) => {
+                Ok(in_entry_at(alloc, value, number, "binary", Expected::Binary)?)
+            }
+            _ => Ok(None),
+        }
     }
 }
 
@@ -176,14 +184,14 @@ fn flaw_of_list(value: &Value, field: Field) -> Option<Flaw>
     ensures { IfSome result (λ flaw. spot_of_flaw flaw ≡ Some (spot_before field)) }
 {
     match field {
-        Field::Machine => Some(at(Part::List, value, "machine", Expected::Object)),
+        Field::Machine => Some(at(Part::List, Some(value), "machine", Expected::Object)),
         Field::Pages => in_machine(value, "pages"),
         Field::Caps => in_machine(value, "caps"),
         Field::DefaultRoute => match bad_rule(value.get("default-route")) {
             Some((rule, bad)) => Some(flaw_of_rule(Part::DefaultRule(rule), bad)),
-            None => Some(at(Part::List, value, "default-route", Expected::Rules)),
+            None => Some(at(Part::List, Some(value), "default-route", Expected::Rules)),
         },
-        Field::Start => Some(at(Part::List, value, "start", Expected::Entries)),
+        Field::Start => Some(at(Part::List, Some(value), "start", Expected::Entries)),
         _ => None,
     }
 }
@@ -192,92 +200,142 @@ fn flaw_of_list(value: &Value, field: Field) -> Option<Flaw>
 fn in_machine(value: &Value, member: &'static str) -> Option<Flaw>
     ensures { IfSome result (λ flaw. spot_of_flaw flaw ≡ Some (OfMachine member.now)) }
 {
-    let machine = value.get("machine")?;
+    let machine = value.get("machine");
     Some(at(Part::Machine, machine, member, Expected::MachineSize))
 }
 
-// The flaw of a bad value of an entry.
-fn flaw_of_entry(value: &Value, field: Field, place: usize) -> Option<Flaw>
-    ensures { IfSome result (λ flaw. spot_of_flaw flaw ≡ Some (spot_in place field)) }
+// The flaw of a bad value of the entry of a number.
+fn flaw_of_entry(
+    alloc: Global,
+    value: &Value,
+    field: Field,
+    number: usize,
+) -> Result<Option<Flaw>, AllocError>
+    ensures { IfOk result (λ told. IfSome told
+        (λ flaw. spot_of_flaw flaw ≡ Some (OfEntry number (member_of field)))) }
 {
-    match field {
-        Field::Start => {
-            let found = item(value.get("start"), place);
-            Some(Flaw {
-                part: Part::Entry(place, None),
-                member: None,
-                sort: Sort::of(found),
-                expected: Expected::Object,
-            })
-        }
-        Field::Name => in_entry(value, place, "name", Expected::Name),
-        Field::Binary => in_entry(value, place, "binary", Expected::Binary),
-        Field::Quantum => in_entry(value, place, "quantum", Expected::Amount),
-        Field::Caps => in_entry(value, place, "caps", Expected::Caps),
-        Field::Provides => in_entry(value, place, "provides", Expected::Provides),
-        Field::Route => in_route(value, place),
-        Field::Reserve => in_reserve(value, place, "reserve", Expected::Amount),
-        Field::ReserveCaps => in_reserve(value, place, "reserve-caps", Expected::Caps),
-        _ => None,
+    let steps = steps_at(alloc, value, number)?;
+    match value_at(value, number) {
+        Some(found) => Ok(flaw_in(found, field, number, steps)),
+        None => Ok(None),
+    }
+}
+
+// The flaw of a member of the entry of a number.
+fn in_entry_at(
+    alloc: Global,
+    value: &Value,
+    number: usize,
+    member: &'static str,
+    expected: Expected,
+) -> Result<Option<Flaw>, AllocError>
+    ensures { IfOk result (λ told. IfSome told
+        (λ flaw. spot_of_flaw flaw ≡ Some (OfEntry number member.now))) }
+{
+    let steps = steps_at(alloc, value, number)?;
+    match value_at(value, number) {
+        Some(found) => Ok(Some(at(Part::Entry(number, steps), Some(found), member, expected))),
+        None => Ok(None),
+    }
+}
+
+// The flaw of a bad value of an entry, to which these steps lead.
+fn flaw_in(found: &Value, field: Field, number: usize, steps: Steps) -> Option<Flaw>
+    ensures { IfSome result (λ flaw. spot_of_flaw flaw ≡ Some (OfEntry number (member_of field))) }
+{
+    let (member, expected) = match field {
+        Field::Start => return Some(flaw_of_start(found, number, steps)),
+        Field::DefaultRoute => return Some(in_inner_route(found, number, steps)),
+        Field::Route => return Some(in_route(found, number, steps)),
+        Field::Name => ("name", Expected::Name),
+        Field::Binary => ("binary", Expected::Binary),
+        Field::Quantum => ("quantum", Expected::Amount),
+        Field::Caps => ("caps", Expected::Caps),
+        Field::Provides => ("provides", Expected::Provides),
+        Field::Reserve => ("reserve", if_script(found, Expected::Amount)),
+        Field::ReserveCaps => ("reserve-caps", if_script(found, Expected::Caps)),
+        Field::Config => ("config", config_expected(found)),
+        Field::Size | Field::Machine | Field::Pages => return None,
+    };
+    Some(at(Part::Entry(number, steps), Some(found), member, expected))
+}
+
+// The flaw of an entry that is no object, or of what an init starts.
+fn flaw_of_start(found: &Value, number: usize, steps: Steps) -> Flaw
+    ensures { spot_of_flaw result ≡ Some (OfEntry number (codes "start")) }
+{
+    if found.is_object() {
+        let config = found.get("config");
+        at(
+            Part::Config(number, steps),
+            config,
+            "start",
+            Expected::InnerEntries,
+        )
+    } else {
+        whole(Part::Entry(number, steps), found, Expected::Object)
     }
 }
 
 // The flaw of an entry's own route, or of its first value that is no rule.
-fn in_route(value: &Value, place: usize) -> Option<Flaw>
-    ensures { IfSome result (λ flaw. spot_of_flaw flaw ≡ Some (OfEntry place (Some (codes "route")))) }
+fn in_route(found: &Value, number: usize, steps: Steps) -> Flaw
+    ensures { spot_of_flaw result ≡ Some (OfEntry number (codes "route")) }
 {
-    let found = item(value.get("start"), place)?;
     match bad_rule(found.get("route")) {
-        Some((rule, bad)) => Some(flaw_of_rule(Part::Rule(place, name_of(found), rule), bad)),
-        None => in_entry(value, place, "route", Expected::Rules),
+        Some((rule, bad)) => flaw_of_rule(Part::Rule(number, steps, rule), bad),
+        None => at(
+            Part::Entry(number, steps),
+            Some(found),
+            "route",
+            Expected::Rules,
+        ),
     }
 }
 
-// The flaw of a member of the entry at a place.
-fn in_entry(value: &Value, place: usize, member: &'static str, expected: Expected) -> Option<Flaw>
-    ensures { IfSome result
-        (λ flaw. spot_of_flaw flaw ≡ Some (OfEntry place (Some member.now))) }
+// The same of the default route of what it starts.
+fn in_inner_route(found: &Value, number: usize, steps: Steps) -> Flaw
+    ensures { spot_of_flaw result ≡ Some (OfEntry number (codes "default-route")) }
 {
-    let found = item(value.get("start"), place)?;
-    Some(at(Part::Entry(place, name_of(found)), found, member, expected))
+    let config = found.get("config");
+    match bad_rule(member(config, "default-route")) {
+        Some((rule, bad)) => flaw_of_rule(Part::InnerRule(number, steps, rule), bad),
+        None => at(
+            Part::Config(number, steps),
+            config,
+            "default-route",
+            Expected::Rules,
+        ),
+    }
 }
 
-// The same of a member of its reserve, which has no value where the entry isn't a script's.
-fn in_reserve(value: &Value, place: usize, member: &'static str, expected: Expected) -> Option<Flaw>
-    ensures { IfSome result
-        (λ flaw. spot_of_flaw flaw ≡ Some (OfEntry place (Some member.now))) }
-{
-    if runs_script(item(value.get("start"), place)?) {
-        in_entry(value, place, member, expected)
+// What is expected of a member that only a script's entry has.
+fn if_script(entry: &Value, expected: Expected) -> Expected {
+    if runs(entry, "script") {
+        expected
     } else {
-        in_entry(value, place, member, Expected::NoReserve)
+        Expected::NoReserve
     }
 }
 
-// Whether an entry is a script's: without the member it runs what has its name.
-fn runs_script(entry: &Value) -> bool {
-    match entry.get("binary").or(entry.get("name")) {
-        Some(binary) => binary.as_str() == Some("script"),
-        None => false,
+// What is expected of an init's `config`: where it is an object, the init nests too deep.
+fn config_expected(entry: &Value) -> Expected {
+    match entry.get("config") {
+        Some(config) if config.is_object() => Expected::NoInit,
+        _ => Expected::Object,
     }
 }
 
-// The flaw of a member of an object.
-fn at(part: Part, object: &Value, member: &'static str, expected: Expected) -> Flaw
+// The flaw of a member of an object, which may be missing.
+fn at(part: Part, object: Option<&Value>, key: &'static str, expected: Expected) -> Flaw
     ensures part { result.part ≡ part }
-    ensures member { option_copied result.member ≡ Some member.now }
+    ensures member { option_copied result.member ≡ Some key.now }
 {
     Flaw {
         part,
-        member: Some(member),
-        sort: Sort::of(object.get(member)),
+        member: Some(key),
+        sort: Sort::of(member(object, key)),
         expected,
     }
-}
-
-// The name of an entry, where it has one.
-fn name_of(entry: &Value) -> Option<Name> {
-    Name::read(entry.get("name")?.as_str()?)
 }
 
 // The first value of a short list that is no rule, with its place.
@@ -299,7 +357,7 @@ fn flaw_of_rule(part: Part, rule: &Value) -> Flaw
     ensures { result.part ≡ part }
 {
     match rule_flaw(rule) {
-        Some((Some(member), expected)) => at(part, rule, member, expected),
+        Some((Some(member), expected)) => at(part, Some(rule), member, expected),
         Some((None, expected)) => whole(part, rule, expected),
         None => whole(part, rule, Expected::Object),
     }
@@ -307,7 +365,8 @@ fn flaw_of_rule(part: Part, rule: &Value) -> Flaw
 
 // The flaw of a whole value.
 fn whole(part: Part, value: &Value, expected: Expected) -> Flaw
-    ensures { result.part ≡ part }
+    ensures part { result.part ≡ part }
+    ensures member { option_copied result.member ≡ None }
 {
     Flaw {
         part,

@@ -7,8 +7,12 @@ pub(crate) enum Table {
     List,
     /// Its machine.
     Machine,
-    /// An entry.
+    /// An entry of another binary than an init's.
     Entry,
+    /// An init's entry.
+    Init,
+    /// What an init starts.
+    Config,
     /// A rule.
     Rule,
 }
@@ -29,6 +33,18 @@ impl Table {
                 "reserve",
                 "reserve-caps",
             ],
+            Table::Init => &[
+                "name",
+                "binary",
+                "quantum",
+                "caps",
+                "provides",
+                "route",
+                "reserve",
+                "reserve-caps",
+                "config",
+            ],
+            Table::Config => &["default-route", "start"],
             Table::Rule => &[
                 "service",
                 "any-service",

@@ -53,9 +53,9 @@ impl Review {
             Ok(list) => list,
             Err(fault) => return Err(placed(alloc, &value, fault)),
         };
-        if let Some(lack) = first_lack(&list) {
+        if let Some(lack) = first_lack(alloc, &list)? {
             return Err(Fault {
-                fault: BootFault::QuotaExceeded(lack.name.copy()),
+                fault: BootFault::QuotaExceeded(lack.path.copy()),
                 place: Whereabouts::Budget(lack),
             });
         }

@@ -38,11 +38,11 @@ fn bad_values_of_an_entry_have_its_place(rt: HostRuntime) -> Result<(), Fail> {
         ),
         (
             "\"name\":\"gina\"",
-            "Unknown_binary gina: start[6] \"gina\": binary: missing, expected `script`, `log` or `files`",
+            "Unknown_binary gina: start[6] \"gina\": binary: missing, expected `script`, `log`, `files` or `init`",
         ),
         (
             "\"name\":\"gina\",\"binary\":[\"script\"]",
-            "Bad_config binary: start[6] \"gina\": binary: a list of 1, expected `script`, `log` or `files`",
+            "Bad_config binary: start[6] \"gina\": binary: a list of 1, expected `script`, `log`, `files` or `init`",
         ),
         (
             "\"name\":\"gina\",\"binary\":\"script\",\"quantum\":\"8K\",\"caps\":2,\"route\":{}",
