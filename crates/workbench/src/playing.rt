@@ -1,8 +1,15 @@
 //! The play: lines of the friendly form are read, answered, told and judged.
-ghost use Rattle.std.specs.Prelude.{◌≡◌, ◌≤◌, length, IfOk, OnOk, false};
+ghost use Rattle.std.specs.Prelude.{◌≡◌, ◌+◌, ◌≤◌, ◌∷◌, [], length, take, drop, OnOk, false};
+ghost use Rattle.std.specs.Option.{option_copied};
+ghost use Rattle.std.specs.Result.{result_err};
 ghost use Rattle.own_model.specs.Listed.{start_list_of};
+ghost use Rattle.own_model.specs.SaidBy.{said_by};
 ghost use Rattle.own_model.specs.StartList.{entries_of};
+ghost use Rattle.scenario.specs.Answered.{after_all, point};
+ghost use Rattle.scenario.specs.Gathered.{TellsUnless};
 ghost use Rattle.workbench.specs.Devices.{AllWork, OutputsWork};
+ghost use Rattle.workbench.specs.Played.{calls_said, told_of_calls, told_of_lines};
+ghost use Rattle.workbench.specs.Plays.{PlaysAll, PlaysNext, line_played};
 
 use crate::ending::{Ending, PlayFault};
 use crate::notes::Notes;
@@ -39,27 +46,52 @@ pub(crate) fn play<R: Router + Drop, W: Watch, S: Source, K: Sink, E: Sink>(
     complaints: &mut E,
 ) -> Ending
     requires listed { core.old.entries ≡ entries_of (start_list_of run.now.list.now) }
+    requires fresh { notes.old.buffers.ahead ≡ [] }
+    ensures plays { W.sees watch.old core.old →
+        PlaysAll (W.tells watch.old) (option_copied run.now.only) result.fault core.old core.new
+        notes.old.buffers.gathered (S.remaining reader.old) (K.contents writer.old) (K.contents writer.new) }
     ensures listed { core.new.entries ≡ core.old.entries }
 {
     let mut tally = Tally {
         lines: 0,
         complaints: 0,
     };
-    let fault = if writer.failed() || complaints.failed() {
-        Some(PlayFault::WriteFault)
-    } else if reader.failed() {
-        Some(PlayFault::ReadFault)
-    } else {
-        play_all(
-            run, core, notes, watch, &mut tally, reader, writer, complaints,
-        )
-        .err()
-    };
+    let fault = play_if_working(run, core, notes, watch, &mut tally, reader, writer, complaints).err();
     Ending {
         lines: tally.lines,
         complaints: tally.complaints,
         fault,
     }
+}
+
+// Plays line after line, unless a device has failed before.
+fn play_if_working<R: Router + Drop, W: Watch, S: Source, K: Sink, E: Sink>(
+    run: &Run<'_>,
+    core: &mut Core<R>,
+    notes: &mut Notes<'_>,
+    watch: &mut W,
+    tally: &mut Tally,
+    reader: &mut S,
+    writer: &mut K,
+    complaints: &mut E,
+) -> Result<(), PlayFault>
+    requires listed { core.old.entries ≡ entries_of (start_list_of run.now.list.now) }
+    requires fresh { notes.old.buffers.ahead ≡ [] }
+    ensures plays { W.sees watch.old core.old →
+        PlaysAll (W.tells watch.old) (option_copied run.now.only) (result_err result) core.old core.new
+        notes.old.buffers.gathered (S.remaining reader.old) (K.contents writer.old) (K.contents writer.new) }
+    ensures listed { core.new.entries ≡ core.old.entries }
+{
+    if writer.failed() {
+        return Err(PlayFault::WriteFault);
+    }
+    if complaints.failed() {
+        return Err(PlayFault::WriteFault);
+    }
+    if reader.failed() {
+        return Err(PlayFault::ReadFault);
+    }
+    play_all(run, core, notes, watch, tally, reader, writer, complaints)
 }
 
 // Plays line after line, and counts them and the complaints.
@@ -74,7 +106,11 @@ fn play_all<R: Router + Drop, W: Watch, S: Source, K: Sink, E: Sink>(
     complaints: &mut E,
 ) -> Result<(), PlayFault>
     requires listed { core.old.entries ≡ entries_of (start_list_of run.now.list.now) }
+    requires fresh { notes.old.buffers.ahead ≡ [] }
     requires works { AllWork (S.has_failed reader.old) (K.has_failed writer.old) (E.has_failed complaints.old) }
+    ensures plays { W.sees watch.old core.old →
+        PlaysAll (W.tells watch.old) (option_copied run.now.only) (result_err result) core.old core.new
+        notes.old.buffers.gathered (S.remaining reader.old) (K.contents writer.old) (K.contents writer.new) }
     ensures listed { core.new.entries ≡ core.old.entries }
 {
     tally.lines = 0;
@@ -121,20 +157,32 @@ fn play_next<R: Router + Drop, W: Watch, S: Source, K: Sink, E: Sink>(
 ) -> Result<Played, PlayFault>
     requires listed { core.old.entries ≡ entries_of (start_list_of run.now.list.now) }
     requires works { AllWork (S.has_failed reader.old) (K.has_failed writer.old) (E.has_failed complaints.old) }
+    ensures next { W.sees watch.old core.old →
+        PlaysNext (W.tells watch.old) (option_copied run.now.only) notes.old.number result
+        (point core.old notes.old.buffers (S.remaining reader.old) (K.contents writer.old))
+        (point core.new notes.new.buffers (S.remaining reader.new) (K.contents writer.new)) }
+    ensures sees { W.sees watch.old core.old → OnOk result (W.sees watch.new core.new) }
+    ensures same { W.tells watch.new ≡ W.tells watch.old }
     ensures listed { core.new.entries ≡ core.old.entries }
     ensures works { OnOk result
         (AllWork (S.has_failed reader.new) (K.has_failed writer.new) (E.has_failed complaints.new)) }
 {
     match notes.buffers.next_line(reader, writer)? {
         Next::Line(count) => {
-            let complained = play_ahead(run, core, notes, count, watch, writer, complaints)?;
-            Ok(Played::Line { complained })
+            line_played(play_ahead(run, core, notes, count, watch, writer, complaints))
         }
-        Next::TooLong => {
-            let complained = notes.critic.tell_too_long(notes.number, complaints)?;
-            Ok(Played::Line { complained })
-        }
+        Next::TooLong => line_played(notes.critic.tell_too_long(notes.number, complaints)),
         Next::End => Ok(Played::End),
+    }
+}
+
+// A line was played, unless a fault came.
+fn line_played(judged: Result<bool, PlayFault>) -> Result<Played, PlayFault>
+    ensures { result ≡ line_played judged }
+{
+    match judged {
+        Ok(complained) => Ok(Played::Line { complained }),
+        Err(fault) => Err(fault),
     }
 }
 
@@ -153,7 +201,15 @@ fn play_ahead<R: Router + Drop, W: Watch, K: Sink, E: Sink>(
     requires short { count ≤ LONGEST_LINE }
     requires listed { core.old.entries ≡ entries_of (start_list_of run.now.list.now) }
     requires works { OutputsWork (K.has_failed writer.old) (E.has_failed complaints.old) }
-    ensures listed { core.new.entries ≡ core.old.entries }
+    ensures world { core.new ≡ after_all (option_copied run.now.only) core.old
+        (calls_said (take count notes.old.buffers.ahead ∷ [])) }
+    ensures passed { notes.new.buffers.ahead ≡ drop (count + 1) notes.old.buffers.ahead }
+    ensures told { W.sees watch.old core.old → TellsUnless result
+        (K.contents writer.old) notes.old.buffers.gathered (K.contents writer.new) notes.new.buffers.gathered
+        (told_of_lines (W.tells watch.old) (option_copied run.now.only) core.old notes.old.number
+        (take count notes.old.buffers.ahead ∷ [])) }
+    ensures sees { W.sees watch.old core.old → OnOk result (W.sees watch.new core.new) }
+    ensures same { W.tells watch.new ≡ W.tells watch.old }
     ensures works { OnOk result (OutputsWork (K.has_failed writer.new) (E.has_failed complaints.new)) }
 {
     let line = &notes.buffers.ahead.ahead()[..count];
@@ -199,7 +255,13 @@ where
     'a: 'b,
     requires listed { core.old.entries ≡ entries_of (start_list_of run.now.list.now) }
     requires writes { K.has_failed writer.old ≡ false }
-    ensures listed { core.new.entries ≡ core.old.entries }
+    ensures world { core.new ≡ after_all (option_copied run.now.only) core.old (line.now ∷ []) }
+    ensures told { W.sees watch.old core.old → TellsUnless result
+        (K.contents writer.old) gathered.old (K.contents writer.new) gathered.new
+        (told_of_calls (W.tells watch.old) core.old number
+        (said_by (option_copied run.now.only) (line.now ∷ []))) }
+    ensures sees { W.sees watch.old core.old → OnOk result (W.sees watch.new core.new) }
+    ensures same { W.tells watch.new ≡ W.tells watch.old }
     ensures works { OnOk result (K.has_failed writer.new ≡ false) }
 {
     match run.answer(core, line, reply) {

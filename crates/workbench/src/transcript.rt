@@ -16,6 +16,10 @@ use std::alloc::Global;
 pub(crate) struct Transcript;
 
 impl Watch for Transcript {
+    ghost tells = { λ _. engine_tells };
+
+    ghost sees = { λ _ _. Unit {0} };
+
     fn tell<R: Router + Drop, K: Sink>(
         &mut self,
         _core: &Core<R>,
