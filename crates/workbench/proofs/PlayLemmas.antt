@@ -1,25 +1,52 @@
 -- A play from line to line: what was played, and what it leaves at its end.
-use Rattle.std.proofs.Common.{◌≡◌, ℕ, ◌+◌, ◌<◌, ◌≤◌, take, drop, List, [], ◌∷◌, ◌++◌, length, Option, Some, None, IfSome, Result, Ok, Err, arith, refl, sym, ◌∙◌, ap, subst, append_assoc, append-nil, length-append}
+use Rattle.std.proofs.Common.{◌≡◌, ℕ, ◌+◌, ◌<◌, ◌≤◌, take, drop, List, [], ◌∷◌, ◌++◌, length, Option, Some, None, IfSome, Result, Ok, Err, OnOk, Bool, arith, refl, sym, ◌∙◌, ap, subst, append_assoc, append-nil, length-append}
 use Rattle.std.specs.Io.KnownBytes.{Appends}
 use Rattle.own_model.specs.SaidBy.{said_by}
 use Rattle.own_model.specs.Text.{lines_of}
-use Rattle.own_model.specs.Transcript.{longest_line}
-use Rattle.own_model.specs.World.{World}
+use Rattle.own_model.specs.Transcript.{heard, longest_line}
+use Rattle.own_model.specs.World.{World, world_running}
+use Rattle.scenario.specs.Answer.{AnswersLine, IsAnswer}
 use Rattle.scenario.specs.Answered.{Ended, Point, after_all}
 use Rattle.scenario.specs.Gathered.{Tells, TellsPart, TellsUnless}
 use Rattle.scenario.specs.Lines.{line_of, to_come, PassesLines}
-use Rattle.scenario.specs.Next.{PassesLongLine, StopsBefore, TellsAt}
+use Rattle.scenario.specs.Next.{PassesLongLine, TellsAt}
 use Rattle.scenario.specs.Stops.{AppendsPart}
+use Rattle.scenario.specs.declared.answering.Answer.{Answer}
 use Rattle.scenario.specs.declared.lines.LineFault.{LineFault}
 use Rattle.scenario.specs.declared.lines.LineFault.TheVariants.{Read, Write, Endless}
 use Rattle.scenario.proofs.GatheredLemmas.{Tells-more, Tells-none}
 use Rattle.scenario.proofs.LineLemmas.{length-line_of, line_length-le}
 use Rattle.scenario.proofs.PassedLines.{passes_line, passes_more, passes_none}
-use Rattle.scenario.proofs.Serving.{left_none}
-use Rattle.workbench.specs.Played.{call_of, calls_said, told_of_lines}
-use Rattle.workbench.specs.Plays.{AreFirst, Breaks, Plays, PlaysAll, PlaysNext, WritesTold, line_played}
+use Rattle.scenario.proofs.Serving.{left_none, said_none, world_running-append}
+use Rattle.workbench.specs.Played.{call_of, calls_answered, calls_said, told_of_calls, told_of_lines}
+use Rattle.workbench.specs.Plays.{AreAll, AreFirst, Breaks, Plays, PlaysAll, PlaysNext, WritesTold, line_played}
+use Rattle.workbench.specs.Watching.{IsToldOf, Watches}
 use Rattle.workbench.specs.declared.ending.PlayFault.{PlayFault}
-use Rattle.workbench.proofs.PlayedLemmas.{call_of-long, left_by_lines, told_of_lines-append}
+use Rattle.workbench.proofs.PlayedLemmas.{answered-append, answered-one, call_of-long, calls_said-one, left_by_lines, told_of_lines-append, told_of_lines-one}
+
+-- ---- one call
+
+-- a call that was answered is one that a watch is told of
+pub told_of : (only : Option (List ℕ)) {seen : World → List (List ℕ) → Type 0} {start world left : World} {earlier : List (List ℕ)} (call : List ℕ) (answer : Answer) →
+    Watches seen start earlier world → left ≡ after_all only world (call ∷ []) → AnswersLine only world call (Some answer) → IsToldOf start earlier call left answer
+told_of only {start = start} {world = world} {left = left} {earlier = earlier} call answer watches leaves answers = record {
+  leaves =
+      leaves ∙ ap (world_running world) answers.0 ∙ ap (λ w. world_running w (call ∷ [])) watches.leads ∙ world_running-append start earlier (call ∷ []);
+  answers = subst (λ (w : World). IsAnswer w (heard w.entries call) answer) watches.leads answers.1;
+}
+
+-- and then it has seen it
+pub watches_more : (only : Option (List ℕ)) {seen : World → List (List ℕ) → Type 0} {start left : World} {earlier : List (List ℕ)} (calls : List (List ℕ)) (call : List ℕ) →
+    calls ≡ call ∷ [] → left ≡ world_running start (earlier ++ call ∷ []) → seen start (earlier ++ call ∷ []) → Watches seen start (earlier ++ calls) left
+watches_more only calls call is leads sees = rw is (record { leads = leads; sees = sees })
+
+-- where no call is answered nothing has changed
+pub watches_none : {seen : World → List (List ℕ) → Type 0} {start world : World} {earlier : List (List ℕ)} (calls : List (List ℕ)) →
+    calls ≡ [] → Watches seen start earlier world → Watches seen start (earlier ++ calls) world
+watches_none {seen = seen} {start = start} {world = world} {earlier = earlier} calls none watches =
+    subst (λ c. Watches seen start c world) (sym (append-nil earlier) ∙ ap (λ c. earlier ++ c) (sym none)) watches
+
+-- ---- lines that are passed
 
 -- with no line nothing is passed
 passes_same : (come : Option (List ℕ)) → IfSome come (λ text. PassesLines text come [])
@@ -39,7 +66,7 @@ first_behind (Some text) mid xs ys passes first =
     (behind.0, passes.first ∙ ap (λ lines. xs ++ lines) behind.1 ∙ sym (append_assoc xs ys behind.0))
 
 -- and all where nothing is left
-all_passed : (old mid : Option (List ℕ)) (xs : List (List ℕ)) → IfSome old (λ text. PassesLines text mid xs) → IfSome mid (λ text. text ≡ []) → IfSome old (λ text. lines_of text ≡ xs)
+all_passed : (old mid : Option (List ℕ)) (xs : List (List ℕ)) → IfSome old (λ text. PassesLines text mid xs) → IfSome mid (λ text. text ≡ []) → IfSome old (AreAll xs)
 all_passed None mid xs passes none = tt
 all_passed (Some text) mid xs passes none =
     let behind : passes.rest ≡ [] = subst (λ (m : Option (List ℕ)). IfSome m (λ text. text ≡ [])) passes.is_rest none in
@@ -55,106 +82,121 @@ passes_silent (Some text) come long = (
   passes_line text come (omega (arith, long.long, line_length-le text)) long.after,
 )
 
-module _ {tells : World → ℕ → List ℕ → List ℕ} {only : Option (List ℕ)} where
+-- some of no line
+pub all_left : (come : Option (List ℕ)) → IfSome come (AreFirst [])
+all_left None = tt
+all_left (Some text) = (lines_of text, refl)
+
+-- a fault comes before any line
+told_in_part : (fault : LineFault) (w : Option (List ℕ)) (g : List ℕ) (w' : Option (List ℕ)) (bytes : List ℕ) → TellsAt fault w g w' bytes → TellsPart w g w' bytes
+told_in_part Read w g w' bytes tells = ([], tells)
+told_in_part Write w g w' bytes tells = tells
+told_in_part Endless w g w' bytes tells = ([], tells)
+
+-- all is written where no line is left
+written_all : {w w' : Option (List ℕ)} {g told : List ℕ} → Tells w g w' [] told → Appends w w' (g ++ told)
+written_all {w = w} {w' = w'} tells = subst (Appends w w') (sym (append-nil tells.out) ∙ tells.parts) tells.grows
+
+module _ {tells : List (List ℕ) → ℕ → List ℕ → List ℕ} {only : Option (List ℕ)} where
   -- no line is played at first
-  pub plays_none : (p : Point) → Plays tells only 1 [] p p
-  plays_none p = record {
+  pub plays_none : {seen : List (List ℕ) → Type 0} (p : Point) → seen [] → Plays tells seen only 1 [] [] p p
+  plays_none {seen = seen} p sees = record {
     world = sym (left_none only p.world);
-    tells = Tells-none p.written p.gathered;
+    told = Tells-none p.written p.gathered;
     passes = passes_same (to_come p.ahead p.rest);
+    sees = subst seen (sym (said_none only)) sees;
   }
 
   -- lines are played after lines
-  pub plays_more : {p q r : Point} {number later : ℕ} {xs ys : List (List ℕ)} → later ≡ number + length xs → Plays tells only number xs p q → Plays tells only later ys q r →
-      Plays tells only number (xs ++ ys) p r
-  plays_more {p = p} {q = q} {r = r} {number = number} {later = later} {xs = xs} {ys = ys} is first then = record {
+  pub plays_more : {before seen : List (List ℕ) → Type 0} {p q r : Point} {number later : ℕ} {earlier xs ys : List (List ℕ)} → later ≡ number + length xs →
+      Plays tells before only number earlier xs p q → Plays tells seen only later (earlier ++ calls_answered only xs) ys q r → Plays tells seen only number earlier (xs ++ ys) p r
+  plays_more {seen = seen} {p = p} {q = q} {r = r} {number = number} {later = later} {earlier = earlier} {xs = xs} {ys = ys} is first then = record {
     world = left_by_lines only p.world q.world r.world xs ys first.world then.world;
-    tells = subst (Tells p.written p.gathered r.written r.gathered)
-        (ap (λ n. told_of_lines tells only p.world number xs ++ told_of_lines tells only q.world n ys) is ∙ sym (told_of_lines-append only tells p.world q.world number xs ys first.world))
-        (Tells-more first.tells then.tells);
+    told = subst (Tells p.written p.gathered r.written r.gathered)
+        (ap (λ n. told_of_lines tells only earlier number xs ++ told_of_lines tells only (earlier ++ calls_answered only xs) n ys) is ∙ sym (told_of_lines-append only tells earlier number xs ys))
+        (Tells-more first.told then.told);
     passes = passes_more (to_come p.ahead p.rest) (to_come q.ahead q.rest) (to_come r.ahead r.rest) xs ys first.passes then.passes;
+    sees = subst seen (answered-append only earlier xs ys) then.sees;
   }
 
   -- a fault comes behind lines
-  pub breaks_more : {p q r : Point} {number later : ℕ} {xs : List (List ℕ)} → later ≡ number + length xs → Plays tells only number xs p q → Breaks tells only later q r → Breaks tells only number p r
-  breaks_more {p = p} {q = q} {r = r} {number = number} {later = later} {xs = xs} is first then = record {
+  pub breaks_more : {before : List (List ℕ) → Type 0} {p q r : Point} {number later : ℕ} {earlier xs : List (List ℕ)} → later ≡ number + length xs →
+      Plays tells before only number earlier xs p q → Breaks tells only later (earlier ++ calls_answered only xs) q r → Breaks tells only number earlier p r
+  breaks_more {p = p} {q = q} {r = r} {number = number} {later = later} {earlier = earlier} {xs = xs} is first then = record {
     lines = xs ++ then.lines;
     world = left_by_lines only p.world q.world r.world xs then.lines first.world then.world;
-    tells = (then.tells.0, subst (Tells p.written p.gathered r.written then.tells.0)
-        (ap (λ n. told_of_lines tells only p.world number xs ++ told_of_lines tells only q.world n then.lines) is
-        ∙ sym (told_of_lines-append only tells p.world q.world number xs then.lines first.world))
-        (Tells-more first.tells then.tells.1));
+    told = (then.told.0, subst (Tells p.written p.gathered r.written then.told.0)
+        (ap (λ n. told_of_lines tells only earlier number xs ++ told_of_lines tells only (earlier ++ calls_answered only xs) n then.lines) is
+        ∙ sym (told_of_lines-append only tells earlier number xs then.lines))
+        (Tells-more first.told then.told.1));
     first = first_behind (to_come p.ahead p.rest) (to_come q.ahead q.rest) xs then.lines first.passes then.first;
   }
 
   -- a line is played, unless a fault comes
-  pub played_line : (number : ℕ) (p q : Point) (written : Option (List ℕ)) (gathered line : List ℕ) (judged : Result Bool PlayFault) →
-      Tells p.written p.gathered written gathered [] → TellsUnless judged written gathered q.written q.gathered (told_of_lines tells only p.world number (line ∷ [])) →
-      q.world ≡ after_all only p.world (calls_said (line ∷ [])) → IfSome (to_come p.ahead p.rest) (λ text. PassesLines text (to_come q.ahead q.rest) (line ∷ [])) →
-      PlaysNext tells only number (line_played judged) p q
-  played_line number p q written gathered line (Ok complained) before told world passes =
-      (line, record { world = world; tells = Tells-more before told; passes = passes })
-  played_line number p q written gathered line (Err fault) before told world passes = record {
+  pub played_line : {seen : List (List ℕ) → Type 0} (number : ℕ) (earlier : List (List ℕ)) (p q : Point) (written : Option (List ℕ)) (gathered line : List ℕ) (judged : Result Bool PlayFault) →
+      Tells p.written p.gathered written gathered [] → TellsUnless judged written gathered q.written q.gathered (told_of_calls tells earlier number (said_by only (call_of line))) →
+      q.world ≡ after_all only p.world (call_of line) → IfSome (to_come p.ahead p.rest) (λ text. PassesLines text (to_come q.ahead q.rest) (line ∷ [])) →
+      OnOk judged (seen (earlier ++ said_by only (call_of line))) → PlaysNext tells seen only number earlier (line_played judged) p q
+  played_line {seen = seen} number earlier p q written gathered line (Ok complained) before told world passes sees = (line, record {
+    world = world ∙ ap (after_all only p.world) (sym (calls_said-one line));
+    told = Tells-more before (subst (Tells written gathered q.written q.gathered) (told_of_lines-one only tells earlier number line) told);
+    passes = passes;
+    sees = subst (λ calls. seen (earlier ++ calls)) (sym (answered-one only line)) sees;
+  })
+  played_line number earlier p q written gathered line (Err fault) before told world passes sees = record {
     lines = line ∷ [];
-    world = world;
-    tells = (told.0, Tells-more before (told.1));
+    world = world ∙ ap (after_all only p.world) (sym (calls_said-one line));
+    told = (told.0, Tells-more before (subst (Tells written gathered q.written told.0) (told_of_lines-one only tells earlier number line) told.1));
     first = are_first (to_come p.ahead p.rest) (to_come q.ahead q.rest) (line ∷ []) passes;
   }
 
-  -- a fault comes before any line
-  told_in_part : (fault : LineFault) (w : Option (List ℕ)) (g : List ℕ) (w' : Option (List ℕ)) (bytes : List ℕ) → TellsAt fault w g w' bytes → TellsPart w g w' bytes
-  told_in_part Read w g w' bytes tells = ([], tells)
-  told_in_part Write w g w' bytes tells = tells
-  told_in_part Endless w g w' bytes tells = ([], tells)
-
-  all_left : (come : Option (List ℕ)) → IfSome come (AreFirst [])
-  all_left None = tt
-  all_left (Some text) = (lines_of text, refl)
-
-  pub breaks_before : (number : ℕ) (fault : LineFault) (p q : Point) → q.world ≡ p.world → TellsAt fault p.written p.gathered q.written [] → Breaks tells only number p q
-  breaks_before number fault p q world tells = record {
+  -- a fault comes before a line
+  pub breaks_before : (number : ℕ) (earlier : List (List ℕ)) (fault : LineFault) (p q : Point) → q.world ≡ p.world → TellsAt fault p.written p.gathered q.written [] →
+      Breaks tells only number earlier p q
+  breaks_before number earlier fault p q world tells = record {
     lines = [];
     world = world ∙ sym (left_none only p.world);
-    tells = told_in_part fault p.written p.gathered q.written [] tells;
+    told = told_in_part fault p.written p.gathered q.written [] tells;
     first = all_left (to_come p.ahead p.rest);
   }
 
   -- ---- the end
 
-  -- all is written where no line is left
-  written_all : {w w' : Option (List ℕ)} {g told : List ℕ} → Tells w g w' [] told → Appends w w' (g ++ told)
-  written_all {w = w} {w' = w'} tells = subst (Appends w w') (sym (append-nil tells.out) ∙ tells.parts) tells.grows
-
   -- the last lines are played, and none is left
-  ends : {p q r : Point} {xs : List (List ℕ)} → Plays tells only 1 xs p q → Ended q r → Tells p.written p.gathered r.written [] (told_of_lines tells only p.world 1 xs)
-  ends {p = p} {q = q} {r = r} {xs = xs} plays ended =
-      subst (Tells p.written p.gathered r.written []) (append-nil (told_of_lines tells only p.world 1 xs)) (Tells-more plays.tells ended.tells)
+  ends : {seen : List (List ℕ) → Type 0} {p q r : Point} {xs : List (List ℕ)} → Plays tells seen only 1 [] xs p q → Ended q r →
+      Tells p.written p.gathered r.written [] (told_of_lines tells only [] 1 xs)
+  ends {p = p} {r = r} {xs = xs} plays ended =
+      subst (Tells p.written p.gathered r.written []) (append-nil (told_of_lines tells only [] 1 xs)) (Tells-more plays.told ended.tells)
 
-  pub plays_to_end : {p q r : Point} {xs : List (List ℕ)} (input : Option (List ℕ)) → to_come p.ahead p.rest ≡ input → Plays tells only 1 xs p q → Ended q r →
-      PlaysAll tells only None p.world r.world p.gathered input p.written r.written
-  plays_to_end {p = p} {q = q} {r = r} {xs = xs} input is plays ended = record {
+  pub plays_to_end : {before seen : List (List ℕ) → Type 0} {p q r : Point} {xs : List (List ℕ)} (count : ℕ) (input : Option (List ℕ)) → to_come p.ahead p.rest ≡ input → count ≡ length xs →
+      Plays tells before only 1 [] xs p q → Ended q r → seen (calls_answered only xs) → PlaysAll tells seen only None count p.world r.world p.gathered input p.written r.written
+  plays_to_end {p = p} {q = q} {r = r} {xs = xs} count input is counted plays ended sees = record {
     lines = xs;
     world = ended.world ∙ plays.world;
     told = written_all (ends plays ended);
     first = subst (λ (o : Option (List ℕ)). IfSome o (AreFirst xs)) is (are_first (to_come p.ahead p.rest) (to_come q.ahead q.rest) xs plays.passes);
-    all = subst (λ (o : Option (List ℕ)). IfSome o (λ text. lines_of text ≡ xs)) is (all_passed (to_come p.ahead p.rest) (to_come q.ahead q.rest) xs plays.passes ended.none);
+    all = subst (λ (o : Option (List ℕ)). IfSome o (AreAll xs)) is (all_passed (to_come p.ahead p.rest) (to_come q.ahead q.rest) xs plays.passes ended.none);
+    counted = counted;
+    sees = sees;
   }
 
   -- a fault comes once all is played
-  pub breaks_at_end : {p q r : Point} {xs : List (List ℕ)} → Plays tells only 1 xs p q → Ended q r → Breaks tells only 1 p r
+  pub breaks_at_end : {seen : List (List ℕ) → Type 0} {p q r : Point} {xs : List (List ℕ)} → Plays tells seen only 1 [] xs p q → Ended q r → Breaks tells only 1 [] p r
   breaks_at_end {p = p} {q = q} {r = r} {xs = xs} plays ended = record {
     lines = xs;
     world = ended.world ∙ plays.world;
-    tells = ([], ends plays ended);
+    told = ([], ends plays ended);
     first = are_first (to_come p.ahead p.rest) (to_come q.ahead q.rest) xs plays.passes;
   }
 
-  pub plays_to_fault : {p r : Point} (input : Option (List ℕ)) (fault : PlayFault) → to_come p.ahead p.rest ≡ input → Breaks tells only 1 p r →
-      PlaysAll tells only (Some fault) p.world r.world p.gathered input p.written r.written
-  plays_to_fault {p = p} {r = r} input fault is breaks = record {
+  pub plays_to_fault : {seen : List (List ℕ) → Type 0} {p r : Point} (count : ℕ) (input : Option (List ℕ)) (fault : PlayFault) → to_come p.ahead p.rest ≡ input → Breaks tells only 1 [] p r →
+      PlaysAll tells seen only (Some fault) count p.world r.world p.gathered input p.written r.written
+  plays_to_fault {p = p} {r = r} count input fault is breaks = record {
     lines = breaks.lines;
     world = breaks.world;
-    told = record { part = breaks.tells.1.out; left = breaks.tells.0; parts = sym breaks.tells.1.parts; grows = breaks.tells.1.grows };
+    told = record { part = breaks.told.1.out; left = breaks.told.0; parts = sym breaks.told.1.parts; grows = breaks.told.1.grows };
     first = subst (λ (o : Option (List ℕ)). IfSome o (AreFirst breaks.lines)) is breaks.first;
     all = tt;
+    counted = tt;
+    sees = tt;
   }

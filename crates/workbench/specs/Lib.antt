@@ -1,2 +1,9 @@
 pub mod Devices
 pub mod Ending
+pub mod Played
+pub mod Plays
+pub mod Watching
+pub mod Writes
+pub mod Tracing
+pub mod Alone
+pub mod Peaks

@@ -1,5 +1,5 @@
 //! The peaks of accounts: the most that was in use after any line.
-ghost use Rattle.std.specs.Prelude.{◌≡◌, ◌<◌, ◌≤◌, length, max, false, OnOk};
+ghost use Rattle.std.specs.Prelude.{◌≡◌, ◌<◌, ◌≤◌, ◌∷◌, [], ⊤, length, max, false, OnOk};
 ghost use Rattle.own_model.specs.Listed.{start_list_of};
 ghost use Rattle.own_model.specs.StartList.{entries_of};
 
@@ -175,6 +175,10 @@ impl Peaks {
 }
 
 impl Watch for Peaks {
+    ghost tells = { λ _ _ _ _ _. [] };
+
+    ghost sees = { λ _ _ _. ⊤ };
+
     fn tell<R: Router + Drop, K: Sink>(
         &mut self,
         core: &Core<R>,

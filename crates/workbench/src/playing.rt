@@ -1,18 +1,20 @@
 //! The play: lines of the friendly form are read, answered, told and judged.
-ghost use Rattle.std.specs.Prelude.{◌≡◌, ◌+◌, ◌≤◌, ◌∷◌, [], length, take, drop, OnOk, false};
+ghost use Rattle.std.specs.Prelude.{◌≡◌, ◌+◌, ◌≤◌, ◌∷◌, ◌++◌, ℕ, List, [], length, take, drop, OnOk, false};
 ghost use Rattle.std.specs.Option.{option_copied};
 ghost use Rattle.std.specs.Result.{result_err};
 ghost use Rattle.own_model.specs.Listed.{start_list_of};
 ghost use Rattle.own_model.specs.SaidBy.{said_by};
 ghost use Rattle.own_model.specs.StartList.{entries_of};
+ghost use Rattle.own_model.specs.World.{World};
 ghost use Rattle.scenario.specs.Answered.{after_all, point};
 ghost use Rattle.scenario.specs.Gathered.{TellsUnless};
 ghost use Rattle.workbench.specs.Devices.{AllWork, OutputsWork};
-ghost use Rattle.workbench.specs.Played.{calls_said, told_of_calls, told_of_lines};
+ghost use Rattle.workbench.specs.Played.{call_of, told_of_calls};
 ghost use Rattle.workbench.specs.Plays.{PlaysAll, PlaysNext, line_played};
+ghost use Rattle.workbench.specs.Watching.{Watches};
 
 use crate::ending::{Ending, PlayFault};
-use crate::notes::Notes;
+use crate::notes::{Desk, Notes};
 use crate::watch::{Heard, Watch};
 use friendly_lines::{Said, read_line};
 use pd_core::{Core, Reply, Router};
@@ -47,20 +49,25 @@ pub(crate) fn play<R: Router + Drop, W: Watch, S: Source, K: Sink, E: Sink>(
 ) -> Ending
     requires listed { core.old.entries ≡ entries_of (start_list_of run.now.list.now) }
     requires fresh { notes.old.buffers.ahead ≡ [] }
-    ensures plays { W.sees watch.old core.old →
-        PlaysAll (W.tells watch.old) (option_copied run.now.only) result.fault core.old core.new
-        notes.old.buffers.gathered (S.remaining reader.old) (K.contents writer.old) (K.contents writer.new) }
+    ensures plays { W.sees watch.old core.old [] →
+        PlaysAll (W.tells watch.old core.old) (W.sees watch.new core.old) (option_copied run.now.only)
+        result.fault result.lines core.old core.new notes.old.buffers.gathered
+        (S.remaining reader.old) (K.contents writer.old) (K.contents writer.new) }
+    ensures same { W.tells watch.new ≡ W.tells watch.old }
+    ensures few { result.lines ≤ MAX_LINES }
     ensures listed { core.new.entries ≡ core.old.entries }
 {
     let mut tally = Tally {
         lines: 0,
         complaints: 0,
     };
-    let fault = play_if_working(run, core, notes, watch, &mut tally, reader, writer, complaints).err();
+    let played = play_if_working(
+        run, core, notes, watch, &mut tally, reader, writer, complaints,
+    );
     Ending {
         lines: tally.lines,
         complaints: tally.complaints,
-        fault,
+        fault: played.err(),
     }
 }
 
@@ -77,9 +84,13 @@ fn play_if_working<R: Router + Drop, W: Watch, S: Source, K: Sink, E: Sink>(
 ) -> Result<(), PlayFault>
     requires listed { core.old.entries ≡ entries_of (start_list_of run.now.list.now) }
     requires fresh { notes.old.buffers.ahead ≡ [] }
-    ensures plays { W.sees watch.old core.old →
-        PlaysAll (W.tells watch.old) (option_copied run.now.only) (result_err result) core.old core.new
-        notes.old.buffers.gathered (S.remaining reader.old) (K.contents writer.old) (K.contents writer.new) }
+    requires few { tally.old.lines ≤ MAX_LINES }
+    ensures plays { W.sees watch.old core.old [] →
+        PlaysAll (W.tells watch.old core.old) (W.sees watch.new core.old) (option_copied run.now.only)
+        (result_err result) tally.new.lines core.old core.new notes.old.buffers.gathered
+        (S.remaining reader.old) (K.contents writer.old) (K.contents writer.new) }
+    ensures same { W.tells watch.new ≡ W.tells watch.old }
+    ensures few { tally.new.lines ≤ MAX_LINES }
     ensures listed { core.new.entries ≡ core.old.entries }
 {
     if writer.failed() {
@@ -108,27 +119,32 @@ fn play_all<R: Router + Drop, W: Watch, S: Source, K: Sink, E: Sink>(
     requires listed { core.old.entries ≡ entries_of (start_list_of run.now.list.now) }
     requires fresh { notes.old.buffers.ahead ≡ [] }
     requires works { AllWork (S.has_failed reader.old) (K.has_failed writer.old) (E.has_failed complaints.old) }
-    ensures plays { W.sees watch.old core.old →
-        PlaysAll (W.tells watch.old) (option_copied run.now.only) (result_err result) core.old core.new
-        notes.old.buffers.gathered (S.remaining reader.old) (K.contents writer.old) (K.contents writer.new) }
+    ensures plays { W.sees watch.old core.old [] →
+        PlaysAll (W.tells watch.old core.old) (W.sees watch.new core.old) (option_copied run.now.only)
+        (result_err result) tally.new.lines core.old core.new notes.old.buffers.gathered
+        (S.remaining reader.old) (K.contents writer.old) (K.contents writer.new) }
+    ensures same { W.tells watch.new ≡ W.tells watch.old }
+    ensures few { tally.new.lines ≤ MAX_LINES }
     ensures listed { core.new.entries ≡ core.old.entries }
 {
     tally.lines = 0;
     tally.complaints = 0;
     for count in 0..MAX_LINES {
         notes.number = count + 1;
-        match play_next(run, core, notes, watch, reader, writer, complaints)? {
-            Played::End => return close(notes, tally, complaints),
-            Played::Line { complained } => {
+        match play_next(run, core, notes, watch, reader, writer, complaints) {
+            Ok(Played::Line { complained }) => {
                 tally.lines = count + 1;
                 tally.complaints += u64::from(complained);
             }
+            Ok(Played::End) => return close(notes, tally, complaints),
+            Err(fault) => return Err(fault),
         }
     }
-    if notes.buffers.begins_line(reader, writer)? {
-        return Err(PlayFault::TooManyLines);
+    match notes.buffers.begins_line(reader, writer) {
+        Ok(true) => Err(PlayFault::TooManyLines),
+        Ok(false) => close(notes, tally, complaints),
+        Err(fault) => Err(PlayFault::from(fault)),
     }
-    close(notes, tally, complaints)
 }
 
 // Complains of an expected log line that no call follows.
@@ -139,8 +155,9 @@ fn close<E: Sink>(
 ) -> Result<(), PlayFault>
     requires few { tally.old.complaints ≤ MAX_LINES }
     requires works { E.has_failed complaints.old ≡ false }
+    ensures lines { tally.new.lines ≡ tally.old.lines }
 {
-    let complained = notes.critic.tell_left_over(complaints)?;
+    let complained = notes.desk.critic.tell_left_over(complaints)?;
     tally.complaints += u64::from(complained);
     Ok(())
 }
@@ -157,22 +174,23 @@ fn play_next<R: Router + Drop, W: Watch, S: Source, K: Sink, E: Sink>(
 ) -> Result<Played, PlayFault>
     requires listed { core.old.entries ≡ entries_of (start_list_of run.now.list.now) }
     requires works { AllWork (S.has_failed reader.old) (K.has_failed writer.old) (E.has_failed complaints.old) }
-    ensures next { W.sees watch.old core.old →
-        PlaysNext (W.tells watch.old) (option_copied run.now.only) notes.old.number result
+    ensures next { (start : World) (earlier : List (List ℕ)) → Watches (W.sees watch.old) start earlier core.old →
+        PlaysNext (W.tells watch.old start) (W.sees watch.new start) (option_copied run.now.only)
+        notes.old.number earlier result
         (point core.old notes.old.buffers (S.remaining reader.old) (K.contents writer.old))
         (point core.new notes.new.buffers (S.remaining reader.new) (K.contents writer.new)) }
-    ensures sees { W.sees watch.old core.old → OnOk result (W.sees watch.new core.new) }
     ensures same { W.tells watch.new ≡ W.tells watch.old }
     ensures listed { core.new.entries ≡ core.old.entries }
     ensures works { OnOk result
         (AllWork (S.has_failed reader.new) (K.has_failed writer.new) (E.has_failed complaints.new)) }
 {
-    match notes.buffers.next_line(reader, writer)? {
-        Next::Line(count) => {
+    match notes.buffers.next_line(reader, writer) {
+        Ok(Next::Line(count)) => {
             line_played(play_ahead(run, core, notes, count, watch, writer, complaints))
         }
-        Next::TooLong => line_played(notes.critic.tell_too_long(notes.number, complaints)),
-        Next::End => Ok(Played::End),
+        Ok(Next::TooLong) => line_played(notes.desk.critic.tell_too_long(notes.number, complaints)),
+        Ok(Next::End) => Ok(Played::End),
+        Err(fault) => Err(PlayFault::from(fault)),
     }
 }
 
@@ -202,42 +220,81 @@ fn play_ahead<R: Router + Drop, W: Watch, K: Sink, E: Sink>(
     requires listed { core.old.entries ≡ entries_of (start_list_of run.now.list.now) }
     requires works { OutputsWork (K.has_failed writer.old) (E.has_failed complaints.old) }
     ensures world { core.new ≡ after_all (option_copied run.now.only) core.old
-        (calls_said (take count notes.old.buffers.ahead ∷ [])) }
+        (call_of (take count notes.old.buffers.ahead)) }
     ensures passed { notes.new.buffers.ahead ≡ drop (count + 1) notes.old.buffers.ahead }
-    ensures told { W.sees watch.old core.old → TellsUnless result
-        (K.contents writer.old) notes.old.buffers.gathered (K.contents writer.new) notes.new.buffers.gathered
-        (told_of_lines (W.tells watch.old) (option_copied run.now.only) core.old notes.old.number
-        (take count notes.old.buffers.ahead ∷ [])) }
-    ensures sees { W.sees watch.old core.old → OnOk result (W.sees watch.new core.new) }
+    ensures told { (start : World) (earlier : List (List ℕ)) → Watches (W.sees watch.old) start earlier core.old →
+        TellsUnless result (K.contents writer.old) notes.old.buffers.gathered
+        (K.contents writer.new) notes.new.buffers.gathered
+        (told_of_calls (W.tells watch.old start) earlier notes.old.number
+        (said_by (option_copied run.now.only) (call_of (take count notes.old.buffers.ahead)))) }
+    ensures seen { (start : World) (earlier : List (List ℕ)) → Watches (W.sees watch.old) start earlier core.old →
+        OnOk result (Watches (W.sees watch.new) start
+        (earlier ++ said_by (option_copied run.now.only) (call_of (take count notes.old.buffers.ahead))) core.new) }
     ensures same { W.tells watch.new ≡ W.tells watch.old }
     ensures works { OnOk result (OutputsWork (K.has_failed writer.new) (E.has_failed complaints.new)) }
 {
     let line = &notes.buffers.ahead.ahead()[..count];
-    let judged = match read_line(line, &mut notes.room) {
+    let judged = play_line(
+        run,
+        core,
+        notes.number,
+        line,
+        &mut notes.desk,
+        watch,
+        &mut notes.buffers.gathered,
+        writer,
+        complaints,
+    );
+    notes.buffers.ahead.pass(count + 1);
+    judged
+}
+
+// Plays a line that isn't too long. Tells whether there was a complaint.
+fn play_line<R: Router + Drop, W: Watch, K: Sink, E: Sink>(
+    run: &Run<'_>,
+    core: &mut Core<R>,
+    number: u64,
+    line: &[u8],
+    desk: &mut Desk<'_>,
+    watch: &mut W,
+    gathered: &mut Gather,
+    writer: &mut K,
+    complaints: &mut E,
+) -> Result<bool, PlayFault>
+    requires short { length line.now ≤ LONGEST_LINE }
+    requires listed { core.old.entries ≡ entries_of (start_list_of run.now.list.now) }
+    requires works { OutputsWork (K.has_failed writer.old) (E.has_failed complaints.old) }
+    ensures world { core.new ≡ after_all (option_copied run.now.only) core.old (call_of line.now) }
+    ensures told { (start : World) (earlier : List (List ℕ)) → Watches (W.sees watch.old) start earlier core.old →
+        TellsUnless result (K.contents writer.old) gathered.old (K.contents writer.new) gathered.new
+        (told_of_calls (W.tells watch.old start) earlier number
+        (said_by (option_copied run.now.only) (call_of line.now))) }
+    ensures seen { (start : World) (earlier : List (List ℕ)) → Watches (W.sees watch.old) start earlier core.old →
+        OnOk result (Watches (W.sees watch.new) start
+        (earlier ++ said_by (option_copied run.now.only) (call_of line.now)) core.new) }
+    ensures same { W.tells watch.new ≡ W.tells watch.old }
+    ensures works { OnOk result (OutputsWork (K.has_failed writer.new) (E.has_failed complaints.new)) }
+{
+    match read_line(line, &mut desk.room) {
         Ok(Said::Nothing) => Ok(false),
-        Ok(Said::Log(text)) => notes.critic.expect_line(notes.number, text),
+        Ok(Said::Log(text)) => desk.critic.expect_line(number, text),
         Ok(Said::Call { line: call, reply }) => {
-            let gathered = &mut notes.buffers.gathered;
             match answer_call(
                 run,
                 core,
-                notes.number,
+                number,
                 call,
-                &mut notes.reply,
+                &mut desk.reply,
                 watch,
                 gathered,
                 writer,
             ) {
-                Ok(answer) => notes
-                    .critic
-                    .judge(notes.number, line, reply, answer, complaints),
+                Ok(answer) => desk.critic.judge(number, line, reply, answer, complaints),
                 Err(fault) => Err(fault),
             }
         }
-        Err(fault) => notes.critic.tell_unread(notes.number, fault, complaints),
-    };
-    notes.buffers.ahead.pass(count + 1);
-    judged
+        Err(fault) => desk.critic.tell_unread(number, fault, complaints),
+    }
 }
 
 // Answers a call, and tells the answer to `watch`.
@@ -256,11 +313,13 @@ where
     requires listed { core.old.entries ≡ entries_of (start_list_of run.now.list.now) }
     requires writes { K.has_failed writer.old ≡ false }
     ensures world { core.new ≡ after_all (option_copied run.now.only) core.old (line.now ∷ []) }
-    ensures told { W.sees watch.old core.old → TellsUnless result
-        (K.contents writer.old) gathered.old (K.contents writer.new) gathered.new
-        (told_of_calls (W.tells watch.old) core.old number
+    ensures told { (start : World) (earlier : List (List ℕ)) → Watches (W.sees watch.old) start earlier core.old →
+        TellsUnless result (K.contents writer.old) gathered.old (K.contents writer.new) gathered.new
+        (told_of_calls (W.tells watch.old start) earlier number
         (said_by (option_copied run.now.only) (line.now ∷ []))) }
-    ensures sees { W.sees watch.old core.old → OnOk result (W.sees watch.new core.new) }
+    ensures seen { (start : World) (earlier : List (List ℕ)) → Watches (W.sees watch.old) start earlier core.old →
+        OnOk result (Watches (W.sees watch.new) start
+        (earlier ++ said_by (option_copied run.now.only) (line.now ∷ [])) core.new) }
     ensures same { W.tells watch.new ≡ W.tells watch.old }
     ensures works { OnOk result (K.has_failed writer.new ≡ false) }
 {
@@ -271,8 +330,10 @@ where
                 line,
                 answer,
             };
-            watch.tell(core, run.list, &heard, gathered, writer)?;
-            Ok(Some(answer))
+            match watch.tell(core, run.list, &heard, gathered, writer) {
+                Ok(()) => Ok(Some(answer)),
+                Err(fault) => Err(fault),
+            }
         }
         None => Ok(None),
     }

@@ -1,9 +1,12 @@
 //! Pieces of text.
-ghost use Rattle.std.specs.Prelude.{◌≡◌, false, is_err};
+ghost use Rattle.std.specs.Prelude.{◌≡◌, false, is_err, IfSome, IfNone, Some, None};
+ghost use Rattle.pd_core.specs.Call.{model_call};
 ghost use Rattle.scenario.specs.Gathered.{TellsUnless};
+ghost use Rattle.workbench.specs.Tracing.{said_in};
 
 use itoa::{Buffer, Integer};
-use scenario::{DeviceFault, Gather, Sink};
+use pd_core::Call;
+use scenario::{DeviceFault, Gather, LONGEST_LINE, Sink, read_line};
 
 /// Gathers a number in decimal digits.
 pub(crate) fn put_number<I: Integer, K: Sink>(
@@ -18,4 +21,19 @@ pub(crate) fn put_number<I: Integer, K: Sink>(
 {
     let mut digits = Buffer::new();
     gathered.put(sink, digits.format(number).as_bytes())
+}
+
+/// The name and the call that a line says, if it isn't too long to be a call.
+pub(crate) fn call_in(line: &[u8]) -> Option<(&[u8], Call<'_>)>
+    ensures value { IfSome result (λ said.
+        said_in line.now ≡ Some (record { name = said.0.now; call = model_call said.1 })) }
+    ensures none { IfNone result (said_in line.now ≡ None) }
+{
+    if line.len() > LONGEST_LINE {
+        return None;
+    }
+    match read_line(line) {
+        Ok((name, call)) => Some((name, call)),
+        Err(_) => None,
+    }
 }

@@ -1,0 +1,106 @@
+-- What each command writes, from what its play promises.
+use Rattle.std.proofs.Common.{◌≡◌, ℕ, ◌+◌, ◌<◌, ◌≤◌, ◌^◌, List, [], ◌∷◌, ◌++◌, Bool, true, false, length, Option, Some, None, IfSome, IfNone, Result, Ok, Err, inl, arith, refl, sym, ◌∙◌, ap, subst, append-nil, length-append}
+use Rattle.std.proofs.lemmas.Bool.Decides.{nat_tests}
+use Rattle.std.specs.Io.KnownBytes.{Appends}
+use Rattle.std.specs.List.{filter}
+use Rattle.own_model.specs.SaidBy.{is_said_by, said_by}
+use Rattle.own_model.specs.World.{World}
+use Rattle.friendly_lines.specs.Friendly.{Said, said_of}
+use Rattle.friendly_lines.specs.Friendly.Said.{Nothing, Log, Call}
+use Rattle.friendly_lines.specs.declared.fault.Fault.{Fault}
+use Rattle.scenario.specs.Gathered.{Tells, TellsPart}
+use Rattle.scenario.specs.Program.{accounts_for}
+use Rattle.scenario.specs.Stops.{AppendsPart}
+use Rattle.workbench.specs.Alone.{SeesAlone, alone_sum, alone_tells}
+use Rattle.workbench.specs.Played.{call_in, call_of, calls_answered, calls_said, engine_tells, told_of_lines}
+use Rattle.workbench.specs.Plays.{PlaysAll, WritesTold}
+use Rattle.workbench.specs.Tracing.{trace_header, trace_tells}
+use Rattle.workbench.specs.Writes.{Closes, IsPlayedFrom, WritesAfter, list_behind, transcript_of}
+use Rattle.workbench.specs.declared.ending.Ending.{Ending}
+use Rattle.workbench.specs.declared.ending.PlayFault.{PlayFault}
+use Rattle.workbench.proofs.PlayLemmas.{all_left}
+use Rattle.workbench.proofs.PlayedLemmas.{told_as_engine}
+use Rattle.workbench.proofs.WriteLemmas.{closes_alone, played_from, told_behind}
+
+-- the transcript, and the account list behind it where it is asked for
+pub run_played : (accounts : Bool) (only : Option (List ℕ)) {seen : List (List ℕ) → Type 0} {start last : World} {gathered : List ℕ} {input w w' w'' : Option (List ℕ)} (played ended : Ending) → gathered ≡ [] →
+    PlaysAll (engine_tells start) seen only played.fault played.lines start last gathered input w w' → Closes played ended w' w'' (accounts_for accounts last) →
+    IsPlayedFrom (transcript_of only start) (list_behind accounts only start) ended input w w''
+run_played accounts only {start = start} {w = w} {w' = w'} {w'' = w''} played ended none plays closes =
+    played_from played ended plays.lines plays.first plays.all plays.counted
+    (subst (WritesTold played.fault w w') (ap (λ g. g ++ told_of_lines (engine_tells start) only [] 1 plays.lines) none ∙ told_as_engine only start plays.lines) plays.told)
+    (subst (λ world. Closes played ended w' w'' (accounts_for accounts world)) plays.world closes)
+
+-- the rows of a trace, behind its header
+pub trace_played : {seen : List (List ℕ) → Type 0} {start last : World} {before gathered : List ℕ} {input w w' w'' : Option (List ℕ)} (ending : Ending) → before ≡ [] →
+    Tells w before w' gathered trace_header → PlaysAll (trace_tells start) seen None ending.fault ending.lines start last gathered input w' w'' →
+    IsPlayedFrom (λ lines. trace_header ++ told_of_lines (trace_tells start) None [] 1 lines) (λ _. []) ending input w w''
+trace_played {start = start} {gathered = gathered} {w = w} {w' = w'} {w'' = w''} ending none header plays =
+    played_from ending ending plays.lines plays.first plays.all plays.counted
+    (told_behind ending.fault w'' (told_of_lines (trace_tells start) None [] 1 plays.lines) (subst (λ g. Tells w g w' gathered trace_header) none header) plays.told)
+    (closes_alone ending w'')
+
+-- or a part of the header
+pub header_cut : {start : World} {before : List ℕ} {input w w' : Option (List ℕ)} (ending : Ending) (fault : PlayFault) → before ≡ [] → ending.fault ≡ Some fault → TellsPart w before w' trace_header →
+    IsPlayedFrom (λ lines. trace_header ++ told_of_lines (trace_tells start) None [] 1 lines) (λ _. []) ending input w w'
+header_cut {start = start} {input = input} {w = w} {w' = w'} ending fault none fails part =
+    played_from ending ending [] (all_left input) (rw fails tt) (rw fails tt)
+    (subst (λ f. WritesTold f w w' (trace_header ++ [])) (sym fails) (record {
+      part = part.1.out;
+      left = part.0;
+      parts = append-nil trace_header ∙ sym (part.1.parts ∙ ap (λ g. g ++ trace_header) none);
+      grows = part.1.grows;
+    }))
+    (closes_alone ending w')
+
+-- ---- one name alone
+
+-- a filter leaves no more
+filter_few : {X : Type 0} (p : X → Bool) (xs : List X) → length (filter p xs) ≤ length xs
+filter_few p [] = omega arith
+filter_few p (x ∷ xs) = grind (arith, nat_tests, filter_few p xs)
+
+-- a line says one call at most
+one_call : (said : Result Said Fault) → length (call_in said) ≤ 1
+one_call (Ok Nothing) = omega arith
+one_call (Ok (Log text)) = omega arith
+one_call (Ok (Call line reply)) = omega arith
+one_call (Err fault) = omega arith
+
+line_calls : (line : List ℕ) → length (call_of line) ≤ 1
+line_calls line = grind (arith, nat_tests, one_call (said_of line))
+
+few_calls : (lines : List (List ℕ)) → length (calls_said lines) ≤ length lines
+few_calls [] = omega arith
+few_calls (line ∷ lines) = omega (arith, few_calls lines, line_calls line, length-append (call_of line) (calls_said lines))
+
+pub few_of_name : (name : List ℕ) (lines : List (List ℕ)) → length (calls_answered (Some name) lines) ≤ length lines
+few_of_name name lines = omega (arith, filter_few (is_said_by name) (calls_said lines), few_calls lines)
+
+-- what is written behind a play that stopped is of no matter
+closes_as : (played ended : Ending) (w w' : Option (List ℕ)) (a b : List ℕ) → IfNone played.fault (a ≡ b) → Closes played ended w w' a → Closes played ended w w' b
+closes_as played ended w w' a b same closes = record { lines = closes.lines; writes = writes played.fault ended.fault same closes.writes }
+  where
+    writes : (f f' : Option PlayFault) → IfNone f (a ≡ b) → WritesAfter f f' w w' a → WritesAfter f f' w w' b
+    writes None f' is after = subst (WritesAfter None f' w w') is after
+    writes (Some fault) f' is after = after
+
+pub alone_played : (name : List ℕ) {start last core : World} {count : ℕ} {difference : Option ℕ} {gathered : List ℕ} {input w w' w'' : Option (List ℕ)} (played ended : Ending) → gathered ≡ [] → played.lines ≤ 1000000 →
+    PlaysAll (alone_tells name start) (SeesAlone name core count difference start) None played.fault played.lines start last gathered input w w' →
+    Closes played ended w' w'' (alone_sum name count) →
+    IsPlayedFrom (λ lines. told_of_lines (alone_tells name start) None [] 1 lines) (λ lines. alone_sum name (length (calls_answered (Some name) lines))) ended input w w''
+alone_played name {start = start} {core = core} {count = count} {difference = difference} {w = w} {w' = w'} {w'' = w''} played ended none few plays closes =
+    played_from played ended plays.lines plays.first plays.all plays.counted
+    (subst (WritesTold played.fault w w') (ap (λ g. g ++ told_of_lines (alone_tells name start) None [] 1 plays.lines) none) plays.told)
+    (closes_as played ended w' w'' _ _ (same played.fault plays.counted plays.sees) closes)
+  where
+    same : (f : Option PlayFault) → IfNone f (played.lines ≡ length plays.lines) → IfNone f (SeesAlone name core count difference start (calls_answered None plays.lines)) →
+        IfNone f (alone_sum name count ≡ alone_sum name (length (calls_answered (Some name) plays.lines)))
+    same None counted sees = ap (alone_sum name) (sees.counted (omega (arith, few, counted, few_of_name name plays.lines)))
+    same (Some fault) counted sees = tt
+
+-- it differs nowhere
+pub alone_same : (fault : Option PlayFault) {name : List ℕ} {start core : World} {count : ℕ} {difference : Option ℕ} {lines : List (List ℕ)} →
+    IfNone fault (SeesAlone name core count difference start lines) → IfNone fault (difference ≡ None)
+alone_same None sees = sees.alike
+alone_same (Some fault) sees = tt
