@@ -36,9 +36,9 @@ told_of only {start = start} {world = world} {left = left} {earlier = earlier} c
 }
 
 -- and then it has seen it
-pub watches_more : (only : Option (List ℕ)) {seen : World → List (List ℕ) → Type 0} {start left : World} {earlier : List (List ℕ)} (calls : List (List ℕ)) (call : List ℕ) →
-    calls ≡ call ∷ [] → left ≡ world_running start (earlier ++ call ∷ []) → seen start (earlier ++ call ∷ []) → Watches seen start (earlier ++ calls) left
-watches_more only calls call is leads sees = rw is (record { leads = leads; sees = sees })
+pub watches_more : (seen : World → List (List ℕ) → Type 0) (start left : World) (earlier calls : List (List ℕ)) (call : List ℕ) → calls ≡ call ∷ [] →
+    left ≡ world_running start (earlier ++ call ∷ []) → seen start (earlier ++ call ∷ []) → Watches seen start (earlier ++ calls) left
+watches_more seen start left earlier calls call is leads sees = rw is (record { leads = leads; sees = sees })
 
 -- where no call is answered nothing has changed
 pub watches_none : {seen : World → List (List ℕ) → Type 0} {start world : World} {earlier : List (List ℕ)} (calls : List (List ℕ)) →
@@ -97,6 +97,24 @@ told_in_part Endless w g w' bytes tells = ([], tells)
 written_all : {w w' : Option (List ℕ)} {g told : List ℕ} → Tells w g w' [] told → Appends w w' (g ++ told)
 written_all {w = w} {w' = w'} tells = subst (Appends w w') (sym (append-nil tells.out) ∙ tells.parts) tells.grows
 
+-- a line is played, unless a fault comes
+pub played_line : (tells : List (List ℕ) → ℕ → List ℕ → List ℕ) (seen : List (List ℕ) → Type 0) (only : Option (List ℕ)) (number : ℕ) (earlier : List (List ℕ)) (p q : Point) (written : Option (List ℕ)) (gathered line : List ℕ) (judged : Result Bool PlayFault) →
+    Tells p.written p.gathered written gathered [] → TellsUnless judged written gathered q.written q.gathered (told_of_calls tells earlier number (said_by only (call_of line))) →
+    q.world ≡ after_all only p.world (call_of line) → IfSome (to_come p.ahead p.rest) (λ text. PassesLines text (to_come q.ahead q.rest) (line ∷ [])) →
+    OnOk judged (seen (earlier ++ said_by only (call_of line))) → PlaysNext tells seen only number earlier (line_played judged) p q
+played_line tells seen only number earlier p q written gathered line (Ok complained) before told world passes sees = (line, record {
+  world = world ∙ ap (after_all only p.world) (sym (calls_said-one line));
+  told = Tells-more before (subst (Tells written gathered q.written q.gathered) (told_of_lines-one only tells earlier number line) told);
+  passes = passes;
+  sees = subst (λ calls. seen (earlier ++ calls)) (sym (answered-one only line)) sees;
+})
+played_line tells seen only number earlier p q written gathered line (Err fault) before told world passes sees = record {
+  lines = line ∷ [];
+  world = world ∙ ap (after_all only p.world) (sym (calls_said-one line));
+  told = (told.0, Tells-more before (subst (Tells written gathered q.written told.0) (told_of_lines-one only tells earlier number line) told.1));
+  first = are_first (to_come p.ahead p.rest) (to_come q.ahead q.rest) (line ∷ []) passes;
+}
+
 module _ {tells : List (List ℕ) → ℕ → List ℕ → List ℕ} {only : Option (List ℕ)} where
   -- no line is played at first
   pub plays_none : {seen : List (List ℕ) → Type 0} (p : Point) → seen [] → Plays tells seen only 1 [] [] p p
@@ -130,24 +148,6 @@ module _ {tells : List (List ℕ) → ℕ → List ℕ → List ℕ} {only : Opt
         ∙ sym (told_of_lines-append only tells earlier number xs then.lines))
         (Tells-more first.told then.told.1));
     first = first_behind (to_come p.ahead p.rest) (to_come q.ahead q.rest) xs then.lines first.passes then.first;
-  }
-
-  -- a line is played, unless a fault comes
-  pub played_line : {seen : List (List ℕ) → Type 0} (number : ℕ) (earlier : List (List ℕ)) (p q : Point) (written : Option (List ℕ)) (gathered line : List ℕ) (judged : Result Bool PlayFault) →
-      Tells p.written p.gathered written gathered [] → TellsUnless judged written gathered q.written q.gathered (told_of_calls tells earlier number (said_by only (call_of line))) →
-      q.world ≡ after_all only p.world (call_of line) → IfSome (to_come p.ahead p.rest) (λ text. PassesLines text (to_come q.ahead q.rest) (line ∷ [])) →
-      OnOk judged (seen (earlier ++ said_by only (call_of line))) → PlaysNext tells seen only number earlier (line_played judged) p q
-  played_line {seen = seen} number earlier p q written gathered line (Ok complained) before told world passes sees = (line, record {
-    world = world ∙ ap (after_all only p.world) (sym (calls_said-one line));
-    told = Tells-more before (subst (Tells written gathered q.written q.gathered) (told_of_lines-one only tells earlier number line) told);
-    passes = passes;
-    sees = subst (λ calls. seen (earlier ++ calls)) (sym (answered-one only line)) sees;
-  })
-  played_line number earlier p q written gathered line (Err fault) before told world passes sees = record {
-    lines = line ∷ [];
-    world = world ∙ ap (after_all only p.world) (sym (calls_said-one line));
-    told = (told.0, Tells-more before (subst (Tells written gathered q.written told.0) (told_of_lines-one only tells earlier number line) told.1));
-    first = are_first (to_come p.ahead p.rest) (to_come q.ahead q.rest) (line ∷ []) passes;
   }
 
   -- a fault comes before a line

@@ -1,5 +1,5 @@
 -- Lines of a scenario, one after others: the calls that are answered, and what is told of them.
-use Rattle.std.proofs.Common.{◌≡◌, ℕ, ◌+◌, ◌<◌, ◌≤◌, List, [], ◌∷◌, ◌++◌, length, nat_le, Option, Some, None, arith, refl, sym, ◌∙◌, ap, append_assoc, append-nil}
+use Rattle.std.proofs.Common.{◌≡◌, ℕ, ◌+◌, ◌<◌, ◌≤◌, Bool, true, false, cond, List, [], ◌∷◌, ◌++◌, length, nat_le, Option, Some, None, arith, refl, sym, ◌∙◌, ap, append_assoc, append-nil}
 use Rattle.std.proofs.lemmas.Bool.Decides.{nat_tests}
 use Rattle.std.proofs.lemmas.Grind.{flat_map-append}
 use Rattle.own_model.specs.SaidBy.{said_by}
@@ -12,13 +12,20 @@ use Rattle.scenario.proofs.Serving.{left_by_both, said_by-append, said_none, tol
 use Rattle.workbench.specs.Played.{call_in, call_of, calls_answered, calls_said, engine_tells, told_of_calls, told_of_lines}
 use Rattle.workbench.specs.Writes.{transcript_of}
 
+-- a line's length is tested
+is_short : (n : ℕ) → n ≤ longest_line → nat_le n longest_line ≡ true
+is_short n short = grind (arith, nat_tests)
+
+is_long : (n : ℕ) → longest_line < n → nat_le n longest_line ≡ false
+is_long n long = grind (arith, nat_tests)
+
 -- what is said of a line that isn't too long
 pub call_of-short : (line : List ℕ) → length line ≤ longest_line → call_of line ≡ call_in (said_of line)
-call_of-short line short = grind (arith, nat_tests)
+call_of-short line short = ap (λ b. cond b (call_in (said_of line)) []) (is_short (length line) short)
 
 -- and nothing of one that is
 pub call_of-long : (line : List ℕ) → longest_line < length line → call_of line ≡ []
-call_of-long line long = grind (arith, nat_tests)
+call_of-long line long = ap (λ b. cond b (call_in (said_of line)) []) (is_long (length line) long)
 
 -- the calls of lines, and then of others
 pub calls_said-append : (xs ys : List (List ℕ)) → calls_said (xs ++ ys) ≡ calls_said xs ++ calls_said ys

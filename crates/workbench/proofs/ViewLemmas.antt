@@ -1,8 +1,9 @@
 -- What each command writes, from what its play promises.
-use Rattle.std.proofs.Common.{◌≡◌, ℕ, ◌+◌, ◌<◌, ◌≤◌, ◌^◌, List, [], ◌∷◌, ◌++◌, Bool, true, false, length, Option, Some, None, IfSome, IfNone, Result, Ok, Err, inl, arith, refl, sym, ◌∙◌, ap, subst, append-nil, length-append}
+use Rattle.std.proofs.Common.{◌≡◌, ℕ, ◌+◌, ◌<◌, ◌≤◌, ◌^◌, List, [], ◌∷◌, ◌++◌, Bool, true, false, cond, nat_le, length, Option, Some, None, IfSome, IfNone, Result, Ok, Err, inl, arith, refl, sym, ◌∙◌, ap, subst, append-nil, length-append}
 use Rattle.std.proofs.lemmas.Bool.Decides.{nat_tests}
 use Rattle.std.specs.Io.KnownBytes.{Appends}
-use Rattle.std.specs.List.{filter}
+use Rattle.std.specs.List.{filter, flat_map}
+use Rattle.own_model.specs.Transcript.{longest_line}
 use Rattle.own_model.specs.SaidBy.{is_said_by, said_by}
 use Rattle.own_model.specs.World.{World}
 use Rattle.friendly_lines.specs.Friendly.{Said, said_of}
@@ -67,12 +68,20 @@ one_call (Ok (Log text)) = omega arith
 one_call (Ok (Call line reply)) = omega arith
 one_call (Err fault) = omega arith
 
+unless_long : (short : Bool) (calls : List (List ℕ)) → length calls ≤ 1 → length (cond short calls []) ≤ 1
+unless_long true calls few = few
+unless_long false calls few = omega arith
+
 line_calls : (line : List ℕ) → length (call_of line) ≤ 1
-line_calls line = grind (arith, nat_tests, one_call (said_of line))
+line_calls line = unless_long (nat_le (length line) longest_line) (call_in (said_of line)) (one_call (said_of line))
+
+-- so lines say no more calls than they are
+few_by : (f : List ℕ → List (List ℕ)) → ((line : List ℕ) → length (f line) ≤ 1) → (lines : List (List ℕ)) → length (flat_map f lines) ≤ length lines
+few_by f one [] = omega arith
+few_by f one (line ∷ lines) = omega (arith, few_by f one lines, one line, length-append (f line) (flat_map f lines))
 
 few_calls : (lines : List (List ℕ)) → length (calls_said lines) ≤ length lines
-few_calls [] = omega arith
-few_calls (line ∷ lines) = omega (arith, few_calls lines, line_calls line, length-append (call_of line) (calls_said lines))
+few_calls lines = few_by call_of line_calls lines
 
 pub few_of_name : (name : List ℕ) (lines : List (List ℕ)) → length (calls_answered (Some name) lines) ≤ length lines
 few_of_name name lines = omega (arith, filter_few (is_said_by name) (calls_said lines), few_calls lines)
