@@ -6,6 +6,7 @@ pub mod InitLemmas
 pub mod BootLemmas
 pub mod BootedLemmas
 pub mod ListLemmas
+pub mod FinderLemmas
 pub mod DepthLemmas
 pub mod RouteLemmas
 pub mod ReadLemmas

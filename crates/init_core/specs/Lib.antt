@@ -1,4 +1,4 @@
-pub mod Mark
+pub mod Finder
 pub mod Members
 pub mod Rules
 pub mod Entries

@@ -6,14 +6,13 @@ ghost use Rattle.own_model.specs.Listed.{offers, reserve_of, serves};
 ghost use Rattle.init_core.specs.Depth.{is_init};
 ghost use Rattle.init_core.specs.Misread.{service_name};
 ghost use Rattle.init_core.specs.Entries.{binary_of, no_binary};
-ghost use Rattle.init_core.specs.Mark.{mark_of};
 ghost use Rattle.init_core.specs.Members.{name_in};
 ghost use Rattle.init_core.specs.View.{model_binary};
 ghost use Rattle.pd_core.specs.Answer.{reserve_amounts};
 ghost use Rattle.init_core.specs.declared.fault.BootFault.TheVariants.{QuotaExceeded};
 
 use crate::fault::{BootFault, Field};
-use crate::name::{Label, Mark, Name, Path};
+use crate::name::{Label, Name, Path};
 use crate::rule::Rule;
 use pd_core::Reserve;
 use std::marker::Model;
@@ -93,8 +92,6 @@ impl Binary {
 pub struct Entry {
     pub(crate) name: Name,
     pub(crate) path: Path,
-    /// Of its path.
-    pub(crate) mark: Mark,
     pub(crate) label: Label,
     pub(crate) home: usize,
     pub(crate) binary: Binary,
@@ -128,11 +125,6 @@ impl Model for Entry {
       reserve = option_map reserve_amounts entry.reserve;
       inner_route = entry.inner_route.items;
     } };
-
-    ghost use Rattle.std.specs.Prelude.{◌≡◌};
-    ghost use Rattle.init_core.specs.Mark.{mark_of};
-
-    ghost invariant = { λ entry. entry.mark.0 ≡ mark_of entry.path };
 }
 
 impl Entry {
@@ -164,13 +156,6 @@ impl Entry {
         ensures { result ≡ self.now.path }
     {
         self.path.copy()
-    }
-
-    /// The mark of its path.
-    pub(crate) fn mark(&self) -> Mark
-        ensures { result.0 ≡ mark_of self.now.path }
-    {
-        self.mark
     }
 
     /// The label under which it opens sessions: the names of its path, parted by ` -> `.

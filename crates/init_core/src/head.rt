@@ -12,7 +12,7 @@ use crate::config::read_config;
 use crate::entry::{Binary, Entry};
 use crate::fault::{BootFault, Field};
 use crate::member::{amount_at, name_at, whole_at};
-use crate::name::{Mark, Name};
+use crate::name::Name;
 use crate::place::Place;
 use crate::reserve::read_reserve;
 use crate::rule::{Rule, read_rules};
@@ -64,10 +64,8 @@ impl<'v> Head<'v> {
         let route = read_route(alloc, value.get("route"))?;
         let reserve = read_reserve(binary, value)?;
         let own = read_config(alloc, binary, deeper > 0, met, value.get("config"))?;
-        let path = place.path.join(&name);
         let entry = Entry {
-            mark: Mark::of(path.as_bytes()),
-            path,
+            path: place.path.join(&name),
             label: place.label.join(&name),
             name,
             home: place.init,

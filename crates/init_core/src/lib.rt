@@ -5,6 +5,7 @@
 mod config;
 mod entry;
 mod fault;
+mod finder;
 mod head;
 mod list;
 mod machine_a;

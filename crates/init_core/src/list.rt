@@ -17,8 +17,8 @@ ghost use Rattle.init_core.specs.declared.fault.BootFault.TheVariants.{NoMemory,
 use crate::config::read_own;
 use crate::entry::Entry;
 use crate::fault::{BootFault, Field};
+use crate::finder::Finder;
 use crate::member::whole_at;
-use crate::name::Mark;
 use crate::place::Place;
 use crate::reading::Reading;
 use crate::rule::Rule;
@@ -45,6 +45,8 @@ pub struct StartList {
     caps: u32,
     default_route: Vec<Rule>,
     entries: Vec<Entry>,
+    /// Of the entries.
+    finder: Finder,
 }
 
 impl Model for StartList {
@@ -61,10 +63,11 @@ impl Model for StartList {
 
     ghost use Rattle.std.specs.Prelude.{vec_len};
     ghost use Rattle.init_core.specs.Depth.{HaveHomes};
+    ghost use Rattle.init_core.specs.Finder.{AreFirst};
     ghost use Rattle.init_core.specs.Range.{IsInRange};
 
     ghost invariant = { λ list. IsInRange list.pages list.caps (vec_len list.entries)
-        × HaveHomes list.entries.items };
+        × HaveHomes list.entries.items × AreFirst list.finder.firsts list.entries.items };
 }
 
 impl StartList {
@@ -100,6 +103,7 @@ impl StartList {
             pages,
             caps,
             default_route: own.route,
+            finder: Finder::of(reading.entries.as_slice()),
             entries: reading.entries,
         })
     }
@@ -198,7 +202,7 @@ impl StartList {
             ≡ position (λ entry. bytes_eq entry.name name.now)
             (entries_of (start_list_of self.now)) }
     {
-        place_of(self.entries.as_slice(), name)
+        self.finder.find(self.entries.as_slice(), name)
     }
 
     /// The rules for those of the machine's own list that have no route of their own.
@@ -232,16 +236,6 @@ impl StartList {
             None => self.default_of(entry.home()),
         }
     }
-}
-
-/// The place of the first entry of a path, if there is one.
-fn place_of(entries: &[Entry], path: &[u8]) -> Option<usize>
-    ensures { result ≡ position (λ entry. bytes_eq entry.path path.now) entries.now }
-{
-    let mark = Mark::of(path);
-    entries
-        .iter()
-        .position(|entry| entry.mark() == mark && entry.path() == path)
 }
 
 /// The value that a text is.

@@ -3,7 +3,6 @@ ghost use Rattle.std.specs.Prelude.{◌≡◌, ◌+◌, ◌≤◌, length};
 ghost use Rattle.arrayvec.specs.ArrayString.{array_string_len};
 ghost use Rattle.init_core.specs.Entries.{behind};
 ghost use Rattle.init_core.specs.Members.{name_in};
-ghost use Rattle.init_core.specs.Mark.{mark_of};
 
 use arrayvec::ArrayString;
 use std::fmt;
@@ -15,25 +14,6 @@ const LONGEST_PATH: usize = 131;
 
 /// The most bytes of a component's label: the same names, parted by ` -> `.
 const LONGEST_LABEL: usize = 140;
-
-/// What is compared before the bytes of paths are: equal paths have equal marks, and few others have.
-#[derive(Clone, Copy, Debug, PartialEq, Eq)]
-pub(crate) struct Mark(u32);
-
-impl Mark {
-    /// The mark of a path: its last four bytes, or else its last one.
-    pub(crate) fn of(path: &[u8]) -> Mark
-        ensures { result.0 ≡ mark_of path.now }
-    {
-        Mark(match path {
-            [.., fourth, third, second, last] => {
-                u32::from_le_bytes([*last, *second, *third, *fourth])
-            }
-            [.., last] => u32::from(*last),
-            [] => 0,
-        })
-    }
-}
 
 /// A name: 1 to 32 letters, digits, `_`, `-` and `.`.
 #[derive(Debug, Drop)]

@@ -7,5 +7,5 @@ use Rattle.init_core.proofs.list.StartList.find.Goals as goal
 
 pub returns-clause-listed : goal.returns-clause-listed
 returns-clause-listed c =
-    let found : c.place_of.result ≡ position (λ entry. bytes_eq entry.path c.args.name.now) c.args.self.now.entries = grind (arith) in
+    let found : c.find.result ≡ position (λ entry. bytes_eq entry.path c.args.name.now) c.args.self.now.entries = grind (arith) in
     found ∙ same_place c.args.self.now c.args.name.now
