@@ -1,3 +1,6 @@
 mod HidingLemmas
 mod LeftLemmas
 mod NestLemmas
+mod RuleLemmas
+mod UnreadLemmas
+mod ValueLemmas

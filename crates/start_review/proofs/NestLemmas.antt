@@ -2,8 +2,11 @@
 use Rattle.std.proofs.Common.{◌≡◌, ℕ, zero, suc, ◌-◌, ◌<◌, List, [], ◌∷◌, ◌++◌, Some, None, refl, sym, ap, ◌∙◌, arith}
 use Rattle.std.specs.List.{slice_get}
 use Rattle.own_model.specs.Listed.{ListedEntry}
-use Rattle.start_review.specs.Steps.{step_to, steps_above, steps_at, steps_within}
+use Rattle.start_review.specs.Steps.{place_in, step_to, steps_above, steps_at, steps_within}
 use Rattle.start_review.specs.declared.part.Step.{Step}
+
+abbrev step_of : ℕ → List ℕ → Step
+step_of place name = record { place = place; name = Some name }
 
 fewer : (n : ℕ) → suc n - 1 ≡ n
 fewer n = omega arith
@@ -39,3 +42,17 @@ pub steps_of_init : (lists : ℕ) (entries : List ListedEntry) (number : ℕ) (e
 steps_of_init lists entries number entry some is inner =
     sym (steps_one lists entries number some ∙ ap (steps_at (steps_within (lists - 1) entries) entries number) is
     ∙ ap (λ above. above ++ step_to entries number entry ∷ []) (above_one (steps_within (lists - 1) entries) entry.home inner))
+
+-- the step that was put together is the one to the entry
+step_is : (entries : List ListedEntry) (number : ℕ) (entry : ListedEntry) (home place : ℕ) (name : List ℕ)
+    → home ≡ entry.home → place ≡ place_in entries home number → name ≡ entry.name
+    → step_of place name ≡ step_to entries number entry
+step_is entries number entry home place name home_is place_is name_is =
+    ap (λ p. step_of p name) (place_is ∙ ap (λ h. place_in entries h number) home_is) ∙ ap (step_of (place_in entries entry.home number)) name_is
+
+-- behind those above it
+pub steps_then : (entries : List ListedEntry) (number : ℕ) (entry : ListedEntry) (home place : ℕ) (name : List ℕ) (above new : List Step)
+    → home ≡ entry.home → place ≡ place_in entries home number → name ≡ entry.name → new ≡ above ++ step_of place name ∷ []
+    → new ≡ above ++ step_to entries number entry ∷ []
+steps_then entries number entry home place name above new home_is place_is name_is new_is =
+    new_is ∙ ap (λ step. above ++ step ∷ []) (step_is entries number entry home place name home_is place_is name_is)

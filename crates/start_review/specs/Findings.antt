@@ -1,6 +1,6 @@
 -- What a start list says that its writer can hardly have meant.
-use Rattle.std.specs.Prelude.{◌≡◌, ℕ, ◌+◌, ◌%◌, ◌==◌, ◌&&◌, Bool, true, false, not, List, [], ◌∷◌, ◌++◌, flat_map, is_some, nat_lt, position, take, if◌then◌else◌, Option, Some, None}
-use Rattle.std.specs.List.{All, enumerate_from, list_any}
+use Rattle.std.specs.Prelude.{ℕ, ◌+◌, ◌%◌, ◌==◌, ◌&&◌, Bool, not, List, [], ◌∷◌, ◌++◌, flat_map, is_some, nat_lt, position, take, if◌then◌else◌, Option, Some, None}
+use Rattle.std.specs.List.{enumerate_from, list_any}
 use Rattle.std.specs.Option.{option_map}
 use Rattle.std.specs.Str.{bytes_eq}
 use Rattle.own_model.specs.Listed.{Binary, Listed, ListedEntry, ListedRule, Target, file_service, log_service, reserve_of}
@@ -13,11 +13,10 @@ use Rattle.start_review.specs.Steps.{part_of}
 use Rattle.start_review.specs.Wishes.{child_at, is_led_to, is_provided, leads_somewhere}
 use Rattle.start_review.specs.declared.finding.Finding.{Finding}
 use Rattle.start_review.specs.declared.finding.Remark.{Remark}
-use Rattle.start_review.specs.declared.finding.Remark.TheVariants.{Unread, NoChild, NotProvided, NoProvider, SeveralProviders, Hidden, Unreached, LowRam, LowCaps, PartPages, PartReserve}
+use Rattle.start_review.specs.declared.finding.Remark.TheVariants.{NoChild, NotProvided, NoProvider, SeveralProviders, Hidden, Unreached, LowRam, LowCaps, PartPages, PartReserve}
 use Rattle.start_review.specs.declared.part.Owner.{Owner}
 use Rattle.start_review.specs.declared.part.Owner.TheVariants as owner
 use Rattle.start_review.specs.declared.part.Part.{Part}
-use Rattle.start_review.specs.declared.part.About.{About}
 use Rattle.start_review.specs.declared.part.About.TheVariants as about
 
 -- what is told of a part, if something is
@@ -145,17 +144,3 @@ abbrev pub findings_of : Listed → List Finding
 findings_of list =
     rules_findings list 0 owner.Default list.default_route
     ++ flat_map (entry_findings list) (enumerate_from 0 list.entries)
-
-abbrev pub is_unread : Remark → Bool
-is_unread (Unread member near) = true
-is_unread other = false
-
--- it is told of a member that nothing reads it
-abbrev pub IsUnread : Finding → Type 0
-IsUnread finding = is_unread finding.remark ≡ true
-
--- what is told of a list: members that nothing reads, and then exactly its findings
-pub record IsTold (list : Listed) (found : List Finding) : Type 0 where
-  pub unread : List Finding
-  pub are_unread : All IsUnread unread
-  pub told : found ≡ unread ++ findings_of list

@@ -35,15 +35,18 @@ steps_within (suc lists) entries number = steps_at (steps_within lists entries) 
 abbrev pub steps_to : List ListedEntry → ℕ → List Step
 steps_to entries number = steps_within most_lists entries number
 
+-- the rule at a place of an owner's list, to whose entry these steps lead
+abbrev pub rule_at : Owner → List Step → ℕ → Part
+rule_at owner.Default steps rule = parts.DefaultRule rule
+rule_at (owner.Entry number) steps rule = parts.Rule number steps rule
+rule_at (owner.Inner number) steps rule = parts.InnerRule number steps rule
+
 abbrev pub rule_part : List ListedEntry → Owner → ℕ → Part
 rule_part entries owner.Default rule = parts.DefaultRule rule
 rule_part entries (owner.Entry number) rule = parts.Rule number (steps_to entries number) rule
 rule_part entries (owner.Inner number) rule = parts.InnerRule number (steps_to entries number) rule
 
--- the part of a list
+-- the part that something is told of
 abbrev pub part_of : List ListedEntry → About → Part
-part_of entries about.List = parts.List
-part_of entries about.Machine = parts.Machine
 part_of entries (about.Entry number) = parts.Entry number (steps_to entries number)
-part_of entries (about.Config number) = parts.Config number (steps_to entries number)
 part_of entries (about.Rule owner rule) = rule_part entries owner rule

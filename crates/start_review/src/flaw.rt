@@ -1,14 +1,19 @@
 //! Where in a start list a fault is, what is there, and what is expected.
-ghost use Rattle.std.specs.Prelude.{◌≡◌, IfErr, IfOk, IfSome, None, Some, codes};
-ghost use Rattle.std.specs.Option.{option_copied};
+ghost use Rattle.std.specs.Prelude.{◌≡◌, IfErr, IfOk, None, Some, codes, is_some, map, not};
+ghost use Rattle.std.specs.List.{enumerate_from, find};
+ghost use Rattle.std.specs.Option.{option_and_then, option_copied, option_map, unwrap_or};
+ghost use Rattle.serde_json.specs.Find.{get};
 ghost use Rattle.serde_json.specs.View.{view};
 ghost use Rattle.init_core.specs.Misread.{entry_at_fault};
+ghost use Rattle.init_core.specs.Members.{short_list};
+ghost use Rattle.init_core.specs.Rules.{rule_of};
 ghost use Rattle.init_core.specs.declared.fault.BootFault.TheVariants.{NoMemory};
-ghost use Rattle.start_review.specs.Places.{member_of, spot_before, spot_of, spot_of_flaw};
-ghost use Rattle.start_review.specs.Places.Spot.{OfEntry, OfMachine};
+ghost use Rattle.start_review.specs.Places.{bad_rule, field_of, inner_rules_spot, member_in, own_rules_spot, rules_spot, spot_at, spot_before, spot_in, spot_of, spot_of_flaw, start_spot, whole};
+ghost use Rattle.start_review.specs.RuleFaults.{FaultsAreTheEngines, name_fault, rule_fault, service_fault, target_fault, text_fault, true_fault};
+ghost use Rattle.start_review.specs.Values.{seen};
 
-use crate::part::{Part, Steps};
-use crate::values::{member, runs, steps_at, value_at};
+use crate::part::{Owner, Part, Steps, rule_at};
+use crate::values::{Found, find_entries, member, runs};
 use init_core::{BootFault, Field, Name, entry_at_fault};
 use serde_json::Value;
 use std::alloc::{AllocError, Global};
@@ -158,154 +163,198 @@ impl Flaw {
         value: &Value,
         fault: &BootFault,
     ) -> Result<Option<Flaw>, BootFault>
-        ensures spot { IfOk result (λ told. IfSome told (λ flaw.
-            spot_of_flaw flaw ≡ spot_of (entry_at_fault (view value.now)) fault.now)) }
+        ensures spot { IfOk result
+            (λ flaw. option_map spot_of_flaw flaw ≡ spot_of (view value.now) fault.now) }
         ensures memory { IfErr result (λ want. want ≡ NoMemory) }
     {
         let number = entry_at_fault(alloc, value)?;
-        match (fault, number) {
-            (BootFault::BadConfig(field), None) => Ok(flaw_of_list(value, *field)),
-            (BootFault::BadConfig(field), Some(number)) => {
-                Ok(flaw_of_entry(alloc, value, *field, number)?)
-            }
-            (BootFault::DuplicateName(_), Some(number)) => {
-                Ok(in_entry_at(alloc, value, number, "name", Expected::NewName)?)
-            }
-            (BootFault::UnknownBinary(_), Some(number)) => {
-                Ok(in_entry_at(alloc, value, number, "binary", Expected::Binary)?)
-            }
-            _ => Ok(None),
+        let Some(field) = field_of(fault) else {
+            return Ok(None);
+        };
+        match number {
+            None => Ok(flaw_of_list(alloc, value, field)?),
+            Some(number) => Ok(flaw_of_entry(alloc, value, number, field, is_taken(fault))?),
         }
     }
 }
 
-// The flaw of a bad value before the entries.
-fn flaw_of_list(value: &Value, field: Field) -> Option<Flaw>
-    ensures { IfSome result (λ flaw. spot_of_flaw flaw ≡ Some (spot_before field)) }
+// The member that a fault of a value is of.
+fn field_of(fault: &BootFault) -> Option<Field>
+    ensures { result ≡ field_of fault.now }
 {
-    match field {
+    match fault {
+        BootFault::BadConfig(field) => Some(*field),
+        BootFault::DuplicateName(_) => Some(Field::Name),
+        BootFault::UnknownBinary(_) => Some(Field::Binary),
+        BootFault::BadJson | BootFault::QuotaExceeded(_) | BootFault::NoMemory => None,
+    }
+}
+
+// Whether a fault is that an earlier entry has the name.
+fn is_taken(fault: &BootFault) -> bool {
+    match fault {
+        BootFault::DuplicateName(_) => true,
+        _ => false,
+    }
+}
+
+// The flaw of a bad value before the entries.
+fn flaw_of_list(alloc: Global, value: &Value, field: Field) -> Result<Option<Flaw>, AllocError>
+    ensures { IfOk result
+        (λ flaw. option_map spot_of_flaw flaw ≡ spot_before (view value.now) field) }
+{
+    Ok(match field {
         Field::Machine => Some(at(Part::List, Some(value), "machine", Expected::Object)),
-        Field::Pages => in_machine(value, "pages"),
-        Field::Caps => in_machine(value, "caps"),
-        Field::DefaultRoute => match bad_rule(value.get("default-route")) {
-            Some((rule, bad)) => Some(flaw_of_rule(Part::DefaultRule(rule), bad)),
-            None => Some(at(Part::List, Some(value), "default-route", Expected::Rules)),
-        },
+        Field::Pages => Some(in_machine(value, "pages")),
+        Field::Caps => Some(in_machine(value, "caps")),
+        Field::DefaultRoute => Some(in_rules(
+            alloc,
+            Owner::Default,
+            &Steps::none(alloc),
+            Part::List,
+            Some(value),
+            "default-route",
+        )?),
         Field::Start => Some(at(Part::List, Some(value), "start", Expected::Entries)),
         _ => None,
-    }
+    })
 }
 
 // The flaw of the machine's member.
-fn in_machine(value: &Value, member: &'static str) -> Option<Flaw>
-    ensures { IfSome result (λ flaw. spot_of_flaw flaw ≡ Some (OfMachine member.now)) }
+fn in_machine(value: &Value, member: &'static str) -> Flaw
+    ensures { spot_of_flaw result ≡ member_in Part.Machine member.now }
 {
     let machine = value.get("machine");
-    Some(at(Part::Machine, machine, member, Expected::MachineSize))
+    at(Part::Machine, machine, member, Expected::MachineSize)
 }
 
-// The flaw of a bad value of the entry of a number.
+// The flaw of a list of rules, which is a member of a part: of its first value that is no rule, or of the list itself.
+fn in_rules(
+    alloc: Global,
+    owner: Owner,
+    steps: &Steps,
+    part: Part,
+    object: Option<&Value>,
+    key: &'static str,
+) -> Result<Flaw, AllocError>
+    ensures { IfOk result (λ flaw. spot_of_flaw flaw
+        ≡ rules_spot owner steps.now part key.now
+        (bad_rule (option_and_then (get key.now) (option_map (λ value. view value.now) object.entry)))) }
+{
+    match bad_rule(member(object, key)) {
+        Some((rule, bad)) => Ok(flaw_of_rule(rule_at(alloc, owner, steps, rule)?, bad)),
+        None => Ok(at(part, object, key, Expected::Rules)),
+    }
+}
+
+// The flaw of a bad value of the entry of a number, which is its name where that is taken.
 fn flaw_of_entry(
     alloc: Global,
     value: &Value,
+    number: usize,
     field: Field,
-    number: usize,
+    taken: bool,
 ) -> Result<Option<Flaw>, AllocError>
-    ensures { IfOk result (λ told. IfSome told
-        (λ flaw. spot_of_flaw flaw ≡ Some (OfEntry number (member_of field)))) }
+    ensures { IfOk result (λ flaw. option_map spot_of_flaw flaw
+        ≡ spot_at (view value.now) (Some number) field) }
 {
-    let steps = steps_at(alloc, value, number)?;
-    match value_at(value, number) {
-        Some(found) => Ok(flaw_in(found, field, number, steps)),
+    let entries = find_entries(alloc, value)?;
+    match entries.get(number) {
+        Some(found) => flaw_in(alloc, found, number, field, taken),
         None => Ok(None),
     }
 }
 
-// The flaw of a member of the entry of a number.
-fn in_entry_at(
+// The same of an entry that was found.
+fn flaw_in(
     alloc: Global,
-    value: &Value,
+    found: &Found<'_>,
     number: usize,
-    member: &'static str,
-    expected: Expected,
+    field: Field,
+    taken: bool,
 ) -> Result<Option<Flaw>, AllocError>
-    ensures { IfOk result (λ told. IfSome told
-        (λ flaw. spot_of_flaw flaw ≡ Some (OfEntry number member.now))) }
+    ensures { IfOk result
+        (λ flaw. option_map spot_of_flaw flaw ≡ spot_in number field (seen found.now)) }
 {
-    let steps = steps_at(alloc, value, number)?;
-    match value_at(value, number) {
-        Some(found) => Ok(Some(at(Part::Entry(number, steps), Some(found), member, expected))),
-        None => Ok(None),
-    }
-}
-
-// The flaw of a bad value of an entry, to which these steps lead.
-fn flaw_in(found: &Value, field: Field, number: usize, steps: Steps) -> Option<Flaw>
-    ensures { IfSome result (λ flaw. spot_of_flaw flaw ≡ Some (OfEntry number (member_of field))) }
-{
+    let value = found.value;
+    let steps = found.steps.copy(alloc)?;
     let (member, expected) = match field {
-        Field::Start => return Some(flaw_of_start(found, number, steps)),
-        Field::DefaultRoute => return Some(in_inner_route(found, number, steps)),
-        Field::Route => return Some(in_route(found, number, steps)),
-        Field::Name => ("name", Expected::Name),
+        Field::Size | Field::Machine | Field::Pages => return Ok(None),
+        Field::Start => return Ok(Some(flaw_of_start(value, number, steps))),
+        Field::DefaultRoute => return Ok(Some(in_inner_route(alloc, value, number, &steps)?)),
+        Field::Route => return Ok(Some(in_route(alloc, value, number, &steps)?)),
+        Field::Name => (
+            "name",
+            if taken {
+                Expected::NewName
+            } else {
+                Expected::Name
+            },
+        ),
         Field::Binary => ("binary", Expected::Binary),
         Field::Quantum => ("quantum", Expected::Amount),
         Field::Caps => ("caps", Expected::Caps),
         Field::Provides => ("provides", Expected::Provides),
-        Field::Reserve => ("reserve", if_script(found, Expected::Amount)),
-        Field::ReserveCaps => ("reserve-caps", if_script(found, Expected::Caps)),
-        Field::Config => ("config", config_expected(found)),
-        Field::Size | Field::Machine | Field::Pages => return None,
+        Field::Reserve => ("reserve", if_script(value, Expected::Amount)),
+        Field::ReserveCaps => ("reserve-caps", if_script(value, Expected::Caps)),
+        Field::Config => ("config", config_expected(value)),
     };
-    Some(at(Part::Entry(number, steps), Some(found), member, expected))
+    Ok(Some(at(Part::Entry(number, steps), Some(value), member, expected)))
 }
 
 // The flaw of an entry that is no object, or of what an init starts.
-fn flaw_of_start(found: &Value, number: usize, steps: Steps) -> Flaw
-    ensures { spot_of_flaw result ≡ Some (OfEntry number (codes "start")) }
+fn flaw_of_start(value: &Value, number: usize, steps: Steps) -> Flaw
+    ensures { spot_of_flaw result
+        ≡ start_spot number (record { steps = steps; value = view value.now }) }
 {
-    if found.is_object() {
-        let config = found.get("config");
+    if value.is_object() {
         at(
             Part::Config(number, steps),
-            config,
+            value.get("config"),
             "start",
             Expected::InnerEntries,
         )
     } else {
-        whole(Part::Entry(number, steps), found, Expected::Object)
+        whole(Part::Entry(number, steps), value, Expected::Object)
     }
 }
 
-// The flaw of an entry's own route, or of its first value that is no rule.
-fn in_route(found: &Value, number: usize, steps: Steps) -> Flaw
-    ensures { spot_of_flaw result ≡ Some (OfEntry number (codes "route")) }
+// The flaw of an entry's own route.
+fn in_route(alloc: Global, value: &Value, number: usize, steps: &Steps) -> Result<Flaw, AllocError>
+    ensures { IfOk result (λ flaw. spot_of_flaw flaw
+        ≡ own_rules_spot number (record { steps = steps.now; value = view value.now })) }
 {
-    match bad_rule(found.get("route")) {
-        Some((rule, bad)) => flaw_of_rule(Part::Rule(number, steps, rule), bad),
-        None => at(
-            Part::Entry(number, steps),
-            Some(found),
-            "route",
-            Expected::Rules,
-        ),
-    }
+    let part = Part::Entry(number, steps.copy(alloc)?);
+    in_rules(
+        alloc,
+        Owner::Entry(number),
+        steps,
+        part,
+        Some(value),
+        "route",
+    )
 }
 
-// The same of the default route of what it starts.
-fn in_inner_route(found: &Value, number: usize, steps: Steps) -> Flaw
-    ensures { spot_of_flaw result ≡ Some (OfEntry number (codes "default-route")) }
+// The flaw of the default route of what an init starts.
+fn in_inner_route(
+    alloc: Global,
+    value: &Value,
+    number: usize,
+    steps: &Steps,
+) -> Result<Flaw, AllocError>
+    ensures { IfOk result (λ flaw. spot_of_flaw flaw
+        ≡ inner_rules_spot number steps.now (get (codes "config") (view value.now))) }
 {
-    let config = found.get("config");
-    match bad_rule(member(config, "default-route")) {
-        Some((rule, bad)) => flaw_of_rule(Part::InnerRule(number, steps, rule), bad),
-        None => at(
-            Part::Config(number, steps),
-            config,
-            "default-route",
-            Expected::Rules,
-        ),
-    }
+    let part = Part::Config(number, steps.copy(alloc)?);
+    let config = value.get("config");
+    in_rules(
+        alloc,
+        Owner::Inner(number),
+        steps,
+        part,
+        config,
+        "default-route",
+    )
 }
 
 // What is expected of a member that only a script's entry has.
@@ -339,22 +388,56 @@ fn at(part: Part, object: Option<&Value>, key: &'static str, expected: Expected)
 }
 
 // The first value of a short list that is no rule, with its place.
-fn bad_rule(list: Option<&Value>) -> Option<(usize, &Value)> {
-    let rules = list?.as_array()?;
-    if rules.len() > 32 {
-        return None;
-    }
-    for (place, rule) in rules.as_slice().iter().enumerate() {
-        if rule_flaw(rule).is_some() {
+fn bad_rule(list: Option<&Value>) -> Option<(usize, &Value)>
+    ensures { option_map (λ rule. (rule.0, view rule.1.now)) result
+        ≡ bad_rule (option_map (λ value. view value.now) list.entry) }
+{
+    first_bad_rule(short_list(list?)?)
+}
+
+// The same of its elements.
+fn first_bad_rule(rules: &[Value]) -> Option<(usize, &Value)>
+    ensures { option_map (λ rule. (rule.0, view rule.1.now)) result
+        ≡ find (λ rule. not (is_some (rule_of rule.1))) (enumerate_from 0 (map view rules.now)) }
+{
+    for (place, rule) in rules.iter().enumerate() {
+        if is_bad(rule) {
             return Some((place, rule));
         }
     }
     None
 }
 
+/// A value has a fault by `rule_fault` exactly where the engine reads no rule of it.
+#[tactic(auto, using(crate::proofs::RuleLemmas::faults_are_the_engines))]
+pub fn faults_of_rules_are_the_engines()
+    ensures { FaultsAreTheEngines }
+{}
+
+// Whether a value is no rule.
+#[tactic(auto, using(crate::proofs::RuleLemmas::faults_are_the_engines))]
+fn is_bad(rule: &Value) -> bool
+    ensures { result ≡ not (is_some (rule_of (view rule.now))) }
+{
+    rule_flaw(rule).is_some()
+}
+
+// The list that a value is, if it is one of at most 32 elements.
+fn short_list(value: &Value) -> Option<&[Value]>
+    ensures { option_map (λ list. map view list.now) result ≡ short_list (view value.now) }
+{
+    let list = value.as_array()?;
+    if list.len() <= 32 {
+        Some(list.as_slice())
+    } else {
+        None
+    }
+}
+
 // The flaw of a value that is no rule.
 fn flaw_of_rule(part: Part, rule: &Value) -> Flaw
-    ensures { result.part ≡ part }
+    ensures part { result.part ≡ part }
+    ensures member { option_copied result.member ≡ unwrap_or (rule_fault (view rule.now)) None }
 {
     match rule_flaw(rule) {
         Some((Some(member), expected)) => at(part, Some(rule), member, expected),
@@ -377,7 +460,9 @@ fn whole(part: Part, value: &Value, expected: Expected) -> Flaw
 }
 
 // The first member for which a value is no rule, or none for the whole, and what is expected; nothing where it is a rule.
-fn rule_flaw(rule: &Value) -> Option<(Option<&'static str>, Expected)> {
+fn rule_flaw(rule: &Value) -> Option<(Option<&'static str>, Expected)>
+    ensures { option_map (λ flaw. option_copied flaw.0) result ≡ rule_fault (view rule.now) }
+{
     if !rule.is_object() {
         return Some((None, Expected::Object));
     }
@@ -389,7 +474,10 @@ fn rule_flaw(rule: &Value) -> Option<(Option<&'static str>, Expected)> {
 }
 
 // The same of the service.
-fn service_flaw(rule: &Value) -> Option<(Option<&'static str>, Expected)> {
+fn service_flaw(rule: &Value) -> Option<(Option<&'static str>, Expected)>
+    ensures { option_map (λ flaw. option_copied flaw.0) result
+        ≡ service_fault (get (codes "service") (view rule.now)) (get (codes "any-service") (view rule.now)) }
+{
     match (rule.get("service"), rule.get("any-service")) {
         (Some(service), None) => name_flaw(service, "service"),
         (None, Some(any)) => true_flaw(any, "any-service"),
@@ -398,7 +486,10 @@ fn service_flaw(rule: &Value) -> Option<(Option<&'static str>, Expected)> {
 }
 
 // The same of the target.
-fn target_flaw(rule: &Value) -> Option<(Option<&'static str>, Expected)> {
+fn target_flaw(rule: &Value) -> Option<(Option<&'static str>, Expected)>
+    ensures { option_map (λ flaw. option_copied flaw.0) result
+        ≡ target_fault (get (codes "child") (view rule.now)) (get (codes "any-child") (view rule.now)) (get (codes "parent") (view rule.now)) }
+{
     match (rule.get("child"), rule.get("any-child"), rule.get("parent")) {
         (Some(child), None, None) => name_flaw(child, "child"),
         (None, Some(any), None) => true_flaw(any, "any-child"),
@@ -408,7 +499,9 @@ fn target_flaw(rule: &Value) -> Option<(Option<&'static str>, Expected)> {
 }
 
 // The same of a member that is to be a name.
-fn name_flaw(value: &Value, member: &'static str) -> Option<(Option<&'static str>, Expected)> {
+fn name_flaw(value: &Value, member: &'static str) -> Option<(Option<&'static str>, Expected)>
+    ensures { option_map (λ flaw. option_copied flaw.0) result ≡ name_fault member.now (view value.now) }
+{
     match value.as_str() {
         Some(text) if Name::read(text).is_some() => None,
         _ => Some((Some(member), Expected::Name)),
@@ -416,7 +509,9 @@ fn name_flaw(value: &Value, member: &'static str) -> Option<(Option<&'static str
 }
 
 // The same of a member that is to be `true`.
-fn true_flaw(value: &Value, member: &'static str) -> Option<(Option<&'static str>, Expected)> {
+fn true_flaw(value: &Value, member: &'static str) -> Option<(Option<&'static str>, Expected)>
+    ensures { option_map (λ flaw. option_copied flaw.0) result ≡ true_fault member.now (view value.now) }
+{
     if value.as_bool() == Some(true) {
         None
     } else {
@@ -425,7 +520,9 @@ fn true_flaw(value: &Value, member: &'static str) -> Option<(Option<&'static str
 }
 
 // The same of a member that is to be a text where it is there.
-fn text_flaw(rule: &Value, member: &'static str) -> Option<(Option<&'static str>, Expected)> {
+fn text_flaw(rule: &Value, member: &'static str) -> Option<(Option<&'static str>, Expected)>
+    ensures { option_map (λ flaw. option_copied flaw.0) result ≡ text_fault member.now (view rule.now) }
+{
     match rule.get(member) {
         Some(value) if !value.is_string() => Some((Some(member), Expected::Text)),
         _ => None,

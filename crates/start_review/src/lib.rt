@@ -24,8 +24,8 @@ mod values;
 mod wishes;
 
 pub use fault::{Fault, Whereabouts};
-pub use finding::{Finding, Remark};
-pub use flaw::{Expected, Flaw, Sort};
+pub use finding::{Finding, Known, Remark, Written};
+pub use flaw::{Expected, Flaw, Sort, faults_of_rules_are_the_engines};
 pub use graph::Graph;
 pub use hiding::hidden_rules_never_decide;
 pub use left::Lack;

@@ -1,7 +1,7 @@
 //! Parts of a start list, as people are told of them.
 ghost use Rattle.std.specs.Prelude.{◌≡◌, ◌≤◌, IfOk};
 ghost use Rattle.std.specs.List.{slice_get};
-ghost use Rattle.start_review.specs.Steps.{part_of, place_in, rule_part, steps_above, steps_to, steps_within};
+ghost use Rattle.start_review.specs.Steps.{part_of, place_in, rule_at, rule_part, steps_above, steps_to, steps_within};
 
 use init_core::{Entry, Name, StartList};
 use std::alloc::{AllocError, Global};
@@ -18,6 +18,22 @@ pub struct Step {
     pub place: usize,
     /// The name.
     pub name: Option<Name>,
+}
+
+impl Step {
+    // The step once more.
+    fn copy(&self) -> Step
+        ensures { result ≡ self.now }
+    {
+        let name = match &self.name {
+            Some(name) => Some(name.copy()),
+            None => None,
+        };
+        Step {
+            place: self.place,
+            name,
+        }
+    }
 }
 
 impl fmt::Display for Step {
@@ -64,6 +80,17 @@ impl Steps {
         Ok(())
     }
 
+    /// The same steps once more.
+    pub(crate) fn copy(&self, alloc: Global) -> Result<Steps, AllocError>
+        ensures { IfOk result (λ steps. steps ≡ self.now) }
+    {
+        let mut steps = Steps::none(alloc);
+        for step in self.as_slice() {
+            steps.push(step.copy())?;
+        }
+        Ok(steps)
+    }
+
     /// The steps in order.
     pub fn as_slice(&self) -> &[Step]
         ensures { result.now ≡ self.now }
@@ -103,6 +130,25 @@ pub enum Part {
     InnerRule(usize, Steps, usize),
 }
 
+impl Part {
+    /// The part once more.
+    pub(crate) fn copy(&self, alloc: Global) -> Result<Part, AllocError>
+        ensures { IfOk result (λ part. part ≡ self.now) }
+    {
+        Ok(match self {
+            Part::List => Part::List,
+            Part::Machine => Part::Machine,
+            Part::Entry(number, steps) => Part::Entry(*number, steps.copy(alloc)?),
+            Part::Config(number, steps) => Part::Config(*number, steps.copy(alloc)?),
+            Part::DefaultRule(rule) => Part::DefaultRule(*rule),
+            Part::Rule(number, steps, rule) => Part::Rule(*number, steps.copy(alloc)?, *rule),
+            Part::InnerRule(number, steps, rule) => {
+                Part::InnerRule(*number, steps.copy(alloc)?, *rule)
+            }
+        })
+    }
+}
+
 impl fmt::Display for Part {
     fn fmt<W: fmt::Write>(&self, f: &mut fmt::Formatter<W>) -> fmt::Result {
         match self {
@@ -126,13 +172,26 @@ pub(crate) enum Owner {
     Inner(usize),
 }
 
+/// The rule at a place of an owner's list, to whose entry these steps lead.
+pub(crate) fn rule_at(
+    alloc: Global,
+    owner: Owner,
+    steps: &Steps,
+    rule: usize,
+) -> Result<Part, AllocError>
+    ensures { IfOk result (λ part. part ≡ rule_at owner steps.now rule) }
+{
+    match owner {
+        Owner::Default => Ok(Part::DefaultRule(rule)),
+        Owner::Entry(number) => Ok(Part::Rule(number, steps.copy(alloc)?, rule)),
+        Owner::Inner(number) => Ok(Part::InnerRule(number, steps.copy(alloc)?, rule)),
+    }
+}
+
 /// What is told of: a part, without the steps to it.
 #[derive(Clone, Copy)]
 pub(crate) enum About {
-    List,
-    Machine,
     Entry(usize),
-    Config(usize),
     Rule(Owner, usize),
 }
 
@@ -142,10 +201,7 @@ impl About {
         ensures { IfOk result (λ part. part ≡ part_of list.now.entries self) }
     {
         match self {
-            About::List => Ok(Part::List),
-            About::Machine => Ok(Part::Machine),
             About::Entry(number) => Ok(Part::Entry(number, steps_to(alloc, list, number)?)),
-            About::Config(number) => Ok(Part::Config(number, steps_to(alloc, list, number)?)),
             About::Rule(owner, rule) => rule_part(alloc, list, owner, rule),
         }
     }
@@ -170,7 +226,7 @@ pub(crate) fn steps_to(alloc: Global, list: &StartList, number: usize) -> Result
 }
 
 // The same through so many lists at most.
-#[tactic(auto, using(crate::proofs::NestLemmas::steps_to_none, crate::proofs::NestLemmas::steps_of_machine, crate::proofs::NestLemmas::steps_of_init))]
+#[tactic(auto, using(crate::proofs::NestLemmas::steps_to_none))]
 fn steps_within(
     alloc: Global,
     entries: &[Entry],

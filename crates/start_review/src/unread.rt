@@ -1,156 +1,149 @@
 //! The members of a start list's objects that nothing reads.
-ghost use Rattle.std.specs.Prelude.{IfOk, OnOk};
-ghost use Rattle.std.specs.List.{All};
-ghost use Rattle.start_review.specs.Findings.{IsUnread};
+ghost use Rattle.std.specs.Prelude.{◌≡◌, ◌++◌, [], IfOk, OnOk};
+ghost use Rattle.std.specs.Option.{option_and_then, option_map};
+ghost use Rattle.serde_json.specs.Find.{as_object};
+ghost use Rattle.serde_json.specs.View.{members_view, view};
+ghost use Rattle.start_review.specs.Findings.{told};
+ghost use Rattle.start_review.specs.Unread.{unread_in, unread_in_config, unread_in_entry, unread_in_rules, unread_of};
+ghost use Rattle.start_review.specs.Values.{seen};
 
 use crate::finding::{Finding, Remark};
-use crate::members::{Table, is_comment};
-use crate::near::near_word;
-use crate::part::{About, Owner};
-use crate::values::{item, member, value_at};
-use init_core::{Entry, StartList};
-use serde_json::Value;
+use crate::members::Table;
+use crate::part::{Owner, Part, Steps, rule_at};
+use crate::values::{Found, elements, find_entries, member, runs};
+use serde_json::{Map, Value};
 use std::alloc::{AllocError, Global};
 
 /// The members that nothing reads of the value that a list was read of, in the order of its parts.
-pub(crate) fn unread(
-    alloc: Global,
-    list: &StartList,
-    value: &Value,
-) -> Result<Vec<Finding>, AllocError>
-    ensures { IfOk result (λ found. All IsUnread found.items) }
+pub(crate) fn unread(alloc: Global, list: &Value) -> Result<Vec<Finding>, AllocError>
+    ensures { IfOk result (λ found. found.items ≡ unread_of (view list.now)) }
 {
     let mut found = Vec::new(alloc);
-    let told = Told { alloc, list };
-    told.tell_members(&mut found, Table::List, About::List, Some(value))?;
-    told.tell_members(
+    tell_members(&mut found, alloc, Table::List, &Part::List, Some(list))?;
+    let machine = list.get("machine");
+    tell_members(&mut found, alloc, Table::Machine, &Part::Machine, machine)?;
+    let rules = list.get("default-route");
+    tell_rules(
         &mut found,
-        Table::Machine,
-        About::Machine,
-        value.get("machine"),
-    )?;
-    let rules = value.get("default-route");
-    told.tell_rules(
-        &mut found,
+        alloc,
         Owner::Default,
-        list.default_route().len(),
+        &Steps::none(alloc),
         rules,
     )?;
-    for (number, entry) in list.entries().iter().enumerate() {
-        told.tell_entry(&mut found, number, entry, value_at(value, number))?;
+    let entries = find_entries(alloc, list)?;
+    for (number, entry) in entries.iter().enumerate() {
+        tell_entry(&mut found, alloc, number, entry)?;
     }
     Ok(found)
 }
 
-/// The list of which it is told.
-#[derive(Clone, Copy)]
-struct Told<'a> {
+// Tells those of an entry, of its own route, and of what it starts if it is an init.
+fn tell_entry(
+    found: &mut Vec<Finding>,
     alloc: Global,
-    list: &'a StartList,
-}
-
-impl Told<'_> {
-    // Tells those of an entry, of its own route, and of what it starts.
-    fn tell_entry(
-        self,
-        found: &mut Vec<Finding>,
-        number: usize,
-        entry: &Entry,
-        value: Option<&Value>,
-    ) -> Result<(), AllocError>
-        ensures { OnOk result (All IsUnread found.old.items → All IsUnread found.new.items) }
-    {
-        let table = if entry.is_init() {
-            Table::Init
-        } else {
-            Table::Entry
-        };
-        self.tell_members(found, table, About::Entry(number), value)?;
-        let rules = member(value, "route");
-        self.tell_rules(found, Owner::Entry(number), rule_count(entry), rules)?;
-        if entry.is_init() {
-            self.tell_config(found, number, entry, member(value, "config"))
-        } else {
-            Ok(())
-        }
-    }
-
-    // Tells those of what an init starts, but for its entries.
-    fn tell_config(
-        self,
-        found: &mut Vec<Finding>,
-        number: usize,
-        entry: &Entry,
-        config: Option<&Value>,
-    ) -> Result<(), AllocError>
-        ensures { OnOk result (All IsUnread found.old.items → All IsUnread found.new.items) }
-    {
-        self.tell_members(found, Table::Config, About::Config(number), config)?;
-        let rules = member(config, "default-route");
-        self.tell_rules(
+    number: usize,
+    entry: &Found<'_>,
+) -> Result<(), AllocError>
+    ensures { OnOk result
+        (found.new.items ≡ found.old.items ++ unread_in_entry (number, seen entry.now)) }
+{
+    let is_init = runs(entry.value, "init");
+    let table = if is_init { Table::Init } else { Table::Entry };
+    let part = Part::Entry(number, entry.steps.copy(alloc)?);
+    tell_members(found, alloc, table, &part, Some(entry.value))?;
+    let rules = entry.value.get("route");
+    tell_rules(found, alloc, Owner::Entry(number), &entry.steps, rules)?;
+    if is_init {
+        tell_config(
             found,
-            Owner::Inner(number),
-            entry.inner_route().len(),
-            rules,
+            alloc,
+            number,
+            &entry.steps,
+            entry.value.get("config"),
         )
-    }
-
-    // Tells those of an owner's rules, of which there are so many.
-    fn tell_rules(
-        self,
-        found: &mut Vec<Finding>,
-        owner: Owner,
-        count: usize,
-        values: Option<&Value>,
-    ) -> Result<(), AllocError>
-        ensures { OnOk result (All IsUnread found.old.items → All IsUnread found.new.items) }
-    {
-        for rule in 0..count {
-            self.tell_members(
-                found,
-                Table::Rule,
-                About::Rule(owner, rule),
-                item(values, rule),
-            )?;
-        }
-        Ok(())
-    }
-
-    // Tells the members of an object that nothing reads.
-    fn tell_members(
-        self,
-        found: &mut Vec<Finding>,
-        table: Table,
-        about: About,
-        value: Option<&Value>,
-    ) -> Result<(), AllocError>
-        ensures { OnOk result (All IsUnread found.old.items → All IsUnread found.new.items) }
-    {
-        let Some(value) = value else {
-            return Ok(());
-        };
-        let Some(members) = value.as_object() else {
-            return Ok(());
-        };
-        for key in members.keys() {
-            let member = key.as_str();
-            if !is_comment(member) && !table.reads(member) {
-                let near = near_word(self.alloc, table.members(), member)?;
-                let text = String::from_str(self.alloc, member)?;
-                found.push(Finding {
-                    part: about.part(self.alloc, self.list)?,
-                    remark: Remark::Unread(text, near),
-                })?;
-            }
-        }
+    } else {
         Ok(())
     }
 }
 
-// How many rules an entry's own route has.
-fn rule_count(entry: &Entry) -> usize {
-    match entry.route() {
-        Some(rules) => rules.len(),
-        None => 0,
+// Tells those of what an init starts, but for its entries.
+fn tell_config(
+    found: &mut Vec<Finding>,
+    alloc: Global,
+    number: usize,
+    steps: &Steps,
+    config: Option<&Value>,
+) -> Result<(), AllocError>
+    ensures { OnOk result (found.new.items ≡ found.old.items
+        ++ unread_in_config number steps.now (option_map (λ value. view value.now) config.entry)) }
+{
+    let part = Part::Config(number, steps.copy(alloc)?);
+    tell_members(found, alloc, Table::Config, &part, config)?;
+    let rules = member(config, "default-route");
+    tell_rules(found, alloc, Owner::Inner(number), steps, rules)
+}
+
+// Tells those of an owner's rules, to whose entry these steps lead.
+fn tell_rules(
+    found: &mut Vec<Finding>,
+    alloc: Global,
+    owner: Owner,
+    steps: &Steps,
+    rules: Option<&Value>,
+) -> Result<(), AllocError>
+    ensures { OnOk result (found.new.items ≡ found.old.items
+        ++ unread_in_rules owner steps.now (option_map (λ value. view value.now) rules.entry)) }
+{
+    for (place, rule) in elements(rules).iter().enumerate() {
+        let part = rule_at(alloc, owner, steps, place)?;
+        tell_members(found, alloc, Table::Rule, &part, Some(rule))?;
     }
+    Ok(())
+}
+
+// Tells the members of an object that nothing reads.
+fn tell_members(
+    found: &mut Vec<Finding>,
+    alloc: Global,
+    table: Table,
+    part: &Part,
+    value: Option<&Value>,
+) -> Result<(), AllocError>
+    ensures { OnOk result (found.new.items ≡ found.old.items
+        ++ unread_in table part.now (option_map (λ value. view value.now) value.entry)) }
+{
+    let Some(members) = object_of(value) else {
+        return Ok(());
+    };
+    for key in members.keys() {
+        let remark = table.unread(alloc, key.as_str())?;
+        tell(found, alloc, part, remark)?;
+    }
+    Ok(())
+}
+
+// The object that a value is, if it is one.
+fn object_of(value: Option<&Value>) -> Option<&Map<String, Value>>
+    ensures { option_map (λ members. members_view members.now.entries) result
+        ≡ option_and_then as_object (option_map (λ value. view value.now) value.entry) }
+{
+    value?.as_object()
+}
+
+// Tells something of a part, if there is something.
+fn tell(
+    found: &mut Vec<Finding>,
+    alloc: Global,
+    part: &Part,
+    remark: Option<Remark>,
+) -> Result<(), AllocError>
+    ensures { OnOk result (found.new.items ≡ found.old.items ++ told part.now remark) }
+{
+    if let Some(remark) = remark {
+        found.push(Finding {
+            part: part.copy(alloc)?,
+            remark,
+        })?;
+    }
+    Ok(())
 }
