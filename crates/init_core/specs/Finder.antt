@@ -1,16 +1,22 @@
 -- From which places on paths are looked for.
-use Rattle.std.specs.Prelude.{◌≡◌, ℕ, ◌+◌, ◌*◌, ◌%◌, ◌≤◌, List, [], ◌∷◌, get_or, Some}
+use Rattle.std.specs.Prelude.{◌≡◌, ℕ, ◌+◌, ◌-◌, ◌*◌, ◌/◌, ◌%◌, ◌≤◌, List, length, get_or, nat_lt, if◌then◌else◌, Some}
 use Rattle.std.specs.List.{slice_get}
 use Rattle.own_model.specs.Listed.{ListedEntry}
 
--- the kind of a path of which what stands before has this one
-abbrev pub kind_from : ℕ → List ℕ → ℕ
-kind_from kind [] = kind
-kind_from kind (byte ∷ path) = kind_from ((kind * 37 + byte) % 64) path
+-- four bytes from a place on, as one number
+abbrev pub four_at : List ℕ → ℕ → ℕ
+four_at path n = get_or path n 0 + get_or path (n + 1) 0 * 256 + get_or path (n + 2) 0 * 65536 + get_or path (n + 3) 0 * 16777216
 
--- a path's own: few others of a list have it
+-- what stands at the front, in the middle and at the end of a path, as one number
+abbrev pub parts_of : List ℕ → ℕ
+parts_of path =
+    if nat_lt (length path) 4
+    then get_or path 0 0 + get_or path (length path / 2) 0 * 3 + get_or path (length path - 1) 0 * 5
+    else four_at path 0 + four_at path (length path / 2 - 2) * 3 + four_at path (length path - 4) * 5
+
+-- the kind of a path: few others of a list have the same
 abbrev pub kind_of : List ℕ → ℕ
-kind_of path = kind_from 0 path
+kind_of path = parts_of path % 61
 
 -- of each kind of path none stands before this place
 abbrev pub AreFirst : List ℕ → List ListedEntry → Type 0

@@ -1,13 +1,13 @@
 //! Where paths stand in a list: a path is looked for from the first entry on that has one of its kind.
-ghost use Rattle.std.specs.Prelude.{◌≡◌, ◌<◌, ◌≤◌, length};
+ghost use Rattle.std.specs.Prelude.{◌≡◌, ◌+◌, ◌<◌, ◌≤◌, length};
 ghost use Rattle.std.specs.List.{position};
 ghost use Rattle.std.specs.Str.{bytes_eq};
-ghost use Rattle.init_core.specs.Finder.{AreFirst, kind_of};
+ghost use Rattle.init_core.specs.Finder.{AreFirst, four_at, kind_of, parts_of};
 
 use crate::entry::Entry;
 
 /// How many kinds of paths there are.
-const KINDS: usize = 64;
+const KINDS: usize = 61;
 
 /// More than any place of an entry.
 const NOWHERE: u8 = 32;
@@ -50,11 +50,35 @@ impl Finder {
 /// The kind of a path: few others of a list have the same.
 fn kind_of(path: &[u8]) -> usize
     ensures value { result ≡ kind_of path.now }
-    ensures small { result < 64 }
+    ensures small { result < 61 }
 {
-    let mut kind = 0_u32;
-    for byte in path {
-        kind = (kind * 37 + u32::from(*byte)) % 64;
+    (parts_of(path) % 61) as usize
+}
+
+/// What stands at the front, in the middle and at the end of a path, as one number.
+fn parts_of(path: &[u8]) -> u64
+    ensures { result ≡ parts_of path.now }
+{
+    let len = path.len();
+    if len == 0 {
+        0
+    } else if len < 4 {
+        u64::from(path[0]) + u64::from(path[len / 2]) * 3 + u64::from(path[len - 1]) * 5
+    } else {
+        four_at(path, 0) + four_at(path, len / 2 - 2) * 3 + four_at(path, len - 4) * 5
     }
-    kind as usize
+}
+
+/// Four bytes of a path from a place on, as one number.
+fn four_at(path: &[u8], place: usize) -> u64
+    requires { place + 4 ≤ length path.now }
+    ensures value { result ≡ four_at path.now place }
+    ensures small { result < 4294967296 }
+{
+    u64::from(u32::from_le_bytes([
+        path[place],
+        path[place + 1],
+        path[place + 2],
+        path[place + 3],
+    ]))
 }
