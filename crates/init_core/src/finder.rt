@@ -7,7 +7,7 @@ ghost use Rattle.init_core.specs.Finder.{AreFirst, four_at, kind_of, parts_of};
 use crate::entry::Entry;
 
 /// How many kinds of paths there are.
-const KINDS: usize = 61;
+const KINDS: usize = 1021;
 
 /// More than any place of an entry.
 const NOWHERE: u8 = 32;
@@ -50,12 +50,12 @@ impl Finder {
 /// The kind of a path: few others of a list have the same.
 fn kind_of(path: &[u8]) -> usize
     ensures value { result ≡ kind_of path.now }
-    ensures small { result < 61 }
+    ensures small { result < 1021 }
 {
-    (parts_of(path) % 61) as usize
+    (parts_of(path) % 1021) as usize
 }
 
-/// What stands at the front, in the middle and at the end of a path, as one number.
+/// Four stretches of a path, from its front to its end, as one number: they are all of a path of at most 16 bytes.
 fn parts_of(path: &[u8]) -> u64
     ensures { result ≡ parts_of path.now }
 {
@@ -65,7 +65,11 @@ fn parts_of(path: &[u8]) -> u64
     } else if len < 4 {
         u64::from(path[0]) + u64::from(path[len / 2]) * 3 + u64::from(path[len - 1]) * 5
     } else {
-        four_at(path, 0) + four_at(path, len / 2 - 2) * 3 + four_at(path, len - 4) * 5
+        let last = len - 4;
+        four_at(path, 0)
+            + four_at(path, last / 3) * 3
+            + four_at(path, last * 2 / 3) * 5
+            + four_at(path, last) * 7
     }
 }
 
