@@ -309,84 +309,46 @@ fn name_of(alloc: Global, letter: &str) -> Result<String, Fail> {
     Ok(name)
 }
 
+// An init of a name that starts one entry, whose wishes it leads outward.
+fn init_around(alloc: Global, name: &str, entry: &str) -> Result<String, AllocError> {
+    format!(in alloc;
+        "{{\"name\":\"{name}\",\"binary\":\"init\",\"quantum\":\"16K\",\"caps\":8,\"config\":{{\"default-route\":[{{\"any-service\":true,\"parent\":true}}],\"start\":[{entry}]}}}}"
+    )
+}
+
 #[test]
 fn longest_label_before_the_most_lines(rt: HostRuntime) -> Result<(), Fail> {
     let alloc = rt.alloc();
-    let (a, b, c, d) = (
-        name_of(alloc, "a")?,
-        name_of(alloc, "b")?,
-        name_of(alloc, "c")?,
-        name_of(alloc, "d")?,
-    );
-    let mut machine = String::new(alloc);
-    for text in [
-        r#"{"machine":{"pages":16,"caps":16},"default-route":[{"any-service":true,"any-child":true}],"start":[
-           {"name":"log","quantum":"0","caps":0,"provides":["LOG"]},{"name":""#,
-        a.as_str(),
-        r#"","binary":"init","quantum":"16K","caps":8,"config":{"default-route":[{"any-service":true,"parent":true}],"start":[{"name":""#,
-        b.as_str(),
-        r#"","binary":"init","quantum":"16K","caps":8,"config":{"default-route":[{"any-service":true,"parent":true}],"start":[{"name":""#,
-        c.as_str(),
-        r#"","binary":"init","quantum":"16K","caps":8,"config":{"default-route":[{"any-service":true,"parent":true}],"start":[{"name":""#,
-        d.as_str(),
-        r#"","binary":"script","quantum":"16K","caps":8}]}}]}}]}}]}"#,
-    ] {
-        machine.push_str(text)?;
-    }
-    let mut path = String::new(alloc);
-    for text in [
-        a.as_str(),
-        "/",
-        b.as_str(),
-        "/",
-        c.as_str(),
-        "/",
-        d.as_str(),
-    ] {
-        path.push_str(text)?;
-    }
+    let a = name_of(alloc, "a")?;
+    let b = name_of(alloc, "b")?;
+    let c = name_of(alloc, "c")?;
+    let d = name_of(alloc, "d")?;
+    let (a, b, c, d) = (a.as_str(), b.as_str(), c.as_str(), d.as_str());
+    let script = format!(in alloc;
+        "{{\"name\":\"{d}\",\"binary\":\"script\",\"quantum\":\"16K\",\"caps\":8}}"
+    )?;
+    let inner = init_around(alloc, c, script.as_str())?;
+    let middle = init_around(alloc, b, inner.as_str())?;
+    let outer = init_around(alloc, a, middle.as_str())?;
+    let machine = format!(in alloc;
+        "{{\"machine\":{{\"pages\":16,\"caps\":16}},\"default-route\":[{{\"any-service\":true,\"any-child\":true}}],\"start\":[{{\"name\":\"log\",\"quantum\":\"0\",\"caps\":0,\"provides\":[\"LOG\"]}},{}]}}",
+        outer.as_str()
+    )?;
     let given = "0123456789012345678901234567890123456789012345678901234567890123";
-    let mut input = String::new(alloc);
-    for text in [
-        path.as_str(),
-        " open LOG ram_quota=8K, cap_quota=2, label=\"",
-        given,
-        "\"\n",
-        path.as_str(),
-        " call 1 WRITE ",
-    ] {
-        input.push_str(text)?;
-    }
+    let path = format!(in alloc; "{a}/{b}/{c}/{d}")?;
+    let path = path.as_str();
+    let line = format!(in alloc; "[{a} -> {b} -> {c} -> {d} -> {given}] \n")?;
+    let mut input = format!(in alloc;
+        "{path} open LOG ram_quota=8K, cap_quota=2, label=\"{given}\"\n{path} call 1 WRITE "
+    )?;
+    let mut want = format!(in alloc; "{path}: cap 1\n")?;
     for _ in 0..4023 {
         input.push_str("0a")?;
-    }
-    input.push_str("\n")?;
-    let mut line = String::new(alloc);
-    for text in [
-        "[",
-        a.as_str(),
-        " -> ",
-        b.as_str(),
-        " -> ",
-        c.as_str(),
-        " -> ",
-        d.as_str(),
-        " -> ",
-        given,
-        "] \n",
-    ] {
-        line.push_str(text)?;
-    }
-    let mut want = String::new(alloc);
-    for text in [path.as_str(), ": cap 1\n"] {
-        want.push_str(text)?;
-    }
-    for _ in 0..4023 {
         want.push_str(line.as_str())?;
     }
-    for text in [path.as_str(), ": OK 4023\n"] {
-        want.push_str(text)?;
-    }
+    input.push_str("\n")?;
+    let last = format!(in alloc; "{path}: OK 4023\n")?;
+    want.push_str(last.as_str())?;
     check_on(
         &rt,
         machine.as_str().as_bytes(),
