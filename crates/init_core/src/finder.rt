@@ -7,7 +7,7 @@ ghost use Rattle.init_core.specs.Finder.{AreFirst, four_at, kind_of, parts_of};
 use crate::entry::Entry;
 
 /// How many kinds of paths there are.
-const KINDS: usize = 1021;
+const KINDS: usize = 1024;
 
 /// More than any place of an entry.
 const NOWHERE: u8 = 32;
@@ -50,14 +50,15 @@ impl Finder {
 /// The kind of a path: few others of a list have the same.
 fn kind_of(path: &[u8]) -> usize
     ensures value { result ≡ kind_of path.now }
-    ensures small { result < 1021 }
+    ensures small { result < 1024 }
 {
-    (parts_of(path) % 1021) as usize
+    (parts_of(path) * 165_902_235 / 16_777_216 % 1024) as usize
 }
 
-/// Four stretches of a path, from its front to its end, as one number: they are all of a path of at most 16 bytes.
+/// What stands at the front, in the middle and at the end of a path, as one number: that is all of a path of at most 12 bytes.
 fn parts_of(path: &[u8]) -> u64
-    ensures { result ≡ parts_of path.now }
+    ensures value { result ≡ parts_of path.now }
+    ensures small { result < 68719476736 }
 {
     let len = path.len();
     if len == 0 {
@@ -65,11 +66,7 @@ fn parts_of(path: &[u8]) -> u64
     } else if len < 4 {
         u64::from(path[0]) + u64::from(path[len / 2]) * 3 + u64::from(path[len - 1]) * 5
     } else {
-        let last = len - 4;
-        four_at(path, 0)
-            + four_at(path, last / 3) * 3
-            + four_at(path, last * 2 / 3) * 5
-            + four_at(path, last) * 7
+        four_at(path, 0) + four_at(path, (len - 3) / 2) * 3 + four_at(path, len - 4) * 5
     }
 }
 

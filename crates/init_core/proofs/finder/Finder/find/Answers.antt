@@ -1,7 +1,7 @@
 -- The entries from the first of its kind on are all that can have the path.
-use Rattle.std.proofs.Common.{◌≡◌, ℕ, ◌+◌, ◌<◌, ◌≤◌, length, refl, sym, arith}
+use Rattle.std.proofs.Common.{length, refl, sym, arith}
 use Rattle.std.proofs.lemmas.Option.{slice_get_read}
-use Rattle.init_core.proofs.FinderLemmas.{found_at, found_nowhere, none_next, none_of_kind}
+use Rattle.init_core.proofs.FinderLemmas.{found_at, found_nowhere, none_next}
 use Rattle.init_core.proofs.finder.Finder.find.Goals as goal
 
 pub returns-then-eq : goal.returns-then-eq

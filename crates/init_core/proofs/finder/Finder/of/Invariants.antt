@@ -3,4 +3,4 @@ use Rattle.init_core.proofs.FinderLemmas.{AreFirstOf}
 use Rattle.init_core.proofs.finder.Finder.of.Given as goal
 
 abbrev pub invariant-loop-place : goal.invariant-loop-place
-invariant-loop-place l = record { kinds : length l.firsts ≡ 1021; first : AreFirstOf l.firsts l.entries l.place }
+invariant-loop-place l = record { kinds : length l.firsts ≡ 1024; first : AreFirstOf l.firsts l.entries l.place }
