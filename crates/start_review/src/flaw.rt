@@ -8,7 +8,7 @@ ghost use Rattle.init_core.specs.Misread.{entry_at_fault};
 ghost use Rattle.init_core.specs.Members.{short_list};
 ghost use Rattle.init_core.specs.Rules.{rule_of};
 ghost use Rattle.init_core.specs.declared.fault.BootFault.TheVariants.{NoMemory};
-ghost use Rattle.start_review.specs.Places.{bad_rule, field_of, inner_rules_spot, member_in, own_rules_spot, rules_spot, spot_at, spot_before, spot_in, spot_of, spot_of_flaw, start_spot, whole};
+ghost use Rattle.start_review.specs.Places.{FaultsHavePlaces, bad_rule, field_of, inner_rules_spot, member_in, own_rules_spot, rules_spot, spot_at, spot_before, spot_in, spot_of, spot_of_flaw, start_spot, whole};
 ghost use Rattle.start_review.specs.RuleFaults.{FaultsAreTheEngines, name_fault, rule_fault, service_fault, target_fault, text_fault, true_fault};
 ghost use Rattle.start_review.specs.Values.{seen};
 
@@ -177,6 +177,12 @@ impl Flaw {
         }
     }
 }
+
+/// Each fault that the engine tells of a value has a place.
+#[tactic(auto, using(crate::proofs::PlaceLemmas::faults_have_places))]
+pub fn faults_have_places()
+    ensures { FaultsHavePlaces }
+{}
 
 // The member that a fault of a value is of.
 fn field_of(fault: &BootFault) -> Option<Field>

@@ -25,7 +25,7 @@ mod wishes;
 
 pub use fault::{Fault, Whereabouts};
 pub use finding::{Finding, Known, Remark, Written};
-pub use flaw::{Expected, Flaw, Sort, faults_of_rules_are_the_engines};
+pub use flaw::{Expected, Flaw, Sort, faults_have_places, faults_of_rules_are_the_engines};
 pub use graph::Graph;
 pub use hiding::hidden_rules_never_decide;
 pub use left::Lack;
