@@ -1,25 +1,28 @@
 -- Where a fault is told to be.
 use Rattle.std.specs.Prelude.{◌≡◌, ℕ, List, [], codes, is_some, not, if◌then◌else◌, Option, Some, None, Result, Ok, Err}
 use Rattle.std.specs.List.{enumerate_from, find, slice_get}
-use Rattle.std.specs.Option.{option_and_then, option_copied, unwrap_or}
+use Rattle.std.specs.Option.{option_and_then, option_copied, unwrap_or, IsSome}
+use Rattle.std.specs.Result.{result_ok}
 use Rattle.serde_json.specs.Data.{Data}
 use Rattle.serde_json.specs.Find.{get}
 use Rattle.init_core.specs.Boot.{quota_fault}
 use Rattle.init_core.specs.Members.{is_object, short_list}
 use Rattle.init_core.specs.Misread.{entry_at_fault}
 use Rattle.init_core.specs.Rules.{rule_of}
-use Rattle.init_core.specs.StartText.{list_in}
+use Rattle.init_core.specs.StartText.{list_in, list_of}
 use Rattle.init_core.specs.declared.fault.BootFault.{BootFault}
 use Rattle.init_core.specs.declared.fault.BootFault.TheVariants.{BadJson, BadConfig, DuplicateName, UnknownBinary, QuotaExceeded, NoMemory}
 use Rattle.init_core.specs.declared.fault.Field.{Field}
 use Rattle.init_core.specs.declared.fault.Field.TheVariants as field
 use Rattle.own_model.specs.Listed.{Listed}
+use Rattle.start_review.specs.Left.{first_lack}
 use Rattle.start_review.specs.RuleFaults.{rule_fault}
 use Rattle.start_review.specs.Steps.{rule_at}
 use Rattle.start_review.specs.Values.{Found, found_in}
 use Rattle.start_review.specs.declared.fault.Whereabouts.{Whereabouts}
 use Rattle.start_review.specs.declared.fault.Whereabouts.TheVariants as whereabouts
 use Rattle.start_review.specs.declared.flaw.Flaw.{Flaw}
+use Rattle.start_review.specs.declared.left.Lack.{Lack}
 use Rattle.start_review.specs.declared.part.Owner.{Owner}
 use Rattle.start_review.specs.declared.part.Owner.TheVariants as owner
 use Rattle.start_review.specs.declared.part.Part.{Part}
@@ -122,6 +125,10 @@ field_of NoMemory = None
 abbrev pub spot_of : Data → BootFault → Option Spot
 spot_of list fault = option_and_then (spot_at list (entry_at_fault list)) (field_of fault)
 
+-- each has a place
+abbrev pub FaultsHavePlaces : Type 0
+FaultsHavePlaces = (list : Data) (fault : BootFault) → list_of list ≡ Err fault → IsSome (spot_of list fault)
+
 -- ---- where it is told to be
 
 abbrev pub spot_of_flaw : Flaw → Spot
@@ -136,10 +143,14 @@ fault_in (Err fault) = Some fault
 abbrev pub fault_of : List ℕ → Option BootFault
 fault_of text = fault_in (list_in text)
 
+-- the first entry of a list that isn't covered, if it is read and there is one
+abbrev pub lack_in : Data → Option Lack
+lack_in list = option_and_then first_lack (result_ok (list_of list))
+
 -- a fault of what a text says, if it is JSON, is told where it is
 abbrev pub IsPlaced : Option Data → BootFault → Whereabouts → Type 0
 IsPlaced list fault (whereabouts.Text line column) = fault ≡ BadJson
 IsPlaced list fault (whereabouts.List flaw) = option_and_then (λ d. spot_of d fault) list ≡ Some (spot_of_flaw flaw)
-IsPlaced list fault (whereabouts.Budget lack) = fault ≡ QuotaExceeded lack.path
+IsPlaced list fault (whereabouts.Budget lack) = (fault ≡ QuotaExceeded lack.path) × (option_and_then lack_in list ≡ Some lack)
 IsPlaced list fault (whereabouts.Size size) = fault ≡ BadConfig field.Size
-IsPlaced list fault whereabouts.Nowhere = option_and_then (λ d. spot_of d fault) list ≡ None
+IsPlaced list fault whereabouts.Nowhere = fault ≡ NoMemory

@@ -3,6 +3,7 @@
 #![tactic(auto)]
 
 mod asked;
+mod bad_rule;
 mod fault;
 mod finding;
 mod findings;
@@ -23,9 +24,10 @@ mod unread;
 mod values;
 mod wishes;
 
+pub use bad_rule::faults_of_rules_are_the_engines;
 pub use fault::{Fault, Whereabouts};
 pub use finding::{Finding, Known, Remark, Written};
-pub use flaw::{Expected, Flaw, Sort, faults_of_rules_are_the_engines};
+pub use flaw::{Expected, Flaw, Sort, faults_have_places};
 pub use graph::Graph;
 pub use hiding::hidden_rules_never_decide;
 pub use left::Lack;

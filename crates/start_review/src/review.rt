@@ -1,9 +1,9 @@
 //! A start list with the value that it was read of.
-ghost use Rattle.std.specs.Prelude.{◌≡◌, ◌≢◌, ◌++◌, IfErr, IfOk, None, Ok, Some};
+ghost use Rattle.std.specs.Prelude.{◌≡◌, ◌≢◌, ◌++◌, Err, IfErr, IfOk, None, Ok, Some};
 ghost use Rattle.std.specs.Option.{option_map};
 ghost use Rattle.serde_json.specs.View.{view};
 ghost use Rattle.init_core.specs.Boot.{quota_fault};
-ghost use Rattle.init_core.specs.StartText.{json_in, list_in};
+ghost use Rattle.init_core.specs.StartText.{json_in, list_in, list_of};
 ghost use Rattle.init_core.specs.declared.fault.BootFault.TheVariants.{BadJson, NoMemory};
 ghost use Rattle.start_review.specs.Findings.{findings_of};
 ghost use Rattle.start_review.specs.Places.{IsPlaced, fault_of};
@@ -118,6 +118,7 @@ fn read_json(alloc: Global, text: &[u8]) -> Result<Value, Fault>
 
 // A fault of a value with its place.
 fn placed(alloc: Global, value: &Value, fault: BootFault) -> Fault
+    requires { fault ≢ NoMemory → list_of (view value.now) ≡ Err fault }
     ensures fault { result.fault ≢ NoMemory → result.fault ≡ fault }
     ensures place { result.fault ≢ NoMemory
         → IsPlaced (Some (view value.now)) result.fault result.place }

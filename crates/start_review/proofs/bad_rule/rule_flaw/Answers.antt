@@ -2,7 +2,7 @@ use Rattle.std.proofs.Common.{sym, ◌∙◌}
 use Rattle.std.specs.Option.{option_copied}
 use Rattle.serde_json.specs.View.{view}
 use Rattle.start_review.proofs.RuleLemmas.{fault_of_object, or_else}
-use Rattle.start_review.proofs.flaw.rule_flaw.Goals as goal
+use Rattle.start_review.proofs.bad_rule.rule_flaw.Goals as goal
 
 pub returns : goal.returns
 returns c =

@@ -2,7 +2,7 @@ use Rattle.std.proofs.Common.{is_some, not, sym, ◌∙◌}
 use Rattle.serde_json.specs.View.{view}
 use Rattle.init_core.specs.Rules.{rule_of}
 use Rattle.start_review.proofs.ValueLemmas.{found_here, found_later}
-use Rattle.start_review.proofs.flaw.first_bad_rule.Goals as goal
+use Rattle.start_review.proofs.bad_rule.first_bad_rule.Goals as goal
 
 pub returns-then-is_bad : goal.returns-then-is_bad
 returns-then-is_bad c =
