@@ -117,9 +117,11 @@ pub told_both_of : (name : List ℕ) (start core : World) (earlier : List (List 
     decimal number ++ codes ": " ++ call ++ 10 ∷ [] ++ codes "  whole: " ++ answer_text (Some whole) ++ codes "  alone: " ++ answer_text (Some alone) ≡ alone_tells name start earlier number call
 told_both_of name start core earlier number call whole alone leads in_whole in_alone =
     let here : IsAnswer (after_all (Some name) start earlier) (heard start.entries call) alone = subst (λ (w : World). IsAnswer w (heard w.entries call) alone) leads in_alone.1 in
-    rw (is_said name call (is_said_by name call) refl in_alone.0,
+    rw (
+      is_said name call (is_said_by name call) refl in_alone.0,
       told_answer None (world_running start earlier) call (Some whole) (refl, in_whole),
-      told_answer None (after_all (Some name) start earlier) call (Some alone) (refl, here)) refl
+      told_answer None (after_all (Some name) start earlier) call (Some alone) (refl, here),
+    ) refl
 
 -- the second machine has seen one call more
 pub sees_more : {name : List ℕ} {core : World} {lines : ℕ} {difference : Option ℕ} {start : World} {earlier : List (List ℕ)} (core' : World) (lines' : ℕ) (difference' : Option ℕ) (call : List ℕ) (n : ℕ) →

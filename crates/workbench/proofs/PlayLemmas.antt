@@ -102,12 +102,15 @@ pub played_line : (tells : List (List ℕ) → ℕ → List ℕ → List ℕ) (s
     Tells p.written p.gathered written gathered [] → TellsUnless judged written gathered q.written q.gathered (told_of_calls tells earlier number (said_by only (call_of line))) →
     q.world ≡ after_all only p.world (call_of line) → IfSome (to_come p.ahead p.rest) (λ text. PassesLines text (to_come q.ahead q.rest) (line ∷ [])) →
     OnOk judged (seen (earlier ++ said_by only (call_of line))) → PlaysNext tells seen only number earlier (line_played judged) p q
-played_line tells seen only number earlier p q written gathered line (Ok complained) before told world passes sees = (line, record {
-  world = world ∙ ap (after_all only p.world) (sym (calls_said-one line));
-  told = Tells-more before (subst (Tells written gathered q.written q.gathered) (told_of_lines-one only tells earlier number line) told);
-  passes = passes;
-  sees = subst (λ calls. seen (earlier ++ calls)) (sym (answered-one only line)) sees;
-})
+played_line tells seen only number earlier p q written gathered line (Ok complained) before told world passes sees = (
+  line,
+  record {
+    world = world ∙ ap (after_all only p.world) (sym (calls_said-one line));
+    told = Tells-more before (subst (Tells written gathered q.written q.gathered) (told_of_lines-one only tells earlier number line) told);
+    passes = passes;
+    sees = subst (λ calls. seen (earlier ++ calls)) (sym (answered-one only line)) sees;
+  },
+)
 played_line tells seen only number earlier p q written gathered line (Err fault) before told world passes sees = record {
   lines = line ∷ [];
   world = world ∙ ap (after_all only p.world) (sym (calls_said-one line));
@@ -143,10 +146,13 @@ module _ {tells : List (List ℕ) → ℕ → List ℕ → List ℕ} {only : Opt
   breaks_more {p = p} {q = q} {r = r} {number = number} {later = later} {earlier = earlier} {xs = xs} is first then = record {
     lines = xs ++ then.lines;
     world = left_by_lines only p.world q.world r.world xs then.lines first.world then.world;
-    told = (then.told.0, subst (Tells p.written p.gathered r.written then.told.0)
-        (ap (λ n. told_of_lines tells only earlier number xs ++ told_of_lines tells only (earlier ++ calls_answered only xs) n then.lines) is
-        ∙ sym (told_of_lines-append only tells earlier number xs then.lines))
-        (Tells-more first.told then.told.1));
+    told = (
+      then.told.0,
+      subst (Tells p.written p.gathered r.written then.told.0)
+          (ap (λ n. told_of_lines tells only earlier number xs ++ told_of_lines tells only (earlier ++ calls_answered only xs) n then.lines) is
+          ∙ sym (told_of_lines-append only tells earlier number xs then.lines))
+          (Tells-more first.told then.told.1),
+    );
     first = first_behind (to_come p.ahead p.rest) (to_come q.ahead q.rest) xs then.lines first.passes then.first;
   }
 

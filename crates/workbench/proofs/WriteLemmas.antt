@@ -61,6 +61,7 @@ closes_alone ending w = record { lines = refl; writes = alone ending.fault w }
     none : (o : Option (List ℕ)) → Appends o o []
     none None = tt
     none (Some text) = sym (append-nil text)
+
     alone : (f : Option PlayFault) (o : Option (List ℕ)) → WritesAfter f f o o []
     alone None o = none o
     alone (Some fault) o = (refl, refl)

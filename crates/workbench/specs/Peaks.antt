@@ -15,7 +15,7 @@ use Rattle.own_model.specs.Transcript.{entry_at, state_at}
 use Rattle.own_model.specs.World.{World, all_caps, all_ram, world_running}
 use Rattle.workbench.specs.Played.{calls_answered}
 use Rattle.workbench.specs.Tracing.{said_in}
-use Rattle.workbench.specs.Writes.{machine_world}
+use Rattle.scenario.specs.Program.{world_of}
 
 -- the worlds at a start and after each of these calls
 abbrev pub worlds : World → List (List ℕ) → List World
@@ -150,4 +150,4 @@ peaks_text listed start calls =
     ++ total_line (all_ram world) (all_caps world)
 
 abbrev pub accounts_behind : Listed → List (List ℕ) → List ℕ
-accounts_behind listed lines = peaks_text listed (machine_world listed) (calls_answered None lines)
+accounts_behind listed lines = peaks_text listed (world_of listed) (calls_answered None lines)

@@ -14,7 +14,7 @@ use Rattle.own_model.specs.Transcript.Heard.{NoCall, Stranger, Caller}
 use Rattle.own_model.specs.World.{World, world_running}
 use Rattle.scenario.specs.Answer.{answered_name, answered_reply}
 use Rattle.workbench.specs.Played.{told_of_lines}
-use Rattle.workbench.specs.Writes.{machine_world}
+use Rattle.scenario.specs.Program.{world_of}
 
 -- what a line says as a call, if it isn't too long to be one
 abbrev pub said_in : List ℕ → Option Spoken
@@ -84,4 +84,4 @@ trace_header =
 
 -- a trace: the names of the columns, and a row for each call
 abbrev pub trace_told : Listed → List (List ℕ) → List ℕ
-trace_told listed lines = trace_header ++ told_of_lines (trace_tells (machine_world listed)) None [] 1 lines
+trace_told listed lines = trace_header ++ told_of_lines (trace_tells (world_of listed)) None [] 1 lines

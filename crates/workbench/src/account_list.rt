@@ -6,14 +6,15 @@ ghost use Rattle.own_model.specs.StartList.{entries_of};
 use crate::ending::{Ending, PlayFault};
 use crate::machine::Play;
 use crate::notes::Notes;
-use crate::peaks::{Peak, Peaks};
+use crate::peaks::{Peak, Peaks, Session};
 use crate::playing::play as play_lines;
 use crate::text::put_number;
 use arrayvec::ArrayVec;
 use init_core::{BootFault, StartList, boot};
-use pd_core::{Core, Quotas, Router};
+use pd_core::{Core, Quotas, Reserve, Router};
 use scenario::{DeviceFault, Gather, Run, Sink, Source, add_quotas, sum_all};
 use std::alloc::Global;
+use trade_base::{Caps, Ram};
 
 /// Room for use and limits.
 const LONGEST_QUOTAS: usize = 100;
@@ -60,21 +61,30 @@ fn write_list<R: Router + Drop, K: Sink>(
         return Err(PlayFault::WriteFault);
     }
     let mut gathered = Gather::new();
-    put_account(
-        b"init",
-        core.init_account(),
-        peaks.init,
-        &mut gathered,
-        writer,
-    )?;
-    put_components(core, list, peaks, &mut gathered, writer)?;
-    put_sessions(core, list, peaks, &mut gathered, writer)?;
-    put_total(core, list, &mut gathered, writer)?;
+    put_list(core, list, peaks, &mut gathered, writer)?;
     gathered.flush(writer)?;
     Ok(())
 }
 
-// Gathers the line of each component, and that of its reserve.
+// Gathers the list.
+fn put_list<R: Router + Drop, K: Sink>(
+    core: &Core<R>,
+    list: &StartList,
+    peaks: &Peaks,
+    gathered: &mut Gather,
+    writer: &mut K,
+) -> Result<(), DeviceFault>
+    requires listed { core.now.entries ≡ entries_of (start_list_of list.now) }
+    requires writes { K.has_failed writer.old ≡ false }
+    ensures failing { K.has_failed writer.new ≡ is_err result }
+{
+    put_account(b"init", core.init_account(), peaks.init, gathered, writer)?;
+    put_components(core, list, peaks, gathered, writer)?;
+    put_sessions(core, list, peaks, gathered, writer)?;
+    put_total(core, list, gathered, writer)
+}
+
+// Gathers the lines of each component.
 fn put_components<R: Router + Drop, K: Sink>(
     core: &Core<R>,
     list: &StartList,
@@ -87,19 +97,17 @@ fn put_components<R: Router + Drop, K: Sink>(
     ensures failing { K.has_failed writer.new ≡ is_err result }
 {
     for component in 0..core.count() {
-        let account = core.account(component);
-        let peak = peaks.component(component, account);
-        put_account(list.name(component), account, peak, gathered, writer)?;
-        put_reserve(core, list, component, gathered, writer)?;
+        put_component(core, list, component, peaks, gathered, writer)?;
     }
     Ok(())
 }
 
-// Gathers the line of what a component has in reserve, where the list gives it one, or it has anything.
-fn put_reserve<R: Router + Drop, K: Sink>(
+// Gathers the line of a component's account, and that of its reserve where it is told.
+fn put_component<R: Router + Drop, K: Sink>(
     core: &Core<R>,
     list: &StartList,
     component: usize,
+    peaks: &Peaks,
     gathered: &mut Gather,
     writer: &mut K,
 ) -> Result<(), DeviceFault>
@@ -108,20 +116,18 @@ fn put_reserve<R: Router + Drop, K: Sink>(
     requires writes { K.has_failed writer.old ≡ false }
     ensures failing { K.has_failed writer.new ≡ is_err result }
 {
+    let name = list.name(component);
+    let peak = peaks.component(component);
+    put_account(name, core.account(component), peak, gathered, writer)?;
     let reserve = core.reserve(component);
-    if !list.gives_reserve(component) && reserve.ram.0 == 0 && reserve.caps.0 == 0 {
-        return Ok(());
+    if list.gives_reserve(component) || reserve.ram.0 > 0 || reserve.caps.0 > 0 {
+        put_reserve(name, reserve, gathered, writer)
+    } else {
+        Ok(())
     }
-    gathered.put(writer, b"reserve ")?;
-    gathered.put(writer, list.name(component))?;
-    gathered.put(writer, b" ram ")?;
-    put_number(reserve.ram.0, gathered, writer)?;
-    gathered.put(writer, b" caps ")?;
-    put_number(u64::from(reserve.caps.0), gathered, writer)?;
-    gathered.put(writer, b"\n")
 }
 
-// Gathers the line of each open session, by its component and its selector.
+// Gathers the lines of each component's open sessions.
 fn put_sessions<R: Router + Drop, K: Sink>(
     core: &Core<R>,
     list: &StartList,
@@ -139,7 +145,7 @@ fn put_sessions<R: Router + Drop, K: Sink>(
     Ok(())
 }
 
-// Gathers the line of each open session of a component, by its selector.
+// Gathers the lines of a component's open sessions by rising selector.
 fn put_sessions_of<R: Router + Drop, K: Sink>(
     core: &Core<R>,
     list: &StartList,
@@ -154,11 +160,33 @@ fn put_sessions_of<R: Router + Drop, K: Sink>(
     ensures failing { K.has_failed writer.new ≡ is_err result }
 {
     for selector in 0..=core.last_selector(component) {
-        if let Some(account) = core.session_account(component, selector) {
-            put_session(list, component, selector, account, peaks, gathered, writer)?;
-        }
+        put_selected(core, list, component, selector, peaks, gathered, writer)?;
     }
     Ok(())
+}
+
+// Gathers the line of what a selector names, where it names a session that is kept.
+fn put_selected<R: Router + Drop, K: Sink>(
+    core: &Core<R>,
+    list: &StartList,
+    component: usize,
+    selector: u64,
+    peaks: &Peaks,
+    gathered: &mut Gather,
+    writer: &mut K,
+) -> Result<(), DeviceFault>
+    requires listed { core.now.entries ≡ entries_of (start_list_of list.now) }
+    requires component { component < length core.now.entries }
+    requires writes { K.has_failed writer.old ≡ false }
+    ensures failing { K.has_failed writer.new ≡ is_err result }
+{
+    let Some(account) = core.session_account(component, selector) else {
+        return Ok(());
+    };
+    match peaks.session(component, selector) {
+        Some(session) => put_session(list, session, account, gathered, writer),
+        None => Ok(()),
+    }
 }
 
 // Gathers the line of an account.
@@ -178,43 +206,65 @@ fn put_account<K: Sink>(
     gathered.put(writer, b"\n")
 }
 
-// Gathers the line of a session's account, by its client and its selector.
-fn put_session<K: Sink>(
-    list: &StartList,
-    component: usize,
-    selector: u64,
-    account: Quotas,
-    peaks: &Peaks,
+// Gathers the line of a reserve by its component's name.
+fn put_reserve<K: Sink>(
+    name: &[u8],
+    reserve: Reserve,
     gathered: &mut Gather,
     writer: &mut K,
 ) -> Result<(), DeviceFault>
-    requires component { component < length list.now.entries }
+    requires { K.has_failed writer.old ≡ false }
+    ensures failing { K.has_failed writer.new ≡ is_err result }
+{
+    gathered.put(writer, b"reserve ")?;
+    gathered.put(writer, name)?;
+    gathered.put(writer, b" ")?;
+    put_amounts(reserve.ram, reserve.caps, gathered, writer)?;
+    gathered.put(writer, b"\n")
+}
+
+// Gathers the line of a session's account by its client's name and its selector, with its server and its label.
+fn put_session<K: Sink>(
+    list: &StartList,
+    session: &Session,
+    account: Quotas,
+    gathered: &mut Gather,
+    writer: &mut K,
+) -> Result<(), DeviceFault>
+    requires component { session.now.component < length list.now.entries }
     requires writes { K.has_failed writer.old ≡ false }
     ensures failing { K.has_failed writer.new ≡ is_err result }
 {
     gathered.put(writer, b"session ")?;
-    gathered.put(writer, list.name(component))?;
+    gathered.put(writer, list.name(session.component))?;
     gathered.put(writer, b" ")?;
-    put_number(selector, gathered, writer)?;
-    match peaks.session(component, selector) {
-        Some(session) => {
-            put_figures(account, session.peak, gathered, writer)?;
-            gathered.put(writer, b" server ")?;
-            gathered.put(writer, name_at(list, session.server))?;
-            gathered.put(writer, b" label ")?;
-            gathered.put(writer, session.label.as_slice())?;
-        }
-        None => put_figures(account, Peak::of(account), gathered, writer)?,
-    }
+    put_number(session.selector, gathered, writer)?;
+    put_figures(account, session.peak, gathered, writer)?;
+    put_origin(list, session, gathered, writer)
+}
+
+// Gathers the server and the label of a session.
+fn put_origin<K: Sink>(
+    list: &StartList,
+    session: &Session,
+    gathered: &mut Gather,
+    writer: &mut K,
+) -> Result<(), DeviceFault>
+    requires { K.has_failed writer.old ≡ false }
+    ensures failing { K.has_failed writer.new ≡ is_err result }
+{
+    gathered.put(writer, b" server ")?;
+    gathered.put(writer, name_at(list, session.server))?;
+    gathered.put(writer, b" label ")?;
+    gathered.put(writer, session.label.as_slice())?;
     gathered.put(writer, b"\n")
 }
 
-// The name of the component at a place, or `?` past the list.
-fn name_at(list: &StartList, component: usize) -> &[u8] {
-    if component < list.count() {
-        list.name(component)
-    } else {
-        b"?"
+// The name of the component at a place, or `?` where there is none.
+fn name_at(list: &StartList, place: Option<usize>) -> &[u8] {
+    match place {
+        Some(place) if place < list.count() => list.name(place),
+        _ => b"?",
     }
 }
 
@@ -232,10 +282,24 @@ fn put_figures<K: Sink>(
     add_quotas(&mut quotas, account);
     gathered.put(writer, b" ")?;
     gathered.put(writer, quotas.as_slice())?;
-    gathered.put(writer, b" peak ram ")?;
-    put_number(peak.ram.0, gathered, writer)?;
+    gathered.put(writer, b" peak ")?;
+    put_amounts(peak.ram, peak.caps, gathered, writer)
+}
+
+// Gathers bytes of RAM and capabilities.
+fn put_amounts<K: Sink>(
+    ram: Ram,
+    caps: Caps,
+    gathered: &mut Gather,
+    writer: &mut K,
+) -> Result<(), DeviceFault>
+    requires { K.has_failed writer.old ≡ false }
+    ensures failing { K.has_failed writer.new ≡ is_err result }
+{
+    gathered.put(writer, b"ram ")?;
+    put_number(ram.0, gathered, writer)?;
     gathered.put(writer, b" caps ")?;
-    put_number(u64::from(peak.caps.0), gathered, writer)
+    put_number(u64::from(caps.0), gathered, writer)
 }
 
 // Gathers the line of the sums of all limits.

@@ -38,7 +38,7 @@ pub(crate) struct SecondMachine<'a, Q: Router + Drop> {
 impl<Q: Router + Drop> Watch for SecondMachine<'_, Q> {
     ghost tells = { λ second. alone_tells second.name.now };
 
-    ghost sees = { λ second. SeesAlone second.name.now second.core second.lines second.difference };
+    ghost sees = { λ second. λ _. SeesAlone second.name.now second.core second.lines second.difference };
 
     fn tell<R: Router + Drop, K: Sink>(
         &mut self,

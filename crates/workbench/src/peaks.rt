@@ -1,15 +1,22 @@
 //! The peaks of accounts: the most that was in use after any line.
-ghost use Rattle.std.specs.Prelude.{◌≡◌, ◌<◌, ◌≤◌, ◌∷◌, [], ⊤, length, max, false, OnOk};
-ghost use Rattle.own_model.specs.Listed.{start_list_of};
+ghost use Rattle.std.specs.Prelude.{◌≡◌, ◌<◌, ◌≤◌, ◌∷◌, ◌++◌, ℕ, [], length, max, None, Some, IfOk, OnOk};
+ghost use Rattle.std.specs.Option.{option_map, option_map_or};
+ghost use Rattle.own_model.specs.Listed.{route_of, start_list_of};
+ghost use Rattle.own_model.specs.Routes.{label_with};
+ghost use Rattle.own_model.specs.Session.{given};
 ghost use Rattle.own_model.specs.StartList.{entries_of};
+ghost use Rattle.own_model.specs.World.{account_at, machine_init};
+ghost use Rattle.pd_core.specs.Answer.{quotas_account};
 
 use crate::ending::PlayFault;
+use crate::text::{call_in, caller_of};
 use crate::watch::{Heard, Watch};
 use init_core::{StartList, route};
 use pd_core::{Call, Core, Quotas, Router};
-use scenario::{Gather, Sink, read_line};
+use scenario::{Gather, Sink};
 use session_proto::SessionArgs;
 use std::alloc::{AllocError, Global};
+use std::mem;
 use trade_base::{Caps, Ram};
 
 /// The most of an account that was in use after any line.
@@ -28,13 +35,12 @@ impl Peak {
         }
     }
 
-    /// Takes what is in use now into account.
-    pub(crate) fn raise(&mut self, account: Quotas)
-        ensures ram { self.new.ram.0 ≡ max self.old.ram.0 account.ram_used.0 }
-        ensures caps { self.new.caps.0 ≡ max self.old.caps.0 account.caps_used.0 }
-    {
-        self.ram = Ram(self.ram.0.max(account.ram_used.0));
-        self.caps = Caps(self.caps.0.max(account.caps_used.0));
+    /// The peak once so much is in use.
+    pub(crate) fn raised(self, account: Quotas) -> Peak {
+        Peak {
+            ram: Ram(self.ram.0.max(account.ram_used.0)),
+            caps: Caps(self.caps.0.max(account.caps_used.0)),
+        }
     }
 }
 
@@ -43,9 +49,28 @@ impl Peak {
 pub(crate) struct Session {
     pub component: usize,
     pub selector: u64,
-    pub server: usize,
+    /// Where the route of the call that opened it leads.
+    pub server: Option<usize>,
     pub label: Vec<u8>,
     pub peak: Peak,
+}
+
+impl Session {
+    /// The session once so much of its account is in use.
+    fn raised(self, account: Quotas) -> Session {
+        Session {
+            component: self.component,
+            selector: self.selector,
+            server: self.server,
+            label: self.label,
+            peak: self.peak.raised(account),
+        }
+    }
+
+    // Whether it is that of a selector of a component.
+    fn is_at(&self, component: usize, selector: u64) -> bool {
+        self.component == component && self.selector == selector
+    }
 }
 
 /// The peaks of all accounts after the lines so far.
@@ -53,9 +78,9 @@ pub(crate) struct Session {
 pub(crate) struct Peaks {
     alloc: Global,
     pub init: Peak,
-    pub components: Vec<Peak>,
+    components: Vec<Peak>,
     /// The sessions that are open now.
-    pub sessions: Vec<Session>,
+    sessions: Vec<Session>,
 }
 
 impl Peaks {
@@ -76,108 +101,105 @@ impl Peaks {
         })
     }
 
-    // Takes what the accounts of init and the components have in use now into account.
-    fn raise_accounts<R: Router + Drop>(&mut self, core: &Core<R>) {
-        self.init.raise(core.init_account());
-        for (component, peak) in self.components.iter_mut().enumerate() {
-            if component < core.count() {
-                peak.raise(core.account(component));
-            }
-        }
-    }
-
-    // Takes what the accounts of sessions have in use now into account, and forgets the sessions that are no more.
-    fn raise_sessions<R: Router + Drop>(&mut self, core: &Core<R>) {
-        let mut place = 0;
-        for _ in 0..self.sessions.len() {
-            if place < self.sessions.len() {
-                let session = &mut self.sessions[place];
-                match account_of(core, session.component, session.selector) {
-                    Some(account) => {
-                        session.peak.raise(account);
-                        place += 1;
-                    }
-                    None => {
-                        let _ = self.sessions.remove(place);
-                    }
-                }
-            }
-        }
-    }
-
-    // Keeps the session that a call has just opened.
-    fn keep_new<R: Router + Drop>(
-        &mut self,
-        core: &Core<R>,
-        list: &StartList,
-        component: usize,
-        service: &[u8],
-        args: &[u8],
-    ) -> Result<(), PlayFault>
-        requires component { component < length core.now.entries }
-        requires listed { core.now.entries ≡ entries_of (start_list_of list.now) }
-    {
-        let Ok(args) = SessionArgs::read(args) else {
-            return Ok(());
-        };
-        let Some(server) = route(list, component, service, args.label()) else {
-            return Ok(());
-        };
-        let Some((selector, account)) = self.first_unknown(core, component) else {
-            return Ok(());
-        };
-        self.sessions.push(Session {
-            component,
-            selector,
-            server,
-            label: label_of(self.alloc, list.name(component), args.label())?,
-            peak: Peak::of(account),
-        })?;
-        Ok(())
-    }
-
-    // The first selector of a component that names a session which isn't kept yet, with its account.
-    fn first_unknown<R: Router + Drop>(
-        &self,
-        core: &Core<R>,
-        component: usize,
-    ) -> Option<(u64, Quotas)>
-        requires component { component < length core.now.entries }
-    {
-        for selector in 0..=core.last_selector(component) {
-            if !self.keeps(component, selector) {
-                if let Some(account) = core.session_account(component, selector) {
-                    return Some((selector, account));
-                }
-            }
-        }
-        None
-    }
-
-    // Whether the session under a selector of a component is kept.
-    fn keeps(&self, component: usize, selector: u64) -> bool {
-        self.session(component, selector).is_some()
-    }
-
-    /// The peak of the component at a place, which has this account now.
-    pub(crate) fn component(&self, place: usize, account: Quotas) -> Peak {
+    /// The peak of the component at a place, or nothing past the last.
+    pub(crate) fn component(&self, place: usize) -> Peak {
         match self.components.get(place) {
             Some(peak) => *peak,
-            None => Peak::of(account),
+            None => Peak {
+                ram: Ram(0),
+                caps: Caps(0),
+            },
         }
     }
 
     /// The session under a selector of a component, if it is kept.
     pub(crate) fn session(&self, component: usize, selector: u64) -> Option<&Session> {
-        self.sessions.iter().find(|session| session.component == component
-            && session.selector == selector)
+        for session in &self.sessions {
+            if session.is_at(component, selector) {
+                return Some(session);
+            }
+        }
+        None
+    }
+
+    // Takes what the accounts of init and the components have in use now into account.
+    fn raise_accounts<R: Router + Drop>(&mut self, core: &Core<R>) {
+        self.init = self.init.raised(core.init_account());
+        for component in 0..core.count() {
+            if component < self.components.len() {
+                let peak = self.components[component].raised(core.account(component));
+                self.components[component] = peak;
+            }
+        }
+    }
+
+    // Takes what the accounts of sessions have in use now into account, and forgets the sessions that are no more.
+    fn raise_sessions<R: Router + Drop>(&mut self, core: &Core<R>) -> Result<(), AllocError> {
+        let mut open = Vec::new(self.alloc);
+        for session in mem::replace(&mut self.sessions, Vec::new(self.alloc)) {
+            if let Some(account) = account_of(core, session.component, session.selector) {
+                open.push(session.raised(account))?;
+            }
+        }
+        self.sessions = open;
+        Ok(())
+    }
+
+    // Keeps the sessions that the call of a line has just opened.
+    fn keep_opened<R: Router + Drop>(
+        &mut self,
+        core: &Core<R>,
+        list: &StartList,
+        line: &[u8],
+    ) -> Result<(), AllocError>
+        requires listed { core.now.entries ≡ entries_of (start_list_of list.now) }
+    {
+        let Some((name, Call::Open { service, args })) = call_in(line) else {
+            return Ok(());
+        };
+        let Some(component) = caller_of(list, name) else {
+            return Ok(());
+        };
+        for selector in 0..=core.last_selector(component) {
+            if self.session(component, selector).is_none() {
+                self.keep_new(core, list, component, selector, service, args)?;
+            }
+        }
+        Ok(())
+    }
+
+    // Keeps the session under a selector, if there is one, which a component has opened so.
+    fn keep_new<R: Router + Drop>(
+        &mut self,
+        core: &Core<R>,
+        list: &StartList,
+        component: usize,
+        selector: u64,
+        service: &[u8],
+        args: &[u8],
+    ) -> Result<(), AllocError>
+        requires component { component < length core.now.entries }
+        requires listed { core.now.entries ≡ entries_of (start_list_of list.now) }
+    {
+        let Some(account) = core.session_account(component, selector) else {
+            return Ok(());
+        };
+        let given = label_given(args);
+        self.sessions.push(Session {
+            component,
+            selector,
+            server: route(list, component, service, given),
+            label: label_of(self.alloc, list.label(component), given)?,
+            peak: Peak::of(account),
+        })?;
+        Ok(())
     }
 }
 
 impl Watch for Peaks {
     ghost tells = { λ _ _ _ _ _. [] };
 
-    ghost sees = { λ _ _ _. ⊤ };
+    ghost sees = { λ _ _ _ _. ⊤ };
 
     fn tell<R: Router + Drop, K: Sink>(
         &mut self,
@@ -188,12 +210,8 @@ impl Watch for Peaks {
         _writer: &mut K,
     ) -> Result<(), PlayFault> {
         self.raise_accounts(core);
-        self.raise_sessions(core);
-        if let Ok((name, Call::Open { service, args })) = read_line(heard.line) {
-            if let Some(component) = list.find(name) {
-                self.keep_new(core, list, component, service, args)?;
-            }
-        }
+        self.raise_sessions(core)?;
+        self.keep_opened(core, list, heard.line)?;
         Ok(())
     }
 }
@@ -207,10 +225,18 @@ fn account_of<R: Router + Drop>(core: &Core<R>, component: usize, selector: u64)
     }
 }
 
-// The label of a session: its client's name, an arrow and what that gave, or the name alone.
-fn label_of(alloc: Global, name: &[u8], given: &[u8]) -> Result<Vec<u8>, AllocError> {
+// The label that a client gives with the arguments of a session: none where they are no arguments.
+fn label_given(args: &[u8]) -> &[u8] {
+    match SessionArgs::read(args) {
+        Ok(args) => args.label(),
+        Err(_) => b"",
+    }
+}
+
+// The label of a session: its client's, an arrow and what that gave, or the client's alone.
+fn label_of(alloc: Global, client: &[u8], given: &[u8]) -> Result<Vec<u8>, AllocError> {
     let mut label = Vec::new(alloc);
-    label.extend_from_slice(name)?;
+    label.extend_from_slice(client)?;
     if !given.is_empty() {
         label.extend_from_slice(b" -> ")?;
         label.extend_from_slice(given)?;

@@ -4,6 +4,7 @@ ghost use Rattle.pd_core.specs.Call.{model_call};
 ghost use Rattle.scenario.specs.Gathered.{TellsUnless};
 ghost use Rattle.workbench.specs.Tracing.{said_in};
 
+use init_core::StartList;
 use itoa::{Buffer, Integer};
 use pd_core::Call;
 use scenario::{DeviceFault, Gather, LONGEST_LINE, Sink, read_line};
@@ -35,5 +36,17 @@ pub(crate) fn call_in(line: &[u8]) -> Option<(&[u8], Call<'_>)>
     match read_line(line) {
         Ok((name, call)) => Some((name, call)),
         Err(_) => None,
+    }
+}
+
+/// The component that a call under a name is heard of: none where nobody has the name, or an init, which makes no calls.
+pub(crate) fn caller_of(list: &StartList, name: &[u8]) -> Option<usize>
+    ensures inside { IfSome result (λ component. component < length list.now.entries) }
+{
+    let component = list.find(name)?;
+    if list.is_init(component) {
+        None
+    } else {
+        Some(component)
     }
 }
