@@ -1,24 +1,21 @@
 -- The rows of a trace.
-use Rattle.std.specs.Prelude.{ℕ, ◌+◌, List, [], ◌∷◌, ◌++◌, length, nat_le, drop, codes, decimal, if◌then◌else◌, Option, Some, None}
+use Rattle.std.specs.Prelude.{ℕ, ◌+◌, List, [], ◌∷◌, ◌++◌, length, drop, codes, decimal, Option, Some, None}
 use Rattle.std.specs.FinMap.{get}
 use Rattle.csv.specs.Writing.{default_writer, row_text}
 use Rattle.own_model.specs.Account.{Account}
-use Rattle.own_model.specs.Call.{Call, Spoken, spoken}
+use Rattle.own_model.specs.Call.{Call, Spoken}
 use Rattle.own_model.specs.Call.Call.{Upgrade, CallSession, Close}
 use Rattle.own_model.specs.Listed.{Listed}
 use Rattle.own_model.specs.OwnState.{OwnState, session_named}
 use Rattle.own_model.specs.Reply.{reply_text}
 use Rattle.own_model.specs.Session.{Session}
-use Rattle.own_model.specs.Transcript.{Heard, heard, longest_line, state_at}
+use Rattle.own_model.specs.Transcript.{Heard, heard, state_at}
 use Rattle.own_model.specs.Transcript.Heard.{NoCall, Stranger, Caller}
 use Rattle.own_model.specs.World.{World, world_running}
 use Rattle.scenario.specs.Answer.{answered_name, answered_reply}
 use Rattle.workbench.specs.Played.{told_of_lines}
+use Rattle.workbench.specs.Said.{said_in}
 use Rattle.scenario.specs.Program.{world_of}
-
--- what a line says as a call, if it isn't too long to be one
-abbrev pub said_in : List ℕ → Option Spoken
-said_in line = if nat_le (length line) longest_line then spoken line else None
 
 -- the call as it stands behind the name and a space, or a line that is none
 abbrev pub text_behind : Option Spoken → List ℕ → List ℕ

@@ -1,12 +1,14 @@
 //! The peaks of accounts: the most that was in use after any line.
-ghost use Rattle.std.specs.Prelude.{◌≡◌, ◌<◌, ◌≤◌, ◌∷◌, ◌++◌, ℕ, [], length, max, None, Some, IfOk, OnOk};
-ghost use Rattle.std.specs.Option.{option_map, option_map_or};
-ghost use Rattle.own_model.specs.Listed.{route_of, start_list_of};
+ghost use Rattle.std.specs.Prelude.{◌≡◌, ◌<◌, ◌≤◌, ◌==◌, ◌&&◌, ℕ, [], length, if◌then◌else◌, None, IfOk, IfSome, OnOk};
+ghost use Rattle.std.specs.Option.{option_map, option_or};
+ghost use Rattle.own_model.specs.Listed.{start_list_of};
 ghost use Rattle.own_model.specs.Routes.{label_with};
-ghost use Rattle.own_model.specs.Session.{given};
+ghost use Rattle.own_model.specs.Session.{Session as Opened, given};
 ghost use Rattle.own_model.specs.StartList.{entries_of};
 ghost use Rattle.own_model.specs.World.{account_at, machine_init};
 ghost use Rattle.pd_core.specs.Answer.{quotas_account};
+ghost use Rattle.workbench.specs.Kept.{begun_by, begun_with, found, grown, in_use, is_kept_at, noted_in, noted_more, peak_at, peaked, raised_in};
+ghost use Rattle.workbench.specs.Peaks.{session_at};
 
 use crate::ending::PlayFault;
 use crate::text::{call_in, caller_of};
@@ -28,7 +30,9 @@ pub(crate) struct Peak {
 
 impl Peak {
     /// The peak of an account of which so much is in use from the start.
-    pub(crate) fn of(account: Quotas) -> Peak {
+    pub(crate) fn of(account: Quotas) -> Peak
+        ensures { peaked result ≡ in_use (quotas_account account) }
+    {
         Peak {
             ram: account.ram_used,
             caps: account.caps_used,
@@ -36,7 +40,9 @@ impl Peak {
     }
 
     /// The peak once so much is in use.
-    pub(crate) fn raised(self, account: Quotas) -> Peak {
+    pub(crate) fn raised(self, account: Quotas) -> Peak
+        ensures { peaked result ≡ grown (peaked self) (quotas_account account) }
+    {
         Peak {
             ram: Ram(self.ram.0.max(account.ram_used.0)),
             caps: Caps(self.caps.0.max(account.caps_used.0)),
@@ -57,7 +63,11 @@ pub(crate) struct Session {
 
 impl Session {
     /// The session once so much of its account is in use.
-    fn raised(self, account: Quotas) -> Session {
+    fn raised(self, account: Quotas) -> Session
+        ensures noted { noted_in result ≡ noted_more (noted_in self) (quotas_account account) }
+        ensures component { result.component ≡ self.component }
+        ensures selector { result.selector ≡ self.selector }
+    {
         Session {
             component: self.component,
             selector: self.selector,
@@ -68,7 +78,9 @@ impl Session {
     }
 
     // Whether it is that of a selector of a component.
-    fn is_at(&self, component: usize, selector: u64) -> bool {
+    fn is_at(&self, component: usize, selector: u64) -> bool
+        ensures { result ≡ is_kept_at component selector self.now }
+    {
         self.component == component && self.selector == selector
     }
 }
@@ -88,7 +100,13 @@ impl Peaks {
     pub(crate) fn new<R: Router + Drop>(
         alloc: Global,
         core: &Core<R>,
-    ) -> Result<Peaks, AllocError> {
+    ) -> Result<Peaks, AllocError>
+        ensures init { IfOk result (λ peaks. peaked peaks.init ≡ in_use (machine_init core.now)) }
+        ensures count { IfOk result (λ peaks. length peaks.components.items ≡ length core.now.entries) }
+        ensures components { IfOk result (λ peaks. (place : ℕ) → place < length core.now.entries →
+            peak_at peaks.components.items place ≡ in_use (account_at core.now place)) }
+        ensures sessions { IfOk result (λ peaks. peaks.sessions.items ≡ []) }
+    {
         let mut components = Vec::new(alloc);
         for component in 0..core.count() {
             components.push(Peak::of(core.account(component)))?;
@@ -102,7 +120,9 @@ impl Peaks {
     }
 
     /// The peak of the component at a place, or nothing past the last.
-    pub(crate) fn component(&self, place: usize) -> Peak {
+    pub(crate) fn component(&self, place: usize) -> Peak
+        ensures { peaked result ≡ peak_at self.now.components.items place }
+    {
         match self.components.get(place) {
             Some(peak) => *peak,
             None => Peak {
@@ -113,7 +133,12 @@ impl Peaks {
     }
 
     /// The session under a selector of a component, if it is kept.
-    pub(crate) fn session(&self, component: usize, selector: u64) -> Option<&Session> {
+    pub(crate) fn session(&self, component: usize, selector: u64) -> Option<&Session>
+        ensures noted { option_map (λ session. noted_in session.now) result
+            ≡ found self.now.sessions.items component selector }
+        ensures component { IfSome result (λ session. session.now.component ≡ component) }
+        ensures selector { IfSome result (λ session. session.now.selector ≡ selector) }
+    {
         for session in &self.sessions {
             if session.is_at(component, selector) {
                 return Some(session);
@@ -123,7 +148,14 @@ impl Peaks {
     }
 
     // Takes what the accounts of init and the components have in use now into account.
-    fn raise_accounts<R: Router + Drop>(&mut self, core: &Core<R>) {
+    fn raise_accounts<R: Router + Drop>(&mut self, core: &Core<R>)
+        ensures init { peaked self.new.init ≡ grown (peaked self.old.init) (machine_init core.now) }
+        ensures count { length self.new.components.items ≡ length self.old.components.items }
+        ensures components { (place : ℕ) → place < length core.now.entries → place < length self.old.components.items →
+            peak_at self.new.components.items place
+            ≡ grown (peak_at self.old.components.items place) (account_at core.now place) }
+        ensures sessions { self.new.sessions.items ≡ self.old.sessions.items }
+    {
         self.init = self.init.raised(core.init_account());
         for component in 0..core.count() {
             if component < self.components.len() {
@@ -134,7 +166,13 @@ impl Peaks {
     }
 
     // Takes what the accounts of sessions have in use now into account, and forgets the sessions that are no more.
-    fn raise_sessions<R: Router + Drop>(&mut self, core: &Core<R>) -> Result<(), AllocError> {
+    fn raise_sessions<R: Router + Drop>(&mut self, core: &Core<R>) -> Result<(), AllocError>
+        ensures init { self.new.init ≡ self.old.init }
+        ensures components { self.new.components.items ≡ self.old.components.items }
+        ensures sessions { OnOk result ((component selector : ℕ) → component < length core.now.entries →
+            found self.new.sessions.items component selector
+            ≡ raised_in (session_at component selector core.now) (found self.old.sessions.items component selector)) }
+    {
         let mut open = Vec::new(self.alloc);
         for session in mem::replace(&mut self.sessions, Vec::new(self.alloc)) {
             if let Some(account) = account_of(core, session.component, session.selector) {
@@ -153,8 +191,17 @@ impl Peaks {
         line: &[u8],
     ) -> Result<(), AllocError>
         requires listed { core.now.entries ≡ entries_of (start_list_of list.now) }
+        ensures init { self.new.init ≡ self.old.init }
+        ensures components { self.new.components.items ≡ self.old.components.items }
+        ensures sessions { OnOk result ((component selector : ℕ) → component < length core.now.entries →
+            found self.new.sessions.items component selector
+            ≡ option_or (found self.old.sessions.items component selector)
+            (begun_by list.now core.now line.now component selector)) }
     {
-        let Some((name, Call::Open { service, args })) = call_in(line) else {
+        let Some((name, call)) = call_in(line) else {
+            return Ok(());
+        };
+        let Call::Open { service, args } = call else {
             return Ok(());
         };
         let Some(component) = caller_of(list, name) else {
@@ -180,6 +227,13 @@ impl Peaks {
     ) -> Result<(), AllocError>
         requires component { component < length core.now.entries }
         requires listed { core.now.entries ≡ entries_of (start_list_of list.now) }
+        ensures init { self.new.init ≡ self.old.init }
+        ensures components { self.new.components.items ≡ self.old.components.items }
+        ensures sessions { OnOk result ((c q : ℕ) →
+            found self.new.sessions.items c q
+            ≡ option_or (found self.old.sessions.items c q)
+            (if c == component && q == selector
+            then begun_with list.now core.now service.now args.now component selector else None)) }
     {
         let Some(account) = core.session_account(component, selector) else {
             return Ok(());
@@ -217,7 +271,10 @@ impl Watch for Peaks {
 }
 
 // The account of the session under a selector of the component at a place, if there is one.
-fn account_of<R: Router + Drop>(core: &Core<R>, component: usize, selector: u64) -> Option<Quotas> {
+fn account_of<R: Router + Drop>(core: &Core<R>, component: usize, selector: u64) -> Option<Quotas>
+    ensures { component < length core.now.entries → option_map quotas_account result
+        ≡ option_map (λ (session : Opened). session.account) (session_at component selector core.now) }
+{
     if component < core.count() {
         core.session_account(component, selector)
     } else {
@@ -226,7 +283,10 @@ fn account_of<R: Router + Drop>(core: &Core<R>, component: usize, selector: u64)
 }
 
 // The label that a client gives with the arguments of a session: none where they are no arguments.
-fn label_given(args: &[u8]) -> &[u8] {
+fn label_given(args: &[u8]) -> &[u8]
+    ensures label { result.now ≡ (given args.now).label }
+    ensures short { length result.now ≤ 64 }
+{
     match SessionArgs::read(args) {
         Ok(args) => args.label(),
         Err(_) => b"",
@@ -234,7 +294,9 @@ fn label_given(args: &[u8]) -> &[u8] {
 }
 
 // The label of a session: its client's, an arrow and what that gave, or the client's alone.
-fn label_of(alloc: Global, client: &[u8], given: &[u8]) -> Result<Vec<u8>, AllocError> {
+fn label_of(alloc: Global, client: &[u8], given: &[u8]) -> Result<Vec<u8>, AllocError>
+    ensures { IfOk result (λ label. label.items ≡ label_with client.now given.now) }
+{
     let mut label = Vec::new(alloc);
     label.extend_from_slice(client)?;
     if !given.is_empty() {

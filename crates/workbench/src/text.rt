@@ -1,8 +1,12 @@
 //! Pieces of text.
-ghost use Rattle.std.specs.Prelude.{◌≡◌, false, is_err, IfSome, IfNone, Some, None};
+ghost use Rattle.std.specs.Prelude.{◌≡◌, ◌<◌, length, false, is_err, IfSome, IfNone, Some, None};
+ghost use Rattle.own_model.specs.Call.{Call as Said};
+ghost use Rattle.own_model.specs.Listed.{start_list_of};
+ghost use Rattle.own_model.specs.StartList.{entries_of};
+ghost use Rattle.own_model.specs.Transcript.{heard_spoken};
 ghost use Rattle.pd_core.specs.Call.{model_call};
 ghost use Rattle.scenario.specs.Gathered.{TellsUnless};
-ghost use Rattle.workbench.specs.Tracing.{said_in};
+ghost use Rattle.workbench.specs.Said.{heard_as, said_in};
 
 use init_core::StartList;
 use itoa::{Buffer, Integer};
@@ -41,6 +45,8 @@ pub(crate) fn call_in(line: &[u8]) -> Option<(&[u8], Call<'_>)>
 
 /// The component that a call under a name is heard of: none where nobody has the name, or an init, which makes no calls.
 pub(crate) fn caller_of(list: &StartList, name: &[u8]) -> Option<usize>
+    ensures heard { (call : Said) → heard_spoken (entries_of (start_list_of list.now)) (Some (record { name = name.now; call = call }))
+        ≡ heard_as name.now call result }
     ensures inside { IfSome result (λ component. component < length list.now.entries) }
 {
     let component = list.find(name)?;

@@ -8,7 +8,7 @@ ghost use Rattle.pd_core.specs.Call.{model_call};
 ghost use Rattle.scenario.specs.Gathered.{TellsUnless};
 ghost use Rattle.scenario.specs.Program.{boot_fault};
 ghost use Rattle.workbench.specs.Played.{told_of_lines};
-ghost use Rattle.workbench.specs.Tracing.{call_text, caller_cells, figures, said_in, session_cells, session_of, stranger_cells, trace_header, trace_tells, trace_told};
+ghost use Rattle.workbench.specs.Tracing.{call_text, caller_cells, figures, session_cells, session_of, stranger_cells, trace_header, trace_tells, trace_told};
 ghost use Rattle.workbench.specs.Writes.{IsPlayed, IsPlayedFrom, nothing_told};
 
 use crate::ending::{Ending, PlayFault};
