@@ -21,7 +21,6 @@ use Rattle.own_model.specs.Listed.{Listed, start_list_of, start_of}
 use Rattle.own_model.specs.OwnState.{OwnState}
 use Rattle.own_model.specs.StartList.{entries_of}
 use Rattle.own_model.specs.World.{World}
-use Rattle.own_model.specs.Transcript.{state_at, nothing}
 use Rattle.scenario.specs.Gathered.{Tells, TellsPart, TellsUnless}
 use Rattle.scenario.specs.Stops.{AppendsPart}
 use Rattle.scenario.proofs.GatheredLemmas.{Tells-more, Tells-front}
@@ -157,10 +156,11 @@ module _ {X : Type 0} (missing : X) (f : ℕ × X → List ℕ) (es : List X) wh
   pub component_more : (i : ℕ) → i < length es → flat_map f (take (i + 1) (enumerate_from 0 es)) ≡ flat_map f (take i (enumerate_from 0 es)) ++ f (i, get_or es i missing)
   component_more i within =
       let next : i + 1 ≡ suc i = omega arith in
+      let first : 0 + i ≡ i = omega arith in
       let inside : i < length (enumerate_from 0 es) = omega (arith, within, length-enumerate_from 0 es) in
       let here : ℕ × X = (i, get_or es i missing) in
       ap (λ n. flat_map f (take n (enumerate_from 0 es))) next
-      ∙ ap (flat_map f) (take-suc (enumerate_from 0 es) i (0, missing) inside ∙ ap (λ e. take i (enumerate_from 0 es) ++ e ∷ []) (get_or-enumerate_from 0 es i (0, missing) within))
+      ∙ ap (flat_map f) (take-suc (enumerate_from 0 es) i (0, missing) inside ∙ ap (λ e. take i (enumerate_from 0 es) ++ e ∷ []) (get_or-enumerate_from 0 es i (0, missing) within ∙ ap (λ (k : ℕ). (k, get_or es i missing)) first))
       ∙ flat_map-append f (take i (enumerate_from 0 es)) (here ∷ [])
       ∙ ap (λ l. flat_map f (take i (enumerate_from 0 es)) ++ l) (flat_map-cons f here [] ∙ append-nil (f here))
 

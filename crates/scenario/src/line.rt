@@ -427,12 +427,33 @@ mod tests {
         assert!(rt; is_bad(b"alice alloc 18446744073709551616"));
         assert!(rt; is_bad(b"alice alloc 99999999999999999999999999999999999999990"));
         assert!(rt; is_bad(b"abcdefghijklmnopqrstuvwxyz0123456 quota"));
-        assert!(rt; is_bad(b"al/ice quota"));
         assert!(rt; is_bad(b"alice capalloc 1"));
         assert!(rt; is_bad(b"alice new"));
         assert!(rt; is_bad(b"alice new -1"));
         assert!(rt; is_bad(b"alice snew"));
         assert!(rt; is_bad(b"alice snew 0x10"));
+    }
+
+    #[test]
+    fn names_are_paths(rt: HostRuntime) {
+        for line in [
+            b"a quota".as_slice(),
+            b"a/b quota",
+            b"a/b/c/d quota",
+            b"abcdefghijklmnopqrstuvwxyz012345/x quota",
+        ] {
+            assert!(rt; read_line(line).is_ok());
+        }
+        for line in [
+            b"a/b/c/d/e quota".as_slice(),
+            b"a/ quota",
+            b"/a quota",
+            b"a//b quota",
+            b"/ quota",
+            b"x/abcdefghijklmnopqrstuvwxyz0123456 quota",
+        ] {
+            assert!(rt; is_bad(line));
+        }
     }
 
     #[test]

@@ -71,7 +71,7 @@ fn told_among(
 }
 
 // Each name is told alone what it is told among the others.
-fn compare<R: Abort + AllocGlobal>(
+pub(super) fn compare<R: Abort + AllocGlobal>(
     rt: &R,
     machine: &str,
     names: &[&str],
