@@ -42,7 +42,7 @@ found-more [] session component selector = refl
 found-more (first ∷ kept) session component selector =
     elim (is_kept_at component selector first) as
     (λ b. cond b (Some (noted_in first)) (found (kept ++ session ∷ []) component selector)
-        ≡ option_or (cond b (Some (noted_in first)) (found kept component selector)) (cond (is_kept_at component selector session) (Some (noted_in session)) None)) [
+    ≡ option_or (cond b (Some (noted_in first)) (found kept component selector)) (cond (is_kept_at component selector session) (Some (noted_in session)) None)) [
       | true ↦ refl
       | false ↦ found-more kept session component selector
     ]
@@ -206,6 +206,7 @@ module _ (listed : Listed) (world : World) (line : List ℕ) (c q : ℕ) where
       where
         with_it : begun_with listed world service text c q ≡ begun listed world line c q
         with_it = ap (λ s. begun_as world (server_by listed c s) (label_by (entry_at world.entries c).label s) c q) (sym said)
+
         by : (own below : Bool) → (c == component) ≡ own → nat_lt q count ≡ below →
             cond (own && below) (begun_with listed world service text component q) None ≡ cond (own && true) (begun listed world line c q) None
         by false below is_own is_below = refl
@@ -282,8 +283,10 @@ module _ {init : Amounts} {components : List Peak} {sessions : List Kept} {liste
     where
       there : (x : Session) → session_at component selector after ≡ Some x → is_open component selector after ≡ true
       there x now = ap is_some now
+
       account : (x : Session) → session_at component selector after ≡ Some x → session_account_at component selector after ≡ x.account
       account x now = ap (λ o. option_map_or (λ (s : Session). s.account) o no_account) now
+
       opening : is_open component selector before ≡ false → (x : Session) → session_at component selector after ≡ Some x → (b : Bool) → opens_for component (heard start.entries call) ≡ b →
           opens_for component (heard start.entries call) ≡ true
       opening closed x now true is = is
@@ -296,7 +299,7 @@ module _ {init : Amounts} {components : List Peak} {sessions : List Kept} {liste
   pub sees_more : (init' : Amounts) (components' : List Peak) (sessions' : List Kept) → init' ≡ grown init (machine_init left) → length components' ≡ length components →
       ((place : ℕ) → place < length start.entries → peak_at components' place ≡ grown (peak_at components place) (account_at left place)) →
       ((component selector : ℕ) → component < length start.entries →
-        found sessions' component selector ≡ option_or (raised_in (session_at component selector left) (found sessions component selector)) (begun_by listed left call component selector)) →
+      found sessions' component selector ≡ option_or (raised_in (session_at component selector left) (found sessions component selector)) (begun_by listed left call component selector)) →
       SeesPeaks init' components' sessions' listed start (earlier ++ call ∷ [])
   sees_more init' components' sessions' of_init count of_components of_sessions = record {
     of_init = of_init ∙ ap (λ peak. grown peak (machine_init left)) sees.of_init ∙ grows machine_init;

@@ -26,7 +26,6 @@ back : (calls : List (List ℕ)) (call : List ℕ) (j : ℕ) → j ≡ length ca
 back calls call j is = ap (λ k. get_or (calls ++ call ∷ []) k []) is ∙ get_or-append-add calls (call ∷ []) 0 []
 
 module _ (component selector : ℕ) (start : World) where
-
   -- since a session is open that wasn't at the start there were no more worlds than calls
   few_since : is_open component selector start ≡ false → (calls : List (List ℕ)) → length (since_open component selector start calls) ≤ length calls
   few_since none [] = lasting-later (is_open component selector) start [] none

@@ -6,10 +6,11 @@ use Rattle.own_model.specs.StartList.{Boots}
 use Rattle.own_model.specs.World.{World}
 use Rattle.init_core.specs.StartText.{list_in}
 use Rattle.scenario.specs.Gathered.{Tells, TellsPart}
+use Rattle.scenario.specs.Program.{world_of}
 use Rattle.scenario.specs.Stops.{AppendsPart}
 use Rattle.scenario.proofs.GatheredLemmas.{Appends-more}
 use Rattle.workbench.specs.Plays.{AreAll, AreFirst, WritesTold}
-use Rattle.workbench.specs.Writes.{Closes, IsPlayed, IsPlayedFrom, WritesAfter, WritesBoth, machine_world}
+use Rattle.workbench.specs.Writes.{Closes, IsPlayed, IsPlayedFrom, WritesAfter, WritesBoth}
 use Rattle.workbench.specs.declared.ending.Ending.{Ending}
 use Rattle.workbench.specs.declared.ending.PlayFault.{PlayFault}
 
@@ -77,12 +78,11 @@ module _ {told behind : List (List ℕ) → List ℕ} where
   }
 
 -- on the machine of a text
-pub is_played : {text : List ℕ} {listed : Listed} (told behind : World → List (List ℕ) → List ℕ) (ending : Ending) {start : World} (input w w' : Option (List ℕ)) →
-    list_in text ≡ Ok listed → Boots (start_list_of listed) → start ≡ machine_world listed → IsPlayedFrom (told start) (behind start) ending input w w' →
-    IsPlayed text (λ l. told (machine_world l)) (λ l. behind (machine_world l)) ending input w w'
+pub is_played : {text : List ℕ} {listed : Listed} (told : World → List (List ℕ) → List ℕ) (behind : Listed → World → List (List ℕ) → List ℕ) (ending : Ending) {start : World} (input w w' : Option (List ℕ)) →
+    list_in text ≡ Ok listed → Boots (start_list_of listed) → start ≡ world_of listed → IsPlayedFrom (told start) (behind listed start) ending input w w' →
+    IsPlayed text (λ l. told (world_of l)) (λ l. behind l (world_of l)) ending input w w'
 is_played {listed = listed} told behind ending input w w' reads boots starts played = record {
   listed = listed;
-  reads = reads;
-  boots = boots;
-  played = subst (λ world. IsPlayedFrom (told world) (behind world) ending input w w') starts played;
+  machine = record { reads = reads; boots = boots };
+  played = subst (λ world. IsPlayedFrom (told world) (behind listed world) ending input w w') starts played;
 }

@@ -15,9 +15,8 @@ told_in world call = told_of_all None world (call ∷ [])
 -- a call in a line of this number, what it is told in one world, and what in another
 abbrev pub told_in_both : World → World → ℕ → List ℕ → List ℕ
 told_in_both whole alone number call =
-    decimal number ++ codes ": " ++ call ++ 10 ∷ []
-    ++ codes "  whole: " ++ told_in whole call
-    ++ codes "  alone: " ++ told_in alone call
+    (decimal number ++ codes ": " ++ call ++ 10 ∷ []) ++ (codes "  whole: " ++ told_in whole call)
+    ++ (codes "  alone: " ++ told_in alone call)
 
 -- of a call of a name: what it is told after all calls before it, and what after the name's alone
 abbrev pub alone_tells : List ℕ → World → List (List ℕ) → ℕ → List ℕ → List ℕ

@@ -33,15 +33,22 @@ abbrev pub name_at : List Entry → Option ℕ → List ℕ
 name_at entries (Some place) = if nat_lt place (length entries) then (entry_at entries place).name else codes "?"
 name_at entries None = codes "?"
 
--- what stands behind a session's account
+-- what stands behind a session's account: its server, and its label
+abbrev pub server_text : List Entry → Option ℕ → List ℕ
+server_text entries server = codes " server " ++ name_at entries server ++ codes " label "
+
 abbrev pub origin_text : List Entry → Noted → List ℕ
-origin_text entries noted = codes " server " ++ name_at entries noted.server ++ codes " label " ++ noted.label ++ 10 ∷ []
+origin_text entries noted = server_text entries noted.server ++ noted.label ++ 10 ∷ []
+
+-- and before that: the client, the selector, and the figures
+abbrev pub client_text : List Entry → ℕ → ℕ → Account → Amounts → List ℕ
+client_text entries component selector account peak =
+    codes "session " ++ (entry_at entries component).name ++ codes " " ++ decimal selector ++ peaked_text account peak
 
 -- the line of a session
 abbrev pub noted_line : List Entry → ℕ → ℕ → Account → Noted → List ℕ
 noted_line entries component selector account noted =
-    codes "session " ++ (entry_at entries component).name ++ codes " " ++ decimal selector ++ peaked_text account noted.peak
-    ++ origin_text entries noted
+    client_text entries component selector account noted.peak ++ origin_text entries noted
 
 -- of one that is open, and of which this is noted
 abbrev pub open_line : List Entry → ℕ → ℕ → Option Session → Option Noted → List ℕ
@@ -49,12 +56,16 @@ open_line entries component selector (Some session) (Some noted) = noted_line en
 open_line entries component selector (Some session) None = []
 open_line entries component selector None noted = []
 
--- the places of the components, and the selectors that one can have
+-- how many selectors a component can have, with 0, which names nothing
+unfoldable pub selector_count : ℕ
+selector_count = 4097
+
+-- the places of the components, and the selectors of each
 abbrev pub places : World → List ℕ
 places world = range_with_len 0 (length world.entries)
 
 abbrev pub selectors : List ℕ
-selectors = range_with_len 0 4097
+selectors = range_with_len 0 selector_count
 
 -- the lines of the component at a place
 abbrev pub lines_at : Listed → World → (ℕ → Amounts) → ℕ → List ℕ

@@ -90,17 +90,14 @@ impl Session {
 pub(crate) struct Peaks {
     alloc: Global,
     pub init: Peak,
-    components: Vec<Peak>,
+    pub components: Vec<Peak>,
     /// The sessions that are open now.
-    sessions: Vec<Session>,
+    pub sessions: Vec<Session>,
 }
 
 impl Peaks {
     /// The peaks before the first line.
-    pub(crate) fn new<R: Router + Drop>(
-        alloc: Global,
-        core: &Core<R>,
-    ) -> Result<Peaks, AllocError>
+    pub(crate) fn new<R: Router + Drop>(alloc: Global, core: &Core<R>) -> Result<Peaks, AllocError>
         ensures init { IfOk result (λ peaks. peaked peaks.init ≡ in_use (machine_init core.now)) }
         ensures count { IfOk result (λ peaks. length peaks.components.items ≡ length core.now.entries) }
         ensures components { IfOk result (λ peaks. (place : ℕ) → place < length core.now.entries →
@@ -251,9 +248,12 @@ impl Peaks {
 }
 
 impl Watch for Peaks {
+    ghost use Rattle.std.specs.Prelude.{[]};
+    ghost use Rattle.workbench.specs.Kept.{SeesPeaks, peaked};
+
     ghost tells = { λ _ _ _ _ _. [] };
 
-    ghost sees = { λ _ _ _ _. ⊤ };
+    ghost sees = { λ peaks. SeesPeaks (peaked peaks.init) peaks.components.items peaks.sessions.items };
 
     fn tell<R: Router + Drop, K: Sink>(
         &mut self,

@@ -1,5 +1,6 @@
 //! Pieces of text.
-ghost use Rattle.std.specs.Prelude.{◌≡◌, ◌<◌, length, false, is_err, IfSome, IfNone, Some, None};
+ghost use Rattle.std.specs.Prelude.{◌≡◌, ◌+◌, ◌<◌, ◌≤◌, ◌++◌, length, false, is_err, IfSome, IfNone, Some, None};
+ghost use Rattle.arrayvec.specs.ArrayVec.{array_vec_len};
 ghost use Rattle.own_model.specs.Call.{Call as Said};
 ghost use Rattle.own_model.specs.Listed.{start_list_of};
 ghost use Rattle.own_model.specs.StartList.{entries_of};
@@ -8,6 +9,7 @@ ghost use Rattle.pd_core.specs.Call.{model_call};
 ghost use Rattle.scenario.specs.Gathered.{TellsUnless};
 ghost use Rattle.workbench.specs.Said.{heard_as, said_in};
 
+use arrayvec::ArrayVec;
 use init_core::StartList;
 use itoa::{Buffer, Integer};
 use pd_core::Call;
@@ -26,6 +28,43 @@ pub(crate) fn put_number<I: Integer, K: Sink>(
 {
     let mut digits = Buffer::new();
     gathered.put(sink, digits.format(number).as_bytes())
+}
+
+/// Gathers three texts, one after another.
+pub(crate) fn put_three<K: Sink>(
+    first: &[u8],
+    then: &[u8],
+    last: &[u8],
+    gathered: &mut Gather,
+    sink: &mut K,
+) -> Result<(), DeviceFault>
+    requires { K.has_failed sink.old ≡ false }
+    ensures told { TellsUnless result (K.contents sink.old) gathered.old (K.contents sink.new) gathered.new
+        (first.now ++ then.now ++ last.now) }
+    ensures failing { K.has_failed sink.new ≡ is_err result }
+{
+    gathered.put(sink, first)?;
+    gathered.put(sink, then)?;
+    gathered.put(sink, last)
+}
+
+/// Appends a number in decimal digits.
+pub(crate) fn add_number<I: Integer, const N: usize>(text: &mut ArrayVec<u8, N>, number: I)
+    requires { array_vec_len text.old + I.MAX_STR_LEN ≤ N }
+    ensures items { text.new.items ≡ text.old.items ++ I.text number }
+    ensures len { array_vec_len text.new ≤ array_vec_len text.old + I.MAX_STR_LEN }
+{
+    let mut digits = Buffer::new();
+    add(text, digits.format(number).as_bytes());
+}
+
+/// Appends bytes that still fit.
+pub(crate) fn add<const N: usize>(text: &mut ArrayVec<u8, N>, more: &[u8])
+    requires { array_vec_len text.old + length more.now ≤ N }
+    ensures items { text.new.items ≡ text.old.items ++ more.now }
+    ensures len { array_vec_len text.new ≡ array_vec_len text.old + length more.now }
+{
+    let _ = text.try_extend_from_slice(more);
 }
 
 /// The name and the call that a line says, if it isn't too long to be a call.

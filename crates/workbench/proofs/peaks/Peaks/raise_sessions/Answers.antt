@@ -17,10 +17,10 @@ loop-session-preserved-in-Continue-1 g c = record {
       ∙ raised_more c.args.core.now c.loop-session.open.items c.loop-session.yielded c.in-Some.session component selector (c.loop-session.invariant.sessions component selector within)
       c.raised.result (quotas_account c.in-Some-account_of.account) c.raised.ensures.noted c.raised.ensures.component c.raised.ensures.selector
       (λ here under.
-        let inside : c.in-Some.session.component < length c.args.core.now.entries = subst (λ k. k < length c.args.core.now.entries) here within in
-        ap (λ q. option_map (λ (x : Session). x.account) (session_at component q c.args.core.now)) under
-        ∙ ap (λ k. option_map (λ (x : Session). x.account) (session_at k c.in-Some.session.selector c.args.core.now)) here
-        ∙ sym (c.in-Some-account_of.ensures inside));
+      let inside : c.in-Some.session.component < length c.args.core.now.entries = subst (λ k. k < length c.args.core.now.entries) here within in
+      ap (λ q. option_map (λ (x : Session). x.account) (session_at component q c.args.core.now)) under
+      ∙ ap (λ k. option_map (λ (x : Session). x.account) (session_at k c.in-Some.session.selector c.args.core.now)) here
+      ∙ sym (c.in-Some-account_of.ensures inside));
 }
 
 pub loop-session-preserved : goal.loop-session-preserved
@@ -30,8 +30,8 @@ loop-session-preserved g c = record {
   sessions = λ component selector within.
       gone_more c.args.core.now c.loop-session.open.items c.loop-session.yielded c.in-Some.session component selector (c.loop-session.invariant.sessions component selector within)
       (λ here under.
-        let inside : c.in-Some.session.component < length c.args.core.now.entries = subst (λ k. k < length c.args.core.now.entries) here within in
-        ap (λ q. option_map (λ (x : Session). x.account) (session_at component q c.args.core.now)) under
-        ∙ ap (λ k. option_map (λ (x : Session). x.account) (session_at k c.in-Some.session.selector c.args.core.now)) here
-        ∙ sym (c.in_default.ensures inside));
+      let inside : c.in-Some.session.component < length c.args.core.now.entries = subst (λ k. k < length c.args.core.now.entries) here within in
+      ap (λ q. option_map (λ (x : Session). x.account) (session_at component q c.args.core.now)) under
+      ∙ ap (λ k. option_map (λ (x : Session). x.account) (session_at k c.in-Some.session.selector c.args.core.now)) here
+      ∙ sym (c.in_default.ensures inside));
 }
