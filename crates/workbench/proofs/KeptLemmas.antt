@@ -1,5 +1,5 @@
 -- What is kept of peaks from call to call.
-use Rattle.std.proofs.Common.{Bor, ◌≡◌, ◌≢◌, ◌≤◌, inl, inr, ℕ, ◌+◌, ◌<◌, ◌==◌, ◌&&◌, Bool, true, false, true≢false, cond, eqb-true, List, [], ◌∷◌, ◌++◌, length, is_some, Option, Some, None, refl, sym, ◌∙◌, ap, subst, arith}
+use Rattle.std.proofs.Common.{Bor, ◌≡◌, ◌≢◌, ◌≤◌, inl, inr, ℕ, ◌+◌, ◌<◌, ◌==◌, ◌&&◌, Bool, true, false, true≢false, cond, eqb-true, List, [], ◌∷◌, ◌++◌, length, is_some, max, Option, Some, None, refl, sym, ◌∙◌, ap, subst, arith}
 use Rattle.std.proofs.lemmas.Bool.{eqb-false, eq-eqb}
 use Rattle.std.proofs.lemmas.Bool.Decides.{nat_tests}
 use Rattle.std.proofs.lemmas.Option.{none-some, same_Some}
@@ -12,7 +12,7 @@ use Rattle.own_model.specs.Account.{Account}
 use Rattle.own_model.specs.Amounts.{Amounts}
 use Rattle.own_model.specs.Call.{Spoken, spoken}
 use Rattle.own_model.specs.Call.Call.{Open}
-use Rattle.own_model.specs.Listed.{Listed, route_of}
+use Rattle.own_model.specs.Listed.{Listed, route_of, start_list_of}
 use Rattle.own_model.specs.Routes.{label_with}
 use Rattle.own_model.specs.StartList.{Entry, Kind}
 use Rattle.own_model.specs.StartList.Kind.{Script, Server, Init}
@@ -24,13 +24,14 @@ use Rattle.own_model.specs.StartList.{no_account}
 use Rattle.own_model.specs.Transcript.{Heard, entry_at, heard, heard_call, heard_of, heard_spoken, longest_line}
 use Rattle.own_model.specs.Transcript.Heard.{NoCall, Stranger, Caller}
 use Rattle.own_model.specs.World.{World, account_at, machine_init, world_after_heard, world_running}
+use Rattle.scenario.specs.Program.{world_of}
 use Rattle.workbench.specs.Kept.{SeesPeaks, begun, begun_as, begun_by, begun_with, found, grown, in_use, is_kept_at, noted_in, noted_more, opens_for, peak_at, raised_in}
 use Rattle.workbench.specs.Peaks.{Noted, is_open, label_by, noted_of, opens, peak_of, server_by, session_account_at, session_at, worlds}
 use Rattle.workbench.specs.Said.{said_in}
 use Rattle.workbench.specs.declared.peaks.Peak.{Peak}
 use Rattle.workbench.specs.declared.peaks.Session.{Session as Kept}
 use Rattle.workbench.proofs.NotedLemmas.{noted_first, noted_still}
-use Rattle.workbench.proofs.OpenLemmas.{OpensNone, closed_still}
+use Rattle.workbench.proofs.OpenLemmas.{OpensNone, closed_at_start, closed_still}
 use Rattle.workbench.proofs.PeakLemmas.{peak-more, worlds-more}
 
 -- ---- lists of what is kept
@@ -243,6 +244,31 @@ noted_by false None true was is first still starts = refl
 noted_by false None false was is first still starts = refl
 noted_by false (Some x) true was is first still starts = ap Some (sym (starts refl x refl).1)
 noted_by false (Some x) false was is first still starts = absurd (true≢false (sym (starts refl x refl).0))
+
+-- ---- at the start
+
+most_of_one : (n : ℕ) → n ≡ max n 0
+most_of_one n = omega arith
+
+peak_first : (account_in : World → Account) (start : World) → in_use (account_in start) ≡ peak_of account_in (worlds start [])
+peak_first account_in start = λ i. record { ram = most_of_one (account_in start).ram_used i; caps = most_of_one (account_in start).caps_used i }
+
+pub sees_first : {init : Amounts} {components : List Peak} {sessions : List Kept} (listed : Listed) {start : World} → start ≡ world_of listed → init ≡ in_use (machine_init start) →
+    length components ≡ length start.entries → ((place : ℕ) → place < length start.entries → peak_at components place ≡ in_use (account_at start place)) → sessions ≡ [] →
+    SeesPeaks init components sessions listed start []
+sees_first {init} {components} {sessions} listed {start} starts of_init count of_components none =
+    let closed = λ (component selector : ℕ). ap (is_open component selector) starts ∙ closed_at_start component selector (start_list_of listed) in
+    record {
+      of_init = of_init ∙ peak_first machine_init start;
+      count = count;
+      of_components = λ place within. of_components place within ∙ peak_first (λ w. account_at w place) start;
+      none_at_start = closed;
+      of_sessions = λ component selector within.
+          ap (λ kept. found kept component selector) none
+          ∙ ap (λ b. cond b (Some (noted_of listed start [] component selector)) None) (sym (closed component selector));
+    }
+
+-- ---- and then from call to call
 
 module _ {init : Amounts} {components : List Peak} {sessions : List Kept} {listed : Listed} {start : World} {earlier : List (List ℕ)} (sees : SeesPeaks init components sessions listed start earlier)
     (call : List ℕ) (left : World) (leads : left ≡ world_running start (earlier ++ call ∷ [])) where

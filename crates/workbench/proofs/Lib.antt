@@ -10,3 +10,4 @@ pub mod NotedLemmas
 pub mod KeptLemmas
 pub mod CallerLemmas
 pub mod ListLemmas
+pub mod RowLemmas

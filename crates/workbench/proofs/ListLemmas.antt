@@ -1,11 +1,14 @@
 -- The account list with peaks: its lines one after another, and what it tells of the accounts so far.
-use Rattle.std.proofs.Common.{◌≡◌, ℕ, ◌+◌, ◌-◌, ◌<◌, ◌≤◌, zero, suc, true, cond, List, [], ◌∷◌, ◌++◌, length, is_some, Option, Some, None, codes, refl, sym, ◌∙◌, ap, arith, append_assoc, append-nil}
+use Rattle.std.proofs.Common.{◌≡◌, ℕ, ◌+◌, ◌-◌, ◌<◌, ◌≤◌, ◌⊎◌, zero, suc, Bool, true, false, cond, List, [], ◌∷◌, ◌++◌, length, is_some, Option, Some, None, codes, refl, sym, ◌∙◌, ap, arith, append_assoc, append-nil}
 use Rattle.std.proofs.lemmas.Grind.{flat_map-append}
+use Rattle.std.proofs.lemmas.Bool.Decides.{nat_tests}
+use Rattle.std.specs.Prelude.{◌||◌, nat_lt}
 use Rattle.std.specs.List.{flat_map, range_with_len}
 use Rattle.own_model.specs.Amounts.{Amounts}
 use Rattle.own_model.specs.Listed.{Listed}
 use Rattle.own_model.specs.Session.{Session}
-use Rattle.own_model.specs.AccountList.{total_line}
+use Rattle.own_model.specs.Account.{Account}
+use Rattle.own_model.specs.AccountList.{is_told, reserve_line, total_line}
 use Rattle.own_model.specs.Transcript.{entry_at, state_at}
 use Rattle.scenario.specs.Accounts.{listed_at}
 use Rattle.own_model.specs.World.{World, account_at, all_caps, all_ram, machine_init, world_running}
@@ -67,6 +70,46 @@ lines_alike one other a (suc n) same =
 pub selectors_within : (n : ℕ) → n ≤ 4096 → n + 1 ≤ selector_count
 unfolding selector_count
 selectors_within n few = omega (arith, few)
+
+-- ---- a component
+
+-- a reserve is told where it is given, or has RAM or capabilities
+told_if_any : (given : Bool) (ram caps : ℕ) → (given ≡ true) ⊎ ((given ≡ false × 0 < ram) ⊎ (given ≡ false × ram ≤ 0 × 0 < caps)) → (given || nat_lt 0 ram || nat_lt 0 caps) ≡ true
+told_if_any given ram caps some = grind (arith, nat_tests)
+
+-- and not where there is nothing of it
+untold_if_none : (given : Bool) (ram caps : ℕ) → given ≡ false × ram ≤ 0 × caps ≤ 0 → (given || nat_lt 0 ram || nat_lt 0 caps) ≡ false
+untold_if_none given ram caps none = grind (arith, nat_tests)
+
+module _ (listed : Listed) (world : World) (peak : ℕ → Amounts) (place : ℕ) {name : List ℕ} {account : Account} {own : Amounts}
+    (name_is : name ≡ (entry_at world.entries place).name) (account_is : account ≡ account_at world place) (own_is : own ≡ peak place) where
+  -- first the account's line
+  pub component_first : lines_at listed world peak place
+      ≡ peaked_line name account own ++ cond (is_told (listed_at listed place).reserve (state_at world.states place).reserve) (reserve_line (entry_at world.entries place).name (state_at world.states place).reserve) []
+  component_first = λ i.
+      peaked_line (sym name_is i) (sym account_is i) (sym own_is i)
+      ++ cond (is_told (listed_at listed place).reserve (state_at world.states place).reserve) (reserve_line (entry_at world.entries place).name (state_at world.states place).reserve) []
+
+  told_is : {given : Bool} {reserve : Amounts} → given ≡ is_some (listed_at listed place).reserve → reserve ≡ (state_at world.states place).reserve →
+      is_told (listed_at listed place).reserve (state_at world.states place).reserve ≡ (given || nat_lt 0 reserve.ram || nat_lt 0 reserve.caps)
+  told_is given_is reserve_is = λ i. sym given_is i || nat_lt 0 (sym reserve_is i).ram || nat_lt 0 (sym reserve_is i).caps
+
+  -- then that of its reserve
+  pub component_then : {given : Bool} (reserve : Amounts) → given ≡ is_some (listed_at listed place).reserve → reserve ≡ (state_at world.states place).reserve →
+      (given ≡ true) ⊎ ((given ≡ false × 0 < reserve.ram) ⊎ (given ≡ false × reserve.ram ≤ 0 × 0 < reserve.caps)) →
+      lines_at listed world peak place ≡ peaked_line name account own ++ reserve_line name reserve
+  component_then {given} reserve given_is reserve_is some =
+      component_first
+      ∙ ap (λ b. peaked_line name account own ++ cond b (reserve_line (entry_at world.entries place).name (state_at world.states place).reserve) []) (told_is given_is reserve_is ∙ told_if_any given reserve.ram reserve.caps some)
+      ∙ (λ i. peaked_line name account own ++ reserve_line (sym name_is i) (sym reserve_is i))
+
+  -- or nothing
+  pub component_alone : {given : Bool} (reserve : Amounts) → given ≡ is_some (listed_at listed place).reserve → reserve ≡ (state_at world.states place).reserve →
+      given ≡ false × reserve.ram ≤ 0 × reserve.caps ≤ 0 → lines_at listed world peak place ≡ peaked_line name account own
+  component_alone {given} reserve given_is reserve_is none =
+      component_first
+      ∙ ap (λ b. peaked_line name account own ++ cond b (reserve_line (entry_at world.entries place).name (state_at world.states place).reserve) []) (told_is given_is reserve_is ∙ untold_if_none given reserve.ram reserve.caps none)
+      ∙ append-nil (peaked_line name account own)
 
 -- ---- the list
 

@@ -1,5 +1,6 @@
 -- A play from line to line: what was played, and what it leaves at its end.
 use Rattle.std.proofs.Common.{◌≡◌, ℕ, ◌+◌, ◌<◌, ◌≤◌, take, drop, List, [], ◌∷◌, ◌++◌, length, Option, Some, None, IfSome, Result, Ok, Err, OnOk, Bool, arith, refl, sym, ◌∙◌, ap, subst, append_assoc, append-nil, length-append}
+use Rattle.std.specs.Result.{result_err}
 use Rattle.std.specs.Io.KnownBytes.{Appends}
 use Rattle.own_model.specs.SaidBy.{said_by}
 use Rattle.own_model.specs.Text.{lines_of}
@@ -206,3 +207,16 @@ module _ {tells : List (List ℕ) → ℕ → List ℕ → List ℕ} {only : Opt
     counted = tt;
     sees = tt;
   }
+
+-- with nothing ahead what comes is what the reader has left
+pub come_fresh : (ahead : List ℕ) (rest : Option (List ℕ)) → ahead ≡ [] → to_come ahead rest ≡ rest
+come_fresh ahead None none = refl
+come_fresh ahead (Some text) none = ap (λ a. Some (a ++ text)) none
+
+module _ {tells : List (List ℕ) → ℕ → List ℕ → List ℕ} {only : Option (List ℕ)} where
+  -- the last lines are played, and what is complained of then may not be told
+  pub plays_closed : {T : Type 0} (closed : Result T PlayFault) {before seen : List (List ℕ) → Type 0} {p q r : Point} {xs : List (List ℕ)} (count : ℕ) (input : Option (List ℕ)) →
+      to_come p.ahead p.rest ≡ input → count ≡ length xs → Plays tells before only 1 [] xs p q → Ended q r → seen (calls_answered only xs) →
+      PlaysAll tells seen only (result_err closed) count p.world r.world p.gathered input p.written r.written
+  plays_closed (Ok done) count input is counted plays ended sees = plays_to_end count input is counted plays ended sees
+  plays_closed (Err fault) count input is counted plays ended sees = plays_to_fault count input fault is (breaks_at_end plays ended)

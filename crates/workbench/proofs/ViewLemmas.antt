@@ -49,9 +49,9 @@ trace_played {start = start} {gathered = gathered} {w = w} {w' = w'} {w'' = w''}
     (closes_alone ending w'')
 
 -- or a part of the header
-pub header_cut : {start : World} {before : List ℕ} {input w w' : Option (List ℕ)} (ending : Ending) (fault : PlayFault) → before ≡ [] → ending.fault ≡ Some fault → TellsPart w before w' trace_header →
+pub header_cut : (start : World) {before : List ℕ} (input : Option (List ℕ)) {w w' : Option (List ℕ)} (ending : Ending) (fault : PlayFault) → before ≡ [] → ending.fault ≡ Some fault → TellsPart w before w' trace_header →
     IsPlayedFrom (λ lines. trace_header ++ told_of_lines (trace_tells start) None [] 1 lines) (λ _. []) ending input w w'
-header_cut {start = start} {input = input} {w = w} {w' = w'} ending fault none fails part =
+header_cut start input {w = w} {w' = w'} ending fault none fails part =
     played_from ending ending [] (all_left input) (rw fails tt) (rw fails tt)
     (subst (λ f. WritesTold f w w' (trace_header ++ [])) (sym fails) (record {
       part = part.1.out;
@@ -116,10 +116,10 @@ alone_played name {start = start} {core = core} {count = count} {difference = di
     same (Some fault) counted sees = tt
 
 -- it differs nowhere
-pub alone_same : (fault : Option PlayFault) {name : List ℕ} {start core : World} {count : ℕ} {difference : Option ℕ} {lines : List (List ℕ)} →
+pub alone_same : (fault : Option PlayFault) (name : List ℕ) (start core : World) (count : ℕ) (difference : Option ℕ) (lines : List (List ℕ)) →
     IfNone fault (SeesAlone name core count difference start lines) → IfNone fault (difference ≡ None)
-alone_same None sees = sees.alike
-alone_same (Some fault) sees = tt
+alone_same None name start core count difference lines sees = sees.alike
+alone_same (Some fault) name start core count difference lines sees = tt
 
 -- ---- the account list with peaks
 

@@ -1,5 +1,5 @@
 -- What is written of a play, from what the play itself promises.
-use Rattle.std.proofs.Common.{◌≡◌, ℕ, List, [], ◌∷◌, ◌++◌, length, Option, Some, None, IfSome, IfNone, Ok, inl, inr, refl, sym, ◌∙◌, ap, subst, append_assoc, append-nil}
+use Rattle.std.proofs.Common.{◌≡◌, ℕ, List, [], ◌∷◌, ◌++◌, length, Option, Some, None, IfSome, IfNone, Result, Ok, Err, IsErrAnd, inl, inr, refl, sym, ◌∙◌, ap, subst, append_assoc, append-nil}
 use Rattle.std.specs.Io.KnownBytes.{Appends}
 use Rattle.own_model.specs.Listed.{Listed, start_list_of}
 use Rattle.own_model.specs.StartList.{Boots}
@@ -8,9 +8,9 @@ use Rattle.init_core.specs.StartText.{list_in}
 use Rattle.scenario.specs.Gathered.{Tells, TellsPart}
 use Rattle.scenario.specs.Program.{world_of}
 use Rattle.scenario.specs.Stops.{AppendsPart}
-use Rattle.scenario.proofs.GatheredLemmas.{Appends-more}
+use Rattle.scenario.proofs.GatheredLemmas.{Appends-more, Tells-gathered}
 use Rattle.workbench.specs.Plays.{AreAll, AreFirst, WritesTold}
-use Rattle.workbench.specs.Writes.{Closes, IsPlayed, IsPlayedFrom, WritesAfter, WritesBoth}
+use Rattle.workbench.specs.Writes.{Closes, IsPlayed, IsPlayedFrom, IsWrittenBy, WritesAfter, WritesBoth}
 use Rattle.workbench.specs.declared.ending.Ending.{Ending}
 use Rattle.workbench.specs.declared.ending.PlayFault.{PlayFault}
 
@@ -86,3 +86,12 @@ is_played {listed = listed} told behind ending input w w' reads boots starts pla
   machine = record { reads = reads; boots = boots };
   played = subst (λ world. IsPlayedFrom (told world) (behind listed world) ending input w w') starts played;
 }
+
+-- a fault before anything is told loses all of it
+pub lost_all : (w : Option (List ℕ)) (g text : List ℕ) → TellsPart w g w text
+lost_all w g text = (g ++ text, Tells-gathered w g (g ++ text) text refl)
+
+-- a fault that is handed on leaves a part
+pub written_err : {T : Type 0} (Q : PlayFault → Type 0) (r : Result T PlayFault) (w w' : Option (List ℕ)) (text : List ℕ) → IsErrAnd r Q → AppendsPart w w' text → IsWrittenBy r w w' text
+written_err Q (Ok done) w w' text is part = absurd is
+written_err Q (Err fault) w w' text is part = part

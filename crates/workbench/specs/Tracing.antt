@@ -11,7 +11,7 @@ use Rattle.own_model.specs.Reply.{reply_text}
 use Rattle.own_model.specs.Session.{Session}
 use Rattle.own_model.specs.Transcript.{Heard, heard, state_at}
 use Rattle.own_model.specs.Transcript.Heard.{NoCall, Stranger, Caller}
-use Rattle.own_model.specs.World.{World, world_running}
+use Rattle.own_model.specs.World.{World, account_at, world_running}
 use Rattle.scenario.specs.Answer.{answered_name, answered_reply}
 use Rattle.workbench.specs.Played.{told_of_lines}
 use Rattle.workbench.specs.Said.{said_in}
@@ -50,8 +50,9 @@ session_cells s (Some selector) = open_cells selector (session_named (get s.sele
 session_cells s None = [] ∷ cells_of None
 
 -- the figures of who called: of its account, and of the session that the call names
-abbrev pub caller_cells : OwnState → Call → List (List ℕ)
-caller_cells s call = account_cells s.account ++ session_cells s (session_of call)
+abbrev pub caller_cells : World → ℕ → Call → List (List ℕ)
+caller_cells world component call =
+    account_cells (account_at world component) ++ session_cells (state_at world.states component) (session_of call)
 
 -- who isn't there has none
 abbrev pub stranger_cells : List (List ℕ)
@@ -60,7 +61,7 @@ stranger_cells = cells_of None ++ ([] ∷ cells_of None)
 abbrev pub figures : World → Heard → List (List ℕ)
 figures world NoCall = stranger_cells
 figures world (Stranger name) = stranger_cells
-figures world (Caller made) = caller_cells (state_at world.states made.component) made.call
+figures world (Caller made) = caller_cells world made.component made.call
 
 -- the row of a call: the number of its line, who called, what, the reply, and the figures after it
 abbrev pub trace_row : World → ℕ → List ℕ → List (List ℕ)

@@ -112,6 +112,7 @@ fn close_with_peaks<R: Router + Drop, K: Sink>(
 }
 
 // Writes the list.
+#[tactic(auto, using(scenario::proofs::TaskLemmas::told_in_part))]
 fn write_list<R: Router + Drop, K: Sink>(
     core: &Core<R>,
     list: &StartList,

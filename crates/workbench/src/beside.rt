@@ -232,6 +232,7 @@ fn close_with_sum<K: Sink>(
 }
 
 // Writes how many lines there were, and whether the answers are the same.
+#[tactic(auto, using(scenario::proofs::TaskLemmas::told_in_part))]
 fn write_sum<K: Sink>(
     name: &[u8],
     lines: u64,

@@ -102,9 +102,10 @@ fn put_caller<R: Router + Drop>(
 ) -> Result<Row, PlayFault>
     requires component { component < length core.now.entries }
     ensures { IfOk result (λ all. all
-        ≡ row ++ caller_cells (state_at core.now.states component) (model_call call.entry)) }
+        ≡ row ++ caller_cells core.now component (model_call call.entry)) }
 {
-    let row = row.account(Some(core.account(component)))?;
+    let account = core.account(component);
+    let row = row.account(Some(account))?;
     put_session(row, core, component, session_of(call))
 }
 

@@ -16,7 +16,7 @@ returns-in-Ok-clause-told g c = λ start earlier watches.
 pub returns-in-Ok-clause-seen : goal.returns-in-Ok-clause-seen
 returns-in-Ok-clause-seen g c = λ start earlier watches.
     let told = told_of (option_copied c.args.run.now.only) c.args.line.now c.in-Some.answer watches c.answer.ensures.world c.in-Some.ensures.answered in
-    watches_more (g.W.Watch.sees c.tell.new.self) start c.answer.new.core earlier _ c.args.line.now c.in-Some.ensures.answered.0 told.leaves (c.in-Ok.ensures.seen start earlier watches.sees told)
+    watches_more (g.W.Watch.sees c.tell.new.self c.args.run.now.list.now) start c.answer.new.core earlier _ c.args.line.now c.in-Some.ensures.answered.0 told.leaves (c.in-Ok.ensures.seen start earlier watches.sees told)
 
 pub returns-in-Err-clause-told : goal.returns-in-Err-clause-told
 returns-in-Err-clause-told g c = λ start earlier watches.
