@@ -146,10 +146,10 @@ sees_more {name = name} {core = core} {lines = lines} {start = start} {earlier =
     }
 
 -- and answered it the same
-pub answered_alike : {name : List ℕ} {core : World} {start : World} {earlier : List (List ℕ)} (call : List ℕ) (whole alone : Answer) → core ≡ after_all (Some name) start earlier →
+pub answered_alike : (name : List ℕ) {core : World} (start : World) (earlier : List (List ℕ)) (call : List ℕ) (whole alone : Answer) → core ≡ after_all (Some name) start earlier →
     IsAnswer (world_running start earlier) (heard start.entries call) whole → AnswersLine (Some name) core call (Some alone) →
     (alone.lines.now ≡ whole.lines.now) × (alone.name.now ≡ whole.name.now) × (alone.reply.now ≡ whole.reply.now)
-answered_alike {name = name} {core = core} {start = start} {earlier = earlier} call whole alone leads in_whole in_alone =
+answered_alike name {core = core} start earlier call whole alone leads in_whole in_alone =
     let said = is_said name call (is_said_by name call) refl in_alone.0 in
     let here : IsAnswer (after_all (Some name) start earlier) (heard start.entries call) alone = subst (λ (w : World). IsAnswer w (heard w.entries call) alone) leads in_alone.1 in
     (same_lines name start earlier call whole alone said in_whole here, same_name name start earlier call whole alone said in_whole here, same_reply name start earlier call whole alone said in_whole here)

@@ -42,6 +42,8 @@ pub(crate) struct SecondMachine<'a, Q: Router + Drop> {
 impl<Q: Router + Drop> Watch for SecondMachine<'_, Q> {
     ghost tells = { λ second. alone_tells second.name.now };
 
+    ghost holds = { λ second. second.name.now };
+
     ghost sees = { λ second _. SeesAlone second.name.now second.core second.lines second.difference };
 
     fn tell<R: Router + Drop, K: Sink>(

@@ -54,6 +54,7 @@ pub(crate) fn play<R: Router + Drop, W: Watch, S: Source, K: Sink, E: Sink>(
         result.fault result.lines core.old core.new notes.old.buffers.gathered
         (S.remaining reader.old) (K.contents writer.old) (K.contents writer.new) }
     ensures same { W.tells watch.new ≡ W.tells watch.old }
+    ensures held { W.holds watch.new ≡ W.holds watch.old }
     ensures few { result.lines ≤ MAX_LINES }
     ensures listed { core.new.entries ≡ core.old.entries }
 {
@@ -90,6 +91,7 @@ fn play_if_working<R: Router + Drop, W: Watch, S: Source, K: Sink, E: Sink>(
         (result_err result) tally.new.lines core.old core.new notes.old.buffers.gathered
         (S.remaining reader.old) (K.contents writer.old) (K.contents writer.new) }
     ensures same { W.tells watch.new ≡ W.tells watch.old }
+    ensures held { W.holds watch.new ≡ W.holds watch.old }
     ensures few { tally.new.lines ≤ MAX_LINES }
     ensures listed { core.new.entries ≡ core.old.entries }
 {
@@ -124,6 +126,7 @@ fn play_all<R: Router + Drop, W: Watch, S: Source, K: Sink, E: Sink>(
         (result_err result) tally.new.lines core.old core.new notes.old.buffers.gathered
         (S.remaining reader.old) (K.contents writer.old) (K.contents writer.new) }
     ensures same { W.tells watch.new ≡ W.tells watch.old }
+    ensures held { W.holds watch.new ≡ W.holds watch.old }
     ensures few { tally.new.lines ≤ MAX_LINES }
     ensures listed { core.new.entries ≡ core.old.entries }
 {
@@ -180,6 +183,7 @@ fn play_next<R: Router + Drop, W: Watch, S: Source, K: Sink, E: Sink>(
         (point core.old notes.old.buffers (S.remaining reader.old) (K.contents writer.old))
         (point core.new notes.new.buffers (S.remaining reader.new) (K.contents writer.new)) }
     ensures same { W.tells watch.new ≡ W.tells watch.old }
+    ensures held { W.holds watch.new ≡ W.holds watch.old }
     ensures listed { core.new.entries ≡ core.old.entries }
     ensures works { OnOk result
         (AllWork (S.has_failed reader.new) (K.has_failed writer.new) (E.has_failed complaints.new)) }
@@ -231,6 +235,7 @@ fn play_ahead<R: Router + Drop, W: Watch, K: Sink, E: Sink>(
         OnOk result (Watches (W.sees watch.new run.now.list.now) start
         (earlier ++ said_by (option_copied run.now.only) (call_of (take count notes.old.buffers.ahead))) core.new) }
     ensures same { W.tells watch.new ≡ W.tells watch.old }
+    ensures held { W.holds watch.new ≡ W.holds watch.old }
     ensures works { OnOk result (OutputsWork (K.has_failed writer.new) (E.has_failed complaints.new)) }
 {
     let line = &notes.buffers.ahead.ahead()[..count];
@@ -273,6 +278,7 @@ fn play_line<R: Router + Drop, W: Watch, K: Sink, E: Sink>(
         OnOk result (Watches (W.sees watch.new run.now.list.now) start
         (earlier ++ said_by (option_copied run.now.only) (call_of line.now)) core.new) }
     ensures same { W.tells watch.new ≡ W.tells watch.old }
+    ensures held { W.holds watch.new ≡ W.holds watch.old }
     ensures works { OnOk result (OutputsWork (K.has_failed writer.new) (E.has_failed complaints.new)) }
 {
     match read_line(line, &mut desk.room) {
@@ -321,6 +327,7 @@ where
         OnOk result (Watches (W.sees watch.new run.now.list.now) start
         (earlier ++ said_by (option_copied run.now.only) (line.now ∷ [])) core.new) }
     ensures same { W.tells watch.new ≡ W.tells watch.old }
+    ensures held { W.holds watch.new ≡ W.holds watch.old }
     ensures works { OnOk result (K.has_failed writer.new ≡ false) }
 {
     match run.answer(core, line, reply) {

@@ -28,6 +28,9 @@ pub(crate) trait Watch {
     // the engine's line.
     ghost tells: { Self → World → List (List ℕ) → ℕ → List ℕ → List ℕ };
 
+    // What it was made with, and keeps.
+    ghost holds: { Self → List ℕ } = { λ _. [] };
+
     // On the machine of this list, from this world on, these calls are all that was seen.
     ghost sees: { Self → Listed → World → List (List ℕ) → Type 0 };
 
@@ -50,5 +53,6 @@ pub(crate) trait Watch {
             IsToldOf start earlier heard.now.line.now core.now heard.now.answer →
             OnOk result (sees self.new list.now start (earlier ++ heard.now.line.now ∷ [])) }
         ensures same { tells self.new ≡ tells self.old }
+        ensures held { holds self.new ≡ holds self.old }
         ensures works { OnOk result (K.has_failed writer.new ≡ false) };
 }

@@ -22,6 +22,7 @@ loop-count-init g c = record {
   few = omega arith;
   counted = refl;
   same = refl;
+  held = refl;
   played = λ sees. ([], refl, plays_none _ sees);
 }
 
@@ -32,6 +33,7 @@ loop-count-preserved g c = record {
   few = search rules;
   counted = refl;
   same = c.in-Ok-Line.ensures.same ∙ c.loop-count.invariant.same;
+  held = c.in-Ok-Line.ensures.held ∙ c.loop-count.invariant.held;
   played = λ sees.
       let start = c.args.core.now in
       let only = option_copied c.args.run.now.only in

@@ -31,6 +31,6 @@ returns-clause-told g c = λ start earlier sees told.
 
 pub returns-clause-seen : goal.returns-clause-seen
 returns-clause-seen g c = λ start earlier sees told.
-    let same = answered_alike c.args.heard.now.line.now c.args.heard.now.answer c.in-Some.alone sees.leads told.answers c.in-Some.ensures.answered in
-    sees_more c.answer.new.core c.saturating_add.result c.first_difference.result c.args.heard.now.line.now 1 sees c.in-Some.ensures.world (ap length c.in-Some.ensures.answered.0) (λ fits. ?)
-    (c.first_difference.ensures (c.are_same-alike.ensures same.0 same.1 same.2))
+    let same = answered_alike c.args.self.now.name.now start earlier c.args.heard.now.line.now c.args.heard.now.answer c.in-Some.alone sees.leads told.answers c.in-Some.ensures.answered in
+    sees_more c.answer.new.core c.saturating_add-self.result c.first_difference-self.result c.args.heard.now.line.now 1 sees c.in-Some.ensures.world (ap length c.in-Some.ensures.answered.0) (λ fits. omega (arith, fits, c.saturating_add-self.ensures))
+    (c.first_difference-self.ensures (c.are_same-alike.ensures same.0 same.1 same.2))
