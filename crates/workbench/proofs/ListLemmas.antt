@@ -127,14 +127,15 @@ module _ {init : Amounts} {components : List Peak} {sessions : List Kept} {liste
   list_is leads =
       ap (λ w. list_with listed w init (peak_at components) (found sessions)) leads
       ∙ (λ i. list_parts (sees.of_init i)
-        (lines_alike (lines_at listed now (peak_at components)) (lines_at listed now (λ place. peak_of (λ w. account_at w place) (worlds start calls))) 0 (length start.entries)
-          (λ place more less. peak_lines place (sees.of_components place (omega (arith, less)))) i)
-        (lines_alike (λ place. flat_map (line_at now (found sessions) place) selectors) (λ place. flat_map (line_at now (λ c q. Some (noted_of listed start calls c q)) place) selectors) 0 (length start.entries)
-          (λ place more less. lines_alike (line_at now (found sessions) place) (line_at now (λ c q. Some (noted_of listed start calls c q)) place) 0 selector_count
-            (λ selector _ _. open_alike place selector (session_at place selector now) (found sessions place selector) (sees.of_sessions place selector (omega (arith, less))))) i))
+      (lines_alike (lines_at listed now (peak_at components)) (lines_at listed now (λ place. peak_of (λ w. account_at w place) (worlds start calls))) 0 (length start.entries)
+      (λ place more less. peak_lines place (sees.of_components place (omega (arith, less)))) i)
+      (lines_alike (λ place. flat_map (line_at now (found sessions) place) selectors) (λ place. flat_map (line_at now (λ c q. Some (noted_of listed start calls c q)) place) selectors) 0 (length start.entries)
+      (λ place more less. lines_alike (line_at now (found sessions) place) (line_at now (λ c q. Some (noted_of listed start calls c q)) place) 0 selector_count
+      (λ selector _ _. open_alike place selector (session_at place selector now) (found sessions place selector) (sees.of_sessions place selector (omega (arith, less))))) i))
     where
       list_parts : Amounts → List ℕ → List ℕ → List ℕ
       list_parts peak lines told = peaked_line (codes "init") (machine_init now) peak ++ lines ++ told ++ total_line (all_ram now) (all_caps now)
+
       peak_lines : (place : ℕ) → peak_at components place ≡ peak_of (λ w. account_at w place) (worlds start calls) →
           lines_at listed now (peak_at components) place ≡ lines_at listed now (λ p. peak_of (λ w. account_at w p) (worlds start calls)) place
       peak_lines place same =

@@ -32,8 +32,8 @@ returns-in_ok-put_selected-clause-told g c =
     let line = line_at c.args.core.now (found c.args.peaks.now.sessions.items) c.args.component in
     told_on
     (lines_upto line (c.loop-selector.selector + 1) selector_count
-      (omega (arith, selectors_within c.last_selector-selector-end.result c.last_selector-selector-end.ensures.most))
-      (λ k more. ap (λ o. open_line c.args.core.now.entries c.args.component k (session_named o) (found c.args.peaks.now.sessions.items c.args.component k))
-        (c.last_selector-selector-end.ensures.none k (omega (arith, more))))
+    (omega (arith, selectors_within c.last_selector-selector-end.result c.last_selector-selector-end.ensures.most))
+    (λ k more. ap (λ o. open_line c.args.core.now.entries c.args.component k (session_named o) (found c.args.peaks.now.sessions.items c.args.component k))
+    (c.last_selector-selector-end.ensures.none k (omega (arith, more))))
     ∙ lines_more line c.loop-selector.selector)
     c.loop-selector.invariant.told c.in_ok-put_selected.ensures.told

@@ -17,11 +17,12 @@ returns-in_default-clause-seen g c = λ start earlier sees told.
 
 pub returns-in_err-put_both-clause-told : goal.returns-in_err-put_both-clause-told
 returns-in_err-put_both-clause-told g c = λ start earlier sees told.
-    told_err _ _ _ c.from_residual.ensures.1
-    (c.in_err-put_both.ensures.told.0,
+    told_err _ _ _ c.from_residual.ensures.1 (
+      c.in_err-put_both.ensures.told.0,
       subst (Tells (g.K.Sink.contents c.args.writer.now) c.args.gathered.now (g.K.Sink.contents c.put_both.new.writer) c.in_err-put_both.ensures.told.0)
-      (told_both_of c.args.self.now.name.now start c.args.self.now.core earlier c.args.heard.now.number c.args.heard.now.line.now c.args.heard.now.answer c.in-Some.alone sees.leads told.answers c.in-Some.ensures.answered)
-      c.in_err-put_both.ensures.told.1)
+          (told_both_of c.args.self.now.name.now start c.args.self.now.core earlier c.args.heard.now.number c.args.heard.now.line.now c.args.heard.now.answer c.in-Some.alone sees.leads told.answers c.in-Some.ensures.answered)
+          c.in_err-put_both.ensures.told.1,
+    )
 
 pub returns-clause-told : goal.returns-clause-told
 returns-clause-told g c = λ start earlier sees told.

@@ -30,7 +30,7 @@ returns-clause-seen g c = λ start earlier sees told.
     (ap length same ∙ c.raise_accounts.ensures.count)
     (λ place within. ap (λ peaks. peak_at peaks place) same ∙ c.raise_accounts.ensures.components place (inside place within) (omega (arith, within, sees.count)))
     (λ component selector within.
-      c.in_ok-keep_opened.ensures.sessions component selector (inside component within)
-      ∙ ap (λ o. option_or o (begun_by c.args.list.now core c.args.heard.now.line.now component selector))
-        (c.in_ok-raise_sessions.ensures.sessions component selector (inside component within)
-        ∙ ap (λ kept. raised_in (session_at component selector core) (found kept component selector)) c.raise_accounts.ensures.sessions))
+    c.in_ok-keep_opened.ensures.sessions component selector (inside component within)
+    ∙ ap (λ o. option_or o (begun_by c.args.list.now core c.args.heard.now.line.now component selector))
+    (c.in_ok-raise_sessions.ensures.sessions component selector (inside component within)
+    ∙ ap (λ kept. raised_in (session_at component selector core) (found kept component selector)) c.raise_accounts.ensures.sessions))

@@ -15,11 +15,12 @@ returns-in_err-line-clause-told g c = λ start earlier sees told. told_err _ _ _
 
 pub returns-in_err-put-clause-told : goal.returns-in_err-put-clause-told
 returns-in_err-put-clause-told g c = λ start earlier sees told.
-    told_err _ _ _ c.from_residual-in_err-put.ensures.1
-    (c.in_err-put.ensures.told.0,
+    told_err _ _ _ c.from_residual-in_err-put.ensures.1 (
+      c.in_err-put.ensures.told.0,
       subst (Tells (g.K.Sink.contents c.args.writer.now) c.args.gathered.now (g.K.Sink.contents c.put.new.sink) c.in_err-put.ensures.told.0)
-      (c.as_slice.ensures.value ∙ c.in_ok-line.ensures ∙ ap (row_text default_writer) (c.in_ok-row_of.ensures ∙ row_told c.args.heard.now.number told))
-      c.in_err-put.ensures.told.1)
+          (c.as_slice.ensures.value ∙ c.in_ok-line.ensures ∙ ap (row_text default_writer) (c.in_ok-row_of.ensures ∙ row_told c.args.heard.now.number told))
+          c.in_err-put.ensures.told.1,
+    )
 
 pub returns-clause-told : goal.returns-clause-told
 returns-clause-told g c = λ start earlier sees told.
