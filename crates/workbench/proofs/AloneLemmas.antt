@@ -8,8 +8,9 @@ use Rattle.own_model.specs.OwnStep.{own_step}
 use Rattle.std.specs.List.{flat_map}
 use Rattle.own_model.specs.Reply.{log_text, reply_text}
 use Rattle.own_model.specs.SaidBy.{component_of, is_said_by, is_under, said_by}
-use Rattle.own_model.specs.StartList.{Entry}
-use Rattle.own_model.specs.Transcript.{Heard, entry_at, heard, heard_call, heard_spoken, longest_line, outcome_text, state_at}
+use Rattle.own_model.specs.StartList.{Entry, Kind}
+use Rattle.own_model.specs.StartList.Kind.{Script, Server, Init}
+use Rattle.own_model.specs.Transcript.{Heard, entry_at, heard, heard_call, heard_of, heard_spoken, longest_line, outcome_text, state_at}
 use Rattle.own_model.specs.Transcript.Heard.{NoCall, Stranger, Caller}
 use Rattle.own_model.specs.World.{World, world_running}
 use Rattle.own_model.specs.Running.{told_now}
@@ -29,9 +30,14 @@ IsOf name entries NoCall = Unit {0}
 IsOf name entries (Stranger other) = Unit {0}
 IsOf name entries (Caller made) = component_of entries name ≡ Some made.component
 
-is_of_found : (name : List ℕ) (entries : List Entry) (says : Spoken) (found : Option ℕ) → component_of entries name ≡ found → IsOf name entries (heard_call says found)
+is_of_kind : (name : List ℕ) (entries : List Entry) (says : Spoken) (component : ℕ) (kind : Kind) → component_of entries name ≡ Some component → IsOf name entries (heard_of kind says component)
+is_of_kind name entries says component Script is = is
+is_of_kind name entries says component Server is = is
+is_of_kind name entries says component Init is = tt
+
+is_of_found : (name : List ℕ) (entries : List Entry) (says : Spoken) (found : Option ℕ) → component_of entries name ≡ found → IsOf name entries (heard_call entries says found)
 is_of_found name entries says None is = tt
-is_of_found name entries says (Some component) is = is
+is_of_found name entries says (Some component) is = is_of_kind name entries says component (entry_at entries component).kind is
 
 is_of_spoken : (name : List ℕ) (entries : List Entry) (says : Option Spoken) → is_under name says ≡ true → IsOf name entries (heard_spoken entries says)
 is_of_spoken name entries None under = tt
@@ -103,7 +109,7 @@ not_said : (name line : List ℕ) (b : Bool) → is_said_by name line ≡ b → 
 not_said name line false is none = refl
 not_said name line true is none = let some : line ∷ [] ≡ [] = sym (said_one name line true is) ∙ none in absurd (cc)
 
-is_said : (name line : List ℕ) (b : Bool) → is_said_by name line ≡ b → said_by (Some name) (line ∷ []) ≡ line ∷ [] → b ≡ true
+pub is_said : (name line : List ℕ) (b : Bool) → is_said_by name line ≡ b → said_by (Some name) (line ∷ []) ≡ line ∷ [] → b ≡ true
 is_said name line true is some = refl
 is_said name line false is some = let none : [] ≡ line ∷ [] = sym (said_one name line false is) ∙ some in absurd (cc)
 
@@ -114,12 +120,14 @@ told_none_of name start earlier number call none = rw (not_said name call (is_sa
 -- of the name's both answers
 pub told_both_of : (name : List ℕ) (start core : World) (earlier : List (List ℕ)) (number : ℕ) (call : List ℕ) (whole alone : Answer) → core ≡ after_all (Some name) start earlier →
     IsAnswer (world_running start earlier) (heard start.entries call) whole → AnswersLine (Some name) core call (Some alone) →
-    decimal number ++ codes ": " ++ call ++ 10 ∷ [] ++ codes "  whole: " ++ answer_text (Some whole) ++ codes "  alone: " ++ answer_text (Some alone) ≡ alone_tells name start earlier number call
+    (decimal number ++ codes ": " ++ call ++ 10 ∷ []) ++ (codes "  whole: " ++ answer_text (Some whole)) ++ (codes "  alone: " ++ answer_text (Some alone)) ≡ alone_tells name start earlier number call
 told_both_of name start core earlier number call whole alone leads in_whole in_alone =
     let here : IsAnswer (after_all (Some name) start earlier) (heard start.entries call) alone = subst (λ (w : World). IsAnswer w (heard w.entries call) alone) leads in_alone.1 in
-    rw (is_said name call (is_said_by name call) refl in_alone.0,
+    rw (
+      is_said name call (is_said_by name call) refl in_alone.0,
       told_answer None (world_running start earlier) call (Some whole) (refl, in_whole),
-      told_answer None (after_all (Some name) start earlier) call (Some alone) (refl, here)) refl
+      told_answer None (after_all (Some name) start earlier) call (Some alone) (refl, here),
+    ) refl
 
 -- the second machine has seen one call more
 pub sees_more : {name : List ℕ} {core : World} {lines : ℕ} {difference : Option ℕ} {start : World} {earlier : List (List ℕ)} (core' : World) (lines' : ℕ) (difference' : Option ℕ) (call : List ℕ) (n : ℕ) →
@@ -136,6 +144,15 @@ sees_more {name = name} {core = core} {lines = lines} {start = start} {earlier =
           counts fits ∙ ap (λ k. k + n) was ∙ sym all;
       alike = same ∙ sees.alike;
     }
+
+-- and answered it the same
+pub answered_alike : (name : List ℕ) {core : World} (start : World) (earlier : List (List ℕ)) (call : List ℕ) (whole alone : Answer) → core ≡ after_all (Some name) start earlier →
+    IsAnswer (world_running start earlier) (heard start.entries call) whole → AnswersLine (Some name) core call (Some alone) →
+    (alone.lines.now ≡ whole.lines.now) × (alone.name.now ≡ whole.name.now) × (alone.reply.now ≡ whole.reply.now)
+answered_alike name {core = core} start earlier call whole alone leads in_whole in_alone =
+    let said = is_said name call (is_said_by name call) refl in_alone.0 in
+    let here : IsAnswer (after_all (Some name) start earlier) (heard start.entries call) alone = subst (λ (w : World). IsAnswer w (heard w.entries call) alone) leads in_alone.1 in
+    (same_lines name start earlier call whole alone said in_whole here, same_name name start earlier call whole alone said in_whole here, same_reply name start earlier call whole alone said in_whole here)
 
 -- which is the law
 pub are_alike : (name : List ℕ) → AreAlike name

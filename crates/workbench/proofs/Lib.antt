@@ -5,3 +5,9 @@ pub mod WriteLemmas
 pub mod ViewLemmas
 pub mod AloneLemmas
 pub mod OpenLemmas
+pub mod PeakLemmas
+pub mod NotedLemmas
+pub mod KeptLemmas
+pub mod CallerLemmas
+pub mod ListLemmas
+pub mod RowLemmas

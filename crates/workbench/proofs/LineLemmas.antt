@@ -19,9 +19,9 @@ pub call_of-said : (line : List ℕ) (said : Result Said Fault) → length line 
 call_of-said line said short is = call_of-short line short ∙ ap call_in (sym is)
 
 -- what a watch has seen where it watches
-pub sees_on : {T E : Type 0} {seen : World → List (List ℕ) → Type 0} {start world : World} {calls : List (List ℕ)} (r : Result T E) → OnOk r (Watches seen start calls world) → OnOk r (seen start calls)
-sees_on (Ok x) watches = watches.sees
-sees_on (Err fault) watches = tt
+pub sees_on : {T E : Type 0} (r : Result T E) (seen : World → List (List ℕ) → Type 0) (start world : World) (calls : List (List ℕ)) → OnOk r (Watches seen start calls world) → OnOk r (seen start calls)
+sees_on (Ok x) seen start world calls watches = watches.sees
+sees_on (Err fault) seen start world calls watches = tt
 
 -- what was told is told, whatever a complaint becomes
 pub judged_told : {T E : Type 0} {w w' : Option (List ℕ)} {g g' text : List ℕ} (judged : Result T E) → Tells w g w' g' text → TellsUnless judged w g w' g' text
@@ -37,13 +37,13 @@ module _ (only : Option (List ℕ)) (line : List ℕ) (calls : List (List ℕ)) 
   pub left_said : (world left : World) → left ≡ after_all only world calls → left ≡ after_all only world (call_of line)
   left_said world left is = is ∙ ap (after_all only world) (sym says)
 
-  pub told_said : {T E : Type 0} (judged : Result T E) (tells : List (List ℕ) → ℕ → List ℕ → List ℕ) (earlier : List (List ℕ)) (number : ℕ) {w w' : Option (List ℕ)} {g g' : List ℕ} →
+  pub told_said : {T E : Type 0} (judged : Result T E) (tells : List (List ℕ) → ℕ → List ℕ → List ℕ) (earlier : List (List ℕ)) (number : ℕ) (w w' : Option (List ℕ)) (g g' : List ℕ) →
       TellsUnless judged w g w' g' (told_of_calls tells earlier number (said_by only calls)) → TellsUnless judged w g w' g' (told_of_calls tells earlier number (said_by only (call_of line)))
-  told_said judged tells earlier number told = rw says told
+  told_said judged tells earlier number w w' g g' told = rw says told
 
-  pub seen_said : {T E : Type 0} (judged : Result T E) {seen : World → List (List ℕ) → Type 0} {start left : World} {earlier : List (List ℕ)} →
+  pub seen_said : {T E : Type 0} (judged : Result T E) (seen : World → List (List ℕ) → Type 0) (start left : World) (earlier : List (List ℕ)) →
       OnOk judged (Watches seen start (earlier ++ said_by only calls) left) → OnOk judged (Watches seen start (earlier ++ said_by only (call_of line)) left)
-  seen_said judged sees = rw says sees
+  seen_said judged seen start left earlier sees = rw says sees
 
 -- a line that says no call changes nothing
 module _ (only : Option (List ℕ)) (line : List ℕ) (silent : call_of line ≡ []) where
@@ -53,7 +53,7 @@ module _ (only : Option (List ℕ)) (line : List ℕ) (silent : call_of line ≡
   pub told_silent : {T E : Type 0} (judged : Result T E) (tells : List (List ℕ) → ℕ → List ℕ → List ℕ) (earlier : List (List ℕ)) (number : ℕ) (w : Option (List ℕ)) (g : List ℕ) →
       TellsUnless judged w g w g (told_of_calls tells earlier number (said_by only (call_of line)))
   told_silent judged tells earlier number w g =
-      told_said only line [] silent judged tells earlier number (rw (said_none only) (judged_told judged (Tells-none w g)))
+      told_said only line [] silent judged tells earlier number w w g g (rw (said_none only) (judged_told judged (Tells-none w g)))
 
   pub seen_silent : {T E : Type 0} (judged : Result T E) {seen : World → List (List ℕ) → Type 0} {start world : World} {earlier : List (List ℕ)} →
       Watches seen start earlier world → OnOk judged (Watches seen start (earlier ++ said_by only (call_of line)) world)

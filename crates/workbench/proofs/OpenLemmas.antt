@@ -1,11 +1,11 @@
--- A session comes under a selector only by a call that opens one, and under the new selector.
-use Rattle.std.proofs.Common.{arith, rules, ◌≡◌, ◌≢◌, ℕ, ◌==◌, Bool, true, false, List, Some, refl, sym, ap, ◌∙◌, true≢false, eqb, eqb-true}
+-- A session comes under a selector only by a call that opens one.
+use Rattle.std.proofs.Common.{arith, rules, ◌≡◌, ◌≢◌, ℕ, ◌==◌, is_some, ap, ◌<◌, ◌⊎◌, inl, inr, Bool, true, false, List, Some, slice_set, get_or, subst, refl, sym, ◌∙◌, true≢false, eqb, eqb-true}
 use Rattle.std.proofs.lemmas.Bool.{eqb-false}
 use Rattle.std.proofs.lemmas.Option.{none-some, same_Some}
 use Rattle.std.specs.Prelude.{Option, None, Result, Ok, Err}
-use Rattle.std.specs.FinMap.{get, get-empty, insert, remove}
+use Rattle.std.specs.FinMap.{get, insert, remove}
 use Rattle.trade_base.specs.declared.refusal.Refusal.{Refusal}
-use Rattle.own_model.proofs.NatMapLemmas.{get-insert_same, get-insert_other, get-remove_same, get-remove_other}
+use Rattle.own_model.proofs.NatMapLemmas.{get-empty, get-insert_same, get-insert_other, get-remove_same, get-remove_other}
 use Rattle.own_model.proofs.StepLemmas.{KeptByEffects}
 use Rattle.own_model.proofs.TableLemmas.{others_keep}
 use Rattle.own_model.specs.Account.{shortage}
@@ -18,7 +18,16 @@ use Rattle.own_model.specs.OwnStep.{Outcome, own_step, unless, turned_away, open
 use Rattle.own_model.specs.Session.{Session, Wish, wish, donation_refusal, new_session, upgraded, served}
 use Rattle.own_model.specs.SessionArgs.{Arguments}
 use Rattle.own_model.specs.StartList.{Entry}
-use Rattle.workbench.specs.Peaks.{opens}
+use Rattle.std.proofs.Common.{length, map}
+use Rattle.std.proofs.lemmas.Bool.{cases_lt}
+use Rattle.std.proofs.lemmas.List.{get_or-map, get_or-set_other, get_or-set_same, get_or_past, length-map, set_past}
+use Rattle.own_model.specs.Amounts.{no_amounts}
+use Rattle.own_model.specs.Running.{running_step}
+use Rattle.own_model.specs.StartList.{StartEntry, StartList, start_state}
+use Rattle.own_model.specs.Transcript.{Heard, Made, entry_at, nobody, nothing, state_at}
+use Rattle.own_model.specs.Transcript.Heard.{NoCall, Stranger, Caller}
+use Rattle.own_model.specs.World.{World, start_world, world_after_heard}
+use Rattle.workbench.specs.Peaks.{is_open, opens, session_at}
 
 module _ (selector : ℕ) where
   -- the selector names no session
@@ -101,13 +110,6 @@ module _ (selector : ℕ) where
         let buffer = buffer_of of s.selectors in
         removed (selectors_lent of buffer None s.selectors) (lent s.selectors none of buffer None) of
 
-    -- a call that opens a session does it under the new selector
-    opened : (asked : Result Wish Refusal) → selector ≢ new_selector s.selectors → IsNone (opened_by asked s).next
-    opened (Err refusal) other = none
-    opened (Ok asked) other =
-        unless_leaves (donation_refusal s.account asked.ram asked.caps) (session_opened asked s)
-        (put s.selectors none (new_selector s.selectors) (OpenSession (new_session asked)) (λ at. absurd (other at)))
-
     stays_by : (entry : Entry) (call : Call) → is_of_session call ≡ true → opens call ≡ false → IsNone (own_step entry call s).next
     stays_by entry (Open service text) is other = absurd (true≢false other)
     stays_by entry (Upgrade of text) is other = unless_leaves (turned_away entry.kind s) _ (upgrades of (session_named (get s.selectors of)) _ refl)
@@ -141,5 +143,66 @@ module _ (selector : ℕ) where
     pub none_still : (entry : Entry) (call : Call) → opens call ≡ false → IsNone (own_step entry call s).next
     none_still entry call other = stays (is_of_session call) entry call refl other
 
-    pub none_beside : (entry : Entry) (service text : List ℕ) → selector ≢ new_selector s.selectors → IsNone (own_step entry (Open service text) s).next
-    none_beside entry service text other = unless_leaves (turned_away entry.kind s) _ (opened (wish entry.name entry.routes service text) other)
+-- ---- in a world
+
+-- what names no session is open nowhere
+closed_none : (o : Option Session) → is_some o ≡ false → o ≡ None
+closed_none None is = refl
+closed_none (Some x) is = absurd (true≢false is)
+
+-- a call opens no session of this component
+abbrev pub OpensNone : ℕ → Heard → Type 0
+OpensNone component NoCall = Unit {0}
+OpensNone component (Stranger name) = Unit {0}
+OpensNone component (Caller made) = (component ≢ made.component) ⊎ (opens made.call ≡ false)
+
+module _ (component selector : ℕ) (world : World) (closed : is_open component selector world ≡ false) where
+  none_now : session_at component selector world ≡ None
+  none_now = closed_none (session_at component selector world) closed
+
+  -- another's call leaves its state
+  by_other : (made : Made) → component ≢ made.component → is_open component selector (world_after_heard world (Caller made)) ≡ false
+  by_other made apart =
+      ap (λ s. is_some (session_named (get s.selectors selector)))
+      (get_or-set_other world.states made.component component (running_step world.entries world.states made).next nothing apart)
+      ∙ closed
+
+  -- and so does its own that opens none
+  by_own : (made : Made) → opens made.call ≡ false → (own : Bool) → (component == made.component) ≡ own → is_open component selector (world_after_heard world (Caller made)) ≡ false
+  by_own made other false is = by_other made (eqb-false component made.component is)
+  by_own made other true is =
+      let here : component ≡ made.component = eqb-true component made.component is in
+      let stays : session_at made.component selector world ≡ None = subst (λ c. session_at c selector world ≡ None) here none_now in
+      let entry = entry_at world.entries made.component in
+      let next = (running_step world.entries world.states made).next in
+      subst (λ c. is_open c selector (world_after_heard world (Caller made)) ≡ false) (sym here)
+      (elim (cases_lt made.component (length world.states)) [
+        | inl within ↦
+            ap (λ s. is_some (session_named (get s.selectors selector))) (get_or-set_same world.states made.component next nothing within)
+            ∙ ap is_some (none_still selector (state_at world.states made.component) stays entry made.call other)
+        | inr past ↦
+            ap (λ (s : OwnState). is_some (session_named (get s.selectors selector)))
+            (ap (λ (l : List OwnState). state_at l made.component) (set_past world.states made.component next past) ∙ get_or_past world.states made.component nothing past)
+            ∙ ap (λ o. is_some (session_named o)) (get-empty selector)
+      ])
+
+  -- a session that isn't there still isn't
+  pub closed_still : (what : Heard) → OpensNone component what → is_open component selector (world_after_heard world what) ≡ false
+  closed_still NoCall none = closed
+  closed_still (Stranger name) none = closed
+  closed_still (Caller made) (inl apart) = by_other made apart
+  closed_still (Caller made) (inr other) = by_own made other (component == made.component) refl
+
+no_start : StartEntry
+no_start = record { entry = nobody; ram = 0; caps = 0; reserve = no_amounts }
+
+-- nobody starts with one
+pub closed_at_start : (component selector : ℕ) (list : StartList) → is_open component selector (start_world list) ≡ false
+closed_at_start component selector list = elim (cases_lt component (length list.starts)) [
+  | inl within ↦
+      ap (λ (s : OwnState). is_some (session_named (get s.selectors selector))) (get_or-map start_state list.starts component no_start nothing within)
+      ∙ ap (λ o. is_some (session_named o)) (get-empty selector)
+  | inr past ↦
+      ap (λ (s : OwnState). is_some (session_named (get s.selectors selector))) (get_or_past (map start_state list.starts) component nothing (omega (arith, past, length-map list.starts start_state)))
+      ∙ ap (λ o. is_some (session_named o)) (get-empty selector)
+]

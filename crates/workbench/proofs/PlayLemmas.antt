@@ -1,5 +1,6 @@
 -- A play from line to line: what was played, and what it leaves at its end.
 use Rattle.std.proofs.Common.{◌≡◌, ℕ, ◌+◌, ◌<◌, ◌≤◌, take, drop, List, [], ◌∷◌, ◌++◌, length, Option, Some, None, IfSome, Result, Ok, Err, OnOk, Bool, arith, refl, sym, ◌∙◌, ap, subst, append_assoc, append-nil, length-append}
+use Rattle.std.specs.Result.{result_err}
 use Rattle.std.specs.Io.KnownBytes.{Appends}
 use Rattle.own_model.specs.SaidBy.{said_by}
 use Rattle.own_model.specs.Text.{lines_of}
@@ -102,12 +103,15 @@ pub played_line : (tells : List (List ℕ) → ℕ → List ℕ → List ℕ) (s
     Tells p.written p.gathered written gathered [] → TellsUnless judged written gathered q.written q.gathered (told_of_calls tells earlier number (said_by only (call_of line))) →
     q.world ≡ after_all only p.world (call_of line) → IfSome (to_come p.ahead p.rest) (λ text. PassesLines text (to_come q.ahead q.rest) (line ∷ [])) →
     OnOk judged (seen (earlier ++ said_by only (call_of line))) → PlaysNext tells seen only number earlier (line_played judged) p q
-played_line tells seen only number earlier p q written gathered line (Ok complained) before told world passes sees = (line, record {
-  world = world ∙ ap (after_all only p.world) (sym (calls_said-one line));
-  told = Tells-more before (subst (Tells written gathered q.written q.gathered) (told_of_lines-one only tells earlier number line) told);
-  passes = passes;
-  sees = subst (λ calls. seen (earlier ++ calls)) (sym (answered-one only line)) sees;
-})
+played_line tells seen only number earlier p q written gathered line (Ok complained) before told world passes sees = (
+  line,
+  record {
+    world = world ∙ ap (after_all only p.world) (sym (calls_said-one line));
+    told = Tells-more before (subst (Tells written gathered q.written q.gathered) (told_of_lines-one only tells earlier number line) told);
+    passes = passes;
+    sees = subst (λ calls. seen (earlier ++ calls)) (sym (answered-one only line)) sees;
+  },
+)
 played_line tells seen only number earlier p q written gathered line (Err fault) before told world passes sees = record {
   lines = line ∷ [];
   world = world ∙ ap (after_all only p.world) (sym (calls_said-one line));
@@ -143,10 +147,13 @@ module _ {tells : List (List ℕ) → ℕ → List ℕ → List ℕ} {only : Opt
   breaks_more {p = p} {q = q} {r = r} {number = number} {later = later} {earlier = earlier} {xs = xs} is first then = record {
     lines = xs ++ then.lines;
     world = left_by_lines only p.world q.world r.world xs then.lines first.world then.world;
-    told = (then.told.0, subst (Tells p.written p.gathered r.written then.told.0)
-        (ap (λ n. told_of_lines tells only earlier number xs ++ told_of_lines tells only (earlier ++ calls_answered only xs) n then.lines) is
-        ∙ sym (told_of_lines-append only tells earlier number xs then.lines))
-        (Tells-more first.told then.told.1));
+    told = (
+      then.told.0,
+      subst (Tells p.written p.gathered r.written then.told.0)
+          (ap (λ n. told_of_lines tells only earlier number xs ++ told_of_lines tells only (earlier ++ calls_answered only xs) n then.lines) is
+          ∙ sym (told_of_lines-append only tells earlier number xs then.lines))
+          (Tells-more first.told then.told.1),
+    );
     first = first_behind (to_come p.ahead p.rest) (to_come q.ahead q.rest) xs then.lines first.passes then.first;
   }
 
@@ -200,3 +207,16 @@ module _ {tells : List (List ℕ) → ℕ → List ℕ → List ℕ} {only : Opt
     counted = tt;
     sees = tt;
   }
+
+-- with nothing ahead what comes is what the reader has left
+pub come_fresh : (ahead : List ℕ) (rest : Option (List ℕ)) → ahead ≡ [] → to_come ahead rest ≡ rest
+come_fresh ahead None none = refl
+come_fresh ahead (Some text) none = ap (λ a. Some (a ++ text)) none
+
+module _ {tells : List (List ℕ) → ℕ → List ℕ → List ℕ} {only : Option (List ℕ)} where
+  -- the last lines are played, and what is complained of then may not be told
+  pub plays_closed : {T : Type 0} (closed : Result T PlayFault) {before seen : List (List ℕ) → Type 0} {p q r : Point} {xs : List (List ℕ)} (count : ℕ) (input : Option (List ℕ)) →
+      to_come p.ahead p.rest ≡ input → count ≡ length xs → Plays tells before only 1 [] xs p q → Ended q r → seen (calls_answered only xs) →
+      PlaysAll tells seen only (result_err closed) count p.world r.world p.gathered input p.written r.written
+  plays_closed (Ok done) count input is counted plays ended sees = plays_to_end count input is counted plays ended sees
+  plays_closed (Err fault) count input is counted plays ended sees = plays_to_fault count input fault is (breaks_at_end plays ended)

@@ -5,7 +5,9 @@ use Rattle.std.specs.Io.KnownBytes.{Appends}
 use Rattle.std.specs.List.{filter, flat_map}
 use Rattle.own_model.specs.Transcript.{longest_line}
 use Rattle.own_model.specs.SaidBy.{is_said_by, said_by}
-use Rattle.own_model.specs.World.{World}
+use Rattle.own_model.specs.Amounts.{Amounts}
+use Rattle.own_model.specs.Listed.{Listed}
+use Rattle.own_model.specs.World.{World, world_running}
 use Rattle.friendly_lines.specs.Friendly.{Said, said_of}
 use Rattle.friendly_lines.specs.Friendly.Said.{Nothing, Log, Call}
 use Rattle.friendly_lines.specs.declared.fault.Fault.{Fault}
@@ -13,24 +15,29 @@ use Rattle.scenario.specs.Gathered.{Tells, TellsPart}
 use Rattle.scenario.specs.Program.{accounts_for}
 use Rattle.scenario.specs.Stops.{AppendsPart}
 use Rattle.workbench.specs.Alone.{SeesAlone, alone_sum, alone_tells}
-use Rattle.workbench.specs.Played.{call_in, call_of, calls_answered, calls_said, engine_tells, told_of_lines}
+use Rattle.workbench.specs.Kept.{SeesPeaks, found, peak_at}
+use Rattle.workbench.specs.PeakList.{list_with, peaks_text}
+use Rattle.workbench.specs.Played.{call_in, call_of, calls_answered, calls_said, engine_tells, told_of_calls, told_of_lines}
 use Rattle.workbench.specs.Plays.{PlaysAll, WritesTold}
 use Rattle.workbench.specs.Tracing.{trace_header, trace_tells}
 use Rattle.workbench.specs.Writes.{Closes, IsPlayedFrom, WritesAfter, list_behind, transcript_of}
 use Rattle.workbench.specs.declared.ending.Ending.{Ending}
 use Rattle.workbench.specs.declared.ending.PlayFault.{PlayFault}
+use Rattle.workbench.specs.declared.peaks.Peak.{Peak}
+use Rattle.workbench.specs.declared.peaks.Session.{Session}
+use Rattle.workbench.proofs.ListLemmas.{list_is}
 use Rattle.workbench.proofs.PlayLemmas.{all_left}
 use Rattle.workbench.proofs.PlayedLemmas.{told_as_engine}
 use Rattle.workbench.proofs.WriteLemmas.{closes_alone, played_from, told_behind}
 
 -- the transcript, and the account list behind it where it is asked for
-pub run_played : (accounts : Bool) (only : Option (List ℕ)) {seen : List (List ℕ) → Type 0} {start last : World} {gathered : List ℕ} {input w w' w'' : Option (List ℕ)} (played ended : Ending) → gathered ≡ [] →
-    PlaysAll (engine_tells start) seen only played.fault played.lines start last gathered input w w' → Closes played ended w' w'' (accounts_for accounts last) →
-    IsPlayedFrom (transcript_of only start) (list_behind accounts only start) ended input w w''
-run_played accounts only {start = start} {w = w} {w' = w'} {w'' = w''} played ended none plays closes =
+pub run_played : (accounts : Bool) (only : Option (List ℕ)) (listed : Listed) {seen : List (List ℕ) → Type 0} {start last : World} {gathered : List ℕ} {input w w' w'' : Option (List ℕ)} (played ended : Ending) → gathered ≡ [] →
+    PlaysAll (engine_tells start) seen only played.fault played.lines start last gathered input w w' → Closes played ended w' w'' (accounts_for accounts listed last) →
+    IsPlayedFrom (transcript_of only start) (list_behind accounts only listed start) ended input w w''
+run_played accounts only listed {start = start} {w = w} {w' = w'} {w'' = w''} played ended none plays closes =
     played_from played ended plays.lines plays.first plays.all plays.counted
     (subst (WritesTold played.fault w w') (ap (λ g. g ++ told_of_lines (engine_tells start) only [] 1 plays.lines) none ∙ told_as_engine only start plays.lines) plays.told)
-    (subst (λ world. Closes played ended w' w'' (accounts_for accounts world)) plays.world closes)
+    (subst (λ world. Closes played ended w' w'' (accounts_for accounts listed world)) plays.world closes)
 
 -- the rows of a trace, behind its header
 pub trace_played : {seen : List (List ℕ) → Type 0} {start last : World} {before gathered : List ℕ} {input w w' w'' : Option (List ℕ)} (ending : Ending) → before ≡ [] →
@@ -42,9 +49,9 @@ trace_played {start = start} {gathered = gathered} {w = w} {w' = w'} {w'' = w''}
     (closes_alone ending w'')
 
 -- or a part of the header
-pub header_cut : {start : World} {before : List ℕ} {input w w' : Option (List ℕ)} (ending : Ending) (fault : PlayFault) → before ≡ [] → ending.fault ≡ Some fault → TellsPart w before w' trace_header →
+pub header_cut : (start : World) {before : List ℕ} (input : Option (List ℕ)) {w w' : Option (List ℕ)} (ending : Ending) (fault : PlayFault) → before ≡ [] → ending.fault ≡ Some fault → TellsPart w before w' trace_header →
     IsPlayedFrom (λ lines. trace_header ++ told_of_lines (trace_tells start) None [] 1 lines) (λ _. []) ending input w w'
-header_cut {start = start} {input = input} {w = w} {w' = w'} ending fault none fails part =
+header_cut start input {w = w} {w' = w'} ending fault none fails part =
     played_from ending ending [] (all_left input) (rw fails tt) (rw fails tt)
     (subst (λ f. WritesTold f w w' (trace_header ++ [])) (sym fails) (record {
       part = part.1.out;
@@ -109,7 +116,34 @@ alone_played name {start = start} {core = core} {count = count} {difference = di
     same (Some fault) counted sees = tt
 
 -- it differs nowhere
-pub alone_same : (fault : Option PlayFault) {name : List ℕ} {start core : World} {count : ℕ} {difference : Option ℕ} {lines : List (List ℕ)} →
+pub alone_same : (fault : Option PlayFault) (name : List ℕ) (start core : World) (count : ℕ) (difference : Option ℕ) (lines : List (List ℕ)) →
     IfNone fault (SeesAlone name core count difference start lines) → IfNone fault (difference ≡ None)
-alone_same None sees = sees.alike
-alone_same (Some fault) sees = tt
+alone_same None name start core count difference lines sees = sees.alike
+alone_same (Some fault) name start core count difference lines sees = tt
+
+-- ---- the account list with peaks
+
+-- nothing is told of lines
+silent_calls : (earlier : List (List ℕ)) (number : ℕ) (calls : List (List ℕ)) → told_of_calls (λ _ _ _. []) earlier number calls ≡ []
+silent_calls earlier number [] = refl
+silent_calls earlier number (call ∷ calls) = silent_calls (earlier ++ call ∷ []) number calls
+
+silent_lines : (only : Option (List ℕ)) (earlier : List (List ℕ)) (number : ℕ) (lines : List (List ℕ)) → told_of_lines (λ _ _ _. []) only earlier number lines ≡ []
+silent_lines only earlier number [] = refl
+silent_lines only earlier number (line ∷ lines) =
+    ap (λ text. text ++ told_of_lines (λ _ _ _. []) only (earlier ++ said_by only (call_of line)) (number + 1) lines) (silent_calls earlier number (said_by only (call_of line)))
+    ∙ silent_lines only (earlier ++ said_by only (call_of line)) (number + 1) lines
+
+pub accounts_played : (listed : Listed) {init : Amounts} {components : List Peak} {sessions : List Session} {start last : World} {gathered : List ℕ} {input w w' w'' : Option (List ℕ)} (played ended : Ending) →
+    gathered ≡ [] → PlaysAll (λ _ _ _. []) (SeesPeaks init components sessions listed start) None played.fault played.lines start last gathered input w w' →
+    Closes played ended w' w'' (list_with listed last init (peak_at components) (found sessions)) →
+    IsPlayedFrom (λ _. []) (λ lines. peaks_text listed start (calls_answered None lines)) ended input w w''
+accounts_played listed {init = init} {components = components} {sessions = sessions} {start = start} {last = last} {w = w} {w' = w'} {w'' = w''} played ended none plays closes =
+    played_from played ended plays.lines plays.first plays.all plays.counted
+    (subst (WritesTold played.fault w w') (ap (λ g. g ++ told_of_lines (λ _ _ _. []) None [] 1 plays.lines) none ∙ silent_lines None [] 1 plays.lines) plays.told)
+    (closes_as played ended w' w'' _ _ (same played.fault plays.sees) closes)
+  where
+    same : (f : Option PlayFault) → IfNone f (SeesPeaks init components sessions listed start (calls_answered None plays.lines)) →
+        IfNone f (list_with listed last init (peak_at components) (found sessions) ≡ peaks_text listed start (calls_answered None plays.lines))
+    same None sees = list_is sees plays.world
+    same (Some fault) sees = tt

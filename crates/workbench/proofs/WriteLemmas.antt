@@ -1,15 +1,16 @@
 -- What is written of a play, from what the play itself promises.
-use Rattle.std.proofs.Common.{◌≡◌, ℕ, List, [], ◌∷◌, ◌++◌, length, Option, Some, None, IfSome, IfNone, Ok, inl, inr, refl, sym, ◌∙◌, ap, subst, append_assoc, append-nil}
+use Rattle.std.proofs.Common.{◌≡◌, ℕ, List, [], ◌∷◌, ◌++◌, length, Option, Some, None, IfSome, IfNone, Result, Ok, Err, IsErrAnd, inl, inr, refl, sym, ◌∙◌, ap, subst, append_assoc, append-nil}
 use Rattle.std.specs.Io.KnownBytes.{Appends}
 use Rattle.own_model.specs.Listed.{Listed, start_list_of}
 use Rattle.own_model.specs.StartList.{Boots}
 use Rattle.own_model.specs.World.{World}
 use Rattle.init_core.specs.StartText.{list_in}
 use Rattle.scenario.specs.Gathered.{Tells, TellsPart}
+use Rattle.scenario.specs.Program.{world_of}
 use Rattle.scenario.specs.Stops.{AppendsPart}
-use Rattle.scenario.proofs.GatheredLemmas.{Appends-more}
+use Rattle.scenario.proofs.GatheredLemmas.{Appends-more, Tells-gathered}
 use Rattle.workbench.specs.Plays.{AreAll, AreFirst, WritesTold}
-use Rattle.workbench.specs.Writes.{Closes, IsPlayed, IsPlayedFrom, WritesAfter, WritesBoth, machine_world}
+use Rattle.workbench.specs.Writes.{Closes, IsPlayed, IsPlayedFrom, IsWrittenBy, WritesAfter, WritesBoth}
 use Rattle.workbench.specs.declared.ending.Ending.{Ending}
 use Rattle.workbench.specs.declared.ending.PlayFault.{PlayFault}
 
@@ -61,6 +62,7 @@ closes_alone ending w = record { lines = refl; writes = alone ending.fault w }
     none : (o : Option (List ℕ)) → Appends o o []
     none None = tt
     none (Some text) = sym (append-nil text)
+
     alone : (f : Option PlayFault) (o : Option (List ℕ)) → WritesAfter f f o o []
     alone None o = none o
     alone (Some fault) o = (refl, refl)
@@ -76,12 +78,20 @@ module _ {told behind : List (List ℕ) → List ℕ} where
   }
 
 -- on the machine of a text
-pub is_played : {text : List ℕ} {listed : Listed} (told behind : World → List (List ℕ) → List ℕ) (ending : Ending) {start : World} (input w w' : Option (List ℕ)) →
-    list_in text ≡ Ok listed → Boots (start_list_of listed) → start ≡ machine_world listed → IsPlayedFrom (told start) (behind start) ending input w w' →
-    IsPlayed text (λ l. told (machine_world l)) (λ l. behind (machine_world l)) ending input w w'
+pub is_played : {text : List ℕ} {listed : Listed} (told : World → List (List ℕ) → List ℕ) (behind : Listed → World → List (List ℕ) → List ℕ) (ending : Ending) {start : World} (input w w' : Option (List ℕ)) →
+    list_in text ≡ Ok listed → Boots (start_list_of listed) → start ≡ world_of listed → IsPlayedFrom (told start) (behind listed start) ending input w w' →
+    IsPlayed text (λ l. told (world_of l)) (λ l. behind l (world_of l)) ending input w w'
 is_played {listed = listed} told behind ending input w w' reads boots starts played = record {
   listed = listed;
-  reads = reads;
-  boots = boots;
-  played = subst (λ world. IsPlayedFrom (told world) (behind world) ending input w w') starts played;
+  machine = record { reads = reads; boots = boots };
+  played = subst (λ world. IsPlayedFrom (told world) (behind listed world) ending input w w') starts played;
 }
+
+-- a fault before anything is told loses all of it
+pub lost_all : (w : Option (List ℕ)) (g text : List ℕ) → TellsPart w g w text
+lost_all w g text = (g ++ text, Tells-gathered w g (g ++ text) text refl)
+
+-- a fault that is handed on leaves a part
+pub written_err : {T : Type 0} (Q : PlayFault → Type 0) (r : Result T PlayFault) (w w' : Option (List ℕ)) (text : List ℕ) → IsErrAnd r Q → AppendsPart w w' text → IsWrittenBy r w w' text
+written_err Q (Ok done) w w' text is part = absurd is
+written_err Q (Err fault) w w' text is part = part

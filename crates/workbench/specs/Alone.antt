@@ -5,7 +5,8 @@ use Rattle.own_model.specs.SaidBy.{is_said_by, joined, pieces, pieces_for, said_
 use Rattle.own_model.specs.World.{World, world_running}
 use Rattle.scenario.specs.Answered.{after_all, told_of_all}
 use Rattle.workbench.specs.Played.{calls_answered, calls_said, told_of_lines}
-use Rattle.workbench.specs.Writes.{machine_world, transcript_of}
+use Rattle.scenario.specs.Program.{world_of}
+use Rattle.workbench.specs.Writes.{transcript_of}
 
 -- what a call is told in a world
 abbrev pub told_in : World → List ℕ → List ℕ
@@ -14,9 +15,8 @@ told_in world call = told_of_all None world (call ∷ [])
 -- a call in a line of this number, what it is told in one world, and what in another
 abbrev pub told_in_both : World → World → ℕ → List ℕ → List ℕ
 told_in_both whole alone number call =
-    decimal number ++ codes ": " ++ call ++ 10 ∷ []
-    ++ codes "  whole: " ++ told_in whole call
-    ++ codes "  alone: " ++ told_in alone call
+    (decimal number ++ codes ": " ++ call ++ 10 ∷ []) ++ (codes "  whole: " ++ told_in whole call)
+    ++ (codes "  alone: " ++ told_in alone call)
 
 -- of a call of a name: what it is told after all calls before it, and what after the name's alone
 abbrev pub alone_tells : List ℕ → World → List (List ℕ) → ℕ → List ℕ → List ℕ
@@ -39,7 +39,7 @@ abbrev pub alone_behind : List ℕ → Listed → List (List ℕ) → List ℕ
 alone_behind name listed lines = alone_sum name (length (calls_answered (Some name) lines))
 
 abbrev pub alone_told : List ℕ → Listed → List (List ℕ) → List ℕ
-alone_told name listed lines = told_of_lines (alone_tells name (machine_world listed)) None [] 1 lines
+alone_told name listed lines = told_of_lines (alone_tells name (world_of listed)) None [] 1 lines
 
 -- what a name's calls are told in the whole run, put together
 abbrev pub whole_column : List ℕ → World → List (List ℕ) → List ℕ

@@ -1,4 +1,5 @@
 pub mod Devices
+pub mod Said
 pub mod Ending
 pub mod Played
 pub mod Plays
@@ -7,3 +8,5 @@ pub mod Writes
 pub mod Tracing
 pub mod Alone
 pub mod Peaks
+pub mod Kept
+pub mod PeakList

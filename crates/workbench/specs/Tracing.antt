@@ -1,24 +1,21 @@
 -- The rows of a trace.
-use Rattle.std.specs.Prelude.{ℕ, ◌+◌, List, [], ◌∷◌, ◌++◌, length, nat_le, drop, codes, decimal, if◌then◌else◌, Option, Some, None}
+use Rattle.std.specs.Prelude.{ℕ, ◌+◌, List, [], ◌∷◌, ◌++◌, length, drop, codes, decimal, Option, Some, None}
 use Rattle.std.specs.FinMap.{get}
 use Rattle.csv.specs.Writing.{default_writer, row_text}
 use Rattle.own_model.specs.Account.{Account}
-use Rattle.own_model.specs.Call.{Call, Spoken, spoken}
+use Rattle.own_model.specs.Call.{Call, Spoken}
 use Rattle.own_model.specs.Call.Call.{Upgrade, CallSession, Close}
 use Rattle.own_model.specs.Listed.{Listed}
 use Rattle.own_model.specs.OwnState.{OwnState, session_named}
 use Rattle.own_model.specs.Reply.{reply_text}
 use Rattle.own_model.specs.Session.{Session}
-use Rattle.own_model.specs.Transcript.{Heard, heard, longest_line, state_at}
+use Rattle.own_model.specs.Transcript.{Heard, heard, state_at}
 use Rattle.own_model.specs.Transcript.Heard.{NoCall, Stranger, Caller}
-use Rattle.own_model.specs.World.{World, world_running}
+use Rattle.own_model.specs.World.{World, account_at, world_running}
 use Rattle.scenario.specs.Answer.{answered_name, answered_reply}
 use Rattle.workbench.specs.Played.{told_of_lines}
-use Rattle.workbench.specs.Writes.{machine_world}
-
--- what a line says as a call, if it isn't too long to be one
-abbrev pub said_in : List ℕ → Option Spoken
-said_in line = if nat_le (length line) longest_line then spoken line else None
+use Rattle.workbench.specs.Said.{said_in}
+use Rattle.scenario.specs.Program.{world_of}
 
 -- the call as it stands behind the name and a space, or a line that is none
 abbrev pub text_behind : Option Spoken → List ℕ → List ℕ
@@ -53,8 +50,9 @@ session_cells s (Some selector) = open_cells selector (session_named (get s.sele
 session_cells s None = [] ∷ cells_of None
 
 -- the figures of who called: of its account, and of the session that the call names
-abbrev pub caller_cells : OwnState → Call → List (List ℕ)
-caller_cells s call = account_cells s.account ++ session_cells s (session_of call)
+abbrev pub caller_cells : World → ℕ → Call → List (List ℕ)
+caller_cells world component call =
+    account_cells (account_at world component) ++ session_cells (state_at world.states component) (session_of call)
 
 -- who isn't there has none
 abbrev pub stranger_cells : List (List ℕ)
@@ -63,7 +61,7 @@ stranger_cells = cells_of None ++ ([] ∷ cells_of None)
 abbrev pub figures : World → Heard → List (List ℕ)
 figures world NoCall = stranger_cells
 figures world (Stranger name) = stranger_cells
-figures world (Caller made) = caller_cells (state_at world.states made.component) made.call
+figures world (Caller made) = caller_cells world made.component made.call
 
 -- the row of a call: the number of its line, who called, what, the reply, and the figures after it
 abbrev pub trace_row : World → ℕ → List ℕ → List (List ℕ)
@@ -84,4 +82,4 @@ trace_header =
 
 -- a trace: the names of the columns, and a row for each call
 abbrev pub trace_told : Listed → List (List ℕ) → List ℕ
-trace_told listed lines = trace_header ++ told_of_lines (trace_tells (machine_world listed)) None [] 1 lines
+trace_told listed lines = trace_header ++ told_of_lines (trace_tells (world_of listed)) None [] 1 lines

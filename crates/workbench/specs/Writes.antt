@@ -1,13 +1,11 @@
 -- What a command writes of a scenario: what is told of the lines that were played, and what stands behind them.
 use Rattle.std.specs.Prelude.{◌≡◌, ◌⊎◌, ℕ, Bool, List, [], ◌++◌, length, Option, Some, None, IfSome, IfNone, Result, Ok, Err}
 use Rattle.std.specs.Io.KnownBytes.{Appends}
-use Rattle.own_model.specs.Listed.{Listed, start_list_of}
-use Rattle.own_model.specs.StartList.{Boots}
+use Rattle.own_model.specs.Listed.{Listed}
 use Rattle.own_model.specs.Transcript.{told_after}
-use Rattle.own_model.specs.World.{World, start_world}
-use Rattle.init_core.specs.StartText.{list_in}
+use Rattle.own_model.specs.World.{World}
 use Rattle.scenario.specs.Answered.{after_all}
-use Rattle.scenario.specs.Program.{accounts_for}
+use Rattle.scenario.specs.Program.{IsMachine, accounts_for, world_of}
 use Rattle.scenario.specs.Stops.{AppendsPart}
 use Rattle.workbench.specs.Played.{calls_answered, calls_said}
 use Rattle.workbench.specs.Plays.{AreAll, AreFirst}
@@ -33,8 +31,7 @@ pub record IsPlayedFrom (told behind : List (List ℕ) → List ℕ) (ending : E
 pub record IsPlayed (text : List ℕ) (told behind : Listed → List (List ℕ) → List ℕ) (ending : Ending)
     (input written now_written : Option (List ℕ)) : Type 0 where
   pub listed : Listed
-  pub reads : list_in text ≡ Ok listed
-  pub boots : Boots (start_list_of listed)
+  pub machine : IsMachine text listed
   pub played : IsPlayedFrom (told listed) (behind listed) ending input written now_written
 
 -- behind a play that came to its end this is written, or at a fault a part of it; behind another nothing
@@ -52,10 +49,6 @@ abbrev pub IsWrittenBy : {T : Type 0} → Result T PlayFault → Option (List �
 IsWrittenBy (Ok done) old new text = Appends old new text
 IsWrittenBy (Err fault) old new text = AppendsPart old new text
 
--- the world of a machine at its start
-abbrev pub machine_world : Listed → World
-machine_world listed = start_world (start_list_of listed)
-
 -- nothing stands there
 abbrev pub nothing_told : Listed → List (List ℕ) → List ℕ
 nothing_told listed lines = []
@@ -67,11 +60,11 @@ abbrev pub transcript_of : Option (List ℕ) → World → List (List ℕ) → L
 transcript_of only world lines = told_after world.entries world.states [] (calls_answered only lines)
 
 abbrev pub run_told : Option (List ℕ) → Listed → List (List ℕ) → List ℕ
-run_told only listed lines = transcript_of only (machine_world listed) lines
+run_told only listed lines = transcript_of only (world_of listed) lines
 
 -- the account list after them, where it is asked for
-abbrev pub list_behind : Bool → Option (List ℕ) → World → List (List ℕ) → List ℕ
-list_behind accounts only world lines = accounts_for accounts (after_all only world (calls_said lines))
+abbrev pub list_behind : Bool → Option (List ℕ) → Listed → World → List (List ℕ) → List ℕ
+list_behind accounts only listed world lines = accounts_for accounts listed (after_all only world (calls_said lines))
 
 abbrev pub run_behind : Bool → Option (List ℕ) → Listed → List (List ℕ) → List ℕ
-run_behind accounts only listed lines = list_behind accounts only (machine_world listed) lines
+run_behind accounts only listed lines = list_behind accounts only listed (world_of listed) lines

@@ -14,12 +14,16 @@ use crate::ending::{Ending, PlayFault};
 use crate::machine::Play;
 use crate::notes::Notes;
 use crate::playing::play as play_lines;
-use crate::text::put_number;
+use crate::text::{add, add_number, put_number, put_three};
 use crate::watch::{Heard, Watch};
+use arrayvec::ArrayVec;
 use init_core::{BootFault, StartList, boot};
 use pd_core::{Core, Reply, Router};
 use scenario::{Answer, DeviceFault, Gather, MAX_LINES, Run, Sink, Source};
 use std::alloc::Global;
+
+/// Room for a number with the words behind it.
+const LONGEST_NUMBER: usize = 40;
 
 /// A second machine, on which the lines of one name alone are answered.
 #[derive(Drop)]
@@ -38,7 +42,9 @@ pub(crate) struct SecondMachine<'a, Q: Router + Drop> {
 impl<Q: Router + Drop> Watch for SecondMachine<'_, Q> {
     ghost tells = { λ second. alone_tells second.name.now };
 
-    ghost sees = { λ second. SeesAlone second.name.now second.core second.lines second.difference };
+    ghost holds = { λ second. second.name.now };
+
+    ghost sees = { λ second _. SeesAlone second.name.now second.core second.lines second.difference };
 
     fn tell<R: Router + Drop, K: Sink>(
         &mut self,
@@ -91,17 +97,32 @@ fn put_both<K: Sink>(
 ) -> Result<(), DeviceFault>
     requires { K.has_failed writer.old ≡ false }
     ensures told { TellsUnless result (K.contents writer.old) gathered.old (K.contents writer.new) gathered.new
-        (decimal heard.now.number ++ codes ": " ++ heard.now.line.now ++ 10 ∷ []
-        ++ codes "  whole: " ++ answer_text (Some heard.now.answer)
-        ++ codes "  alone: " ++ answer_text (Some alone.now)) }
+        ((decimal heard.now.number ++ codes ": " ++ heard.now.line.now ++ 10 ∷ [])
+        ++ (codes "  whole: " ++ answer_text (Some heard.now.answer))
+        ++ (codes "  alone: " ++ answer_text (Some alone.now))) }
     ensures failing { K.has_failed writer.new ≡ is_err result }
 {
-    put_number(heard.number, gathered, writer)?;
-    gathered.put(writer, b": ")?;
-    gathered.put(writer, heard.line)?;
-    gathered.put(writer, b"\n")?;
+    put_heard(heard.number, heard.line, gathered, writer)?;
     put_side(b"  whole: ", &heard.answer, gathered, writer)?;
     put_side(b"  alone: ", alone, gathered, writer)
+}
+
+// Gathers a line behind its number.
+fn put_heard<K: Sink>(
+    number: u64,
+    line: &[u8],
+    gathered: &mut Gather,
+    writer: &mut K,
+) -> Result<(), DeviceFault>
+    requires { K.has_failed writer.old ≡ false }
+    ensures told { TellsUnless result (K.contents writer.old) gathered.old (K.contents writer.new) gathered.new
+        (decimal number ++ codes ": " ++ line.now ++ 10 ∷ []) }
+    ensures failing { K.has_failed writer.new ≡ is_err result }
+{
+    let mut front: ArrayVec<u8, LONGEST_NUMBER> = ArrayVec::new();
+    add_number(&mut front, number);
+    add(&mut front, b": ");
+    put_three(front.as_slice(), line, b"\n", gathered, writer)
 }
 
 // Gathers an answer behind the name of its side.
@@ -151,16 +172,9 @@ pub fn alone<S: Source, K: Sink, E: Sink>(
         only: None,
     };
     let second = boot(alloc, &list)?;
-    let mut watch = SecondMachine {
-        list: &list,
-        name,
-        core: second,
-        reply: Reply::boot(alloc)?,
-        lines: 0,
-        difference: None,
-    };
+    let reply = Reply::boot(alloc)?;
     Ok(play_beside(
-        &run, &mut core, &mut notes, &mut watch, reader, writer, complaints,
+        &run, &mut core, second, reply, name, &mut notes, reader, writer, complaints,
     ))
 }
 
@@ -168,8 +182,10 @@ pub fn alone<S: Source, K: Sink, E: Sink>(
 fn play_beside<R: Router + Drop, Q: Router + Drop, S: Source, K: Sink, E: Sink>(
     run: &Run<'_>,
     core: &mut Core<R>,
+    second: Core<Q>,
+    reply: Reply,
+    name: &[u8],
     notes: &mut Notes<'_>,
-    watch: &mut SecondMachine<'_, Q>,
     reader: &mut S,
     writer: &mut K,
     complaints: &mut E,
@@ -178,15 +194,23 @@ fn play_beside<R: Router + Drop, Q: Router + Drop, S: Source, K: Sink, E: Sink>(
     requires all { run.now.only ≡ None }
     requires ahead { notes.old.buffers.ahead ≡ [] }
     requires gathered { notes.old.buffers.gathered ≡ [] }
-    requires sees { SeesAlone watch.old.name.now watch.old.core watch.old.lines watch.old.difference core.old [] }
+    requires same { second ≡ core.old }
     ensures played { IsPlayedFrom
-        (λ lines. told_of_lines (alone_tells watch.old.name.now core.old) None [] 1 lines)
-        (λ lines. alone_sum watch.old.name.now (length (calls_answered (Some watch.old.name.now) lines)))
+        (λ lines. told_of_lines (alone_tells name.now core.old) None [] 1 lines)
+        (λ lines. alone_sum name.now (length (calls_answered (Some name.now) lines)))
         result (S.remaining reader.old) (K.contents writer.old) (K.contents writer.new) }
     ensures few { result.lines ≤ MAX_LINES }
 {
-    let ending = play_lines(run, core, notes, watch, reader, writer, complaints);
-    close_with_sum(ending, watch.name, watch.lines, watch.difference, writer)
+    let mut watch = SecondMachine {
+        list: run.list,
+        name,
+        core: second,
+        reply,
+        lines: 0,
+        difference: None,
+    };
+    let ending = play_lines(run, core, notes, &mut watch, reader, writer, complaints);
+    close_with_sum(ending, name, watch.lines, watch.difference, writer)
 }
 
 // Writes behind a play that came to its end how many lines there were, and whether the answers are the same.
@@ -210,6 +234,7 @@ fn close_with_sum<K: Sink>(
 }
 
 // Writes how many lines there were, and whether the answers are the same.
+#[tactic(auto, using(scenario::proofs::TaskLemmas::told_in_part))]
 fn write_sum<K: Sink>(
     name: &[u8],
     lines: u64,
@@ -240,13 +265,25 @@ fn put_sum<K: Sink>(
         (K.contents writer.new) gathered.new (alone_sum name.now lines) }
     ensures failing { K.has_failed writer.new ≡ is_err result }
 {
-    put_number(lines, gathered, writer)?;
-    gathered.put(writer, b" lines of ")?;
-    gathered.put(writer, name)?;
+    let mut count: ArrayVec<u8, LONGEST_NUMBER> = ArrayVec::new();
+    add_number(&mut count, lines);
+    add(&mut count, b" lines of ");
     match difference {
-        None => gathered.put(writer, b": the same alone as in the whole run\n"),
+        None => put_three(
+            count.as_slice(),
+            name,
+            b": the same alone as in the whole run\n",
+            gathered,
+            writer,
+        ),
         Some(line) => {
-            gathered.put(writer, b": alone it is otherwise from line ")?;
+            put_three(
+                count.as_slice(),
+                name,
+                b": alone it is otherwise from line ",
+                gathered,
+                writer,
+            )?;
             put_number(line, gathered, writer)?;
             gathered.put(writer, b" on\n")
         }

@@ -49,11 +49,12 @@ pub(crate) fn play<R: Router + Drop, W: Watch, S: Source, K: Sink, E: Sink>(
 ) -> Ending
     requires listed { core.old.entries ≡ entries_of (start_list_of run.now.list.now) }
     requires fresh { notes.old.buffers.ahead ≡ [] }
-    ensures plays { W.sees watch.old core.old [] →
-        PlaysAll (W.tells watch.old core.old) (W.sees watch.new core.old) (option_copied run.now.only)
+    ensures plays { W.sees watch.old run.now.list.now core.old [] →
+        PlaysAll (W.tells watch.old core.old) (W.sees watch.new run.now.list.now core.old) (option_copied run.now.only)
         result.fault result.lines core.old core.new notes.old.buffers.gathered
         (S.remaining reader.old) (K.contents writer.old) (K.contents writer.new) }
     ensures same { W.tells watch.new ≡ W.tells watch.old }
+    ensures held { W.holds watch.new ≡ W.holds watch.old }
     ensures few { result.lines ≤ MAX_LINES }
     ensures listed { core.new.entries ≡ core.old.entries }
 {
@@ -85,11 +86,12 @@ fn play_if_working<R: Router + Drop, W: Watch, S: Source, K: Sink, E: Sink>(
     requires listed { core.old.entries ≡ entries_of (start_list_of run.now.list.now) }
     requires fresh { notes.old.buffers.ahead ≡ [] }
     requires few { tally.old.lines ≤ MAX_LINES }
-    ensures plays { W.sees watch.old core.old [] →
-        PlaysAll (W.tells watch.old core.old) (W.sees watch.new core.old) (option_copied run.now.only)
+    ensures plays { W.sees watch.old run.now.list.now core.old [] →
+        PlaysAll (W.tells watch.old core.old) (W.sees watch.new run.now.list.now core.old) (option_copied run.now.only)
         (result_err result) tally.new.lines core.old core.new notes.old.buffers.gathered
         (S.remaining reader.old) (K.contents writer.old) (K.contents writer.new) }
     ensures same { W.tells watch.new ≡ W.tells watch.old }
+    ensures held { W.holds watch.new ≡ W.holds watch.old }
     ensures few { tally.new.lines ≤ MAX_LINES }
     ensures listed { core.new.entries ≡ core.old.entries }
 {
@@ -119,11 +121,12 @@ fn play_all<R: Router + Drop, W: Watch, S: Source, K: Sink, E: Sink>(
     requires listed { core.old.entries ≡ entries_of (start_list_of run.now.list.now) }
     requires fresh { notes.old.buffers.ahead ≡ [] }
     requires works { AllWork (S.has_failed reader.old) (K.has_failed writer.old) (E.has_failed complaints.old) }
-    ensures plays { W.sees watch.old core.old [] →
-        PlaysAll (W.tells watch.old core.old) (W.sees watch.new core.old) (option_copied run.now.only)
+    ensures plays { W.sees watch.old run.now.list.now core.old [] →
+        PlaysAll (W.tells watch.old core.old) (W.sees watch.new run.now.list.now core.old) (option_copied run.now.only)
         (result_err result) tally.new.lines core.old core.new notes.old.buffers.gathered
         (S.remaining reader.old) (K.contents writer.old) (K.contents writer.new) }
     ensures same { W.tells watch.new ≡ W.tells watch.old }
+    ensures held { W.holds watch.new ≡ W.holds watch.old }
     ensures few { tally.new.lines ≤ MAX_LINES }
     ensures listed { core.new.entries ≡ core.old.entries }
 {
@@ -174,12 +177,13 @@ fn play_next<R: Router + Drop, W: Watch, S: Source, K: Sink, E: Sink>(
 ) -> Result<Played, PlayFault>
     requires listed { core.old.entries ≡ entries_of (start_list_of run.now.list.now) }
     requires works { AllWork (S.has_failed reader.old) (K.has_failed writer.old) (E.has_failed complaints.old) }
-    ensures next { (start : World) (earlier : List (List ℕ)) → Watches (W.sees watch.old) start earlier core.old →
-        PlaysNext (W.tells watch.old start) (W.sees watch.new start) (option_copied run.now.only)
+    ensures next { (start : World) (earlier : List (List ℕ)) → Watches (W.sees watch.old run.now.list.now) start earlier core.old →
+        PlaysNext (W.tells watch.old start) (W.sees watch.new run.now.list.now start) (option_copied run.now.only)
         notes.old.number earlier result
         (point core.old notes.old.buffers (S.remaining reader.old) (K.contents writer.old))
         (point core.new notes.new.buffers (S.remaining reader.new) (K.contents writer.new)) }
     ensures same { W.tells watch.new ≡ W.tells watch.old }
+    ensures held { W.holds watch.new ≡ W.holds watch.old }
     ensures listed { core.new.entries ≡ core.old.entries }
     ensures works { OnOk result
         (AllWork (S.has_failed reader.new) (K.has_failed writer.new) (E.has_failed complaints.new)) }
@@ -222,15 +226,16 @@ fn play_ahead<R: Router + Drop, W: Watch, K: Sink, E: Sink>(
     ensures world { core.new ≡ after_all (option_copied run.now.only) core.old
         (call_of (take count notes.old.buffers.ahead)) }
     ensures passed { notes.new.buffers.ahead ≡ drop (count + 1) notes.old.buffers.ahead }
-    ensures told { (start : World) (earlier : List (List ℕ)) → Watches (W.sees watch.old) start earlier core.old →
+    ensures told { (start : World) (earlier : List (List ℕ)) → Watches (W.sees watch.old run.now.list.now) start earlier core.old →
         TellsUnless result (K.contents writer.old) notes.old.buffers.gathered
         (K.contents writer.new) notes.new.buffers.gathered
         (told_of_calls (W.tells watch.old start) earlier notes.old.number
         (said_by (option_copied run.now.only) (call_of (take count notes.old.buffers.ahead)))) }
-    ensures seen { (start : World) (earlier : List (List ℕ)) → Watches (W.sees watch.old) start earlier core.old →
-        OnOk result (Watches (W.sees watch.new) start
+    ensures seen { (start : World) (earlier : List (List ℕ)) → Watches (W.sees watch.old run.now.list.now) start earlier core.old →
+        OnOk result (Watches (W.sees watch.new run.now.list.now) start
         (earlier ++ said_by (option_copied run.now.only) (call_of (take count notes.old.buffers.ahead))) core.new) }
     ensures same { W.tells watch.new ≡ W.tells watch.old }
+    ensures held { W.holds watch.new ≡ W.holds watch.old }
     ensures works { OnOk result (OutputsWork (K.has_failed writer.new) (E.has_failed complaints.new)) }
 {
     let line = &notes.buffers.ahead.ahead()[..count];
@@ -265,14 +270,15 @@ fn play_line<R: Router + Drop, W: Watch, K: Sink, E: Sink>(
     requires listed { core.old.entries ≡ entries_of (start_list_of run.now.list.now) }
     requires works { OutputsWork (K.has_failed writer.old) (E.has_failed complaints.old) }
     ensures world { core.new ≡ after_all (option_copied run.now.only) core.old (call_of line.now) }
-    ensures told { (start : World) (earlier : List (List ℕ)) → Watches (W.sees watch.old) start earlier core.old →
+    ensures told { (start : World) (earlier : List (List ℕ)) → Watches (W.sees watch.old run.now.list.now) start earlier core.old →
         TellsUnless result (K.contents writer.old) gathered.old (K.contents writer.new) gathered.new
         (told_of_calls (W.tells watch.old start) earlier number
         (said_by (option_copied run.now.only) (call_of line.now))) }
-    ensures seen { (start : World) (earlier : List (List ℕ)) → Watches (W.sees watch.old) start earlier core.old →
-        OnOk result (Watches (W.sees watch.new) start
+    ensures seen { (start : World) (earlier : List (List ℕ)) → Watches (W.sees watch.old run.now.list.now) start earlier core.old →
+        OnOk result (Watches (W.sees watch.new run.now.list.now) start
         (earlier ++ said_by (option_copied run.now.only) (call_of line.now)) core.new) }
     ensures same { W.tells watch.new ≡ W.tells watch.old }
+    ensures held { W.holds watch.new ≡ W.holds watch.old }
     ensures works { OnOk result (OutputsWork (K.has_failed writer.new) (E.has_failed complaints.new)) }
 {
     match read_line(line, &mut desk.room) {
@@ -313,14 +319,15 @@ where
     requires listed { core.old.entries ≡ entries_of (start_list_of run.now.list.now) }
     requires writes { K.has_failed writer.old ≡ false }
     ensures world { core.new ≡ after_all (option_copied run.now.only) core.old (line.now ∷ []) }
-    ensures told { (start : World) (earlier : List (List ℕ)) → Watches (W.sees watch.old) start earlier core.old →
+    ensures told { (start : World) (earlier : List (List ℕ)) → Watches (W.sees watch.old run.now.list.now) start earlier core.old →
         TellsUnless result (K.contents writer.old) gathered.old (K.contents writer.new) gathered.new
         (told_of_calls (W.tells watch.old start) earlier number
         (said_by (option_copied run.now.only) (line.now ∷ []))) }
-    ensures seen { (start : World) (earlier : List (List ℕ)) → Watches (W.sees watch.old) start earlier core.old →
-        OnOk result (Watches (W.sees watch.new) start
+    ensures seen { (start : World) (earlier : List (List ℕ)) → Watches (W.sees watch.old run.now.list.now) start earlier core.old →
+        OnOk result (Watches (W.sees watch.new run.now.list.now) start
         (earlier ++ said_by (option_copied run.now.only) (line.now ∷ [])) core.new) }
     ensures same { W.tells watch.new ≡ W.tells watch.old }
+    ensures held { W.holds watch.new ≡ W.holds watch.old }
     ensures works { OnOk result (K.has_failed writer.new ≡ false) }
 {
     match run.answer(core, line, reply) {

@@ -8,7 +8,7 @@ ghost use Rattle.pd_core.specs.Call.{model_call};
 ghost use Rattle.scenario.specs.Gathered.{TellsUnless};
 ghost use Rattle.scenario.specs.Program.{boot_fault};
 ghost use Rattle.workbench.specs.Played.{told_of_lines};
-ghost use Rattle.workbench.specs.Tracing.{call_text, caller_cells, figures, said_in, session_cells, session_of, stranger_cells, trace_header, trace_tells, trace_told};
+ghost use Rattle.workbench.specs.Tracing.{call_text, caller_cells, figures, session_cells, session_of, stranger_cells, trace_header, trace_tells, trace_told};
 ghost use Rattle.workbench.specs.Writes.{IsPlayed, IsPlayedFrom, nothing_told};
 
 use crate::ending::{Ending, PlayFault};
@@ -16,7 +16,7 @@ use crate::machine::Play;
 use crate::notes::Notes;
 use crate::playing::play as play_lines;
 use crate::row::Row;
-use crate::text::call_in;
+use crate::text::{call_in, caller_of};
 use crate::watch::{Heard, Watch};
 use init_core::{BootFault, StartList, boot};
 use pd_core::{Call, Core, Router};
@@ -36,7 +36,7 @@ pub(crate) struct Tracer {
 impl Watch for Tracer {
     ghost tells = { λ _. trace_tells };
 
-    ghost sees = { λ _ _ _. ⊤ };
+    ghost sees = { λ _ _ _ _. ⊤ };
 
     fn tell<R: Router + Drop, K: Sink>(
         &mut self,
@@ -64,15 +64,13 @@ fn row_of<R: Router + Drop>(
         ≡ decimal told.now.number ∷ told.now.answer.name.now ∷ call_text told.now.line.now
         ∷ told.now.answer.reply.now ∷ figures core.now (heard core.now.entries told.now.line.now)) }
 {
-    let row = Row::new(alloc)
-        .number(told.number)?
-        .text(told.answer.name)?;
+    let row = Row::new(alloc).number(told.number)?.text(told.answer.name)?;
     match call_in(told.line) {
         Some((name, call)) => {
             let row = row
                 .text(text_behind(name, told.line))?
                 .text(told.answer.reply)?;
-            match list.find(name) {
+            match caller_of(list, name) {
                 Some(component) => put_caller(row, core, component, call),
                 None => put_stranger(row),
             }
@@ -104,9 +102,10 @@ fn put_caller<R: Router + Drop>(
 ) -> Result<Row, PlayFault>
     requires component { component < length core.now.entries }
     ensures { IfOk result (λ all. all
-        ≡ row ++ caller_cells (state_at core.now.states component) (model_call call.entry)) }
+        ≡ row ++ caller_cells core.now component (model_call call.entry)) }
 {
-    let row = row.account(Some(core.account(component)))?;
+    let account = core.account(component);
+    let row = row.account(Some(account))?;
     put_session(row, core, component, session_of(call))
 }
 

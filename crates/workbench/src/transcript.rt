@@ -26,7 +26,7 @@ pub(crate) struct Transcript;
 impl Watch for Transcript {
     ghost tells = { λ _. engine_tells };
 
-    ghost sees = { λ _ _ _. ⊤ };
+    ghost sees = { λ _ _ _ _. ⊤ };
 
     fn tell<R: Router + Drop, K: Sink>(
         &mut self,
@@ -88,7 +88,7 @@ fn run_on<R: Router + Drop, S: Source, K: Sink, E: Sink>(
     requires ahead { notes.old.buffers.ahead ≡ [] }
     requires gathered { notes.old.buffers.gathered ≡ [] }
     ensures played { IsPlayedFrom (transcript_of (option_copied run.now.only) core.old)
-        (list_behind accounts (option_copied run.now.only) core.old) result
+        (list_behind accounts (option_copied run.now.only) run.now.list.now core.old) result
         (S.remaining reader.old) (K.contents writer.old) (K.contents writer.new) }
     ensures few { result.lines ≤ MAX_LINES }
 {
@@ -109,7 +109,7 @@ fn close_with_list<R: Router + Drop, K: Sink>(
     writer: &mut K,
 ) -> Ending
     requires listed { core.now.entries ≡ entries_of (start_list_of list.now) }
-    ensures { Closes ending result (K.contents writer.old) (K.contents writer.new) (account_list_text core.now) }
+    ensures { Closes ending result (K.contents writer.old) (K.contents writer.new) (account_list_text list.now core.now) }
 {
     if ending.fault.is_some() {
         return ending;

@@ -1,6 +1,6 @@
 //! Who is told of each call that is answered.
 ghost use Rattle.std.specs.Prelude.{◌≡◌, ◌∷◌, ◌++◌, ℕ, List, [], false, OnOk};
-ghost use Rattle.own_model.specs.Listed.{start_list_of};
+ghost use Rattle.own_model.specs.Listed.{Listed, start_list_of};
 ghost use Rattle.own_model.specs.StartList.{entries_of};
 ghost use Rattle.own_model.specs.World.{World};
 ghost use Rattle.scenario.specs.Gathered.{TellsUnless};
@@ -28,8 +28,11 @@ pub(crate) trait Watch {
     // the engine's line.
     ghost tells: { Self → World → List (List ℕ) → ℕ → List ℕ → List ℕ };
 
-    // From this world on these calls are all that was seen.
-    ghost sees: { Self → World → List (List ℕ) → Type 0 };
+    // What it was made with, and keeps.
+    ghost holds: { Self → List ℕ } = { λ _. [] };
+
+    // On the machine of this list, from this world on, these calls are all that was seen.
+    ghost sees: { Self → Listed → World → List (List ℕ) → Type 0 };
 
     /// Takes an answer in, with the core after it, and gathers what is told of it.
     fn tell<R: Router + Drop, K: Sink>(
@@ -42,13 +45,14 @@ pub(crate) trait Watch {
     ) -> Result<(), PlayFault>
         requires listed { core.now.entries ≡ entries_of (start_list_of list.now) }
         requires writes { K.has_failed writer.old ≡ false }
-        ensures told { (start : World) (earlier : List (List ℕ)) → sees self.old start earlier →
+        ensures told { (start : World) (earlier : List (List ℕ)) → sees self.old list.now start earlier →
             IsToldOf start earlier heard.now.line.now core.now heard.now.answer →
             TellsUnless result (K.contents writer.old) gathered.old (K.contents writer.new) gathered.new
             (tells self.old start earlier heard.now.number heard.now.line.now) }
-        ensures seen { (start : World) (earlier : List (List ℕ)) → sees self.old start earlier →
+        ensures seen { (start : World) (earlier : List (List ℕ)) → sees self.old list.now start earlier →
             IsToldOf start earlier heard.now.line.now core.now heard.now.answer →
-            OnOk result (sees self.new start (earlier ++ heard.now.line.now ∷ [])) }
+            OnOk result (sees self.new list.now start (earlier ++ heard.now.line.now ∷ [])) }
         ensures same { tells self.new ≡ tells self.old }
+        ensures held { holds self.new ≡ holds self.old }
         ensures works { OnOk result (K.has_failed writer.new ≡ false) };
 }

@@ -15,8 +15,9 @@ invariant-loop-count g l = record {
   few : l.tally.complaints ≤ l.count;
   counted : l.tally.lines ≡ l.count;
   same : g.W.Watch.tells l.watch ≡ g.W.Watch.tells l.fn.watch;
-  played : g.W.Watch.sees l.fn.watch l.fn.core [] → (lines : List (List ℕ)) × (length lines ≡ l.count)
-      × Plays (g.W.Watch.tells l.fn.watch l.fn.core) (g.W.Watch.sees l.watch l.fn.core) (option_copied l.run.only) 1 [] lines
+  held : g.W.Watch.holds l.watch ≡ g.W.Watch.holds l.fn.watch;
+  played : g.W.Watch.sees l.fn.watch l.run.list.now l.fn.core [] → (lines : List (List ℕ)) × (length lines ≡ l.count)
+      × Plays (g.W.Watch.tells l.fn.watch l.fn.core) (g.W.Watch.sees l.watch l.run.list.now l.fn.core) (option_copied l.run.only) 1 [] lines
       (point l.fn.core l.fn.notes.buffers (g.S.Source.remaining l.fn.reader) (g.K.Sink.contents l.fn.writer))
       (point l.core l.notes.buffers (g.S.Source.remaining l.reader) (g.K.Sink.contents l.writer));
 }
