@@ -1,7 +1,6 @@
 -- What a name's calls are told hangs on no others' calls.
-use Rattle.std.proofs.Common.{◌≡◌, ℕ, ◌+◌, ◌<◌, ◌≤◌, ◌^◌, ◌&&◌, Bool, true, false, cond, true≢false, List, [], ◌∷◌, ◌++◌, length, length-append, codes, decimal, nat_le, Option, Some, None, refl, sym, ◌∙◌, ap, subst, arith, append-nil}
+use Rattle.std.proofs.Common.{◌≡◌, ℕ, ◌+◌, ◌<◌, ◌^◌, ◌&&◌, Bool, true, false, cond, List, [], ◌∷◌, ◌++◌, length, length-append, codes, decimal, nat_le, Option, Some, None, refl, sym, ◌∙◌, ap, subst, arith}
 use Rattle.std.proofs.lemmas.Bool.Decides.{nat_tests}
-use Rattle.std.proofs.lemmas.List.Elements.{filter-append}
 use Rattle.std.proofs.lemmas.Slice.Eq.{bytes_eq-Decides}
 use Rattle.own_model.specs.Call.{Spoken, spoken}
 use Rattle.own_model.specs.OwnStep.{own_step}
@@ -17,11 +16,11 @@ use Rattle.own_model.specs.Running.{told_now}
 use Rattle.own_model.proofs.RunningLemmas.{states_running-at}
 use Rattle.own_model.proofs.SaidByLemmas.{pieces_stand_alone, state_stands_alone}
 use Rattle.scenario.specs.Answer.{AnswersLine, IsAnswer, answer_text, answered_name, answered_reply, finished_lines}
-use Rattle.scenario.specs.Answered.{after_all, told_of_all}
+use Rattle.scenario.specs.Answered.{after_all}
 use Rattle.scenario.specs.declared.answering.Answer.{Answer}
 use Rattle.scenario.proofs.AnsweringLemmas.{told_answer}
-use Rattle.scenario.proofs.Serving.{left_by_both, said_by-append, world_running-append}
-use Rattle.workbench.specs.Alone.{AreAlike, SeesAlone, alone_tells, told_in, told_in_both}
+use Rattle.scenario.proofs.Serving.{left_by_both, said_by-append}
+use Rattle.workbench.specs.Alone.{AreAlike, SeesAlone, alone_tells, told_in}
 use Rattle.workbench.specs.Played.{calls_said}
 
 -- a call that was heard is the name's

@@ -1,6 +1,6 @@
 -- What is kept of peaks from call to call.
-use Rattle.std.proofs.Common.{Bor, ◌≡◌, ◌≢◌, ◌≤◌, inl, inr, ℕ, ◌+◌, ◌<◌, ◌==◌, ◌&&◌, Bool, true, false, true≢false, cond, eqb-true, List, [], ◌∷◌, ◌++◌, length, is_some, max, Option, Some, None, refl, sym, ◌∙◌, ap, subst, arith}
-use Rattle.std.proofs.lemmas.Bool.{eqb-false, eq-eqb}
+use Rattle.std.proofs.Common.{Bor, ◌≡◌, ◌≤◌, inl, inr, ℕ, ◌+◌, ◌<◌, ◌==◌, ◌&&◌, Bool, true, false, true≢false, cond, eqb-true, List, [], ◌∷◌, ◌++◌, length, is_some, max, Option, Some, None, refl, sym, ◌∙◌, ap, arith}
+use Rattle.std.proofs.lemmas.Bool.{eq-eqb}
 use Rattle.std.proofs.lemmas.Bool.Decides.{nat_tests}
 use Rattle.std.proofs.lemmas.Option.{none-some, same_Some}
 use Rattle.std.specs.Prelude.{nat_le, nat_lt, ◌||◌}
@@ -23,7 +23,7 @@ use Rattle.own_model.specs.Session.{Session, given}
 use Rattle.own_model.specs.StartList.{no_account}
 use Rattle.own_model.specs.Transcript.{Heard, entry_at, heard, heard_call, heard_of, heard_spoken, longest_line}
 use Rattle.own_model.specs.Transcript.Heard.{NoCall, Stranger, Caller}
-use Rattle.own_model.specs.World.{World, account_at, machine_init, world_after_heard, world_running}
+use Rattle.own_model.specs.World.{World, account_at, machine_init, world_running}
 use Rattle.scenario.specs.Program.{world_of}
 use Rattle.workbench.specs.Kept.{SeesPeaks, begun, begun_as, begun_by, begun_with, found, grown, in_use, is_kept_at, noted_in, noted_more, opens_for, peak_at, raised_in}
 use Rattle.workbench.specs.Peaks.{Noted, is_open, label_by, noted_of, opens, peak_of, server_by, session_account_at, session_at, worlds}

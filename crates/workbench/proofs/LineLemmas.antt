@@ -1,5 +1,5 @@
 -- A line that is played: it says a call, which is answered and told, or nothing changes.
-use Rattle.std.proofs.Common.{◌≡◌, ℕ, ◌≤◌, List, [], ◌∷◌, ◌++◌, length, Option, Result, Ok, Err, OnOk, refl, sym, ◌∙◌, ap, subst}
+use Rattle.std.proofs.Common.{◌≡◌, ℕ, ◌≤◌, List, [], ◌++◌, length, Option, Result, Ok, Err, OnOk, sym, ◌∙◌, ap}
 use Rattle.own_model.specs.SaidBy.{said_by}
 use Rattle.own_model.specs.Transcript.{longest_line}
 use Rattle.own_model.specs.World.{World}

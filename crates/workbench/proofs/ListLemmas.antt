@@ -1,5 +1,5 @@
 -- The account list with peaks: its lines one after another, and what it tells of the accounts so far.
-use Rattle.std.proofs.Common.{◌≡◌, ℕ, ◌+◌, ◌-◌, ◌<◌, ◌≤◌, ◌⊎◌, zero, suc, Bool, true, false, cond, List, [], ◌∷◌, ◌++◌, length, is_some, Option, Some, None, codes, refl, sym, ◌∙◌, ap, arith, append_assoc, append-nil}
+use Rattle.std.proofs.Common.{◌≡◌, ℕ, ◌+◌, ◌-◌, ◌<◌, ◌≤◌, ◌⊎◌, zero, suc, Bool, true, false, cond, List, [], ◌∷◌, ◌++◌, length, is_some, Option, Some, None, codes, refl, sym, ◌∙◌, ap, arith, append-nil}
 use Rattle.std.proofs.lemmas.Grind.{flat_map-append}
 use Rattle.std.proofs.lemmas.Bool.Decides.{nat_tests}
 use Rattle.std.specs.Prelude.{◌||◌, nat_lt}
@@ -12,9 +12,9 @@ use Rattle.own_model.specs.AccountList.{is_told, reserve_line, total_line}
 use Rattle.own_model.specs.Transcript.{entry_at, state_at}
 use Rattle.scenario.specs.Accounts.{listed_at}
 use Rattle.own_model.specs.World.{World, account_at, all_caps, all_ram, machine_init, world_running}
-use Rattle.workbench.specs.Kept.{SeesPeaks, found, grown, in_use, peak_at, raised_in}
-use Rattle.workbench.specs.PeakList.{line_at, lines_at, list_with, open_line, peaked_line, peaked_lines, peaks_text, places, selector_count, selectors}
-use Rattle.workbench.specs.Peaks.{Noted, is_open, noted_of, peak_of, session_at, worlds}
+use Rattle.workbench.specs.Kept.{SeesPeaks, found, peak_at}
+use Rattle.workbench.specs.PeakList.{line_at, lines_at, list_with, open_line, peaked_line, peaked_lines, peaks_text, selector_count, selectors}
+use Rattle.workbench.specs.Peaks.{Noted, noted_of, peak_of, session_at, worlds}
 use Rattle.workbench.specs.declared.peaks.Peak.{Peak}
 use Rattle.workbench.specs.declared.peaks.Session.{Session as Kept}
 

@@ -1,17 +1,11 @@
 -- What is noted of a session, once there is a call more.
-use Rattle.std.proofs.Common.{◌≡◌, ◌≢◌, ◌⊎◌, inl, inr, ℕ, ◌+◌, ◌-◌, ◌<◌, ◌≤◌, Bool, true, false, true≢false, List, [], ◌∷◌, ◌++◌, length, length-append, max, get_or, Option, Some, None, refl, sym, ◌∙◌, ap, subst, arith}
+use Rattle.std.proofs.Common.{◌≡◌, ℕ, ◌+◌, ◌-◌, ◌<◌, ◌≤◌, true, false, List, [], ◌∷◌, ◌++◌, length, length-append, max, get_or, sym, ◌∙◌, ap, arith}
 use Rattle.std.proofs.lemmas.List.{get_or_append_left, get_or-append-add}
-use Rattle.std.specs.Prelude.{is_some}
-use Rattle.own_model.specs.Account.{Account}
-use Rattle.own_model.specs.Amounts.{Amounts}
-use Rattle.own_model.specs.Call.{Call}
 use Rattle.own_model.specs.Listed.{Listed}
-use Rattle.own_model.specs.OwnStep.{own_step}
-use Rattle.own_model.specs.Transcript.{Heard, entry_at, heard, nothing, state_at}
-use Rattle.own_model.specs.Transcript.Heard.{NoCall, Stranger, Caller}
-use Rattle.own_model.specs.World.{World, world_after_heard, world_running}
+use Rattle.own_model.specs.Transcript.{entry_at}
+use Rattle.own_model.specs.World.{World, world_running}
 use Rattle.workbench.specs.Kept.{in_use, noted_more}
-use Rattle.workbench.specs.Peaks.{Noted, is_open, label_by, lasting, noted_of, opener, opens, peak_of, server_by, session_account_at, since_open, worlds}
+use Rattle.workbench.specs.Peaks.{is_open, label_by, lasting, noted_of, opener, peak_of, server_by, session_account_at, since_open, worlds}
 use Rattle.workbench.specs.Said.{said_in}
 use Rattle.workbench.proofs.PeakLemmas.{lasting-later, lasting-more, lasting-none, length-worlds, peak-more, worlds-last, worlds-more}
 

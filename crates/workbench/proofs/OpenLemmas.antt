@@ -1,8 +1,8 @@
 -- A session comes under a selector only by a call that opens one.
-use Rattle.std.proofs.Common.{arith, rules, ◌≡◌, ◌≢◌, ℕ, ◌==◌, is_some, ap, ◌<◌, ◌⊎◌, inl, inr, Bool, true, false, List, Some, slice_set, get_or, subst, refl, sym, ◌∙◌, true≢false, eqb, eqb-true}
+use Rattle.std.proofs.Common.{arith, rules, ◌≡◌, ◌≢◌, ℕ, ◌==◌, is_some, ap, ◌⊎◌, inl, inr, Bool, true, false, List, Some, subst, refl, sym, ◌∙◌, true≢false, eqb, eqb-true}
 use Rattle.std.proofs.lemmas.Bool.{eqb-false}
-use Rattle.std.proofs.lemmas.Option.{none-some, same_Some}
-use Rattle.std.specs.Prelude.{Option, None, Result, Ok, Err}
+use Rattle.std.proofs.lemmas.Option.{none-some}
+use Rattle.std.specs.Prelude.{Option, None}
 use Rattle.std.specs.FinMap.{get, insert, remove}
 use Rattle.trade_base.specs.declared.refusal.Refusal.{Refusal}
 use Rattle.own_model.proofs.NatMapLemmas.{get-empty, get-insert_same, get-insert_other, get-remove_same, get-remove_other}
@@ -14,8 +14,8 @@ use Rattle.own_model.specs.Call.Call.{Alloc, Free, Attach, AttachAt, Detach, Pee
 use Rattle.own_model.specs.NatMap.{NatMap}
 use Rattle.own_model.specs.OwnState.{OwnState, Object, NamedBuffer, buffer_of, bytes_of_buffer, new_selector, object_with, session_named}
 use Rattle.own_model.specs.OwnState.Object.{Dataspace, RpcObject, OpenSession, Buffer}
-use Rattle.own_model.specs.OwnStep.{Outcome, own_step, unless, turned_away, opened_by, selectors_lent, session_opened, upgraded_by, session_upgraded, session_called, session_closed, gone_state}
-use Rattle.own_model.specs.Session.{Session, Wish, wish, donation_refusal, new_session, upgraded, served}
+use Rattle.own_model.specs.OwnStep.{Outcome, own_step, unless, turned_away, selectors_lent, upgraded_by, session_upgraded, session_called, session_closed}
+use Rattle.own_model.specs.Session.{Session, upgraded, served}
 use Rattle.own_model.specs.SessionArgs.{Arguments}
 use Rattle.own_model.specs.StartList.{Entry}
 use Rattle.std.proofs.Common.{length, map}

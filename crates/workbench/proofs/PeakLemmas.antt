@@ -1,11 +1,8 @@
 -- Peaks over the worlds so far, once there is one more.
-use Rattle.std.proofs.Common.{◌≡◌, ℕ, ◌+◌, ◌-◌, ◌<◌, ◌≤◌, ◌&&◌, Bool, true, false, true≢false, cond, List, [], ◌∷◌, ◌++◌, length, length-append, max, get_or, Option, Some, None, refl, sym, ◌∙◌, ap, subst, arith, append-nil}
-use Rattle.std.specs.Prelude.{is_some}
+use Rattle.std.proofs.Common.{◌≡◌, ℕ, ◌+◌, ◌≤◌, ◌&&◌, Bool, true, false, List, [], ◌∷◌, ◌++◌, length, max, refl, ◌∙◌, ap, arith}
 use Rattle.std.specs.List.{list_all}
 use Rattle.std.proofs.lemmas.Bool.Decides.{nat_tests}
-use Rattle.std.proofs.lemmas.Grind.{common_steps}
 use Rattle.own_model.specs.Account.{Account}
-use Rattle.own_model.specs.Amounts.{Amounts}
 use Rattle.own_model.specs.World.{World, world_running}
 use Rattle.workbench.specs.Kept.{grown}
 use Rattle.workbench.specs.Peaks.{lasting, most, peak_of, worlds}

@@ -1,17 +1,16 @@
 -- A play from line to line: what was played, and what it leaves at its end.
-use Rattle.std.proofs.Common.{◌≡◌, ℕ, ◌+◌, ◌<◌, ◌≤◌, take, drop, List, [], ◌∷◌, ◌++◌, length, Option, Some, None, IfSome, Result, Ok, Err, OnOk, Bool, arith, refl, sym, ◌∙◌, ap, subst, append_assoc, append-nil, length-append}
+use Rattle.std.proofs.Common.{◌≡◌, ℕ, ◌+◌, List, [], ◌∷◌, ◌++◌, length, Option, Some, None, IfSome, Result, Ok, Err, OnOk, Bool, arith, refl, sym, ◌∙◌, ap, subst, append_assoc, append-nil}
 use Rattle.std.specs.Result.{result_err}
 use Rattle.std.specs.Io.KnownBytes.{Appends}
 use Rattle.own_model.specs.SaidBy.{said_by}
 use Rattle.own_model.specs.Text.{lines_of}
-use Rattle.own_model.specs.Transcript.{heard, longest_line}
+use Rattle.own_model.specs.Transcript.{heard}
 use Rattle.own_model.specs.World.{World, world_running}
 use Rattle.scenario.specs.Answer.{AnswersLine, IsAnswer}
 use Rattle.scenario.specs.Answered.{Ended, Point, after_all}
 use Rattle.scenario.specs.Gathered.{Tells, TellsPart, TellsUnless}
 use Rattle.scenario.specs.Lines.{line_of, to_come, PassesLines}
 use Rattle.scenario.specs.Next.{PassesLongLine, TellsAt}
-use Rattle.scenario.specs.Stops.{AppendsPart}
 use Rattle.scenario.specs.declared.answering.Answer.{Answer}
 use Rattle.scenario.specs.declared.lines.LineFault.{LineFault}
 use Rattle.scenario.specs.declared.lines.LineFault.TheVariants.{Read, Write, Endless}
@@ -19,8 +18,8 @@ use Rattle.scenario.proofs.GatheredLemmas.{Tells-more, Tells-none}
 use Rattle.scenario.proofs.LineLemmas.{length-line_of, line_length-le}
 use Rattle.scenario.proofs.PassedLines.{passes_line, passes_more, passes_none}
 use Rattle.scenario.proofs.Serving.{left_none, said_none, world_running-append}
-use Rattle.workbench.specs.Played.{call_of, calls_answered, calls_said, told_of_calls, told_of_lines}
-use Rattle.workbench.specs.Plays.{AreAll, AreFirst, Breaks, Plays, PlaysAll, PlaysNext, WritesTold, line_played}
+use Rattle.workbench.specs.Played.{call_of, calls_answered, told_of_calls, told_of_lines}
+use Rattle.workbench.specs.Plays.{AreAll, AreFirst, Breaks, Plays, PlaysAll, PlaysNext, line_played}
 use Rattle.workbench.specs.Watching.{IsToldOf, Watches}
 use Rattle.workbench.specs.declared.ending.PlayFault.{PlayFault}
 use Rattle.workbench.proofs.PlayedLemmas.{answered-append, answered-one, call_of-long, calls_said-one, left_by_lines, told_of_lines-append, told_of_lines-one}

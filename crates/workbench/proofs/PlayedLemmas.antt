@@ -1,14 +1,14 @@
 -- Lines of a scenario, one after others: the calls that are answered, and what is told of them.
-use Rattle.std.proofs.Common.{◌≡◌, ℕ, ◌+◌, ◌<◌, ◌≤◌, Bool, true, false, cond, List, [], ◌∷◌, ◌++◌, length, nat_le, Option, Some, None, arith, refl, sym, ◌∙◌, ap, append_assoc, append-nil}
+use Rattle.std.proofs.Common.{◌≡◌, ℕ, ◌+◌, ◌<◌, ◌≤◌, true, false, cond, List, [], ◌∷◌, ◌++◌, length, nat_le, Option, None, arith, refl, sym, ◌∙◌, ap, append_assoc, append-nil}
 use Rattle.std.proofs.lemmas.Bool.Decides.{nat_tests}
 use Rattle.std.proofs.lemmas.Grind.{flat_map-append}
 use Rattle.own_model.specs.SaidBy.{said_by}
-use Rattle.own_model.specs.Transcript.{longest_line, told_after}
+use Rattle.own_model.specs.Transcript.{longest_line}
 use Rattle.own_model.specs.World.{World, world_running}
 use Rattle.own_model.proofs.RunningLemmas.{Tracks-none, told_after-running}
 use Rattle.friendly_lines.specs.Friendly.{said_of}
 use Rattle.scenario.specs.Answered.{after_all, told_of_all}
-use Rattle.scenario.proofs.Serving.{left_by_both, said_by-append, said_none, told_none, told_running-append, world_running-append}
+use Rattle.scenario.proofs.Serving.{left_by_both, said_by-append, said_none, told_running-append, world_running-append}
 use Rattle.workbench.specs.Played.{call_in, call_of, calls_answered, calls_said, engine_tells, told_of_calls, told_of_lines}
 use Rattle.workbench.specs.Writes.{transcript_of}
 

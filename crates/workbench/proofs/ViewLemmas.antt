@@ -1,19 +1,17 @@
 -- What each command writes, from what its play promises.
-use Rattle.std.proofs.Common.{◌≡◌, ℕ, ◌+◌, ◌<◌, ◌≤◌, ◌^◌, List, [], ◌∷◌, ◌++◌, Bool, true, false, cond, nat_le, length, Option, Some, None, IfSome, IfNone, Result, Ok, Err, inl, arith, refl, sym, ◌∙◌, ap, subst, append-nil, length-append}
+use Rattle.std.proofs.Common.{◌≡◌, ℕ, ◌+◌, ◌≤◌, List, [], ◌∷◌, ◌++◌, Bool, true, false, cond, nat_le, length, Option, Some, None, IfNone, Result, Ok, Err, arith, refl, sym, ◌∙◌, ap, subst, append-nil, length-append}
 use Rattle.std.proofs.lemmas.Bool.Decides.{nat_tests}
-use Rattle.std.specs.Io.KnownBytes.{Appends}
 use Rattle.std.specs.List.{filter, flat_map}
 use Rattle.own_model.specs.Transcript.{longest_line}
 use Rattle.own_model.specs.SaidBy.{is_said_by, said_by}
 use Rattle.own_model.specs.Amounts.{Amounts}
 use Rattle.own_model.specs.Listed.{Listed}
-use Rattle.own_model.specs.World.{World, world_running}
+use Rattle.own_model.specs.World.{World}
 use Rattle.friendly_lines.specs.Friendly.{Said, said_of}
 use Rattle.friendly_lines.specs.Friendly.Said.{Nothing, Log, Call}
 use Rattle.friendly_lines.specs.declared.fault.Fault.{Fault}
 use Rattle.scenario.specs.Gathered.{Tells, TellsPart}
 use Rattle.scenario.specs.Program.{accounts_for}
-use Rattle.scenario.specs.Stops.{AppendsPart}
 use Rattle.workbench.specs.Alone.{SeesAlone, alone_sum, alone_tells}
 use Rattle.workbench.specs.Kept.{SeesPeaks, found, peak_at}
 use Rattle.workbench.specs.PeakList.{list_with, peaks_text}

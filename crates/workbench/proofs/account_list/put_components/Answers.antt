@@ -1,7 +1,5 @@
 -- One component more is told, or a write fails in its lines.
-use Rattle.std.proofs.Common.{length, ap, arith, subst}
-use Rattle.std.specs.List.{flat_map, range_with_len}
-use Rattle.scenario.specs.Gathered.{Tells}
+use Rattle.std.proofs.Common.{length, arith}
 use Rattle.scenario.proofs.AccountLemmas.{told_on, told_cut}
 use Rattle.scenario.proofs.GatheredLemmas.{told_err}
 use Rattle.workbench.specs.Kept.{peak_at}

@@ -1,8 +1,6 @@
 -- One selector more is told, or a write fails in its line; past the last selector there is none.
-use Rattle.std.proofs.Common.{ℕ, ◌+◌, ◌≤◌, ◌≡◌, [], List, length, arith, ap, sym, ◌∙◌}
+use Rattle.std.proofs.Common.{◌+◌, arith, ap, ◌∙◌}
 use Rattle.own_model.specs.OwnState.{session_named}
-use Rattle.own_model.specs.Session.{Session as Opened}
-use Rattle.std.proofs.Common.{Option}
 use Rattle.scenario.proofs.AccountLemmas.{told_on, told_cut}
 use Rattle.scenario.proofs.GatheredLemmas.{Tells-none, told_err}
 use Rattle.workbench.specs.Kept.{found}

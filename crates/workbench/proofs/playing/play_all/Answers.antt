@@ -1,5 +1,5 @@
 -- Lines are played one after another, and then no line is left, or a fault comes.
-use Rattle.std.proofs.Common.{ℕ, ◌≡◌, ◌+◌, ◌∷◌, ◌++◌, [], Bool, false, List, Ok, Err, Some, None, length, length-append, arith, rules, refl, ap, subst, sym, ◌∙◌}
+use Rattle.std.proofs.Common.{ℕ, ◌+◌, ◌∷◌, ◌++◌, [], Bool, List, Ok, Err, length-append, arith, rules, refl, ap, subst, sym, ◌∙◌}
 use Rattle.std.specs.Option.{option_copied}
 use Rattle.own_model.specs.World.{World}
 use Rattle.scenario.specs.Answered.{point}

@@ -1,5 +1,5 @@
 -- A line of the name is answered alone as in the whole run, and another's is skipped.
-use Rattle.std.proofs.Common.{ℕ, ◌≡◌, ◌+◌, arith, length, refl, ap, subst, sym, ◌∙◌}
+use Rattle.std.proofs.Common.{arith, length, refl, ap, subst}
 use Rattle.scenario.specs.Gathered.{Tells}
 use Rattle.scenario.proofs.GatheredLemmas.{Tells-none, told_err}
 use Rattle.workbench.proofs.AloneLemmas.{answered_alike, sees_more, told_both_of, told_none_of}

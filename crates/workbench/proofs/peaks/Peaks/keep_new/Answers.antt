@@ -5,7 +5,7 @@ use Rattle.own_model.specs.Routes.{label_with}
 use Rattle.own_model.specs.Transcript.{entry_at}
 use Rattle.own_model.specs.Listed.{route_of}
 use Rattle.pd_core.specs.Answer.{quotas_account}
-use Rattle.workbench.specs.Kept.{found, begun_with}
+use Rattle.workbench.specs.Kept.{found}
 use Rattle.workbench.specs.Peaks.{session_at}
 use Rattle.workbench.proofs.KeptLemmas.{found-more, begun_there}
 use Rattle.own_model.specs.Session.{given}

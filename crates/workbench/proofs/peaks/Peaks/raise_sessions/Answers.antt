@@ -1,5 +1,5 @@
 -- One session more is still there, or is gone.
-use Rattle.std.proofs.Common.{ℕ, ◌≡◌, ◌<◌, length, Some, None, subst, sym, ap, ◌∙◌}
+use Rattle.std.proofs.Common.{◌<◌, length, subst, sym, ap, ◌∙◌}
 use Rattle.std.specs.Option.{option_map}
 use Rattle.own_model.specs.Session.{Session}
 use Rattle.pd_core.specs.Answer.{quotas_account}
