@@ -16,9 +16,10 @@ at a time), holes (blocks taken and given back among 48 holes), sessions (sessio
 closed, up to 8), reserves (what a reserve has, a request, a yield and what the account has, in turn), log (log lines of 1 to
 200 bytes), files (small files made, written, read and dropped), contents (the same with writes of up to 1,000 bytes), buffers
 (puts and gets of up to 512 bytes, pokes and peeks of the buffer, which is made anew now and then), lent (pokes and peeks of a
-buffer, of 1 to 180 bytes), eight (eight clients of the machine `eight.json` that use everything at once), hostile (lines that
-are refused, of all kinds), every (rounds of every call, by both scripts in turn, some refused; at the end both hold something
-of each kind, and exit).
+buffer, of 1 to 180 bytes), eight (eight clients of the machine `eight.json` that use everything at once), nested (the last
+script of the machine `nested.json`, of 32 entries in six lists, uses everything at once), few (the same lines on the machine
+`few.json`, which has four of these entries), hostile (lines that are refused, of all kinds), every (rounds of every call, by
+both scripts in turn, some refused; at the end both hold something of each kind, and exit).
 """
 import bisect
 import random
@@ -381,6 +382,25 @@ def moves(lines, _, size):
         yield f"alice call 1 {'PUT' if number % 2 == 0 else 'GET'} f 0 0 {size}"
 
 
+def all_at_once(name, stream, rng, free):
+    """One of a client's calls, at random: a request to its files, or a call of another kind. The first selector that no
+    session has is `free`."""
+    chance = rng.random()
+    if chance < 0.4:
+        return next(stream)
+    if chance < 0.5:
+        return f"{name} call 2 WRITE {text_in_hex(rng, 20)}"
+    if chance < 0.6:
+        return f"{name} {rng.choice(['alloc 4096', f'free {free}', f'attach {free}'])}"
+    if chance < 0.7:
+        return f"{name} {rng.choice(['snew 100', 'sdel 0x100004020', 'sdel 0x100005020'])}"
+    if chance < 0.8:
+        return f"{name} {rng.choice(['new 40', 'del 0x100000090', 'del 0x1000000d0'])}"
+    if chance < 0.9:
+        return f"{name} poke 0x100000010 {rng.randbytes(16).hex()}"
+    return f"{name} {rng.choice(['quota', 'peek 0x100000010 16', 'capalloc', f'capfree {free + 1}'])}"
+
+
 def eight(lines, rng):
     """Each client has dataspaces, a heap, sliced blocks, a session of each service, and asks at random."""
     streams = []
@@ -391,22 +411,28 @@ def eight(lines, rng):
         streams.append(files_of(name, lines, rng, 32))
     for _ in range(lines - 3 * len(CLIENTS)):
         client = rng.randrange(len(CLIENTS))
-        name = CLIENTS[client]
-        chance = rng.random()
-        if chance < 0.4:
-            yield next(streams[client])
-        elif chance < 0.5:
-            yield f"{name} call 2 WRITE {text_in_hex(rng, 20)}"
-        elif chance < 0.6:
-            yield f"{name} {rng.choice(['alloc 4096', 'free 3', 'attach 3'])}"
-        elif chance < 0.7:
-            yield f"{name} {rng.choice(['snew 100', 'sdel 0x100004020', 'sdel 0x100005020'])}"
-        elif chance < 0.8:
-            yield f"{name} {rng.choice(['new 40', 'del 0x100000090', 'del 0x1000000d0'])}"
-        elif chance < 0.9:
-            yield f"{name} poke 0x100000010 {rng.randbytes(16).hex()}"
+        yield all_at_once(CLIENTS[client], streams[client], rng, 3)
+
+
+def nested(lines, rng):
+    """The same of one client, which is an init's. Of a hundred lines two close a third session and two open it anew, with its
+    own init's log server and by the init above with the file server in turn, and ten make requests there."""
+    name = "fog/dora"
+    yield f"{name} open File_system ram_quota=28K, cap_quota=6"
+    yield f"{name} open LOG ram_quota=4K, cap_quota=2"
+    yield f"{name} open LOG ram_quota=4K, cap_quota=2"
+    yield f"{name} new 100"
+    stream = files_of(name, lines, rng, 32)
+    for number in range(lines - 4):
+        is_log, place = number % 100 < 50, number % 50
+        if place == 0:
+            yield f"{name} close 3"
+        elif place == 1:
+            yield f"{name} open {'LOG' if is_log else 'File_system'} ram_quota=4K, cap_quota=2, label=\"main\""
+        elif place < 7:
+            yield f"{name} call 3 WRITE {text_in_hex(rng, 20)}" if is_log else f"{name} call 3 STAT"
         else:
-            yield f"{name} {rng.choice(['quota', 'peek 0x100000010 16', 'capalloc', 'capfree 4'])}"
+            yield all_at_once(name, stream, rng, 4)
 
 
 def hostile(lines, rng):
@@ -602,6 +628,8 @@ SHAPES = {
     "buffers": buffers,
     "lent": lent,
     "eight": eight,
+    "nested": nested,
+    "few": nested,
     "hostile": hostile,
     "every": every,
 }

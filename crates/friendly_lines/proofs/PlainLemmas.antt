@@ -1,7 +1,8 @@
 -- A call of the engine that has none of the forms that are translated passes as it stands.
-use Rattle.std.proofs.Common.{◌≡◌, ℕ, ◌+◌, ◌-◌, ◌*◌, ◌^◌, ◌<◌, ◌≤◌, ◌&&◌, ◌||◌, Bool, true, false, true≢false, cond, not, nat_eq, nat_lt, nat_le, List, [], ◌∷◌, ◌++◌, length, drop, take, slice_index, is_some, codes, Option, Some, None, Ok, refl, sym, ap, ◌∙◌, subst, arith}
+use Rattle.std.proofs.Common.{◌≡◌, ◌≢◌, ℕ, ◌+◌, ◌-◌, ◌*◌, ◌^◌, ◌<◌, ◌≤◌, ◌&&◌, ◌||◌, Bool, true, false, true≢false, cond, not, nat_eq, nat_lt, nat_le, List, [], ◌∷◌, ◌++◌, length, drop, take, slice_index, is_some, codes, Option, Some, None, Ok, refl, sym, ap, ◌∙◌, subst, arith}
 use Rattle.std.specs.Char.{is_ascii_digit}
-use Rattle.std.specs.List.{list_all, starts_with}
+use Rattle.std.specs.List.{list_all, onto_first, slice_split, starts_with}
+use Rattle.std.proofs.lemmas.List.Splits.{length-slice_split}
 use Rattle.std.specs.Option.{option_and_then, option_map, option_map_or, unwrap_or}
 use Rattle.std.specs.Str.{all_ascii_digits, bytes_eq}
 use Rattle.std.specs.Str.Parse.{digits_value}
@@ -10,7 +11,7 @@ use Rattle.std.proofs.lemmas.Option.{none-some}
 use Rattle.std.proofs.lemmas.Slice.Eq.{bytes_eq-Decides}
 use Rattle.trade_base.specs.Amount.{number_of}
 use Rattle.own_model.specs.Call.{Call, Form, Spoken, call_in, form_of, forms, name_of, of_none, of_one, of_rest, of_text, of_two, some_bytes_of_hex, spoken}
-use Rattle.own_model.specs.Text.{FirstWord, address_of, bytes_of_hex, first_word, hex_digit_of, hex_number_after, is_name, is_name_byte}
+use Rattle.own_model.specs.Text.{FirstWord, address_of, bytes_of_hex, first_word, hex_digit_of, hex_number_after, is_name, is_name_byte, is_path}
 use Rattle.own_model.specs.Transcript.{longest_line}
 use Rattle.friendly_lines.specs.Friendly.{Said, fault_in, said_of_both, said_of_call, said_of_signs, said_of_text, without_return}
 use Rattle.friendly_lines.specs.Laws.{IsPlain, PlainLinesPass, is_quoted}
@@ -220,6 +221,59 @@ is_name_word text is =
     let some : nat_le 1 (length text) ≡ true = and_left _ _ (and_left _ _ is) in
     let more : nat_lt 0 (length text) ≡ true = grind (arith, nat_tests) in
     some_word text more (all_unbroken is_name_byte name_sign text (and_right _ _ is))
+
+-- a byte of a path
+abbrev is_path_byte : ℕ → Bool
+is_path_byte b = is_name_byte b || nat_eq b 47
+
+path_sign : KeepsBlanksOut is_path_byte
+path_sign b byte = grind (arith, nat_tests)
+
+-- names have the bytes of names
+bytes_of_names : (parts : List (List ℕ)) → list_all is_name parts ≡ true → list_all (list_all is_name_byte) parts ≡ true
+bytes_of_names [] all = refl
+bytes_of_names (part ∷ parts) all =
+    and_both (list_all is_name_byte part) (list_all (list_all is_name_byte) parts)
+    (and_right _ (list_all is_name_byte part) (and_left (is_name part) (list_all is_name parts) all)) (bytes_of_names parts (and_right (is_name part) (list_all is_name parts) all))
+
+-- parts of such bytes, parted by `/`, are a text of bytes of a path
+one_more_byte : (b : ℕ) (bs : List ℕ) (parts : List (List ℕ)) → (list_all (list_all is_name_byte) parts ≡ true → list_all is_path_byte bs ≡ true) → (slash : Bool) → nat_eq b 47 ≡ slash →
+    length parts ≢ 0 → list_all (list_all is_name_byte) (cond slash ([] ∷ parts) (onto_first b parts)) ≡ true → list_all is_path_byte (b ∷ bs) ≡ true
+one_more_byte b bs parts rest true is some all =
+    let here : is_path_byte b ≡ true = grind (arith, nat_tests) in
+    and_both (is_path_byte b) (list_all is_path_byte bs) here (rest all)
+one_more_byte b bs [] rest false is some all = absurd (some refl)
+one_more_byte b bs (part ∷ parts) rest false is some all =
+    let first : (is_name_byte b && list_all is_name_byte part) ≡ true = and_left (is_name_byte b && list_all is_name_byte part) (list_all (list_all is_name_byte) parts) all in
+    let byte : is_name_byte b ≡ true = and_left (is_name_byte b) (list_all is_name_byte part) first in
+    let here : is_path_byte b ≡ true = grind (arith, nat_tests) in
+    and_both (is_path_byte b) (list_all is_path_byte bs) here
+    (rest (and_both (list_all is_name_byte part) (list_all (list_all is_name_byte) parts) (and_right (is_name_byte b) (list_all is_name_byte part) first)
+    (and_right (is_name_byte b && list_all is_name_byte part) (list_all (list_all is_name_byte) parts) all)))
+
+bytes_of_parts : (bs : List ℕ) → list_all (list_all is_name_byte) (slice_split (λ b. nat_eq b 47) bs) ≡ true → list_all is_path_byte bs ≡ true
+bytes_of_parts [] all = refl
+bytes_of_parts (b ∷ bs) all =
+    one_more_byte b bs (slice_split (λ b. nat_eq b 47) bs) (bytes_of_parts bs) (nat_eq b 47) refl (λ none. omega (arith, none, length-slice_split (λ b. nat_eq b 47) bs)) all
+
+-- the first byte of a path is one of a name
+first_of_path : (b : ℕ) (parts : List (List ℕ)) → (slash : Bool) → length parts ≢ 0 → list_all is_name (cond slash ([] ∷ parts) (onto_first b parts)) ≡ true → is_name_byte b ≡ true
+first_of_path b parts true some all = absurd (true≢false (sym all))
+first_of_path b [] false some all = absurd (some refl)
+first_of_path b (part ∷ parts) false some all =
+    and_left (is_name_byte b) (list_all is_name_byte part) (and_right _ (list_all is_name_byte (b ∷ part)) (and_left (is_name (b ∷ part)) (list_all is_name parts) all))
+
+parts_of_path : (bs : List ℕ) → is_path bs ≡ true → list_all is_name (slice_split (λ b. nat_eq b 47) bs) ≡ true
+parts_of_path bs is = and_right (nat_le (length (slice_split (λ b. nat_eq b 47) bs)) 4) (list_all is_name (slice_split (λ b. nat_eq b 47) bs)) is
+
+path_begins : (b : ℕ) (bs : List ℕ) → is_path (b ∷ bs) ≡ true → is_name_byte b ≡ true
+path_begins b bs is =
+    first_of_path b (slice_split (λ b. nat_eq b 47) bs) (nat_eq b 47) (λ none. omega (arith, none, length-slice_split (λ b. nat_eq b 47) bs)) (parts_of_path (b ∷ bs) is)
+
+is_path_word : (text : List ℕ) → is_path text ≡ true → is_word text ≡ true
+is_path_word [] is = absurd (true≢false (sym is))
+is_path_word (b ∷ bs) is =
+    all_unbroken is_path_byte path_sign (b ∷ bs) (bytes_of_parts (b ∷ bs) (bytes_of_names (slice_split (λ b. nat_eq b 47) (b ∷ bs)) (parts_of_path (b ∷ bs) is)))
 
 name_is_word : ReadsWords name_of
 name_is_word text name is = is_name_word text (some_if _ (Some text) name is)
@@ -474,7 +528,7 @@ spells name form arguments is call =
 
 -- what a call of the grammar says
 record SaysCall (line : List ℕ) : Type 0 where
-  named : is_name (first_word line).word ≡ true
+  named : is_path (first_word line).word ≡ true
   text : List ℕ
   behind : (first_word line).rest ≡ Some text
   call : Call
@@ -483,7 +537,7 @@ record SaysCall (line : List ℕ) : Type 0 where
 says_call : (line : List ℕ) → is_some (spoken line) ≡ true → SaysCall line
 says_call line is =
     let tells : Call → Spoken = λ (call : Call). record { name = (first_word line).word; call = call } in
-    elim (is_name (first_word line).word) as (λ t. is_name (first_word line).word ≡ t → is_some (cond t (option_map tells (option_and_then form_of (first_word line).rest)) None) ≡ true → SaysCall line) [
+    elim (is_path (first_word line).word) as (λ t. is_path (first_word line).word ≡ t → is_some (cond t (option_map tells (option_and_then form_of (first_word line).rest)) None) ≡ true → SaysCall line) [
       | false ↦ λ other none. absurd (true≢false (sym none))
       | true ↦ λ named some.
           elim ((first_word line).rest) as (λ rest. (first_word line).rest ≡ rest → is_some (option_map tells (option_and_then form_of rest)) ≡ true → SaysCall line) [
@@ -496,17 +550,17 @@ says_call line is =
           ] refl some
     ] refl is
 
--- how a line begins that begins with a name
+-- how a line begins that begins with a path
 record BeginsCall (line : List ℕ) : Type 0 where
   unmarked : nat_eq (slice_index line 0) 33 ≡ false
   text : (nat_eq (length line) 0 || nat_eq (slice_index line 0) 35) ≡ false
   no_log : starts_with nat_eq line (codes "=> ") ≡ false
   skipped : skip_blanks line ≡ line
 
-begins : (name more : List ℕ) → is_name name ≡ true → BeginsCall (name ++ more)
+begins : (name more : List ℕ) → is_path name ≡ true → BeginsCall (name ++ more)
 begins [] more is = absurd (true≢false (sym is))
 begins (b ∷ bs) more is =
-    let sign : is_name_byte b ≡ true = and_left (is_name_byte b) (list_all is_name_byte bs) (and_right _ (list_all is_name_byte (b ∷ bs)) is) in
+    let sign : is_name_byte b ≡ true = path_begins b bs is in
     let one : nat_eq b 33 ≡ false = grind (arith, nat_tests) in
     let two : nat_eq b 35 ≡ false = grind (arith, nat_tests) in
     let three : nat_eq 61 b ≡ false = grind (arith, nat_tests) in
@@ -548,7 +602,7 @@ plain_lines_pass line plain =
     word_and_behind line ∙ ap (λ r. name ++ behind_word r) says.behind ∙ ap (λ t. name ++ 32 ∷ t) (word_and_behind says.text) in
     let spelt : spelled (parts_of line) ≡ line =
     subst (λ l. is_quoted (parts_of l).tail ≡ false → spelled (parts_of l) ≡ l) (sym whole)
-    (spells name form arguments (is_name_word name says.named) (form_in forms forms_let form arguments says.call says.says)) plain.unquoted in
+    (spells name form arguments (is_path_word name says.named) (form_in forms forms_let form arguments says.call says.says)) plain.unquoted in
     let front : BeginsCall line = subst BeginsCall (sym whole) (begins name (behind_word (Some (form ++ behind_word arguments))) says.named) in
     let column : ℕ = length line - length line + 1 in
     ap (λ s. said_of_signs (length line - length s + 1) s) front.skipped

@@ -75,6 +75,8 @@ fn calls_of_the_engine_pass(rt: HostRuntime) -> Result<(), Fail> {
         b"alice call 1 WRITE a 0 \"x\"y",
         b"alice call 1 SAY \"x\"",
         b"alice exit",
+        b"sub/carol quota",
+        b"a/b/c/d open LOG ram_quota=4K, cap_quota=2",
     ] {
         assert!(rt; passes(line));
     }
@@ -151,6 +153,13 @@ fn blanks_part_the_words(rt: HostRuntime) -> Result<(), Fail> {
         )
     );
     assert!(rt; is_call(b"alice  yield", b"alice yield", None));
+    assert!(rt;
+        is_call(
+            b" sub/carol\talloc  1 => cap 1",
+            b"sub/carol alloc 1",
+            Some(b"cap 1")
+        )
+    );
     Ok(())
 }
 

@@ -1,54 +1,79 @@
 -- A boot before the first entry, and after the last.
-use Rattle.std.proofs.Common.{◌≡◌, ℕ, Bool, true, false, cond, ◌&&◌, ◌==◌, ◌+◌, ◌*◌, ◌≤◌, List, [], ◌∷◌, is_some, length, get_or, map, take, Option, Some, None, IsSome, subst, refl, sym, ap, ◌∙◌, arith}
+use Rattle.std.proofs.Common.{◌≡◌, ℕ, zero, suc, Bool, true, false, cond, inl, inr, ◌&&◌, ◌==◌, ◌+◌, ◌*◌, ◌≤◌, List, [], ◌∷◌, is_some, length, get_or, map, take, Option, Some, None, IsSome, subst, refl, sym, ap, ◌∙◌, arith}
 use Rattle.std.specs.Prelude.{position, count_by}
-use Rattle.std.specs.List.{slice_get}
+use Rattle.std.specs.List.{enumerate_from, slice_get}
 use Rattle.std.specs.FinMap.{get, empty}
 use Rattle.std.specs.Option.{option_map, option_and_then, unwrap_or}
-use Rattle.std.proofs.lemmas.Bool.{false≢true}
+use Rattle.std.specs.Str.{bytes_eq}
+use Rattle.std.proofs.lemmas.Bool.{eqb-true, eq-eqb, false≢true}
 use Rattle.std.proofs.lemmas.List.{take_all, drop_all, length-map}
 use Rattle.std.proofs.lemmas.List.Quantifiers.{position-Some}
 use Rattle.std.proofs.lemmas.Option.{none-some, slice_get-get_or, unwrap_or-slice_get, slice_get-map}
-use Rattle.trade_base.specs.declared.refusal.Refusal.{Refusal}
-use Rattle.own_model.specs.Account.{Account, opened, shortage, parted_with}
-use Rattle.own_model.specs.Listed.{Listed, ListedEntry, ListedRule, Binary, Target, service_of, offers, serves, child_at, child_by, asks_for, route_of, rules_for, service_at, start_of, start_list_of}
-use Rattle.own_model.specs.Listed.Binary.{Script, LogServer, FileServer}
+use Rattle.trade_base.specs.declared.id.AccountId.{AccountId}
+use Rattle.own_model.specs.Account.{Account, opened}
+use Rattle.own_model.specs.Listed.{Listed, ListedEntry, ListedRule, Binary, Target, Way, asks_for, end_of, init_entry, most_lists, named_provider, offers, only_provider, route_of, route_within, rules_for, serves, service_at, service_of, start_of, start_list_of, way_by, way_to}
+use Rattle.own_model.specs.Listed.Binary.{Script, LogServer, FileServer, Init}
 use Rattle.own_model.specs.Listed.Target.{Child, AnyChild, Parent}
-use Rattle.own_model.specs.Routes.{Service}
-use Rattle.own_model.specs.StartList.{StartEntry, budget, init_keeps, AllCovered, Boots, start_state}
+use Rattle.own_model.specs.Listed.Way.{Inside, Outside}
+use Rattle.own_model.specs.Routes.{Service, label_with, provider}
+use Rattle.own_model.specs.StartList.{AllCovered, Boots, inits_keep, start_state}
 use Rattle.own_model.specs.World.{start_world}
 use Rattle.own_model.proofs.ListedLemmas.{routes_lead}
 use Rattle.own_model.proofs.NatMapLemmas.{get-empty, get-insert_same}
-use Rattle.own_model.proofs.StepLemmas.{covers}
 use Rattle.own_model.proofs.Totals.{total-insert_new, total-empty}
-use Rattle.dataspace_core.specs.Store.{Store, fresh_store, root_in, accounts_in, IsOpenIn, parents_in, room_in, ram_limits_in, caps_limits_in}
+use Rattle.dataspace_core.specs.Store.{Store, fresh_store, root_in, account_in, accounts_in, IsOpenIn, parents_in, room_in, ram_limits_in, caps_limits_in}
+use Rattle.dataspace_core.proofs.RoomLaws.{room_at_first}
+use Rattle.pd_core.specs.Component.{Pays}
 use Rattle.pd_core.specs.Component.{service_of as service_in}
-use Rattle.pd_core.specs.Fresh.{started_world}
+use Rattle.pd_core.specs.Core.{IsInitOf, IsInits, inits_of, roles_of}
+use Rattle.pd_core.specs.Fresh.{start_of as start_in, started_world, AreFresh}
 use Rattle.pd_core.specs.SessionCalls.{Agrees}
 use Rattle.pd_core.specs.SessionCalls.{service_at as service_at_place}
 use Rattle.pd_core.specs.declared.component.Component.{Component}
-use Rattle.init_core.specs.Boot.{HasStarted, init_in, rules_at, to_come, first_or, first_uncovered}
+use Rattle.init_core.specs.Boot.{HasStarted, places_at, place_of, to_come, first_uncovered}
+use Rattle.init_core.proofs.InitLemmas.{map_twice, within}
+use Rattle.init_core.proofs.BootLemmas.{counted}
 
 -- ---- before the first
 
+-- without components the root alone is an init's
+root_alone : (store : Store) (account : ℕ) → IsInits store (roles_of []) account → (account == root_in store) ≡ true
+root_alone store account (inl own) = eq-eqb account (root_in store) (sym own)
+root_alone store account (inr found) = absurd (omega (arith, within [] (λ role. IsInitOf role account) (λ h. h) found.0 found.1))
+
 -- nothing has started in a memory that has just booted
-pub nothing_yet : {list : Listed} {store : Store} {components : List Component} (pages caps places : ℕ) → pages ≡ list.pages → caps ≡ list.caps →
-    store ≡ fresh_store (root_in store) pages caps (room_in store + 1) places → list.caps + length list.entries * 4 ≤ room_in store * 2 + 1 → components ≡ [] →
-    HasStarted list store components 0
-nothing_yet {list} {store} pages caps places pages_is caps_is was enough none =
+pub nothing_yet : {list : Listed} {store : Store} {components : List Component} {keys : List AccountId} (root : AccountId) (pages caps places : ℕ) → pages ≡ list.pages → caps ≡ list.caps →
+    store ≡ fresh_store (root_in store) pages caps (room_in store + 1) places → list.caps + length list.entries * 4 ≤ room_in store * 2 + 1 → components ≡ [] → root.0 ≡ root_in store → keys ≡ root ∷ [] →
+    HasStarted list store components keys 0
+nothing_yet {list} {store} {components} {keys} root pages caps places pages_is caps_is was enough none root_is first =
     let machine = opened (list.pages * 4096) list.caps in
     let booted = was ∙ (λ j. fresh_store (root_in store) (pages_is j) (caps_is j) (room_in store + 1) places) in
     let root_open : IsOpenIn store (root_in store) =
     ap (λ s. is_some (get (accounts_in s) (root_in store))) booted ∙ ap is_some (get-insert_same empty (root_in store) machine (root_in store) refl) in
-    let init : init_in store ≡ machine =
-    ap (λ s. init_in s) booted ∙ ap (λ o. unwrap_or o (opened 0 0)) (get-insert_same empty (root_in store) machine (root_in store) refl) in
+    let init : account_in store (root_in store) ≡ machine =
+    ap (λ s. account_in s (root_in store)) booted ∙ ap (λ o. unwrap_or o (opened 0 0)) (get-insert_same empty (root_in store) machine (root_in store) refl) in
     let nobody : (k : ℕ) → get (parents_in store) k ≡ None = λ k. ap (λ s. get (parents_in s) k) booted ∙ get-empty k in
-    subst (λ (items : List Component). HasStarted list store items 0) (sym none) (record {
-      fresh = record { init = root_open; outer = λ k p is. absurd (none-some p (sym (nobody k) ∙ is)); each = λ k d h. absurd (omega (arith, h)); apart = λ j k d before h. absurd (omega (arith, h)) };
-      starts = refl;
+    let begun : HasStarted list store [] (root ∷ []) 0 = record {
+      heads = λ account. account == root_in store;
+      parts = record {
+        root_head = eq-eqb (root_in store) (root_in store) refl;
+        inits = λ account is. inl (sym (eqb-true account (root_in store) is));
+        init = root_open;
+        outer = λ k p is. absurd (none-some p (sym (nobody k) ∙ is));
+        each = λ k d h. absurd (omega (arith, h));
+        apart = λ j k d before h. absurd (omega (arith, h));
+      };
+      are_heads = λ account is. root_alone store account is;
+      there = λ k p is. absurd (none-some p (sym (nobody k) ∙ is));
+      keys_are = ap (λ k. k ∷ []) root_is;
+      entries = refl;
+      states = refl;
       services = refl;
       names = λ k d h. absurd (omega (arith, h));
-      init = ap (λ a. init_keeps a (start_list_of list).starts) (sym init);
-      covered = ap (λ a. first_uncovered a (start_list_of list).starts) (sym init);
+      homes = λ i account pays. absurd (omega (arith, within [] (λ role. Pays role account) (λ h. h) i pays));
+      inits = ap (λ a. inits_keep (a ∷ []) (start_list_of list).starts) (sym init);
+      uncovered = ap (λ a. first_uncovered (a ∷ []) (start_list_of list).starts) (sym init);
+      covered = λ all. subst (λ a. AllCovered (a ∷ []) (start_list_of list).starts) init all;
       room = omega (arith, enough);
       machine =
           let alone = total-insert_new (λ (a : Account). a.ram_limit) empty (root_in store) machine (get-empty (root_in store)) in
@@ -56,8 +81,8 @@ nothing_yet {list} {store} pages caps places pages_is caps_is was enough none =
       all_caps =
           let alone = total-insert_new (λ (a : Account). a.caps_limit) empty (root_in store) machine (get-empty (root_in store)) in
           ap caps_limits_in booted ∙ omega (arith, alone, total-empty (λ (a : Account). a.caps_limit));
-      flat = record { outer = λ k p is. absurd (none-some p (sym (nobody k) ∙ is)); there = λ k p is. absurd (none-some p (sym (nobody k) ∙ is)) };
-    })
+    } in
+    subst (λ (p : List Component × List AccountId). HasStarted list store p.0 p.1 0) (λ j. (sym none j, sym first j)) begun
 
 -- ---- where routes lead
 
@@ -66,16 +91,18 @@ serves_some : (binary : Binary) (service : List ℕ) → serves binary service �
 serves_some Script service serving = absurd (false≢true serving)
 serves_some LogServer service serving = refl
 serves_some FileServer service serving = refl
+serves_some Init service serving = absurd (false≢true serving)
 
 both : (a b : Bool) → (a && b) ≡ true → b ≡ true
 both true b holds = holds
 both false b holds = absurd (false≢true holds)
 
-offers_some : (service : List ℕ) (entry : ListedEntry) → offers service entry ≡ true → IsSome (service_of entry.binary)
-offers_some service entry offering = serves_some entry.binary service (both entry.provides (serves entry.binary service) offering)
+offers_some : (init : ℕ) (service : List ℕ) (entry : ListedEntry) → offers init service entry ≡ true → IsSome (service_of entry.binary)
+offers_some init service entry offering =
+    serves_some entry.binary service (both entry.provides (serves entry.binary service) (both (entry.home == init) (entry.provides && serves entry.binary service) offering))
 
 abbrev nobody : ListedEntry
-nobody = record { name = []; binary = Script; ram = 0; caps = 0; provides = false; route = None; reserve = None }
+nobody = record { name = []; path = []; label = []; home = 0; binary = Script; ram = 0; caps = 0; provides = false; route = None; reserve = None; inner_route = [] }
 
 -- the first entry that passes is a server where those that pass are
 passes_some : (passes : ListedEntry → Bool) → ((entry : ListedEntry) → passes entry ≡ true → IsSome (service_of entry.binary)) →
@@ -85,24 +112,44 @@ passes_some passes server entries child first =
     subst (λ (entry : Option ListedEntry). IsSome (option_and_then (λ e. service_of e.binary) entry)) (sym (slice_get-get_or entries child nobody found.0))
     (server (get_or entries child nobody) found.1)
 
+-- a child that something leads to is a server
+abbrev LeadsToServer : List ListedEntry → Option ℕ → Type 0
+LeadsToServer entries child = (k : ℕ) → child ≡ Some k → IsSome (service_at entries k)
+
+-- so is one at the end of a way
+abbrev WayToServer : List ListedEntry → Way → Type 0
+WayToServer entries way = (k : ℕ) → way ≡ Inside (Some k) → IsSome (service_at entries k)
+
 module _ (entries : List ListedEntry) where
-  -- so is a child that one of two ways leads to, where both lead to servers
-  either_way : (b : Bool) (x y : Option ℕ) → ((child : ℕ) → x ≡ Some child → IsSome (service_at entries child)) → ((child : ℕ) → y ≡ Some child → IsSome (service_at entries child)) →
-      (child : ℕ) → cond b x y ≡ Some child → IsSome (service_at entries child)
+  -- so is one that one of two ways leads to, where both lead to servers
+  either_lead : (b : Bool) (x y : Option ℕ) → LeadsToServer entries x → LeadsToServer entries y → LeadsToServer entries (cond b x y)
+  either_lead true x y here there = here
+  either_lead false x y here there = there
+
+  either_way : (b : Bool) (x y : Way) → WayToServer entries x → WayToServer entries y → WayToServer entries (cond b x y)
   either_way true x y here there = here
   either_way false x y here there = there
 
-  child_at_some : (target : Target) (service : List ℕ) (child : ℕ) → child_at entries target service ≡ Some child → IsSome (service_at entries child)
-  child_at_some (Child name) service child led = passes_some _ (λ entry passes. offers_some service entry (both _ (offers service entry) passes)) entries child led
-  child_at_some AnyChild service child led =
-      either_way (count_by (offers service) entries == 1) (position (offers service) entries) None (passes_some (offers service) (offers_some service) entries) (λ k is. absurd (none-some k is)) child led
-  child_at_some Parent service child led = absurd (none-some child led)
+  inside_some : (child : Option ℕ) → LeadsToServer entries child → WayToServer entries (Inside child)
+  inside_some child led k is = led k cc
 
-  -- the child that rules lead to is a server
-  child_by_some : (rules : List ListedRule) (service label : List ℕ) (child : ℕ) → child_by entries rules service label ≡ Some child → IsSome (service_at entries child)
-  child_by_some [] service label child led = absurd (none-some child led)
-  child_by_some (rule ∷ rules) service label child led =
-      either_way (asks_for rule service label) (child_at entries rule.target service) (child_by entries rules service label) (child_at_some rule.target service) (child_by_some rules service label) child led
+  way_to_some : (init : ℕ) (target : Target) (service : List ℕ) → WayToServer entries (way_to entries init target service)
+  way_to_some init (Child name) service =
+      inside_some (named_provider entries init name service) (passes_some _ (λ entry passes. offers_some init service entry (both (bytes_eq entry.name name) (offers init service entry) passes)) entries)
+  way_to_some init AnyChild service =
+      inside_some (only_provider entries init service)
+      (either_lead (count_by (offers init service) entries == 1) (position (offers init service) entries) None (passes_some (offers init service) (offers_some init service) entries) (λ k is. absurd (none-some k is)))
+  way_to_some init Parent service = λ k is. absurd cc
+
+  way_by_some : (init : ℕ) (rules : List ListedRule) (service label : List ℕ) → WayToServer entries (way_by entries init rules service label)
+  way_by_some init [] service label = inside_some None (λ k is. absurd (none-some k is))
+  way_by_some init (rule ∷ rules) service label =
+      either_way (asks_for rule service label) (way_to entries init rule.target service) (way_by entries init rules service label) (way_to_some init rule.target service) (way_by_some init rules service label)
+
+  -- at the end of a way
+  end_some : (way : Way) (outward : Option ℕ) → WayToServer entries way → LeadsToServer entries outward → LeadsToServer entries (end_of way outward)
+  end_some (Inside child) outward here there k is = here k (ap Inside is)
+  end_some Outside outward here there k is = there k is
 
   some_itself : (service : Option Service) → IsSome service → Some service ≡ option_map Some service
   some_itself None some = absurd (false≢true some)
@@ -114,30 +161,30 @@ module _ (entries : List ListedEntry) where
   of_entry (Some entry) some = some_itself (service_of entry.binary) some
 
   -- its component serves what its entry says
-  served : (components : List Component) → map service_in components ≡ map (λ e. service_of e.binary) entries → (child : Option ℕ) →
-      ((k : ℕ) → child ≡ Some k → IsSome (service_at entries k)) → option_map (service_at_place components) child ≡ option_map Some (option_and_then (service_at entries) child)
+  served : (components : List Component) → map service_in components ≡ map (λ e. service_of e.binary) entries → (child : Option ℕ) → LeadsToServer entries child →
+      option_map (service_at_place components) child ≡ option_map Some (option_and_then (service_at entries) child)
   served components same None some = refl
   served components same (Some child) some =
       ap (λ services. Some (get_or services child None)) same
       ∙ ap Some (sym (unwrap_or-slice_get (map (λ e. service_of e.binary) entries) child None) ∙ ap (λ found. unwrap_or found None) (slice_get-map (λ e. service_of e.binary) entries child))
       ∙ of_entry (slice_get entries child) (some child refl)
 
+-- the child that the wish of an entry leads to is a server, and so it is outward
+outward_some : (list : Listed) (routes : ListedEntry → Option ℕ) (init : Option ListedEntry) → ((entry : ListedEntry) → LeadsToServer list.entries (routes entry)) → LeadsToServer list.entries (option_and_then routes init)
+outward_some list routes None led = λ k is. absurd (none-some k is)
+outward_some list routes (Some entry) led = led entry
+
+route_some : (lists : ℕ) (list : Listed) (entry : ListedEntry) (service label : List ℕ) → LeadsToServer list.entries (route_within lists list entry service label)
+route_some zero list entry service label = λ k is. absurd (none-some k is)
+route_some (suc lists) list entry service label =
+    let outer = label_with entry.name label in
+    end_some list.entries (way_by list.entries entry.home (rules_for list entry) service label) (option_and_then (λ init. route_within lists list init service outer) (init_entry list entry.home))
+    (way_by_some list.entries entry.home (rules_for list entry) service label)
+    (outward_some list (λ init. route_within lists list init service outer) (init_entry list entry.home) (λ init. route_some lists list init service outer))
+
 -- ---- after the last
 
--- neither this one is uncovered, nor one behind it
-none_uncovered : (short : Option Refusal) (start : StartEntry) (behind : Option StartEntry) → first_or short start behind ≡ None → (short ≡ None) × (behind ≡ None)
-none_uncovered None start behind none = (refl, none)
-none_uncovered (Some refusal) start behind none = absurd (none-some start (sym none))
-
--- a list without an entry that isn't covered boots
-all_covered : (init : Account) (starts : List StartEntry) → first_uncovered init starts ≡ None → AllCovered init starts
-all_covered init [] none = tt
-all_covered init (start ∷ starts) none =
-    let whole = budget start in
-    let parts = none_uncovered (shortage init whole.ram whole.caps) start (first_uncovered (parted_with init whole.ram whole.caps) starts) none in
-    (covers init whole.ram whole.caps parts.0, all_covered (parted_with init whole.ram whole.caps) starts parts.1)
-
-module _ {list : Listed} {store : Store} {components : List Component} {count : ℕ} (so_far : HasStarted list store components count) (all : count ≡ length list.entries) where
+module _ {list : Listed} {store : Store} {components : List Component} {keys : List AccountId} {count : ℕ} (so_far : HasStarted list store components keys count) (all : count ≡ length list.entries) where
   all_taken : take count list.entries ≡ list.entries
   all_taken = take_all count list.entries (omega (arith, all))
 
@@ -146,20 +193,31 @@ module _ {list : Listed} {store : Store} {components : List Component} {count : 
 
   -- the list boots
   pub boots : Boots (start_list_of list)
-  boots = all_covered _ _ (so_far.covered ∙ ap (first_uncovered (init_in store)) none_to_come)
+  boots = so_far.covered (subst (AllCovered (inits_of store components)) (sym none_to_come) tt)
+
+  -- the parts are fresh, with room for the sessions to come
+  pub all_fresh : AreFresh store components
+  all_fresh = record { heads = so_far.heads; parts = so_far.parts; room = room_at_first so_far.heads store so_far.parts.outer so_far.there (omega (arith, all, so_far.room, so_far.all_caps)) }
 
   -- it is the world that starts with the list
-  pub booted : started_world (rules_at list) store components ≡ start_world (start_list_of list)
+  pub booted : started_world (places_at list) store components ≡ start_world (start_list_of list)
   booted =
-      let starts = so_far.starts ∙ ap (map (start_of list)) all_taken in
-      let init = so_far.init ∙ ap (init_keeps (init_in store)) none_to_come in
-      λ j. record { entries = map (λ start. start.entry) (starts j); init = sym init j; states = map start_state (starts j) }
+      let entries = map_twice (λ c. start_in (places_at list c.0) store c.1) (λ start. start.entry) (enumerate_from 0 components)
+      ∙ so_far.entries ∙ ap (map (λ e. (start_of list e).entry)) all_taken ∙ sym (map_twice (start_of list) (λ start. start.entry) list.entries) in
+      let states = so_far.states ∙ ap (map (λ e. start_state (start_of list e))) all_taken ∙ sym (map_twice (start_of list) start_state list.entries) in
+      let inits = so_far.inits ∙ ap (inits_keep (inits_of store components)) none_to_come in
+      λ j. record { entries = entries j; inits = sym inits j; states = states j }
 
   -- the list's routes lead where its rules do
-  pub agrees : Agrees (rules_at list) (route_of list) components
+  pub agrees : Agrees (places_at list) (route_of list) store components
   agrees = record {
     names = so_far.names;
     each = λ i service label within.
-        served list.entries components (so_far.services ∙ ap (map (λ e. service_of e.binary)) all_taken) (route_of list i service label) (child_by_some list.entries (rules_for list i) service label)
-        ∙ ap (option_map Some) (sym (routes_lead list.entries (rules_for list i) service label));
+        let entry = get_or list.entries i nobody in
+        let here = slice_get-get_or list.entries i nobody (omega (arith, within, all, counted so_far (omega (arith, all)))) in
+        let led = ap (option_and_then (λ e. route_within most_lists list e service label)) here in
+        ap (option_map (service_at_place components)) led
+        ∙ served list.entries components (so_far.services ∙ ap (map (λ e. service_of e.binary)) all_taken) (route_within most_lists list entry service label) (route_some most_lists list entry service label)
+        ∙ ap (option_map Some) (sym (routes_lead most_lists list entry service label) ∙ ap (λ found. provider (place_of list found).routes service label) (sym here));
+    homes = so_far.homes;
   }

@@ -16,16 +16,16 @@ prefix_len-map p f (x ∷ xs) = rw (prefix_len-map p f xs) refl
 position-map : {X Y : Type 0} (p : Y → Bool) (f : X → Y) (xs : List X) → position (λ x. p (f x)) xs ≡ position p (map f xs)
 position-map p f xs = sym (rw (prefix_len-map (λ y. not (p y)) f xs, length-map xs f) refl)
 
--- an entry of a name is found at one place in both
-pub same_place : (list : Listed) (name : List ℕ) →
-    position (λ entry. bytes_eq entry.name name) list.entries ≡ position (λ entry. bytes_eq entry.name name) (entries_of (start_list_of list))
-same_place list name = position-map (λ start. bytes_eq start.entry.name name) _ list.entries ∙ position-map (λ entry. bytes_eq entry.name name) _ (start_list_of list).starts
+-- an entry of a path is found at one place in both
+pub same_place : (list : Listed) (path : List ℕ) →
+    position (λ entry. bytes_eq entry.path path) list.entries ≡ position (λ entry. bytes_eq entry.name path) (entries_of (start_list_of list))
+same_place list path = position-map (λ start. bytes_eq start.entry.name path) (start_of list) list.entries ∙ position-map (λ entry. bytes_eq entry.name path) (λ start. start.entry) (start_list_of list).starts
 
--- an entry has one name in both
-pub same_name : (list : Listed) (component : ℕ) (entry : ListedEntry) → component < length list.entries →
-    (get_or list.entries component entry).name ≡ (entry_at (entries_of (start_list_of list)) component).name
-same_name list component entry inside =
+-- the model's entry at a place is what the list's comes to
+pub same_entry : (list : Listed) (component : ℕ) (entry : ListedEntry) → component < length list.entries →
+    (start_of list (get_or list.entries component entry)).entry ≡ entry_at (entries_of (start_list_of list)) component
+same_entry list component entry inside =
     let starts = map (start_of list) list.entries in
     let within : component < length starts = omega (arith, inside, length-map list.entries (start_of list)) in
-    sym (ap (λ e. e.name) (get_or-map (λ start. start.entry) starts component (start_of list entry) nobody within)
-    ∙ ap (λ start. start.entry.name) (get_or-map (start_of list) list.entries component entry (start_of list entry) inside))
+    sym (get_or-map (λ start. start.entry) starts component (start_of list entry) nobody within
+    ∙ ap (λ start. start.entry) (get_or-map (start_of list) list.entries component entry (start_of list entry) inside))

@@ -1,19 +1,19 @@
 -- What a boot does to the parts of the machine, entry by entry.
-use Rattle.std.specs.Prelude.{◌≡◌, ℕ, ◌+◌, ◌*◌, ◌≤◌, List, [], ◌∷◌, length, map, take, drop, Option, Some, None, IfSome}
-use Rattle.std.specs.List.{All}
+use Rattle.std.specs.Prelude.{◌≡◌, ℕ, zero, suc, ◌+◌, ◌*◌, ◌≤◌, true, List, [], ◌∷◌, length, map, take, drop, Option, Some, None, IfSome}
+use Rattle.std.specs.List.{All, slice_get}
 use Rattle.std.specs.Option.{option_map}
 use Rattle.std.specs.FinMap.{get}
 use Rattle.trade_base.specs.declared.refusal.Refusal.{Refusal}
-use Rattle.own_model.specs.Account.{Account, parted_with, shortage}
-use Rattle.own_model.specs.Listed.{Listed, ListedEntry, service_of, kind_of, own_rules, rules_for, start_of, start_list_of}
-use Rattle.own_model.specs.Routes.{Rule}
-use Rattle.own_model.specs.StartList.{StartEntry, budget, init_keeps, machine_account}
-use Rattle.dataspace_core.specs.Room.{IsOuter}
-use Rattle.dataspace_core.specs.Store.{Store, OpensPart, accounts_in, account_in, root_in, room_in, ram_limits_in, caps_limits_in, IsOpenIn, IsChildIn}
-use Rattle.pd_core.specs.Component.{entry_of, payer_of, reserve_of, tables_of, HasNewHeap}
+use Rattle.trade_base.specs.declared.id.AccountId.{AccountId}
+use Rattle.own_model.specs.Account.{Account, shortage}
+use Rattle.own_model.specs.Listed.{Listed, ListedEntry, service_of, kind_of, levels_within, most_lists, start_of, start_list_of}
+use Rattle.own_model.specs.StartList.{StartEntry, AllCovered, Boots, budget, init_at, inits_at_first, inits_keep, inits_kept, start_state, with_started}
+use Rattle.dataspace_core.specs.Store.{Store, OpensPart, accounts_in, root_in, room_in, ram_limits_in, caps_limits_in, IsOpenIn, IsChildIn}
+use Rattle.pd_core.specs.Component.{Place, entry_of, payer_of, reserve_of, tables_of, HasNewHeap}
 use Rattle.pd_core.specs.Component.{service_of as service_in}
-use Rattle.pd_core.specs.Core.{Rules}
-use Rattle.pd_core.specs.Fresh.{starts_of, AreEmpty, AreFresh, IsNewServer}
+use Rattle.pd_core.specs.Core.{Heads, Places, Roles, IsInitOf, IsInits, entries_of, inits_of, roles_of}
+use Rattle.pd_core.specs.Fresh.{starts_of, AreEmpty, AreFreshBelow, IsNewServer}
+use Rattle.pd_core.specs.SessionCalls.{AreAtHome}
 use Rattle.pd_core.specs.declared.component.Component.{Component}
 use Rattle.init_core.specs.declared.fault.BootFault.{BootFault}
 use Rattle.init_core.specs.declared.fault.BootFault.TheVariants.{QuotaExceeded}
@@ -25,65 +25,81 @@ abbrev pub first_or : Option Refusal → StartEntry → Option StartEntry → Op
 first_or (Some refusal) start behind = Some start
 first_or None start behind = behind
 
--- the first entry that what is left of init's account doesn't cover
-abbrev pub first_uncovered : Account → List StartEntry → Option StartEntry
-first_uncovered init [] = None
-first_uncovered init (start ∷ starts) =
-    first_or (shortage init (budget start).ram (budget start).caps) start
-    (first_uncovered (parted_with init (budget start).ram (budget start).caps) starts)
+-- the first entry that what is left of its init's account doesn't cover
+abbrev pub first_uncovered : List Account → List StartEntry → Option StartEntry
+first_uncovered inits [] = None
+first_uncovered inits (start ∷ starts) =
+    first_or (shortage (init_at inits start.entry.home) (budget start).ram (budget start).caps) start
+    (first_uncovered (with_started inits start) starts)
 
 -- the fault of a list with an entry that isn't covered
 abbrev pub quota_fault : Listed → Option BootFault
 quota_fault list =
     let starts = start_list_of list in
-    option_map (λ start. QuotaExceeded start.entry.name) (first_uncovered (machine_account starts) starts.starts)
+    option_map (λ start. QuotaExceeded start.entry.name) (first_uncovered (inits_at_first starts) starts.starts)
 
 -- ---- how far a boot is
 
--- init's account
-abbrev pub init_in : Store → Account
-init_in store = account_in store (root_in store)
+-- a place of which nothing is said
+abbrev pub nowhere : Place
+nowhere = record { name = []; home = 0; routes = [] }
 
--- the rules by which the wishes of the component at each place lead
-abbrev pub rules_at : Listed → Rules
-rules_at list place = own_rules list.entries (rules_for list place)
+-- what a list says of a place; of one past its entries nothing
+abbrev pub place_of : Listed → Option ListedEntry → Place
+place_of list (Some entry) = record { name = entry.path; home = entry.home; routes = levels_within most_lists list entry }
+place_of list None = nowhere
+
+abbrev pub places_at : Listed → Places
+places_at list place = place_of list (slice_get list.entries place)
 
 -- what is still to start after so many entries
 abbrev pub to_come : Listed → ℕ → List StartEntry
 to_come list count = drop count (start_list_of list).starts
 
--- init opened an account with these limits: a new one, and all limits together stay
-pub record Opens (old : Store) (account ram caps : ℕ) (new : Store) : Type 0 where
+-- an init opened an account with these limits below its own: a new one, and all limits together stay
+pub record Opens (old : Store) (init account ram caps : ℕ) (new : Store) : Type 0 where
   pub free : get (accounts_in old) account ≡ None
-  pub part : OpensPart (root_in old) account ram caps old new
+  pub part : OpensPart init account ram caps old new
   pub ram_moved : ram_limits_in new ≡ ram_limits_in old
   pub caps_moved : caps_limits_in new ≡ caps_limits_in old
 
--- each account that was opened is open, and was opened by init
-pub record IsFlat (store : Store) : Type 0 where
-  pub outer : (account : ℕ) → IsOuter store account
-  pub there : (account parent : ℕ) → IsChildIn store account parent → IsOpenIn store account
+-- each account that was opened below another is open
+abbrev pub AreThere : Store → Type 0
+AreThere store = (account parent : ℕ) → IsChildIn store account parent → IsOpenIn store account
 
--- so many entries of a list have started: the parts are fresh, each component is what its entry says and has its budget, what
--- init will keep and what it doesn't cover hang on what it has left and on what is still to start, there is room for the
--- accounts to come, and all limits together are the machine's
-pub record HasStarted (list : Listed) (store : Store) (components : List Component) (count : ℕ) : Type 0 where
-  pub fresh : AreFresh store components
-  pub starts : starts_of (rules_at list) store components ≡ map (start_of list) (take count list.entries)
+-- the account of the init of a number: the root's, or that of the init at the place before the number
+abbrev pub IsInitAt : Store → Roles → ℕ → ℕ → Type 0
+IsInitAt store roles zero account = root_in store ≡ account
+IsInitAt store roles (suc place) account = IsInitOf (roles place) account
+
+-- so many entries of a list have started. The parts are fresh, by which accounts are inits', and the keys are those of the root
+-- and of each component; each component is what its entry says, starts with what that gives it, and is below its init. What inits
+-- will keep, what they don't cover, and whether the list boots hang on what they have left and on what is still to start. There
+-- is room for the accounts to come, and all limits together are the machine's
+pub record HasStarted (list : Listed) (store : Store) (components : List Component) (keys : List AccountId) (count : ℕ) : Type 0 where
+  pub heads : Heads
+  pub parts : AreFreshBelow heads store components
+  pub are_heads : (account : ℕ) → IsInits store (roles_of components) account → heads account ≡ true
+  pub there : AreThere store
+  pub keys_are : map (λ key. key.0) keys ≡ root_in store ∷ map payer_of components
+  pub entries : entries_of (places_at list) components ≡ map (λ entry. (start_of list entry).entry) (take count list.entries)
+  pub states : map start_state (starts_of (places_at list) store components) ≡ map (λ entry. start_state (start_of list entry)) (take count list.entries)
   pub services : map service_in components ≡ map (λ entry. service_of entry.binary) (take count list.entries)
-  pub names : All (λ c. length c.name.items ≤ 32) components
-  pub init : init_keeps (machine_account (start_list_of list)) (start_list_of list).starts ≡ init_keeps (init_in store) (to_come list count)
-  pub covered : first_uncovered (machine_account (start_list_of list)) (start_list_of list).starts ≡ first_uncovered (init_in store) (to_come list count)
+  pub names : All (λ c. length c.name.items ≤ 140) components
+  pub homes : AreAtHome (places_at list) store components
+  pub inits : inits_kept (start_list_of list) ≡ inits_keep (inits_of store components) (to_come list count)
+  pub uncovered : first_uncovered (inits_at_first (start_list_of list)) (start_list_of list).starts ≡ first_uncovered (inits_of store components) (to_come list count)
+  pub covered : AllCovered (inits_of store components) (to_come list count) → Boots (start_list_of list)
   pub room : list.caps + length list.entries * 4 ≤ (room_in store + count * 2) * 2 + 1
   pub machine : ram_limits_in store ≡ list.pages * 4096
   pub all_caps : caps_limits_in store ≡ list.caps
-  pub flat : IsFlat store
 
 -- a component is what an entry says, is charged on the account, has this account for its reserve, if it is a script, and new
 -- tables for the machine of the list
 pub record IsMade (list : Listed) (entry : ListedEntry) (account : ℕ) (reserve : Option ℕ) (component : Component) : Type 0 where
-  pub entry_is : (rules : List Rule) → entry_of rules component ≡ record { name = entry.name; kind = kind_of entry.binary; routes = rules }
-  pub short : length component.name.items ≤ 32
+  pub entry_is : (place : Place) → entry_of place component
+      ≡ record { name = place.name; label = entry.label; kind = kind_of entry.binary; home = place.home; routes = place.routes }
+  pub short : length component.name.items ≤ 140
   pub account_is : payer_of component ≡ account
   pub reserve_is : reserve_of component ≡ reserve
   pub service : service_in component ≡ service_of entry.binary

@@ -1,5 +1,5 @@
 -- What a JSON value says as an entry of a start list, or its fault.
-use Rattle.std.specs.Prelude.{ℕ, Bool, true, false, List, [], ◌∷◌, ◌++◌, codes, if◌then◌else◌, Option, Some, None, Result, Ok, Err}
+use Rattle.std.specs.Prelude.{ℕ, ◌+◌, ◌==◌, ◌&&◌, zero, suc, Bool, true, false, List, [], ◌∷◌, ◌++◌, length, codes, nat_le, if◌then◌else◌, Option, Some, None, Result, Ok, Err}
 use Rattle.std.specs.List.{list_any}
 use Rattle.std.specs.Option.{option_and_then, option_map, unwrap_or}
 use Rattle.std.specs.Str.{bytes_eq}
@@ -7,11 +7,11 @@ use Rattle.serde_json.specs.Data.{Data}
 use Rattle.serde_json.specs.Find.{get, as_array, as_str}
 use Rattle.own_model.specs.Amounts.{Amounts}
 use Rattle.own_model.specs.Listed.{Binary, ListedEntry, ListedRule, serves}
-use Rattle.own_model.specs.Listed.Binary.{Script, LogServer, FileServer}
+use Rattle.own_model.specs.Listed.Binary.{Script, LogServer, FileServer, Init}
 use Rattle.init_core.specs.declared.fault.BootFault.{BootFault}
 use Rattle.init_core.specs.declared.fault.BootFault.TheVariants.{BadConfig, DuplicateName, UnknownBinary}
 use Rattle.init_core.specs.declared.fault.Field.TheVariants as field
-use Rattle.init_core.specs.Members.{amount_at, amount_in, elements, is_object, name_at, name_in, whole_at, whole_in}
+use Rattle.init_core.specs.Members.{amount_at, amount_in, elements, is_object, name_at, name_in, short_list, whole_at, whole_in}
 use Rattle.init_core.specs.Rules.{rules_of}
 
 -- the value, or else a fault
@@ -29,12 +29,35 @@ abbrev pub ◌>>=◌ : {A B : Type 0} → Result A BootFault → (A → Result B
 abbrev pub object_of : Data → Result Data BootFault
 object_of d = if is_object d then Ok d else Err (BadConfig field.Start)
 
--- a name, that no earlier entry has
-abbrev pub is_taken : List ListedEntry → List ℕ → Bool
-is_taken before name = list_any (λ entry. bytes_eq entry.name name) before
+-- ---- where a list stands
 
-abbrev pub new_name : List ListedEntry → List ℕ → Result (List ℕ) BootFault
-new_name before name = if is_taken before name then Err (DuplicateName name) else Ok name
+-- the list of an init: the number of that, its path and its label, both empty of the machine's
+pub record Place : Type 0 where
+  pub init : ℕ
+  pub path : List ℕ
+  pub label : List ℕ
+
+abbrev pub outermost : Place
+outermost = record { init = 0; path = []; label = [] }
+
+-- a name behind those of the inits above it, with what parts them
+abbrev pub behind : List ℕ → List ℕ → List ℕ → List ℕ
+behind parts [] name = name
+behind parts (b ∷ above) name = (b ∷ above) ++ parts ++ name
+
+-- what was read of a list and of those around it: the entries, and how many the lists that were met have together
+pub record SoFar : Type 0 where
+  pub entries : List ListedEntry
+  pub met : ℕ
+
+-- ---- an entry
+
+-- a name, that no earlier entry of its list has
+abbrev pub is_taken : List ListedEntry → ℕ → List ℕ → Bool
+is_taken before init name = list_any (λ entry. entry.home == init && bytes_eq entry.name name) before
+
+abbrev pub new_name : List ListedEntry → ℕ → List ℕ → Result (List ℕ) BootFault
+new_name before init name = if is_taken before init name then Err (DuplicateName name) else Ok name
 
 -- the text of a binary: without the member it is the name
 abbrev pub binary_text : List ℕ → Option Data → Result (List ℕ) BootFault
@@ -51,7 +74,8 @@ binary_of text =
     if bytes_eq text (codes "script") then Ok Script
     else (if bytes_eq text (codes "log") then Ok LogServer
     else (if bytes_eq text (codes "files") then Ok FileServer
-    else Err (no_binary (name_in text))))
+    else (if bytes_eq text (codes "init") then Ok Init
+    else Err (no_binary (name_in text)))))
 
 -- what an entry runs
 abbrev pub binary_told : List ℕ → Option Data → Result Binary BootFault
@@ -82,6 +106,7 @@ if_script f binary None = Some None
 if_script f Script (Some d) = option_map Some (f d)
 if_script f LogServer (Some d) = None
 if_script f FileServer (Some d) = None
+if_script f Init (Some d) = None
 
 -- a reserve is given by one of its two members, or by both: without the other that is 0
 abbrev pub reserve_with : Option ℕ → Option ℕ → Option Amounts
@@ -96,21 +121,129 @@ reserve_told binary entry = do
   caps ← value_or (BadConfig field.ReserveCaps) (if_script (whole_in 0 4294967295) binary (get (codes "reserve-caps") entry))
   Ok (reserve_with ram caps)
 
--- an entry, which comes after those before it
-abbrev pub entry_of : List ListedEntry → Data → Result ListedEntry BootFault
-entry_of before d = do
+-- ---- what an init starts
+
+-- the default route and the values of the entries of a list
+pub record Own : Type 0 where
+  pub route : List ListedRule
+  pub starts : List Data
+
+-- without the member no rule
+abbrev pub default_route : Option Data → Option (List ListedRule)
+default_route None = Some []
+default_route (Some d) = rules_of d
+
+-- the entries of a list, where all lists that were met have at most 32 together
+abbrev pub starts_in : ℕ → Option Data → Option (List Data)
+starts_in met d = option_and_then (λ starts. if nat_le (met + length starts) 32 then Some starts else None) (option_and_then short_list d)
+
+-- a list is told by two members of an object
+abbrev pub own_of : ℕ → Data → Result Own BootFault
+own_of met d = do
+  route ← value_or (BadConfig field.DefaultRoute) (default_route (get (codes "default-route") d))
+  starts ← value_or (BadConfig field.Start) (starts_in met (get (codes "start") d))
+  Ok (record { route = route; starts = starts })
+
+-- who starts nothing
+abbrev pub nothing_own : Own
+nothing_own = record { route = []; starts = [] }
+
+-- the list of an init, which is a member that is an object, where there may be one so deep
+abbrev pub config_of : Bool → ℕ → Option Data → Result Own BootFault
+config_of true met (Some d) = if is_object d then own_of met d else Err (BadConfig field.Config)
+config_of true met None = Err (BadConfig field.Config)
+config_of false met d = Err (BadConfig field.Config)
+
+-- an entry of another binary starts nothing, whatever the member is
+abbrev pub own_told : Binary → Bool → ℕ → Option Data → Result Own BootFault
+own_told Script deeper met d = Ok nothing_own
+own_told LogServer deeper met d = Ok nothing_own
+own_told FileServer deeper met d = Ok nothing_own
+own_told Init deeper met d = config_of deeper met d
+
+-- an entry, and the values of the entries that it starts
+pub record Head : Type 0 where
+  pub entry : ListedEntry
+  pub starts : List Data
+
+-- an entry of a list, which comes after what was read so far; an init may start entries where there may be a list so deep
+abbrev pub head_of : Place → Bool → SoFar → Data → Result Head BootFault
+head_of place deeper so_far d = do
   entry ← object_of d
   told_name ← value_or (BadConfig field.Name) (name_at (codes "name") entry)
-  name ← new_name before told_name
+  name ← new_name so_far.entries place.init told_name
   binary ← binary_told name (get (codes "binary") entry)
   ram ← value_or (BadConfig field.Quantum) (amount_at (codes "quantum") entry)
   caps ← value_or (BadConfig field.Caps) (whole_at (codes "caps") 0 4294967295 entry)
   provides ← value_or (BadConfig field.Provides) (provided binary (get (codes "provides") entry))
   route ← value_or (BadConfig field.Route) (own_route (get (codes "route") entry))
   reserve ← reserve_told binary entry
-  Ok (record { name = name; binary = binary; ram = ram; caps = caps; provides = provides; route = route; reserve = reserve })
+  own ← own_told binary deeper so_far.met (get (codes "config") entry)
+  Ok (record {
+    entry = record {
+      name = name;
+      path = behind (codes "/") place.path name;
+      label = behind (codes " -> ") place.label name;
+      home = place.init;
+      binary = binary;
+      ram = ram;
+      caps = caps;
+      provides = provides;
+      route = route;
+      reserve = reserve;
+      inner_route = own.route;
+    };
+    starts = own.starts;
+  })
 
--- the entries of a list, after those before it
-abbrev pub entries_after : List ListedEntry → List Data → Result (List ListedEntry) BootFault
-entries_after before [] = Ok before
-entries_after before (d ∷ ds) = entry_of before d >>= (λ entry. entries_after (before ++ entry ∷ []) ds)
+-- ---- all entries
+
+-- a fault, and of the how manieth entry it is
+pub record Misread : Type 0 where
+  pub fault : BootFault
+  pub entry : ℕ
+
+abbrev pub at_entry : {A : Type 0} → ℕ → Result A BootFault → Result A Misread
+at_entry number (Ok x) = Ok x
+at_entry number (Err fault) = Err (record { fault = fault; entry = number })
+
+-- once an entry was read, with the list that it starts met
+abbrev pub with_head : SoFar → Head → SoFar
+with_head so_far head = record { entries = so_far.entries ++ head.entry ∷ []; met = so_far.met + length head.starts }
+
+-- where the list of an entry's own stands, which comes at so many
+abbrev pub place_within : ℕ → ListedEntry → Place
+place_within number entry = record { init = number + 1; path = entry.path; label = entry.label }
+
+-- how the entries of a list are read, one after another, each with those that it starts
+abbrev pub Reads : Type 0
+Reads = Place → SoFar → Data → Result SoFar Misread
+
+abbrev pub then_read : Result SoFar Misread → (SoFar → Result SoFar Misread) → Result SoFar Misread
+then_read (Ok so_far) read = read so_far
+then_read (Err misread) read = Err misread
+
+abbrev pub all_read : Reads → Place → SoFar → List Data → Result SoFar Misread
+all_read reads place so_far [] = Ok so_far
+all_read reads place so_far (d ∷ ds) = then_read (reads place so_far d) (λ next. all_read reads place next ds)
+
+-- an entry and those that it starts
+abbrev pub read_own : Reads → SoFar → Result Head Misread → Result SoFar Misread
+read_own reads so_far (Ok head) =
+    all_read reads (place_within (length so_far.entries) head.entry) (with_head so_far head) head.starts
+read_own reads so_far (Err misread) = Err misread
+
+-- an entry of a list in which inits may nest so deep
+abbrev pub read_within : ℕ → Reads
+read_within zero place so_far d =
+    read_own (λ _ s _. Ok s) so_far (at_entry (length so_far.entries) (head_of place false so_far d))
+read_within (suc deeper) place so_far d =
+    read_own (read_within deeper) so_far (at_entry (length so_far.entries) (head_of place true so_far d))
+
+-- inits nest at most so deep below the machine's
+abbrev pub deepest : ℕ
+deepest = 3
+
+-- the entries of the machine's list and of all lists within
+abbrev pub entries_read : List Data → Result SoFar Misread
+entries_read starts = all_read (read_within deepest) outermost (record { entries = []; met = length starts }) starts

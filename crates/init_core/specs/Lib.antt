@@ -1,7 +1,8 @@
-pub mod Mark
+pub mod Finder
 pub mod Members
 pub mod Rules
 pub mod Entries
+pub mod Depth
 pub mod StartText
 pub mod View
 pub mod Range

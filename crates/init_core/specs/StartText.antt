@@ -1,17 +1,16 @@
 -- What a text says as a start list, or its fault.
-use Rattle.std.specs.Prelude.{ℕ, List, [], codes, length, nat_lt, if◌then◌else◌, Option, Some, None, Result, Ok, Err}
+use Rattle.std.specs.Prelude.{ℕ, List, codes, length, nat_lt, if◌then◌else◌, Option, Some, None, Result, Ok, Err}
 use Rattle.std.specs.Option.{option_and_then}
 use Rattle.std.specs.Str.{is_utf8}
 use Rattle.serde_json.specs.Data.{Data}
 use Rattle.serde_json.specs.Find.{get}
 use Rattle.serde_json.specs.Read.{read}
-use Rattle.own_model.specs.Listed.{Listed, ListedRule}
+use Rattle.own_model.specs.Listed.{Listed}
 use Rattle.init_core.specs.declared.fault.BootFault.{BootFault}
 use Rattle.init_core.specs.declared.fault.BootFault.TheVariants.{BadConfig, BadJson}
 use Rattle.init_core.specs.declared.fault.Field.TheVariants as field
-use Rattle.init_core.specs.Entries.{◌>>=◌, entries_after, value_or}
-use Rattle.init_core.specs.Members.{is_object, short_list, whole_at}
-use Rattle.init_core.specs.Rules.{rules_of}
+use Rattle.init_core.specs.Entries.{◌>>=◌, Misread, entries_read, own_of, value_or}
+use Rattle.init_core.specs.Members.{is_object, whole_at}
 
 -- the value, if it is an object
 abbrev pub object_in : Data → Option Data
@@ -21,20 +20,19 @@ object_in d = if is_object d then Some d else None
 abbrev pub machine_of : Data → Result Data BootFault
 machine_of d = value_or (BadConfig field.Machine) (option_and_then object_in (get (codes "machine") d))
 
--- without the member no rule
-abbrev pub default_route : Option Data → Option (List ListedRule)
-default_route None = Some []
-default_route (Some d) = rules_of d
+-- the fault of what was misread, wherever
+abbrev pub fault_of : {A : Type 0} → Result A Misread → Result A BootFault
+fault_of (Ok x) = Ok x
+fault_of (Err misread) = Err misread.fault
 
 abbrev pub list_of : Data → Result Listed BootFault
 list_of d = do
   machine ← machine_of d
   pages ← value_or (BadConfig field.Pages) (whole_at (codes "pages") 16 4096 machine)
   caps ← value_or (BadConfig field.Caps) (whole_at (codes "caps") 16 4096 machine)
-  rules ← value_or (BadConfig field.DefaultRoute) (default_route (get (codes "default-route") d))
-  starts ← value_or (BadConfig field.Start) (option_and_then short_list (get (codes "start") d))
-  entries ← entries_after [] starts
-  Ok (record { pages = pages; caps = caps; default_route = rules; entries = entries })
+  own ← own_of 0 d
+  so_far ← fault_of (entries_read own.starts)
+  Ok (record { pages = pages; caps = caps; default_route = own.route; entries = so_far.entries })
 
 -- the value that bytes are, if they are UTF-8 and JSON
 abbrev pub json_in : List ℕ → Option Data

@@ -1,9 +1,17 @@
 -- What the code's types stand for.
+use Rattle.std.specs.Prelude.{map}
 use Rattle.std.specs.Option.{option_copied}
+use Rattle.serde_json.specs.View.{view}
 use Rattle.own_model.specs.Listed as listed
 use Rattle.own_model.specs.Listed.{ListedRule}
+use Rattle.init_core.specs.Entries as told
+use Rattle.init_core.specs.declared.config.Own.{Own}
 use Rattle.init_core.specs.declared.entry.Binary.{Binary}
-use Rattle.init_core.specs.declared.entry.Binary.TheVariants.{Script, Log, Files}
+use Rattle.init_core.specs.declared.entry.Binary.TheVariants.{Script, Log, Files, Init}
+use Rattle.init_core.specs.declared.head.Head.{Head}
+use Rattle.init_core.specs.declared.reading.Reading.{Reading}
+use Rattle.init_core.specs.declared.routing.Way.{Way}
+use Rattle.init_core.specs.declared.routing.Way.TheVariants.{Inside, Outside}
 use Rattle.init_core.specs.declared.rule.Target.{Target}
 use Rattle.init_core.specs.declared.rule.Target.TheVariants.{Child, AnyChild, Parent}
 use Rattle.init_core.specs.declared.rule.Told.{Told}
@@ -27,3 +35,19 @@ abbrev pub model_binary : Binary → listed.Binary
 model_binary Script = listed.Binary.Script
 model_binary Log = listed.Binary.LogServer
 model_binary Files = listed.Binary.FileServer
+model_binary Init = listed.Binary.Init
+
+-- what a list is told by, of borrowed values
+abbrev pub model_own : Own → told.Own
+model_own own = record { route = own.route.items; starts = map view own.starts.now }
+
+abbrev pub model_head : Head → told.Head
+model_head head = record { entry = head.entry; starts = map view head.starts.now }
+
+-- what was read so far
+abbrev pub so_far : Reading → told.SoFar
+so_far reading = record { entries = reading.entries.items; met = reading.met }
+
+abbrev pub model_way : Way → listed.Way
+model_way (Inside child) = listed.Way.Inside child
+model_way Outside = listed.Way.Outside

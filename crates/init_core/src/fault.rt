@@ -2,7 +2,7 @@
 ghost use Rattle.std.specs.Prelude.{◌≡◌};
 ghost use Rattle.init_core.specs.declared.fault.BootFault.TheVariants.{NoMemory};
 
-use crate::name::Name;
+use crate::name::{Name, Path};
 use std::alloc::{AllocError, AllocFailed};
 use std::fmt;
 use thiserror::Error;
@@ -37,6 +37,8 @@ pub enum Field {
     Reserve,
     /// The capabilities of an entry's reserve.
     ReserveCaps,
+    /// What an entry starts that is an init.
+    Config,
 }
 
 impl fmt::Display for Field {
@@ -55,6 +57,7 @@ impl fmt::Display for Field {
             Field::Route => "route",
             Field::Reserve => "reserve",
             Field::ReserveCaps => "reserve-caps",
+            Field::Config => "config",
         })
     }
 }
@@ -68,15 +71,15 @@ pub enum BootFault {
     /// A member is missing or has a bad value.
     #[error("Bad_config {0}")]
     BadConfig(Field),
-    /// An entry has the name of an earlier one.
+    /// An entry has the name of an earlier one of its list.
     #[error("Duplicate_name {0}")]
     DuplicateName(Name),
     /// An entry runs what isn't there.
     #[error("Unknown_binary {0}")]
     UnknownBinary(Name),
-    /// What init still has doesn't cover the entry of this name.
+    /// What its init still has doesn't cover the entry of this path.
     #[error("Quota_exceeded {0}")]
-    QuotaExceeded(Name),
+    QuotaExceeded(Path),
     /// The host has no room.
     #[error("No_memory")]
     NoMemory,

@@ -2,12 +2,17 @@
 //! machine starts.
 #![tactic(auto)]
 
+mod config;
 mod entry;
 mod fault;
+mod finder;
+mod head;
 mod list;
 mod machine_a;
 mod member;
 mod name;
+mod place;
+mod reading;
 mod reserve;
 mod routing;
 mod rule;
@@ -20,8 +25,8 @@ pub use entry::{Binary, Entry};
 pub use fault::{BootFault, Field};
 pub use list::{StartList, entry_at_fault};
 pub use machine_a::{MACHINE_A, machine_a_is_read};
-pub use name::Name;
-pub use routing::{providers, route, target_child};
+pub use name::{Name, Path};
+pub use routing::{route, target_child};
 pub use rule::{Rule, Target};
 pub use startup::boot;
 pub use table::RouteTable;

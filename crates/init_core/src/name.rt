@@ -1,31 +1,19 @@
-//! Names, which hold their own bytes.
-ghost use Rattle.std.specs.Prelude.{◌≡◌, ◌≤◌, length};
+//! Names, paths and labels, which hold their own bytes.
+ghost use Rattle.std.specs.Prelude.{◌≡◌, ◌+◌, ◌≤◌, length};
+ghost use Rattle.arrayvec.specs.ArrayString.{array_string_len};
+ghost use Rattle.init_core.specs.Entries.{behind};
 ghost use Rattle.init_core.specs.Members.{name_in};
-ghost use Rattle.init_core.specs.Mark.{mark_of};
 
 use arrayvec::ArrayString;
 use std::fmt;
 use std::marker::Model;
 use text_read::{LONGEST_NAME, is_name};
 
-/// What is compared before the bytes of names are: equal names have equal marks, and few others have.
-#[derive(Clone, Copy, Debug, PartialEq, Eq)]
-pub(crate) struct Mark(u32);
+/// The most bytes of a path: four names of 32 bytes, parted by `/`.
+const LONGEST_PATH: usize = 131;
 
-impl Mark {
-    /// The mark of a name: its last four bytes, or else its last one.
-    pub(crate) fn of(name: &[u8]) -> Mark
-        ensures { result.0 ≡ mark_of name.now }
-    {
-        Mark(match name {
-            [.., fourth, third, second, last] => {
-                u32::from_le_bytes([*last, *second, *third, *fourth])
-            }
-            [.., last] => u32::from(*last),
-            [] => 0,
-        })
-    }
-}
+/// The most bytes of a component's label: the same names, parted by ` -> `.
+const LONGEST_LABEL: usize = 140;
 
 /// A name: 1 to 32 letters, digits, `_`, `-` and `.`.
 #[derive(Debug, Drop)]
@@ -83,4 +71,142 @@ impl fmt::Display for Name {
     fn fmt<W: fmt::Write>(&self, f: &mut fmt::Formatter<W>) -> fmt::Result {
         f.write_str(self.text.as_str())
     }
+}
+
+/// The path of an entry: its own name behind those of the inits above it, 1 to 4 names parted by `/`. That of the machine's own
+/// list is empty.
+#[derive(Debug, Drop)]
+pub struct Path {
+    text: ArrayString<LONGEST_PATH>,
+}
+
+impl Model for Path {
+    ghost use Rattle.std.specs.Prelude.{List, ℕ};
+
+    ghost Value = { List ℕ };
+
+    ghost view = { λ path. path.text.bytes };
+}
+
+impl Path {
+    ghost use Rattle.std.specs.Prelude.{[], codes};
+
+    /// The path of the machine's own list.
+    pub(crate) fn outermost() -> Path
+        ensures { result ≡ [] }
+    {
+        Path {
+            text: ArrayString::new(),
+        }
+    }
+
+    /// That of an entry of a name in the list of this path.
+    pub(crate) fn join(&self, name: &Name) -> Path
+        requires { length self.now ≤ 98 }
+        ensures path { result ≡ behind (codes "/") self.now name.now }
+        ensures first { length self.now ≡ 0 → length result ≤ 32 }
+        ensures longer { length result ≤ length self.now + 33 }
+    {
+        Path {
+            text: behind(self.text, "/", name),
+        }
+    }
+
+    /// The path as a text.
+    pub fn as_str(&self) -> &str
+        ensures text { result.now ≡ self.now }
+        ensures short { length result.now ≤ 131 }
+    {
+        self.text.as_str()
+    }
+
+    /// The path's bytes.
+    pub fn as_bytes(&self) -> &[u8]
+        ensures bytes { result.now ≡ self.now }
+        ensures short { length result.now ≤ 131 }
+    {
+        self.as_str().as_bytes()
+    }
+
+    /// The same path once more.
+    pub fn copy(&self) -> Path
+        ensures { result ≡ self.now }
+    {
+        Path { text: self.text }
+    }
+}
+
+impl fmt::Display for Path {
+    fn fmt<W: fmt::Write>(&self, f: &mut fmt::Formatter<W>) -> fmt::Result {
+        f.write_str(self.text.as_str())
+    }
+}
+
+/// The label under which an entry opens sessions: the names of its path, parted by ` -> `.
+#[derive(Debug, Drop)]
+pub(crate) struct Label {
+    text: ArrayString<LONGEST_LABEL>,
+}
+
+impl Model for Label {
+    ghost use Rattle.std.specs.Prelude.{List, ℕ};
+
+    ghost Value = { List ℕ };
+
+    ghost view = { λ label. label.text.bytes };
+}
+
+impl Label {
+    ghost use Rattle.std.specs.Prelude.{[], codes};
+
+    /// The label of the machine's own list: an empty one.
+    pub(crate) fn outermost() -> Label
+        ensures { result ≡ [] }
+    {
+        Label {
+            text: ArrayString::new(),
+        }
+    }
+
+    /// That of an entry of a name in the list of this label.
+    pub(crate) fn join(&self, name: &Name) -> Label
+        requires { length self.now ≤ 104 }
+        ensures label { result ≡ behind (codes " -> ") self.now name.now }
+        ensures first { length self.now ≡ 0 → length result ≤ 32 }
+        ensures longer { length result ≤ length self.now + 36 }
+    {
+        Label {
+            text: behind(self.text, " -> ", name),
+        }
+    }
+
+    /// The label's bytes.
+    pub(crate) fn as_bytes(&self) -> &[u8]
+        ensures bytes { result.now ≡ self.now }
+        ensures short { length result.now ≤ 140 }
+    {
+        self.text.as_str().as_bytes()
+    }
+
+    /// The same label once more.
+    pub(crate) fn copy(&self) -> Label
+        ensures { result ≡ self.now }
+    {
+        Label { text: self.text }
+    }
+}
+
+/// A name behind what stands above it, with what parts them.
+fn behind<const CAP: usize>(above: ArrayString<CAP>, parts: &str, name: &Name) -> ArrayString<CAP>
+    requires { array_string_len above + length parts.now + 32 ≤ CAP }
+    ensures first { array_string_len above.entry ≡ 0 → array_string_len result ≤ 32 }
+    ensures longer { array_string_len result ≤ array_string_len above.entry + length parts.now + 32 }
+    ensures text { result.bytes ≡ behind parts.now above.entry.bytes name.now }
+{
+    let mut text = above;
+    if !text.is_empty() {
+        text.push_str(parts);
+    }
+    text.push_str(name.as_str());
+    text
 }

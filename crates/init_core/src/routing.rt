@@ -1,88 +1,149 @@
 //! Where a client's wish for a session leads.
-ghost use Rattle.std.specs.Prelude.{◌≡◌, ◌<◌, count_by, length, position};
-ghost use Rattle.own_model.specs.Listed.{child_at, child_by, named_provider, offers, only_provider, route_of};
-ghost use Rattle.init_core.specs.View.{model_target};
+ghost use Rattle.std.specs.Prelude.{◌≡◌, ◌+◌, ◌*◌, ◌<◌, ◌≤◌, None, count_by, length, position};
+ghost use Rattle.std.specs.List.{slice_get};
+ghost use Rattle.std.specs.Option.{option_and_then};
+ghost use Rattle.own_model.specs.Listed.{end_of, named_provider, offers, only_provider, route_of, route_within, way_by, way_to};
+ghost use Rattle.own_model.specs.Routes.{label_with};
+ghost use Rattle.init_core.specs.View.{model_target, model_way};
 
 use crate::entry::Entry;
 use crate::list::StartList;
 use crate::rule::{Rule, Target};
+use arrayvec::ArrayVec;
 
-/// The number of the child that a client's wish for a session leads to, if it leads to one: by the first rule of the
-/// client's own route, or else of the default route, that matches the service and the label that the client gave.
-pub fn route(list: &StartList, client: usize, service: &[u8], label: &[u8]) -> Option<usize>
-    requires { client < length list.now.entries }
-    ensures { result ≡ route_of list.now client service.now label.now }
-{
-    child_by(list.entries(), list.rules_for(client), service, label)
+/// How many lists there are at most between a client and the machine, both of theirs among them.
+const MOST_LISTS: usize = 4;
+
+/// The most bytes of a label with the names of all inits above a client before it.
+const LONGEST_LABEL: usize = 208;
+
+/// Where a rule leads: to a child or to none, or out of its init.
+#[derive(Clone, Copy, Debug, PartialEq, Eq)]
+enum Way {
+    /// To the child of a number, or to none.
+    Inside(Option<usize>),
+    /// Out of the init.
+    Outside,
 }
 
-/// The child by the first rule that matches, also where that leads to none.
-fn child_by(entries: &[Entry], rules: &[Rule], service: &[u8], label: &[u8]) -> Option<usize>
-    ensures { result ≡ child_by entries.now rules.now service.now label.now }
+/// The number of the child that a client's wish for a session leads to, if it leads to one: by the first rule of the
+/// client's own route, or else of the default route of its list, that matches the service and the label that the client gave. Where
+/// that rule leads outward, its init asks for it, with the client's name before the label.
+pub fn route(list: &StartList, client: usize, service: &[u8], label: &[u8]) -> Option<usize>
+    requires client { client < length list.now.entries }
+    requires label { length label.now ≤ 64 }
+    ensures { result ≡ route_of list.now client service.now label.now }
+{
+    route_within(list, MOST_LISTS, client, service, label)
+}
+
+/// The same through so many lists at most.
+fn route_within(
+    list: &StartList,
+    lists: usize,
+    client: usize,
+    service: &[u8],
+    label: &[u8],
+) -> Option<usize>
+    requires client { client < length list.now.entries }
+    requires label { length label.now + lists * 36 ≤ 208 }
+    ensures { result ≡ option_and_then (λ entry. route_within lists list.now entry service.now label.now)
+        (slice_get list.now.entries client) }
+{
+    if lists == 0 {
+        return None;
+    }
+    let entry = &list.entries()[client];
+    let home = list.home(client);
+    match way_by(list.entries(), home, list.rules_for(client), service, label) {
+        Way::Inside(child) => child,
+        Way::Outside => if home == 0 {
+            None
+        } else {
+            let label = label_with(entry.name(), label);
+            route_within(list, lists - 1, home - 1, service, label.as_slice())
+        },
+    }
+}
+
+/// A name, and a label behind it, if there is one.
+fn label_with(name: &[u8], given: &[u8]) -> ArrayVec<u8, LONGEST_LABEL>
+    requires { length name.now + 4 + length given.now ≤ 208 }
+    ensures { result.items ≡ label_with name.now given.now }
+{
+    let mut label = ArrayVec::<u8, LONGEST_LABEL>::new();
+    let _ = label.try_extend_from_slice(name);
+    if !given.is_empty() {
+        let _ = label.try_extend_from_slice(b" -> ");
+        let _ = label.try_extend_from_slice(given);
+    }
+    label
+}
+
+/// The way by the first rule of an init's that matches, also where that leads to none.
+fn way_by(entries: &[Entry], init: usize, rules: &[Rule], service: &[u8], label: &[u8]) -> Way
+    ensures { model_way result ≡ way_by entries.now init rules.now service.now label.now }
 {
     for rule in rules {
         if rule.matches(service, label) {
-            return child_at(entries, rule.target(), service);
+            return way_to(entries, init, rule.target(), service);
         }
     }
-    None
+    Way::Inside(None)
 }
 
-/// The number of the child that a target leads to for a service, if it leads to one.
-pub fn target_child(list: &StartList, target: &Target, service: &[u8]) -> Option<usize>
-    ensures { result ≡ child_at list.now.entries (model_target target.now) service.now }
+/// The number of the child of an init's that a target leads to for a service, if it leads to one.
+pub fn target_child(list: &StartList, init: usize, target: &Target, service: &[u8]) -> Option<usize>
+    ensures { result ≡ end_of (way_to list.now.entries init (model_target target.now) service.now) None }
 {
-    child_at(list.entries(), target, service)
+    match way_to(list.entries(), init, target, service) {
+        Way::Inside(child) => child,
+        Way::Outside => None,
+    }
 }
 
-/// The child that a target leads to for a service.
-fn child_at(entries: &[Entry], target: &Target, service: &[u8]) -> Option<usize>
-    ensures { result ≡ child_at entries.now (model_target target.now) service.now }
+/// The way of a target for a service.
+fn way_to(entries: &[Entry], init: usize, target: &Target, service: &[u8]) -> Way
+    ensures { model_way result ≡ way_to entries.now init (model_target target.now) service.now }
 {
     match target {
-        Target::Child(name) => named_provider(entries, name.as_bytes(), service),
-        Target::AnyChild => only_provider(entries, service),
-        Target::Parent => None,
+        Target::Child(name) => Way::Inside(named_provider(entries, init, name.as_bytes(), service)),
+        Target::AnyChild => Way::Inside(only_provider(entries, init, service)),
+        Target::Parent => Way::Outside,
     }
 }
 
 /// The child of a name, where it provides the service.
-fn named_provider(entries: &[Entry], name: &[u8], service: &[u8]) -> Option<usize>
-    ensures { result ≡ named_provider entries.now name.now service.now }
+fn named_provider(entries: &[Entry], init: usize, name: &[u8], service: &[u8]) -> Option<usize>
+    ensures { result ≡ named_provider entries.now init name.now service.now }
 {
-    entries
-        .iter()
-        .position(|entry| entry.name() == name && entry.offers(service))
+    entries.iter().position(|entry| entry.name() == name && entry.offers(init, service))
 }
 
 /// The only child that provides the service.
-fn only_provider(entries: &[Entry], service: &[u8]) -> Option<usize>
-    ensures { result ≡ only_provider entries.now service.now }
+fn only_provider(entries: &[Entry], init: usize, service: &[u8]) -> Option<usize>
+    ensures { result ≡ only_provider entries.now init service.now }
 {
-    if provider_count(entries, service) == 1 {
-        first_provider(entries, service)
+    if provider_count(entries, init, service) == 1 {
+        first_provider(entries, init, service)
     } else {
         None
     }
 }
 
-/// How many children provide a service.
-pub fn providers(list: &StartList, service: &[u8]) -> usize
-    ensures { result ≡ count_by (offers service.now) list.now.entries }
+/// How many children of an init's provide a service.
+fn provider_count(entries: &[Entry], init: usize, service: &[u8]) -> usize
+    ensures { result ≡ count_by (offers init service.now) entries.now }
 {
-    provider_count(list.entries(), service)
+    entries
+        .iter()
+        .filter(|entry| entry.offers(init, service))
+        .count()
 }
 
-/// The same of entries.
-fn provider_count(entries: &[Entry], service: &[u8]) -> usize
-    ensures { result ≡ count_by (offers service.now) entries.now }
+/// The first child of an init's that provides a service.
+fn first_provider(entries: &[Entry], init: usize, service: &[u8]) -> Option<usize>
+    ensures { result ≡ position (offers init service.now) entries.now }
 {
-    entries.iter().filter(|entry| entry.offers(service)).count()
-}
-
-/// The first child that provides a service.
-fn first_provider(entries: &[Entry], service: &[u8]) -> Option<usize>
-    ensures { result ≡ position (offers service.now) entries.now }
-{
-    entries.iter().position(|entry| entry.offers(service))
+    entries.iter().position(|entry| entry.offers(init, service))
 }

@@ -1,12 +1,13 @@
-//! How a machine starts: init opens an account for each component of its start list in turn, and keeps what is left.
+//! How a machine starts: each component of its start list in turn is given an account below that of its init, which keeps what
+//! is left.
 ghost use Rattle.std.specs.Prelude.{◌≡◌, ◌≢◌, ◌+◌, ◌*◌, ◌<◌, ◌≤◌, is_none, is_ok, length, IfOk, IfErr, OnOk, None, Some};
 ghost use Rattle.own_model.specs.Account.{shortage};
-ghost use Rattle.own_model.specs.Listed.{start_list_of};
-ghost use Rattle.own_model.specs.Listed.Binary.{Script as AScript, LogServer, FileServer};
+ghost use Rattle.own_model.specs.Listed.{Listed, start_list_of};
+ghost use Rattle.own_model.specs.Listed.Binary.{Script as AScript, LogServer, FileServer, Init as AnInit};
 ghost use Rattle.own_model.specs.World.{start_world, IsBalancedFor};
 ghost use Rattle.own_model.specs.StartList.{Boots};
-ghost use Rattle.dataspace_core.specs.Store.{IsOpenIn, root_in, room_in};
-ghost use Rattle.init_core.specs.Boot.{HasStarted, IsMade, Opens, init_in, quota_fault};
+ghost use Rattle.dataspace_core.specs.Store.{IsOpenIn, account_in, room_in};
+ghost use Rattle.init_core.specs.Boot.{HasStarted, IsMade, Opens, quota_fault};
 ghost use Rattle.init_core.specs.declared.fault.BootFault.TheVariants.{NoMemory, QuotaExceeded};
 
 use crate::entry::{Binary, Entry};
@@ -28,7 +29,7 @@ const REGIONS: usize = 128;
 
 /// The machine of a start list as it starts.
 ///
-/// It is refused with `QuotaExceeded` and the name of the first entry that what init still has doesn't cover. Wherever the
+/// It is refused with `QuotaExceeded` and the path of the first entry that what its init still has doesn't cover. Wherever the
 /// host has no room for the machine's tables, `NoMemory` is told instead.
 pub fn boot(alloc: Global, list: &StartList) -> Result<Core<RouteTable<'_>>, BootFault>
     ensures started { IfOk result (λ core. core ≡ start_world (start_list_of list.now)) }
@@ -43,8 +44,18 @@ pub fn boot(alloc: Global, list: &StartList) -> Result<Core<RouteTable<'_>>, Boo
         1 + list.count() * 2 + sessions_of(list),
     )?;
     let mut components = Vec::new(alloc);
+    // The machine's init's, and that of each component: an init's stands at the init's number.
+    let mut accounts = Vec::new(alloc);
+    accounts.push(memory.root())?;
     for place in 0..list.count() {
-        start(&mut memory, &mut components, list, place, alloc)?;
+        start(
+            &mut memory,
+            &mut components,
+            &mut accounts,
+            list,
+            place,
+            alloc,
+        )?;
     }
     Ok(Core::from_parts(memory, components, RouteTable::new(list)))
 }
@@ -59,27 +70,30 @@ fn sessions_of(list: &StartList) -> usize
 
 /// Starts the component at a place of the list, after those before it.
 ///
-/// It is refused with `QuotaExceeded` where what init still has doesn't cover its account and its reserve together. Wherever
+/// It is refused with `QuotaExceeded` where what its init still has doesn't cover its account and its reserve together. Wherever
 /// the host has no room, that is told instead.
 fn start(
     memory: &mut Memory,
     components: &mut Vec<Component>,
+    accounts: &mut Vec<AccountId>,
     list: &StartList,
     place: usize,
     alloc: Global,
 ) -> Result<(), BootFault>
     requires place { place < length list.now.entries }
-    requires so_far { HasStarted list.now memory.old components.old.items place }
+    requires so_far { HasStarted list.now memory.old components.old.items accounts.old.items place }
     ensures started { OnOk result
-        (HasStarted list.now memory.new components.new.items (place + 1)) }
+        (HasStarted list.now memory.new components.new.items accounts.new.items (place + 1)) }
     ensures fault { IfErr result (λ fault. fault ≢ NoMemory → quota_fault list.now ≡ Some fault) }
 {
     let entry = &list.entries()[place];
-    let account = open_for(memory, entry, Ram(entry.ram()), Caps(entry.caps()))?;
+    let init = accounts[list.home(place)];
+    let account = open_for(memory, init, entry, Ram(entry.ram()), Caps(entry.caps()))?;
+    accounts.push(account)?;
     match entry.binary() {
         Binary::Script => {
             let kept = entry.reserve_at_start();
-            let reserve = open_for(memory, entry, kept.ram, kept.caps)?;
+            let reserve = open_for(memory, init, entry, kept.ram, kept.caps)?;
             components.push(script_of(entry, account, reserve, list, alloc)?)?;
             Ok(())
         }
@@ -91,23 +105,29 @@ fn start(
             components.push(files_of(entry, account, list, alloc)?)?;
             Ok(())
         }
+        Binary::Init => {
+            components.push(init_of(entry, account))?;
+            Ok(())
+        }
     }
 }
 
-/// An account for an entry with these limits of init's. It is refused with the entry's name where init doesn't cover them.
+/// An account for an entry with these limits of its init's. It is refused with the entry's path where these aren't covered.
 fn open_for(
     memory: &mut Memory,
+    init: AccountId,
     entry: &Entry,
     ram: Ram,
     caps: Caps,
 ) -> Result<AccountId, BootFault>
-    requires init { IsOpenIn memory.old (root_in memory.old) }
+    requires init { IsOpenIn memory.old init.0 }
     requires room { 0 < room_in memory.old }
-    ensures covered { is_ok result ≡ is_none (shortage (init_in memory.old) ram.0 caps.0) }
-    ensures opened { IfOk result (λ account. Opens memory.old account.0 ram.0 caps.0 memory.new) }
-    ensures fault { IfErr result (λ fault. fault ≡ QuotaExceeded entry.now.name) }
+    ensures covered { is_ok result ≡ is_none (shortage (account_in memory.old init.0) ram.0 caps.0) }
+    ensures opened { IfOk result
+        (λ account. Opens memory.old init.0 account.0 ram.0 caps.0 memory.new) }
+    ensures fault { IfErr result (λ fault. fault ≡ QuotaExceeded entry.now.path) }
 {
-    match memory.open(memory.root(), ram, caps) {
+    match memory.open(init, ram, caps) {
         Ok(account) => Ok(account),
         Err(_) => Err(entry.quota_exceeded()),
     }
@@ -128,7 +148,7 @@ fn script_of(
     let pages = list.pages() as usize;
     let caps = CapSpace::boot(alloc, list.caps() as usize)?;
     let regions = RegionMap::boot(alloc, REGIONS, pages, pages)?;
-    Ok(Component::script(entry.name(), account, reserve, caps, regions))
+    Ok(Component::script(entry.label(), account, reserve, caps, regions))
 }
 
 /// The log server of an entry on its account, without sessions.
@@ -143,7 +163,7 @@ fn log_of(
     ensures fault { IfErr result (λ fault. fault ≡ NoMemory) }
 {
     let server = Server::boot(alloc, LogService, sessions_of(list), list.pages() as usize)?;
-    Ok(Component::log(entry.name(), account, server))
+    Ok(Component::log(entry.label(), account, server))
 }
 
 /// The file server of an entry, the same.
@@ -158,5 +178,13 @@ fn files_of(
     ensures fault { IfErr result (λ fault. fault ≡ NoMemory) }
 {
     let server = Server::boot(alloc, FileService, sessions_of(list), list.pages() as usize)?;
-    Ok(Component::files(entry.name(), account, server))
+    Ok(Component::files(entry.label(), account, server))
+}
+
+/// The init of an entry on its account. It has started nothing yet.
+fn init_of(entry: &Entry, account: AccountId) -> Component
+    requires { entry.now.binary ≡ AnInit }
+    ensures { (list : Listed) → IsMade list entry.now account.0 None result }
+{
+    Component::init(entry.label(), account)
 }

@@ -1,6 +1,7 @@
 //! The routes of a machine as its core asks for them.
-ghost use Rattle.std.specs.Prelude.{◌≡◌, ℕ, List, Option};
-ghost use Rattle.own_model.specs.Listed.{own_rules, route_of, rules_for};
+ghost use Rattle.std.specs.Prelude.{◌≡◌, ◌≤◌, ℕ, List, Option, length};
+ghost use Rattle.own_model.specs.Listed.{route_of};
+ghost use Rattle.init_core.specs.Boot.{places_at};
 
 use crate::list::StartList;
 use crate::routing::route;
@@ -24,8 +25,7 @@ impl<'a> RouteTable<'a> {
 }
 
 impl<'a> Router for RouteTable<'a> {
-    ghost rules = { λ table client.
-        own_rules table.list.now.entries (rules_for table.list.now client) };
+    ghost places = { λ table place. places_at table.list.now place };
 
     ghost leads = { λ table client service label. route_of table.list.now client service label };
 

@@ -1,5 +1,8 @@
 //! Start lists that are read, and those that aren't.
 mod boots;
+mod inits;
+mod outward;
+mod tenants;
 mod wants;
 
 use crate::{BootFault, MACHINE_A, StartList, route};
@@ -432,10 +435,20 @@ fn is_usual(outcome: &Result<StartList, BootFault>, reads: bool) -> bool {
     }
 }
 
+/// An init within another.
+const NESTED: &str = r#"{"machine":{"pages":64,"caps":64},
+ "start":[
+  {"name":"a","binary":"init","quantum":"0","caps":0,"config":{
+   "default-route":[{"service":"LOG","label":"x","parent":true}],
+   "start":[
+    {"name":"b","binary":"init","quantum":"0","caps":0,"config":{
+     "start":[{"name":"alice","binary":"script","quantum":"0","caps":0,"route":[]}]}},
+    {"name":"log","quantum":"0","caps":0,"provides":["LOG"]}]}}]}"#;
+
 // Run with each allocation failing in turn: want of memory is told as such, and the next call does without it.
 #[test]
 fn want_of_memory_is_told(rt: HostRuntime) {
-    for (text, reads) in [(MACHINE_A, true), ("{", false)] {
+    for (text, reads) in [(MACHINE_A, true), (NESTED, true), ("{", false)] {
         let first = StartList::read(rt.alloc(), text.as_bytes());
         let second = StartList::read(rt.alloc(), text.as_bytes());
         let wanted = matches!(&first, Err(BootFault::NoMemory));

@@ -121,7 +121,7 @@ adds label partial run bytes line told is e few = record {
 -- a run that finishes the line
 pub finishes : (label partial run bytes line : List ℕ) (told next : Told) → written partial bytes ≡ record { lines = (partial ++ run) ∷ []; partial = [] } →
     line ≡ partial ++ run → next ≡ record told { lines = told.lines ++ log_text (record { label = label; text = line }) } →
-    length next.lines ≡ length told.lines + (length label + length line + 4) → length label ≤ 100 → length run ≤ length bytes → 0 < length bytes →
+    length next.lines ≡ length told.lines + (length label + length line + 4) → length label ≤ 208 → length run ≤ length bytes → 0 < length bytes →
     Writes (record { label = label; partial = partial }) told bytes (record { label = label; partial = [] }) next
 finishes label partial run bytes line told next is e told_so size short few some = record {
   session = rw is refl;

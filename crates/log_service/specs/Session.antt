@@ -21,8 +21,8 @@ abbrev pub as_kept : LabelledLine → Labelled
 as_kept line = record { label = line.label; state = Logging line.partial }
 
 -- bytes that are written after a line that isn't finished yet, and what they make of a reply: the lines that they finish go
--- behind its lines, and each byte makes these and the line that is left longer by at most 105 bytes
+-- behind its lines, and each byte makes these and the line that is left longer by at most 213 bytes
 pub record Writes (before : LabelledLine) (told : Told) (bytes : List ℕ) (after : LabelledLine) (next : Told) : Type 0 where
   pub session : after ≡ record before { partial = (written before.partial bytes).partial }
   pub reply : next ≡ record told { lines = told.lines ++ lines_text before.label (written before.partial bytes).lines }
-  pub added : length next.lines + length after.partial ≤ length told.lines + length before.partial + 105 * length bytes
+  pub added : length next.lines + length after.partial ≤ length told.lines + length before.partial + 213 * length bytes

@@ -4,7 +4,7 @@ mod machine;
 mod sessions;
 
 use crate::{LogService, LogSession};
-use server_frame::Reply;
+use server_frame::{LONGEST_LABEL, Reply};
 use std::alloc::AllocError;
 use std::process::Abort;
 
@@ -121,7 +121,7 @@ fn two_hundred_bytes_are_a_line(rt: HostRuntime) -> Result<(), AllocError> {
 #[test]
 fn longest_request_finds_room(rt: HostRuntime) -> Result<(), AllocError> {
     let mut reply = Reply::boot(rt.alloc()).expect(&rt, "memory for a reply");
-    let label = [b'l'; 100];
+    let label = [b'l'; LONGEST_LABEL];
     let mut session = LogSession::open(&label);
     let mut request = Vec::new(rt.alloc());
     request.extend_from_slice(b"WRITE ")?;
@@ -130,7 +130,7 @@ fn longest_request_finds_room(rt: HostRuntime) -> Result<(), AllocError> {
     }
     LogService.answer(&mut session, &request, &mut reply);
     assert_eq!(rt; reply.text(), b"OK 4093".as_slice());
-    assert_eq!(rt; reply.lines().len(), 4093 * 104);
+    assert_eq!(rt; reply.lines().len(), 4093 * 212);
     request.extend_from_slice(b"0a")?;
     assert!(rt; is_told(&mut session, &mut reply, &request, b"ERR BAD_REQUEST", b""));
     Ok(())

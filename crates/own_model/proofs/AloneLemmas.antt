@@ -98,7 +98,7 @@ module _ (selector : ℕ) (session : Session) where
 
   -- calls of other sessions leave it
   stays_by : (entry : Entry) (call : Call) (s : OwnState) → IsThere s → is_of_session call ≡ true → is_of selector call ≡ false → IsThere (own_step entry call s).next
-  stays_by entry (Open service text) s there is other = unless_leaves s there (turned_away entry.kind s) _ (opens s there (wish entry.name entry.routes service text))
+  stays_by entry (Open service text) s there is other = unless_leaves s there (turned_away entry.kind s) _ (opens s there (wish entry.label entry.routes service text))
   stays_by entry (Upgrade of text) s there is other = grind (arith, nat_tests, unless_leaves, upgrades, otherwise)
   stays_by entry (CallSession of request) s there is other = grind (arith, nat_tests, unless_leaves, serves, otherwise)
   stays_by entry (Close of) s there is other = grind (arith, nat_tests, unless_leaves, closes, otherwise)

@@ -22,8 +22,8 @@ use Rattle.own_model.specs.OwnState.Object.{OpenSession}
 use Rattle.own_model.specs.OwnStep.{Outcome, own_step, own_run, unless, turned_away, opened_by, session_opened, upgraded_by, session_upgraded, session_called, session_closed, selectors_lent, with_buffer}
 use Rattle.own_model.specs.Reply.{Reply}
 use Rattle.own_model.specs.Reply.Reply.{Done, Refused}
-use Rattle.own_model.specs.Routes.{Rule, Service, provider}
-use Rattle.own_model.specs.Session.{Session, Wish, given_by, label_with, wish_of, wish_in, donation_refusal, new_session, upgraded, served}
+use Rattle.own_model.specs.Routes.{Level, Service, label_with, provider}
+use Rattle.own_model.specs.Session.{Session, Wish, given_by, wish_of, wish_in, donation_refusal, new_session, upgraded, served}
 use Rattle.own_model.specs.SessionLaws.{LimitsAreDonations, ClosesReturnDonations}
 use Rattle.own_model.specs.SessionArgs.{Arguments, arguments_of}
 use Rattle.own_model.specs.StartList.{Entry}
@@ -72,7 +72,7 @@ module _ (selector : ℕ) where
         let asked : Wish = record { service = kind; label = label_with name arguments.label; ram = arguments.ram; caps = arguments.caps } in
         opens_by service text asked (ap (λ o. (given_by o).ram) (sym e), ap (λ o. (given_by o).caps) (sym e)) (donation_refusal s.account asked.ram asked.caps)
 
-    opens : (service text name : List ℕ) (routes : List Rule) (arguments : Option Arguments) → arguments_of text ≡ arguments →
+    opens : (service text name : List ℕ) (routes : List Level) (arguments : Option Arguments) → arguments_of text ≡ arguments →
         IsCounted (Open service text) sum (opened_by (wish_in name routes service arguments) s)
     opens service text name routes None e = h
     opens service text name routes (Some arguments) e = opens_to service text name arguments e (provider routes service arguments.label)

@@ -12,7 +12,7 @@ use Rattle.own_model.specs.Laws.{ExitsAreDone, GoneAreTurnedAway, GoneStay, Exit
 use Rattle.own_model.specs.OwnState.{OwnState}
 use Rattle.own_model.specs.OwnStep.{own_step, own_run, entry_step, exits, exited, gone_state, unless, turned_away}
 use Rattle.own_model.specs.StartList.{Entry, Kind}
-use Rattle.own_model.specs.StartList.Kind.{Script, Server}
+use Rattle.own_model.specs.StartList.Kind.{Script, Server, Init}
 
 -- a call that ends its caller is an exit
 exit_is : (call : Call) → is_exit call ≡ true → Exit ≡ call
@@ -40,6 +40,7 @@ gone_turned entry call s script gone = cc
 -- who is gone is left, whatever it is
 left_by : (kind : Kind) (entry : Entry) (call : Call) (s : OwnState) → s.gone ≡ true → (unless (turned_away kind s) s (entry_step entry call s)).next ≡ s
 left_by Server entry call s gone = refl
+left_by Init entry call s gone = refl
 left_by Script entry call s gone = ap (λ b. (unless (cond b (Some Gone) None) s (entry_step entry call s)).next) gone
 
 pub gone_left : (entry : Entry) (call : Call) (s : OwnState) → s.gone ≡ true → (own_step entry call s).next ≡ s
@@ -53,6 +54,7 @@ gone_stays entry (call ∷ calls) s gone = ap (own_run entry calls) (gone_left e
 -- an exit that is done is one of a script that isn't gone
 may_exit : (kind : Kind) (s : OwnState) → is_none (turned_away kind s) ≡ true → (kind ≡ Script) × (s.gone ≡ false)
 may_exit Server s done = absurd (true≢false (sym done))
+may_exit Init s done = absurd (true≢false (sym done))
 may_exit Script s done = (refl, elim s.gone as (λ b. is_none (cond b (Some Gone) None) ≡ true → b ≡ false) [ true ↦ λ e. absurd (true≢false (sym e)) | false ↦ λ _. refl ] done)
 
 -- and ends all

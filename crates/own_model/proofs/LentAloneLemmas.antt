@@ -235,7 +235,7 @@ module _ (selector q : ℕ) (bytes : List ℕ) (s : OwnState) (there : get s.sel
   leaves entry Reserve other = inl there
   leaves entry (Request text) other = inl (requests (arguments_of text))
   leaves entry (Yield text) other = inl (yields (arguments_of text))
-  leaves entry (Open service text) other = inl (opens (wish entry.name entry.routes service text))
+  leaves entry (Open service text) other = inl (opens (wish entry.label entry.routes service text))
   leaves entry (Upgrade of text) other = inl (upgrades of (session_named (get s.selectors of)) refl (arguments_of text))
   leaves entry (CallSession of request) other = inl (serves of (session_named (get s.selectors of)) refl request other)
   leaves entry (Close of) other = inl (closes of (session_named (get s.selectors of)) refl other)

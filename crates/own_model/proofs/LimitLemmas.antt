@@ -1,6 +1,7 @@
 -- What a call leaves of limits.
 use Rattle.std.proofs.lemmas.Bool.Decides.{nat_tests}
-use Rattle.std.proofs.Common.{rules, ◌≡◌, ℕ, false, cond, lit≤, Option, Some, None, List, [], ◌∷◌, refl, sym, ◌∙◌, true≢false, arith}
+use Rattle.std.proofs.Common.{rules, ◌≡◌, ℕ, false, cond, lit≤, Option, Some, None, List, [], ◌∷◌, refl, sym, ap, ◌∙◌, true≢false, arith, set}
+use Rattle.std.proofs.lemmas.List.{set-get_or}
 use Rattle.own_model.proofs.BufferKeptLemmas.{all_keep_limits, all_keep_within}
 use Rattle.std.specs.FinMap.{get, insert}
 use Rattle.own_model.proofs.LentLemmas.{lent_still, total_lent}
@@ -12,28 +13,27 @@ use Rattle.own_model.specs.BufferService.{session_request}
 use Rattle.own_model.specs.Call.{Call, is_exit}
 use Rattle.own_model.specs.Call.Call.{Capalloc}
 use Rattle.own_model.specs.OwnState.{OwnState, Object, EachSession, new_selector, object_with, buffer_of, bytes_of_buffer}
-use Rattle.own_model.specs.OwnStep.{gone_state, own_step, own_run, script_step, unless, cap_allocated, selectors_lent, session_called, session_closed}
-use Rattle.own_model.specs.Laws.{StepKeepsLimits, OthersKeepOwnLimits, ExitsReturnLimits}
+use Rattle.own_model.specs.OwnStep.{gone_state, own_step, own_run, entry_step, script_step, turned_away, unless, cap_allocated, selectors_lent, session_called, session_closed}
+use Rattle.own_model.specs.Laws.{ServersStay, StepKeepsLimits, OthersKeepOwnLimits, ExitsReturnLimits}
 use Rattle.own_model.specs.Donation.{raised}
 use Rattle.own_model.specs.Reply.Reply.{Refused}
 use Rattle.own_model.proofs.NewSelector.{new_selector_free}
 use Rattle.own_model.proofs.SessionLemmas.{donation_covered, large_enough, effects_each, reserve_each, sessions_each, gone_each}
 use Rattle.own_model.proofs.Totals.{total-empty, total-insert_new, total-insert_same, total-insert_at, total-remove}
-use Rattle.own_model.specs.Limits.{ram_with, caps_with, ram_limits, caps_limits, init_after, AreWithinLimits}
+use Rattle.own_model.specs.Limits.{ram_with, caps_with, ram_limits, caps_limits, init_after, inits_after, AreWithinLimits}
 use Rattle.own_model.specs.NatMap.{total}
 use Rattle.own_model.specs.OwnState.Object.{Dataspace, RpcObject, OpenSession, Buffer}
-use Rattle.own_model.specs.Routes.{Rule}
 use Rattle.own_model.specs.Session.{Session, ServiceState, served, served_by}
 use Rattle.own_model.specs.Session.ServiceState.{Logging, Filing}
-use Rattle.own_model.specs.StartList.{Entry}
-use Rattle.own_model.specs.StartList.Kind.{Server}
+use Rattle.own_model.specs.StartList.{Entry, init_at, no_account}
 use Rattle.own_model.proofs.TableLemmas.{step_keeps, others_go_on, goes_on}
 use Rattle.own_model.proofs.ExitLemmas.{by_exit}
 
 -- every call leaves a server
-pub server_stays : (name : List ℕ) (routes : List Rule) (calls : List Call) (s : OwnState) → own_run (record { name = name; kind = Server; routes = routes }) calls s ≡ s
-server_stays name routes [] s = refl
-server_stays name routes (call ∷ calls) s = server_stays name routes calls s
+pub server_stays : ServersStay
+server_stays entry [] s server = refl
+server_stays entry (call ∷ calls) s server =
+    ap (λ kind. own_run entry calls (unless (turned_away kind s) s (entry_step entry call s)).next) server ∙ server_stays entry calls s server
 
 -- what is told of an RPC object that is refused is why
 capalloc_told : (why : Option Refusal) (s : OwnState) (refusal : Refusal) → (unless why s (cap_allocated s)).reply ≡ Refused refusal → Some refusal ≡ why
@@ -179,11 +179,15 @@ none_left = (omega (arith, total-empty ram_with), omega (arith, total-empty caps
 pub limits_left : StepKeepsLimits
 limits_left entry call s = search (rules, by_exit, limits_move, none_left)
 
--- ---- what init is given
+-- ---- what inits are given
 
 -- nothing, where the limits are the same in all
 pub init_stays : (init : Account) (s t : OwnState) → SameInAll s t → init_after init s t ≡ init
 init_stays init s t same = grind (arith, nat_tests)
+
+-- so no init is
+pub inits_stay : (home : ℕ) (inits : List Account) (s t : OwnState) → SameInAll s t → inits_after home inits s t ≡ inits
+inits_stay home inits s t same = ap (set inits home) (init_stays (init_at inits home) s t same) ∙ set-get_or inits home no_account
 
 -- and all, where none are left
 pub init_gains : (init : Account) (s : OwnState) → init_after init s gone_state ≡ raised init (ram_limits s) (caps_limits s)

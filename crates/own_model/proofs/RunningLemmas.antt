@@ -5,11 +5,11 @@ use Rattle.std.proofs.lemmas.Bool.{cases_lt}
 use Rattle.std.proofs.lemmas.Bool.Decides.{nat_tests}
 use Rattle.own_model.proofs.RunLemmas.{own_run-append, own_part-append}
 use Rattle.own_model.proofs.ExitLemmas.{gone_left}
-use Rattle.own_model.specs.Laws.{InitOverLast}
+use Rattle.own_model.specs.Laws.{InitsOverLast}
 use Rattle.own_model.specs.Call.{Call}
 use Rattle.own_model.specs.OwnState.{OwnState}
 use Rattle.own_model.specs.OwnStep.{own_run, own_step}
-use Rattle.own_model.specs.Running.{running_step, states_after_call, states_after_heard, told_now, states_running, init_after_heard, told_running}
+use Rattle.own_model.specs.Running.{running_step, states_after_call, states_after_heard, told_now, states_running, inits_after_heard, told_running}
 use Rattle.own_model.specs.StartList.{Entry}
 use Rattle.own_model.specs.Text.{lines_of}
 use Rattle.own_model.specs.Transcript.{Made, Heard, own_part, nothing, entry_at, state_at, state_after, heard, calls_in, calls_of, told, told_after, transcript}
@@ -106,16 +106,16 @@ pub states_running-push : (entries : List Entry) (states : List OwnState) (lines
 states_running-push entries states [] line = refl
 states_running-push entries states (first ∷ lines) line = grind (arith, nat_tests, states_running-push entries (states_after_heard entries states (heard entries first)) lines line)
 
--- init's account after lines and one line more
-pub init_running-push : InitOverLast
-init_running-push entries init states [] line = refl
-init_running-push entries init states (first ∷ lines) line =
-    init_running-push entries (init_after_heard entries init states (heard entries first)) (states_after_heard entries states (heard entries first)) lines line
+-- inits' accounts after lines and one line more
+pub inits_running-push : InitsOverLast
+inits_running-push entries inits states [] line = refl
+inits_running-push entries inits states (first ∷ lines) line =
+    inits_running-push entries (inits_after_heard entries inits states (heard entries first)) (states_after_heard entries states (heard entries first)) lines line
 
 -- so the world after lines and one line more
 pub world_running-push : (world : World) (lines : List (List ℕ)) (line : List ℕ) →
     world_running world (lines ++ line ∷ []) ≡ world_after_heard (world_running world lines) (heard world.entries line)
-world_running-push world lines line = grind (arith, nat_tests, states_running-push, init_running-push)
+world_running-push world lines line = grind (arith, nat_tests, states_running-push, inits_running-push)
 
 -- what is told of lines and one line more
 pub told_running-push : (entries : List Entry) (states : List OwnState) (lines : List (List ℕ)) (line : List ℕ) →
@@ -147,4 +147,4 @@ length-states_running entries states [] = refl
 length-states_running entries states (line ∷ lines) = grind (arith, nat_tests, heard-length, length-states_running entries (states_after_heard entries states (heard entries line)) lines)
 
 -- the laws by which a loop over lines is proved
-pub ruleset running = (told_running-push, states_running-push, init_running-push, length-states_running, transcript-running, states_running-at)
+pub ruleset running = (told_running-push, states_running-push, inits_running-push, length-states_running, transcript-running, states_running-at)

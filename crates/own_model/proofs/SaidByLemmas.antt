@@ -9,9 +9,10 @@ use Rattle.own_model.specs.Call.{Call, Spoken, spoken}
 use Rattle.own_model.specs.OwnState.{OwnState}
 use Rattle.own_model.specs.OwnStep.{own_run, own_step}
 use Rattle.own_model.specs.SaidBy.{Piece, PiecesAreTold, PiecesStandAlone, StateStandsAlone, component_of, is_said_by, is_under, joined, pieces, pieces_for, said_by}
-use Rattle.own_model.specs.StartList.{Entry}
-use Rattle.own_model.specs.Transcript.{Made, Heard, own_part, nobody, entry_at, state_at, heard, heard_call, heard_spoken, calls_in, calls_of, longest_line, outcome_text, told, told_after}
-use Rattle.own_model.specs.Transcript.Heard.{NoCall}
+use Rattle.own_model.specs.StartList.{Entry, Kind}
+use Rattle.own_model.specs.StartList.Kind.{Script, Server, Init}
+use Rattle.own_model.specs.Transcript.{Made, Heard, own_part, nobody, entry_at, state_at, heard, heard_of, heard_call, heard_spoken, calls_in, calls_of, longest_line, outcome_text, told, told_after}
+use Rattle.own_model.specs.Transcript.Heard.{NoCall, Caller}
 
 -- the pieces are what is told
 pub pieces_are_told : PiecesAreTold
@@ -26,12 +27,12 @@ module _ (entries : List Entry) (starts : List OwnState) (name : List ℕ) where
 
   -- a line of the name is heard as a call under it
   own_line : (short : Bool) (says : Option Spoken) → (short && is_under name says) ≡ true →
-      (call : Call) × (hears short says ≡ heard_call (record { name = name; call = call }) (component_of entries name))
+      (call : Call) × (hears short says ≡ heard_call entries (record { name = name; call = call }) (component_of entries name))
   own_line false says is = absurd (true≢false (sym is))
   own_line true None is = absurd (true≢false (sym is))
   own_line true (Some says) is =
       let same : says.name ≡ name = (bytes_eq-Decides says.name name).0 is in
-      (says.call, ap (λ n. heard_call (record { name = n; call = says.call }) (component_of entries n)) same)
+      (says.call, ap (λ n. heard_call entries (record { name = n; call = says.call }) (component_of entries n)) same)
 
   -- two names aren't one component's
   apart : (other : List ℕ) (k component : ℕ) → component_of entries other ≡ Some k → component_of entries name ≡ Some component →
@@ -48,10 +49,15 @@ module _ (entries : List Entry) (starts : List OwnState) (name : List ℕ) where
 
   -- another line makes no call of the name's component
   module _ (component : ℕ) (here : component_of entries name ≡ Some component) where
+    others_call : (kind : Kind) (says : Spoken) (k : ℕ) → eqb k component ≡ false → own_part component (calls_in (heard_of kind says k)) ≡ []
+    others_call Script says k other = ap (λ b. cond b (says.call ∷ []) []) other
+    others_call Server says k other = ap (λ b. cond b (says.call ∷ []) []) other
+    others_call Init says k other = refl
+
     other_call : (says : Spoken) (found : Option ℕ) → component_of entries says.name ≡ found → bytes_eq says.name name ≡ false →
-        own_part component (calls_in (heard_call says found)) ≡ []
+        own_part component (calls_in (heard_call entries says found)) ≡ []
     other_call says None there differ = refl
-    other_call says (Some k) there differ = ap (λ b. cond b (says.call ∷ []) []) (apart says.name k component there here differ)
+    other_call says (Some k) there differ = others_call (entry_at entries k).kind says k (apart says.name k component there here differ)
 
     other_line : (short : Bool) (says : Option Spoken) → (short && is_under name says) ≡ false → own_part component (calls_in (hears short says)) ≡ []
     other_line false says is = refl
@@ -62,13 +68,25 @@ module _ (entries : List Entry) (starts : List OwnState) (name : List ℕ) where
   abbrev Alike : List Made → List Made → Type 0
   Alike xs ys = (component : ℕ) → component_of entries name ≡ Some component → own_part component xs ≡ own_part component ys
 
+  -- a component's call is answered alike after them
+  answered_alike : (call : Call) (component : ℕ) (xs ys : List Made) → own_part component xs ≡ own_part component ys →
+      told entries starts xs (Caller (record { component = component; call = call })) ≡ told entries starts ys (Caller (record { component = component; call = call }))
+  answered_alike call component xs ys alike =
+      let entry = entry_at entries component in
+      ap (λ part. outcome_text entry.name (own_step entry call (own_run entry part (state_at starts component)))) alike
+
+  -- so is a line of its name, whatever its kind
+  told_of : (kind : Kind) (call : Call) (component : ℕ) (xs ys : List Made) → own_part component xs ≡ own_part component ys →
+      told entries starts xs (heard_of kind (record { name = name; call = call }) component) ≡ told entries starts ys (heard_of kind (record { name = name; call = call }) component)
+  told_of Script call component xs ys alike = answered_alike call component xs ys alike
+  told_of Server call component xs ys alike = answered_alike call component xs ys alike
+  told_of Init call component xs ys alike = refl
+
   -- a line of the name is told alike after them, and keeps them so
   told_alike : (call : Call) (found : Option ℕ) (xs ys : List Made) → component_of entries name ≡ found → Alike xs ys →
-      told entries starts xs (heard_call (record { name = name; call = call }) found) ≡ told entries starts ys (heard_call (record { name = name; call = call }) found)
+      told entries starts xs (heard_call entries (record { name = name; call = call }) found) ≡ told entries starts ys (heard_call entries (record { name = name; call = call }) found)
   told_alike call None xs ys there alike = refl
-  told_alike call (Some component) xs ys there alike =
-      let entry = entry_at entries component in
-      ap (λ part. outcome_text entry.name (own_step entry call (own_run entry part (state_at starts component)))) (alike component there)
+  told_alike call (Some component) xs ys there alike = told_of (entry_at entries component).kind call component xs ys (alike component there)
 
   alike_more : (xs ys zs : List Made) → Alike xs ys → Alike (xs ++ zs) (ys ++ zs)
   alike_more xs ys zs alike component here =

@@ -28,7 +28,7 @@ use Rattle.own_model.specs.Reserve.{reserve_account}
 use Rattle.own_model.specs.Sliced.{sliced_size}
 use Rattle.own_model.specs.Sound.{IsSound}
 use Rattle.own_model.specs.StartList.{Entry, Kind, StartEntry, StartList, entries_of, start_state, start_states}
-use Rattle.own_model.specs.StartList.Kind.{Script, Server}
+use Rattle.own_model.specs.StartList.Kind.{Script, Server, Init}
 use Rattle.own_model.specs.Table.{Test, FailsFor, when, first_failed, lacks_ram, lacks_caps, memory_line, small_line, line_of, line_by, whole_line, refusal_in}
 use Rattle.own_model.specs.Use.{UsesWhatItHolds}
 use Rattle.own_model.specs.Transcript.{entry_at, state_at, own_part, calls_of, nothing}
@@ -174,6 +174,7 @@ module _ (s : OwnState) (sound : IsSound s) (uses : UsesWhatItHolds s) (small : 
   -- of each component
   whole_told : (kind : Kind) (entry : Entry) (call : Call) → AreToldOf call (line_by kind entry call s)
   whole_told Server entry call = (other (asked_of call s) _ NotAScript _ refl, tt)
+  whole_told Init entry call = (other (asked_of call s) _ NotAScript _ refl, tt)
   whole_told Script entry call = (other (asked_of call s) _ Gone _ refl, line_told entry call)
 
 -- so there is no shortage but of what is asked

@@ -440,7 +440,7 @@ none_sound account reserve gone = record {
 
 -- as who starts, and who has exited
 pub start_sound : (start : StartEntry) → IsSound (start_state start)
-start_sound start = none_sound (start_state start).account start.reserve false
+start_sound start = none_sound (start_state start).account (start_state start).reserve false
 
 pub gone_sound : IsSound gone_state
 gone_sound = none_sound gone_state.account no_reserve true

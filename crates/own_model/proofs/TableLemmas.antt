@@ -25,13 +25,13 @@ use Rattle.own_model.specs.Place.Place.{InDataspace, InPayload, InBlock}
 use Rattle.own_model.specs.Region.{Region, most_regions, user_low, user_high, can_stand, first_gap, user_gap, resolved, attach_refusal, attach_at_refusal}
 use Rattle.own_model.specs.Reply.Reply.{Refused}
 use Rattle.own_model.specs.Reserve.{reserve_account}
-use Rattle.own_model.specs.Routes.{Service, provider}
-use Rattle.own_model.specs.Session.{Session, Wish, wish_of, wish_in, label_with, too_small, donation_refusal, session_ram, session_caps}
+use Rattle.own_model.specs.Routes.{Service, label_with, provider}
+use Rattle.own_model.specs.Session.{Session, Wish, wish_of, wish_in, too_small, donation_refusal, session_ram, session_caps}
 use Rattle.own_model.specs.SessionArgs.{Arguments, arguments_of}
 use Rattle.own_model.specs.Sliced.{sliced_header, sliced_size, sliced_refusal, block_found}
 use Rattle.own_model.specs.Sound.{IsSound}
 use Rattle.own_model.specs.StartList.{Entry, Kind}
-use Rattle.own_model.specs.StartList.Kind.{Script, Server}
+use Rattle.own_model.specs.StartList.Kind.{Script, Server, Init}
 use Rattle.own_model.specs.Table.{Test, when, first_failed, lacks_ram, lacks_caps, is_dataspace, is_rpc_object, is_bad_count, memory_line, small_line, open_line, moved_line, upgrade_line, line_of, line_by, whole_line, refusal_in}
 
 -- an outcome is a refusal, or else one that tells none; for an account within its limits and a sound state the refusal
@@ -348,8 +348,8 @@ module _ (session moves ends : Bool) (P : OwnState → Type 0) (s : OwnState) (h
   opens_to name arguments None of = refused_for ServiceDenied _ refl
 
   opens : (entry : Entry) (service : List ℕ) (arguments : Option Arguments) → session ≡ true →
-      Explained session P s (opened_by (wish_in entry.name entry.routes service arguments) s) (open_line entry.routes service arguments s)
-  opens entry service (Some arguments) of = opens_to entry.name arguments (provider entry.routes service arguments.label) of
+      Explained session P s (opened_by (wish_in entry.label entry.routes service arguments) s) (open_line entry.routes service arguments s)
+  opens entry service (Some arguments) of = opens_to entry.label arguments (provider entry.routes service arguments.label) of
   opens entry service None of = refused_for BadArgs _ refl
 
   module _ (selector : ℕ) where
@@ -438,6 +438,7 @@ module _ (session moves ends : Bool) (P : OwnState → Type 0) (s : OwnState) (h
   by_kind : (kind : Kind) (entry : Entry) (call : Call) → is_of_session call ≡ session → moves_reserve call ≡ moves → is_exit call ≡ ends →
       Explained session P s (unless (turned_away kind s) s (entry_step entry call s)) (line_by kind entry call s)
   by_kind Server entry call of move end = refused_for NotAScript _ refl
+  by_kind Init entry call of move end = refused_for NotAScript _ refl
   by_kind Script entry call of move end = by_gone s.gone (entry_step entry call s) (line_of entry call s) (explained entry call of move end)
 
   -- what is accepted or refused keeps it

@@ -29,7 +29,7 @@ use Rattle.own_model.specs.Reserve.{no_reserve}
 use Rattle.own_model.specs.Session.{Session, new_session, upgraded, served}
 use Rattle.own_model.specs.Sliced.{sliced_header, sliced_size, block_size}
 use Rattle.own_model.proofs.HeapRangeLemmas.{gap_free, gap_free_large, new_page}
-use Rattle.own_model.specs.StartList.{Entry, StartEntry, start_state}
+use Rattle.own_model.specs.StartList.{Entry, StartEntry, account_at_start, of_component, start_state}
 use Rattle.own_model.specs.Use.{UsesWhatItHolds, object_size, object_caps}
 
 -- where nothing is held, nothing is used
@@ -38,7 +38,7 @@ none_uses ram caps reserve gone = search (rules, total-empty, len-empty)
 
 -- as at the start, and after an exit
 pub start_uses : (start : StartEntry) → UsesWhatItHolds (start_state start)
-start_uses start = none_uses start.ram start.caps start.reserve false
+start_uses start = none_uses (account_at_start start).ram (account_at_start start).caps (of_component start.entry.kind start.reserve) false
 
 pub gone_uses : UsesWhatItHolds gone_state
 gone_uses = none_uses 0 0 no_reserve true

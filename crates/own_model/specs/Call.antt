@@ -2,7 +2,7 @@
 use Rattle.std.specs.Prelude.{ℕ, Bool, true, false, List, [], ◌∷◌, length, nat_lt, if◌then◌else◌, Option, Some, None, is_none, codes}
 use Rattle.std.specs.Option.{option_map, option_and_then, unwrap_or}
 use Rattle.std.specs.Str.{bytes_eq}
-use Rattle.own_model.specs.Text.{first_word, is_name, number_of, address_of, bytes_of_hex}
+use Rattle.own_model.specs.Text.{first_word, is_name, is_path, number_of, address_of, bytes_of_hex}
 
 -- a call: one case a form. A session is opened and upgraded by the text of arguments, and called by the text of a request.
 -- What is requested of the reserve or yielded to it is told by the text of arguments, of which the label is ignored
@@ -49,7 +49,7 @@ abbrev pub is_exit : Call → Bool
 is_exit Exit = true
 is_exit call = false
 
--- a call, and the name of the component that makes it
+-- a call, and the path of the component that makes it, by which lines name it
 pub record Spoken : Type 0 where
   pub name : List ℕ
   pub call : Call
@@ -125,13 +125,13 @@ call_in (form ∷ rest) word arguments = if bytes_eq word form.word then form.ca
 abbrev pub call_of : List ℕ → Option (List ℕ) → Option Call
 call_of word arguments = call_in forms word arguments
 
--- what follows the name: a form, and its arguments
+-- what follows the path: a form, and its arguments
 abbrev pub form_of : List ℕ → Option Call
 form_of text = call_of (first_word text).word (first_word text).rest
 
--- a line of the grammar: a name, a space, and a call
+-- a line of the grammar: a path, a space, and a call
 abbrev pub spoken : List ℕ → Option Spoken
 spoken line =
-    if is_name (first_word line).word
+    if is_path (first_word line).word
     then option_map (λ call. record { name = (first_word line).word; call = call }) (option_and_then form_of (first_word line).rest)
     else None

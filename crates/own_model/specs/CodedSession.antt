@@ -1,12 +1,13 @@
 -- How routes and sessions are stored as parts of a model's value.
-use Rattle.std.specs.Prelude.{◌≡◌, ◌⊎◌, ℕ, List, Option}
+use Rattle.std.specs.Prelude.{◌≡◌, ◌⊎◌, ℕ, List, Option, Some, None}
 use Rattle.std.proofs.Common.{zero, suc, refl, inl, inr}
 use Rattle.std.specs.Coded.{Coded, code_by, coded×, coded⊎, coded_ℕ, coded_list, coded_option}
 use Rattle.own_model.specs.Account.{Account, coded_account}
 use Rattle.own_model.specs.FileService.{File, Files}
 use Rattle.own_model.specs.Growth.{Shape}
 use Rattle.own_model.specs.OwnHeap.{coded_shape}
-use Rattle.own_model.specs.Routes.{Rule, Service}
+use Rattle.own_model.specs.Routes.{Lead, Level, Rule, Service}
+use Rattle.own_model.specs.Routes.Lead.{To, Nowhere, Outward}
 use Rattle.own_model.specs.Session.{Session, ServiceState}
 use Rattle.own_model.specs.Session.ServiceState.{Logging, Filing}
 
@@ -30,13 +31,41 @@ coded_service = code_by ℕ coded_ℕ service_number service_from service_back
 abbrev pub coded_text : Coded (Option (List ℕ))
 coded_text = coded_option (coded_list coded_ℕ)
 
+-- a lead is stored as the service that it leads to, if it isn't outward, and if there is one
+abbrev pub lead_code : Lead → Option (Option Service)
+lead_code (To service) = Some (Some service)
+lead_code Nowhere = Some None
+lead_code Outward = None
+
+abbrev pub lead_from : Option (Option Service) → Lead
+lead_from (Some (Some service)) = To service
+lead_from (Some None) = Nowhere
+lead_from None = Outward
+
+abbrev pub lead_back : (l : Lead) → lead_from (lead_code l) ≡ l
+lead_back (To service) = refl
+lead_back Nowhere = refl
+lead_back Outward = refl
+
+abbrev pub coded_lead : Coded Lead
+coded_lead = code_by (Option (Option Service)) (coded_option (coded_option coded_service)) lead_code lead_from lead_back
+
 abbrev pub coded_rule : Coded Rule
 coded_rule =
     code_by
-    (Option (List ℕ) × (Option (List ℕ) × (Option (List ℕ) × (Option (List ℕ) × Option Service))))
-    (coded× coded_text (coded× coded_text (coded× coded_text (coded× coded_text (coded_option coded_service)))))
+    (Option (List ℕ) × (Option (List ℕ) × (Option (List ℕ) × (Option (List ℕ) × Lead))))
+    (coded× coded_text (coded× coded_text (coded× coded_text (coded× coded_text coded_lead))))
     (λ r. (r.service, (r.label, (r.label_prefix, (r.label_suffix, r.to)))))
     (λ p. record { service = p.0; label = p.1.0; label_prefix = p.1.1.0; label_suffix = p.1.1.1.0; to = p.1.1.1.1 })
+    (λ _. refl)
+
+abbrev pub coded_level : Coded Level
+coded_level =
+    code_by
+    (List ℕ × List Rule)
+    (coded× (coded_list coded_ℕ) (coded_list coded_rule))
+    (λ l. (l.name, l.rules))
+    (λ p. record { name = p.0; rules = p.1 })
     (λ _. refl)
 
 -- a file, and files with the heap of their nodes, are stored as the tuples of their fields

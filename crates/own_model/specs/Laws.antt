@@ -9,14 +9,13 @@ use Rattle.own_model.specs.Call.{Call, is_of_session, moves_reserve}
 use Rattle.own_model.specs.Call.Call.{Free, Attach, AttachAt, Peek, Poke, Capalloc, Exit}
 use Rattle.own_model.specs.Donation.{raised}
 use Rattle.own_model.specs.Limits.{ram_limits, caps_limits, init_after, AreWithinLimits}
-use Rattle.own_model.specs.Routes.{Rule}
 use Rattle.own_model.specs.OwnState.{OwnState, IsLeastUnused, named_bytes, new_selector}
 use Rattle.own_model.specs.OwnState.Object.{Dataspace}
 use Rattle.own_model.specs.OwnStep.{own_run, own_step, exits, exited, script_step, refused, gone_state}
 use Rattle.own_model.specs.Region.{Region, most_regions, resolved}
 use Rattle.own_model.specs.Reply.{address_text, hex_text}
 use Rattle.own_model.specs.Reply.Reply.{Bytes, Done, Refused}
-use Rattle.own_model.specs.Running.{told_running, states_running, told_now, states_after_heard, init_running, init_after_heard}
+use Rattle.own_model.specs.Running.{told_running, states_running, told_now, states_after_heard, inits_running, inits_after_heard}
 use Rattle.own_model.specs.StartList.{Entry, StartEntry, StartList, Boots, start_state}
 use Rattle.own_model.specs.StartList.Kind.{Script, Server}
 use Rattle.own_model.specs.Text.{lines_of, address_of, bytes_of_hex}
@@ -63,20 +62,20 @@ StatesOverLast =
     states_running entries states (lines ++ line ∷ [])
     ≡ states_after_heard entries (states_running entries states lines) (heard entries line)
 
--- init's account after a first line and the lines that follow it
-abbrev pub InitOverFirst : Type 0
-InitOverFirst =
-    (entries : List Entry) (init : Account) (states : List OwnState) (line : List ℕ) (lines : List (List ℕ)) →
-    init_running entries init states (line ∷ lines)
-    ≡ init_running entries (init_after_heard entries init states (heard entries line))
+-- inits' accounts after a first line and the lines that follow it
+abbrev pub InitsOverFirst : Type 0
+InitsOverFirst =
+    (entries : List Entry) (inits : List Account) (states : List OwnState) (line : List ℕ) (lines : List (List ℕ)) →
+    inits_running entries inits states (line ∷ lines)
+    ≡ inits_running entries (inits_after_heard entries inits states (heard entries line))
     (states_after_heard entries states (heard entries line)) lines
 
--- init's account after lines and a last line
-abbrev pub InitOverLast : Type 0
-InitOverLast =
-    (entries : List Entry) (init : Account) (states : List OwnState) (lines : List (List ℕ)) (line : List ℕ) →
-    init_running entries init states (lines ++ line ∷ [])
-    ≡ init_after_heard entries (init_running entries init states lines) (states_running entries states lines) (heard entries line)
+-- inits' accounts after lines and a last line
+abbrev pub InitsOverLast : Type 0
+InitsOverLast =
+    (entries : List Entry) (inits : List Account) (states : List OwnState) (lines : List (List ℕ)) (line : List ℕ) →
+    inits_running entries inits states (lines ++ line ∷ [])
+    ≡ inits_after_heard entries (inits_running entries inits states lines) (states_running entries states lines) (heard entries line)
 
 -- lines leave as many running states
 abbrev pub StatesKeepLength : Type 0
@@ -119,9 +118,7 @@ LongLinesAreNoCalls = (entries : List Entry) (line : List ℕ) → longest_line 
 
 -- every call leaves a server's own state
 abbrev pub ServersStay : Type 0
-ServersStay =
-    (name : List ℕ) (routes : List Rule) (calls : List Call) (s : OwnState) →
-    own_run (record { name = name; kind = Server; routes = routes }) calls s ≡ s
+ServersStay = (entry : Entry) (calls : List Call) (s : OwnState) → entry.kind ≡ Server → own_run entry calls s ≡ s
 
 -- a call leaves the limits of its caller, of the caller's reserve and of its open sessions together, and an exit that is done
 -- leaves none
@@ -138,8 +135,8 @@ OthersKeepOwnLimits =
     ((own_step entry call s).next.account.ram_limit ≡ (if exits entry call s then 0 else s.account.ram_limit))
     × ((own_step entry call s).next.account.caps_limit ≡ (if exits entry call s then 0 else s.account.caps_limit))
 
--- an exit that is done returns all limits of its caller, of the caller's reserve and of its open sessions to init, and no
--- other call any
+-- an exit that is done returns all limits of its caller, of the caller's reserve and of its open sessions to the caller's
+-- init, and no other call any
 abbrev pub ExitsReturnLimits : Type 0
 ExitsReturnLimits =
     (entry : Entry) (call : Call) (init : Account) (s : OwnState) →

@@ -1,12 +1,13 @@
 -- A start list as its text tells it, and where its rules lead.
-use Rattle.std.specs.Prelude.{◌≡◌, ℕ, ◌&&◌, ◌==◌, Bool, false, List, [], ◌∷◌, ◌++◌, map, position, count_by, codes, nat_eq, if◌then◌else◌, Option, Some, None}
+use Rattle.std.specs.Prelude.{◌≡◌, ℕ, ◌&&◌, ◌==◌, zero, suc, Bool, false, List, [], ◌∷◌, ◌++◌, map, position, count_by, codes, nat_eq, if◌then◌else◌, Option, Some, None}
 use Rattle.std.specs.List.{starts_with, ends_with, slice_get}
 use Rattle.std.specs.Option.{option_and_then, option_map, unwrap_or}
 use Rattle.std.specs.Str.{bytes_eq}
 use Rattle.own_model.specs.Amounts.{Amounts}
 use Rattle.own_model.specs.Reserve.{no_reserve}
 use Rattle.own_model.specs.Routes as routes
-use Rattle.own_model.specs.Routes.{Rule, Service, as_asked}
+use Rattle.own_model.specs.Routes.{Lead, Level, Rule, Service, as_asked, label_with}
+use Rattle.own_model.specs.Routes.Lead.{To, Nowhere, Outward}
 use Rattle.own_model.specs.StartList.{Kind, StartEntry, StartList}
 
 -- what a component runs
@@ -14,6 +15,7 @@ pub data Binary : Type 0 where
   Script : Binary
   LogServer : Binary
   FileServer : Binary
+  Init : Binary
 
 -- where a rule leads: to the child of a name, to any child, or out of this init
 pub data Target : Type 0 where
@@ -29,23 +31,45 @@ pub record ListedRule : Type 0 where
   pub label_suffix : Option (List ℕ)
   pub target : Target
 
--- an entry: what its account starts with, whether it provides the service of its binary, its own route, if it has one, and
--- its reserve, if the list gives it one
+-- an entry: its name in its list, its path, which is the names of the inits above it and its own parted by `/`, its label, which
+-- is the same parted by ` -> `, and the number of its init; what its account starts with, whether it provides the service of its
+-- binary, its own route, if it has one, its reserve, if the list gives it one, and the default route of what it starts, if it is
+-- an init
 pub record ListedEntry : Type 0 where
   pub name : List ℕ
+  pub path : List ℕ
+  pub label : List ℕ
+  pub home : ℕ
   pub binary : Binary
   pub ram : ℕ
   pub caps : ℕ
   pub provides : Bool
   pub route : Option (List ListedRule)
   pub reserve : Option Amounts
+  pub inner_route : List ListedRule
 
--- a machine and its entries, with the route of those that have none of their own
+-- a machine, the entries of all its lists, an init directly before its own, and the default route of the machine's own list
 pub record Listed : Type 0 where
   pub pages : ℕ
   pub caps : ℕ
   pub default_route : List ListedRule
   pub entries : List ListedEntry
+
+-- ---- inits
+
+-- the entry of the init of a number; the machine's has none
+abbrev pub init_entry : Listed → ℕ → Option ListedEntry
+init_entry list zero = None
+init_entry list (suc place) = slice_get list.entries place
+
+-- the default route of the list of an init
+abbrev pub default_of : Listed → ℕ → List ListedRule
+default_of list zero = list.default_route
+default_of list (suc place) = unwrap_or (option_map (λ entry. entry.inner_route) (slice_get list.entries place)) []
+
+-- inits nest at most 3 deep below the machine's, so there is one list more
+abbrev pub most_lists : ℕ
+most_lists = 4
 
 -- ---- which child a route leads to
 
@@ -60,23 +84,30 @@ abbrev pub serves : Binary → List ℕ → Bool
 serves Script service = false
 serves LogServer service = bytes_eq service log_service
 serves FileServer service = bytes_eq service file_service
+serves Init service = false
 
-abbrev pub offers : List ℕ → ListedEntry → Bool
-offers service entry = entry.provides && serves entry.binary service
+-- an entry of an init's list provides a service
+abbrev pub offers : ℕ → List ℕ → ListedEntry → Bool
+offers init service entry = entry.home == init && (entry.provides && serves entry.binary service)
 
 -- the child of a name, where it provides the service
-abbrev pub named_provider : List ListedEntry → List ℕ → List ℕ → Option ℕ
-named_provider entries name service = position (λ entry. bytes_eq entry.name name && offers service entry) entries
+abbrev pub named_provider : List ListedEntry → ℕ → List ℕ → List ℕ → Option ℕ
+named_provider entries init name service = position (λ entry. bytes_eq entry.name name && offers init service entry) entries
 
 -- the only child that provides the service; none where several do
-abbrev pub only_provider : List ListedEntry → List ℕ → Option ℕ
-only_provider entries service =
-    if count_by (offers service) entries == 1 then position (offers service) entries else None
+abbrev pub only_provider : List ListedEntry → ℕ → List ℕ → Option ℕ
+only_provider entries init service =
+    if count_by (offers init service) entries == 1 then position (offers init service) entries else None
 
-abbrev pub child_at : List ListedEntry → Target → List ℕ → Option ℕ
-child_at entries (Child name) service = named_provider entries name service
-child_at entries AnyChild service = only_provider entries service
-child_at entries Parent service = None
+-- a way: to the child at a place or to none, or outward
+pub data Way : Type 0 where
+  Inside : Option ℕ → Way
+  Outside : Way
+
+abbrev pub way_to : List ListedEntry → ℕ → Target → List ℕ → Way
+way_to entries init (Child name) service = Inside (named_provider entries init name service)
+way_to entries init AnyChild service = Inside (only_provider entries init service)
+way_to entries init Parent service = Outside
 
 -- the service and the given label are as the rule asks
 abbrev pub asks_for : ListedRule → List ℕ → List ℕ → Bool
@@ -86,23 +117,33 @@ asks_for rule service label =
     && (as_asked (starts_with nat_eq label) rule.label_prefix && as_asked (ends_with nat_eq label) rule.label_suffix))
 
 -- the first rule that matches decides, also where it leads to no child
-abbrev pub child_by : List ListedEntry → List ListedRule → List ℕ → List ℕ → Option ℕ
-child_by entries [] service label = None
-child_by entries (rule ∷ rules) service label =
-    if asks_for rule service label then child_at entries rule.target service
-    else child_by entries rules service label
+abbrev pub way_by : List ListedEntry → ℕ → List ListedRule → List ℕ → List ℕ → Way
+way_by entries init [] service label = Inside None
+way_by entries init (rule ∷ rules) service label =
+    if asks_for rule service label then way_to entries init rule.target service
+    else way_by entries init rules service label
 
--- the client's own route, or else the default route
-abbrev pub route_or : List ListedRule → ListedEntry → List ListedRule
-route_or default_route entry = unwrap_or entry.route default_route
+-- an entry's own route, or else the default route of its list
+abbrev pub rules_for : Listed → ListedEntry → List ListedRule
+rules_for list entry = unwrap_or entry.route (default_of list entry.home)
 
--- the rules for a client by its place
-abbrev pub rules_for : Listed → ℕ → List ListedRule
-rules_for list client = unwrap_or (option_map (route_or list.default_route) (slice_get list.entries client)) []
+-- where a way ends, if outward is there
+abbrev pub end_of : Way → Option ℕ → Option ℕ
+end_of (Inside child) outward = child
+end_of Outside outward = outward
+
+-- the child that the wish of an entry leads to, through so many lists at most: outward, the entry's init is the client, and the
+-- entry's name comes before the label
+abbrev pub route_within : ℕ → Listed → ListedEntry → List ℕ → List ℕ → Option ℕ
+route_within zero list entry service label = None
+route_within (suc lists) list entry service label =
+    end_of (way_by list.entries entry.home (rules_for list entry) service label)
+    (option_and_then (λ init. route_within lists list init service (label_with entry.name label)) (init_entry list entry.home))
 
 -- the child that a client's wish for a session leads to
 abbrev pub route_of : Listed → ℕ → List ℕ → List ℕ → Option ℕ
-route_of list client service label = child_by list.entries (rules_for list client) service label
+route_of list client service label =
+    option_and_then (λ entry. route_within most_lists list entry service label) (slice_get list.entries client)
 
 -- ---- what a list comes to in own step
 
@@ -111,16 +152,29 @@ abbrev pub service_of : Binary → Option Service
 service_of Script = None
 service_of LogServer = Some Service.Log
 service_of FileServer = Some Service.Files
+service_of Init = None
 
 abbrev pub service_at : List ListedEntry → ℕ → Option Service
 service_at entries child = option_and_then (λ entry. service_of entry.binary) (slice_get entries child)
 
--- the kind of the child that a target leads to
-abbrev pub service_led_to : List ListedEntry → Target → List ℕ → Option Service
-service_led_to entries target service = option_and_then (service_at entries) (child_at entries target service)
+-- a lead to a kind of server, if there is one
+abbrev pub lead_to : Option Service → Lead
+lead_to (Some service) = To service
+lead_to None = Nowhere
+
+-- the lead of a way
+abbrev pub lead_of : List ListedEntry → Way → Lead
+lead_of entries (Inside child) = lead_to (option_and_then (service_at entries) child)
+lead_of entries Outside = Outward
+
+-- that of a target for a service which no child provides
+abbrev pub lead_without : Target → Lead
+lead_without (Child name) = Nowhere
+lead_without AnyChild = Nowhere
+lead_without Parent = Outward
 
 -- the rule of own step for what a rule says of one service, or of every other one
-abbrev pub own_rule : ListedRule → Option (List ℕ) → Option Service → Rule
+abbrev pub own_rule : ListedRule → Option (List ℕ) → Lead → Rule
 own_rule rule service to = record {
   service = service;
   label = rule.label;
@@ -129,29 +183,42 @@ own_rule rule service to = record {
   to = to;
 }
 
-abbrev pub own_rule_for : List ListedEntry → ListedRule → List ℕ → Rule
-own_rule_for entries rule service = own_rule rule (Some service) (service_led_to entries rule.target service)
+abbrev pub own_rule_for : List ListedEntry → ℕ → ListedRule → List ℕ → Rule
+own_rule_for entries init rule service = own_rule rule (Some service) (lead_of entries (way_to entries init rule.target service))
 
--- a rule of any service is one for each service that is provided, and one that denies every other service
-abbrev pub own_rules_asking : List ListedEntry → ListedRule → Option (List ℕ) → List Rule
-own_rules_asking entries rule (Some service) = own_rule_for entries rule service ∷ []
-own_rules_asking entries rule None =
-    own_rule_for entries rule log_service ∷ own_rule_for entries rule file_service ∷ own_rule rule None None ∷ []
+-- a rule of any service is one for each service that is provided, and one for every other service
+abbrev pub own_rules_asking : List ListedEntry → ℕ → ListedRule → Option (List ℕ) → List Rule
+own_rules_asking entries init rule (Some service) = own_rule_for entries init rule service ∷ []
+own_rules_asking entries init rule None =
+    own_rule_for entries init rule log_service ∷ own_rule_for entries init rule file_service
+    ∷ own_rule rule None (lead_without rule.target) ∷ []
 
-abbrev pub own_rules : List ListedEntry → List ListedRule → List Rule
-own_rules entries [] = []
-own_rules entries (rule ∷ rules) = own_rules_asking entries rule rule.service ++ own_rules entries rules
+abbrev pub own_rules : List ListedEntry → ℕ → List ListedRule → List Rule
+own_rules entries init [] = []
+own_rules entries init (rule ∷ rules) = own_rules_asking entries init rule rule.service ++ own_rules entries init rules
+
+-- by what its own list decides for an entry
+abbrev pub level_of : Listed → ListedEntry → Level
+level_of list entry = record { name = entry.name; rules = own_rules list.entries entry.home (rules_for list entry) }
+
+-- the levels of an entry's wishes, of so many lists at most: its own list's, and outward those of its init's
+abbrev pub levels_within : ℕ → Listed → ListedEntry → List Level
+levels_within zero list entry = []
+levels_within (suc lists) list entry =
+    level_of list entry ∷ unwrap_or (option_map (levels_within lists list) (init_entry list entry.home)) []
 
 abbrev pub kind_of : Binary → Kind
 kind_of Script = Kind.Script
 kind_of LogServer = Kind.Server
 kind_of FileServer = Kind.Server
+kind_of Init = Kind.Init
 
--- a script has the reserve that the list gives it, and else an empty one; a server has none
+-- a script has the reserve that the list gives it, and else an empty one; who is no script has none
 abbrev pub reserve_by : Binary → Option Amounts → Amounts
 reserve_by Script given = unwrap_or given no_reserve
 reserve_by LogServer given = no_reserve
 reserve_by FileServer given = no_reserve
+reserve_by Init given = no_reserve
 
 abbrev pub reserve_of : ListedEntry → Amounts
 reserve_of entry = reserve_by entry.binary entry.reserve
@@ -159,9 +226,11 @@ reserve_of entry = reserve_by entry.binary entry.reserve
 abbrev pub start_of : Listed → ListedEntry → StartEntry
 start_of list entry = record {
   entry = record {
-    name = entry.name;
+    name = entry.path;
+    label = entry.label;
     kind = kind_of entry.binary;
-    routes = own_rules list.entries (route_or list.default_route entry);
+    home = entry.home;
+    routes = levels_within most_lists list entry;
   };
   ram = entry.ram;
   caps = entry.caps;
@@ -172,8 +241,9 @@ start_of list entry = record {
 abbrev pub start_list_of : Listed → StartList
 start_list_of list = record { pages = list.pages; caps = list.caps; starts = map (start_of list) list.entries }
 
--- own step's rules lead where the list's rules do: to the kind of the child that the first rule that matches leads to
+-- own step's routes lead where the list's rules do: to the kind of the child that the wish leads to
 abbrev pub RoutesLeadToProviders : Type 0
 RoutesLeadToProviders =
-    (entries : List ListedEntry) (rules : List ListedRule) (service label : List ℕ)
-    → routes.provider (own_rules entries rules) service label ≡ option_and_then (service_at entries) (child_by entries rules service label)
+    (lists : ℕ) (list : Listed) (entry : ListedEntry) (service label : List ℕ) →
+    routes.provider (levels_within lists list entry) service label
+    ≡ option_and_then (service_at list.entries) (route_within lists list entry service label)

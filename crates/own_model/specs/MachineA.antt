@@ -1,8 +1,28 @@
 -- The built-in machine A, as its text tells it.
-use Rattle.std.specs.Prelude.{[], ◌∷◌, true, false, codes, None}
-use Rattle.own_model.specs.Listed.{Listed}
+use Rattle.std.specs.Prelude.{ℕ, Bool, List, [], ◌∷◌, true, false, codes, None}
+use Rattle.own_model.specs.Listed.{Binary, Listed, ListedEntry}
 use Rattle.own_model.specs.Listed.Binary.{Script, LogServer, FileServer}
 use Rattle.own_model.specs.Listed.Target.{AnyChild}
+
+-- an entry of the machine's own list, without a route and a reserve
+abbrev of_machine : List ℕ → Binary → ℕ → ℕ → Bool → ListedEntry
+of_machine name binary ram caps provides = record {
+  name = name;
+  path = name;
+  label = name;
+  home = 0;
+  binary = binary;
+  ram = ram;
+  caps = caps;
+  provides = provides;
+  route = None;
+  reserve = None;
+  inner_route = [];
+}
+
+-- one of the scripts
+abbrev pub alice : ListedEntry
+alice = of_machine (codes "alice") Script 65536 16 false
 
 -- two servers and two scripts, whose wishes lead to the only child that provides what they ask for
 abbrev pub machine_a : Listed
@@ -10,9 +30,9 @@ machine_a = record {
   pages = 64;
   caps = 64;
   default_route = record { service = None; label = None; label_prefix = None; label_suffix = None; target = AnyChild } ∷ [];
-  entries = record { name = codes "log"; binary = LogServer; ram = 16384; caps = 8; provides = true; route = None; reserve = None }
-      ∷ record { name = codes "files"; binary = FileServer; ram = 16384; caps = 8; provides = true; route = None; reserve = None }
-      ∷ record { name = codes "alice"; binary = Script; ram = 65536; caps = 16; provides = false; route = None; reserve = None }
-      ∷ record { name = codes "bob"; binary = Script; ram = 65536; caps = 16; provides = false; route = None; reserve = None }
+  entries = of_machine (codes "log") LogServer 16384 8 true
+      ∷ of_machine (codes "files") FileServer 16384 8 true
+      ∷ alice
+      ∷ of_machine (codes "bob") Script 65536 16 false
       ∷ [];
 }

@@ -27,7 +27,7 @@ use Rattle.own_model.specs.Reserve.{no_reserve, reserve_account, filled, drawn}
 use Rattle.own_model.specs.Session.{Session, Wish, Served, wish, donation_refusal, new_session, upgraded, served}
 use Rattle.own_model.specs.SessionArgs.{Arguments, arguments_of}
 use Rattle.own_model.specs.StartList.{Entry, Kind}
-use Rattle.own_model.specs.StartList.Kind.{Script, Server}
+use Rattle.own_model.specs.StartList.Kind.{Script, Server, Init}
 
 -- the reply to a call, the log lines that it finished, and the caller's own state after it
 pub record Outcome : Type 0 where
@@ -44,9 +44,10 @@ abbrev pub unless : Option Refusal → OwnState → Outcome → Outcome
 unless (Some refusal) s accepted = refused s refusal
 unless None s accepted = accepted
 
--- why a component is refused before its call is looked at: it is a server, or has exited
+-- why a component is refused before its call is looked at: it is no script, or has exited
 abbrev pub turned_away : Kind → OwnState → Option Refusal
 turned_away Server s = Some NotAScript
+turned_away Init s = Some NotAScript
 turned_away Script s = if s.gone then Some Gone else None
 
 -- n bytes in whole pages, all zero, under the new selector
@@ -389,7 +390,7 @@ gone_state = record { account = opened 0 0; reserve = no_reserve; selectors = ma
 abbrev pub exited : Outcome
 exited = record { reply = Done; lines = []; next = gone_state }
 
--- what a call of a script does, whose name and routes its entry tells
+-- what a call of a script does, whose label and routes its entry tells
 abbrev pub entry_step : Entry → Call → OwnState → Outcome
 entry_step entry (Alloc n) s = unless (alloc_refusal n s.account) s (allocated n s)
 entry_step entry (Free selector) s = freed selector (get s.selectors selector) s
@@ -409,15 +410,15 @@ entry_step entry Quota s = told_quota s
 entry_step entry Reserve s = told_reserve s
 entry_step entry (Request text) s = requested_by (arguments_of text) s
 entry_step entry (Yield text) s = yielded_by (arguments_of text) s
-entry_step entry (Open service text) s = opened_by (wish entry.name entry.routes service text) s
+entry_step entry (Open service text) s = opened_by (wish entry.label entry.routes service text) s
 entry_step entry (Upgrade selector text) s = upgraded_by selector (session_named (get s.selectors selector)) (arguments_of text) s
 entry_step entry (CallSession selector request) s = session_called selector (session_named (get s.selectors selector)) request s
 entry_step entry (Close selector) s = session_closed selector (session_named (get s.selectors selector)) s
 entry_step entry Exit s = exited
 
--- a script without a name and without routes: no session is opened for it
+-- a script without a label and without routes: no session is opened for it
 abbrev pub unrouted : Entry
-unrouted = record { name = []; kind = Script; routes = [] }
+unrouted = record { name = []; label = []; kind = Script; home = 0; routes = [] }
 
 -- what a call of a script does that leads along no route
 abbrev pub script_step : Call → OwnState → Outcome

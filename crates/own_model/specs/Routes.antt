@@ -1,5 +1,5 @@
 -- Routes: which kind of server a client's wish for a session leads to.
-use Rattle.std.specs.Prelude.{ℕ, ◌&&◌, Bool, true, List, [], ◌∷◌, nat_eq, if◌then◌else◌, Option, Some, None}
+use Rattle.std.specs.Prelude.{ℕ, ◌&&◌, Bool, true, List, [], ◌∷◌, ◌++◌, codes, nat_eq, if◌then◌else◌, Option, Some, None}
 use Rattle.std.specs.List.{starts_with, ends_with}
 use Rattle.std.specs.Str.{bytes_eq}
 
@@ -8,14 +8,19 @@ pub data Service : Type 0 where
   Log : Service
   Files : Service
 
--- a rule: what it asks of the service's name and of the label that the client gave, as far as it asks, and the kind of
--- server that it leads to, if it leads to one
+-- where a rule leads: to a kind of server, to none, or outward, to the list of the init above
+pub data Lead : Type 0 where
+  To : Service → Lead
+  Nowhere : Lead
+  Outward : Lead
+
+-- a rule: what it asks of the service's name and of the label, as far as it asks, and where it leads
 pub record Rule : Type 0 where
   pub service : Option (List ℕ)
   pub label : Option (List ℕ)
   pub label_prefix : Option (List ℕ)
   pub label_suffix : Option (List ℕ)
-  pub to : Option Service
+  pub to : Lead
 
 -- what is asked holds, or nothing is asked
 abbrev pub as_asked : (List ℕ → Bool) → Option (List ℕ) → Bool
@@ -30,6 +35,29 @@ matches rule service label =
     && (as_asked (starts_with nat_eq label) rule.label_prefix && as_asked (ends_with nat_eq label) rule.label_suffix))
 
 -- the first rule that matches decides, also where it leads to none
-abbrev pub provider : List Rule → List ℕ → List ℕ → Option Service
+abbrev pub decided : List Rule → List ℕ → List ℕ → Lead
+decided [] service label = Nowhere
+decided (rule ∷ rules) service label = if matches rule service label then rule.to else decided rules service label
+
+-- names, and a label behind them, if there is one
+abbrev pub label_with : List ℕ → List ℕ → List ℕ
+label_with name [] = name
+label_with name (b ∷ given) = name ++ codes " -> " ++ b ∷ given
+
+-- the rules by which a list decides for one of its own, and the name that this has there
+pub record Level : Type 0 where
+  pub name : List ℕ
+  pub rules : List Rule
+
+-- where a lead ends, if outward is there
+abbrev pub led_to : Lead → Option Service → Option Service
+led_to (To service) outward = Some service
+led_to Nowhere outward = None
+led_to Outward outward = outward
+
+-- the client's own list decides; where that leads outward, the list of its init's decides for the init, with the client's name
+-- before the label, and so on. From the machine's own list there is no way outward
+abbrev pub provider : List Level → List ℕ → List ℕ → Option Service
 provider [] service label = None
-provider (rule ∷ rules) service label = if matches rule service label then rule.to else provider rules service label
+provider (level ∷ outer) service label =
+    led_to (decided level.rules service label) (provider outer service (label_with level.name label))

@@ -2,7 +2,7 @@
 use Rattle.std.specs.Prelude.{ℕ, ◌++◌, List, [], ◌∷◌, slice_set, codes}
 use Rattle.trade_base.specs.declared.refusal.Refusal.TheVariants.{BadLine, UnknownComponent}
 use Rattle.own_model.specs.Account.{Account}
-use Rattle.own_model.specs.Limits.{init_after}
+use Rattle.own_model.specs.Limits.{inits_after}
 use Rattle.own_model.specs.OwnState.{OwnState}
 use Rattle.own_model.specs.OwnStep.{Outcome, own_step}
 use Rattle.own_model.specs.Reply.Reply.{Refused}
@@ -44,16 +44,16 @@ told_running entries states (line ∷ lines) =
     told_now entries states (heard entries line)
     ++ told_running entries (states_after_heard entries states (heard entries line)) lines
 
--- init's account after what was heard: a call may return limits of its caller's to it
-abbrev pub init_after_heard : List Entry → Account → List OwnState → Heard → Account
-init_after_heard entries init states NoCall = init
-init_after_heard entries init states (Stranger name) = init
-init_after_heard entries init states (Caller made) =
-    init_after init (state_at states made.component) (running_step entries states made).next
+-- inits' accounts after what was heard: a call may return limits of its caller's to its init
+abbrev pub inits_after_heard : List Entry → List Account → List OwnState → Heard → List Account
+inits_after_heard entries inits states NoCall = inits
+inits_after_heard entries inits states (Stranger name) = inits
+inits_after_heard entries inits states (Caller made) =
+    inits_after (entry_at entries made.component).home inits (state_at states made.component) (running_step entries states made).next
 
--- init's account after these lines
-abbrev pub init_running : List Entry → Account → List OwnState → List (List ℕ) → Account
-init_running entries init states [] = init
-init_running entries init states (line ∷ lines) =
-    init_running entries (init_after_heard entries init states (heard entries line))
+-- inits' accounts after these lines
+abbrev pub inits_running : List Entry → List Account → List OwnState → List (List ℕ) → List Account
+inits_running entries inits states [] = inits
+inits_running entries inits states (line ∷ lines) =
+    inits_running entries (inits_after_heard entries inits states (heard entries line))
     (states_after_heard entries states (heard entries line)) lines

@@ -1,5 +1,5 @@
 -- Sessions: what is donated for one, why it is refused, and what its requests do.
-use Rattle.std.specs.Prelude.{ℕ, List, [], ◌∷◌, ◌++◌, codes, nat_lt, if◌then◌else◌, Option, Some, None, Result, Ok, Err}
+use Rattle.std.specs.Prelude.{ℕ, List, [], nat_lt, if◌then◌else◌, Option, Some, None, Result, Ok, Err}
 use Rattle.std.specs.Option.{option_or, unwrap_or}
 use Rattle.trade_base.specs.declared.refusal.Refusal.{Refusal}
 use Rattle.trade_base.specs.declared.refusal.Refusal.TheVariants.{BadArgs, ServiceDenied, InsufficientRamQuota, InsufficientCapQuota}
@@ -9,7 +9,7 @@ use Rattle.own_model.specs.BufferService.{BufferServed, text_served}
 use Rattle.own_model.specs.FileService.{Files, AreFiles, no_files}
 use Rattle.own_model.specs.LogService.{LogServed, IsPartial, labelled, log_served}
 use Rattle.own_model.specs.Reply.{LogLine}
-use Rattle.own_model.specs.Routes.{Rule, Service, provider}
+use Rattle.own_model.specs.Routes.{Level, Service, label_with, provider}
 use Rattle.own_model.specs.SessionArgs.{Arguments, arguments_of}
 use Rattle.own_model.specs.Sliced.{sliced_size}
 
@@ -75,12 +75,7 @@ given text = given_by (arguments_of text)
 
 -- ---- what is asked for
 
--- the label of a session: the client's name, and what it gave
-abbrev pub label_with : List ℕ → List ℕ → List ℕ
-label_with name [] = name
-label_with name (b ∷ given) = name ++ codes " -> " ++ b ∷ given
-
--- a session that is asked for: the kind of server, the label, and the donation
+-- a session that is asked for: the kind of server, the label, which is the client's and then what it gave, and the donation
 pub record Wish : Type 0 where
   pub service : Service
   pub label : List ℕ
@@ -89,17 +84,17 @@ pub record Wish : Type 0 where
 
 -- what arguments ask for where the route leads to a kind of server
 abbrev pub wish_of : List ℕ → Arguments → Option Service → Result Wish Refusal
-wish_of name arguments None = Err ServiceDenied
-wish_of name arguments (Some service) =
-    Ok (record { service = service; label = label_with name arguments.label; ram = arguments.ram; caps = arguments.caps })
+wish_of client arguments None = Err ServiceDenied
+wish_of client arguments (Some service) =
+    Ok (record { service = service; label = label_with client arguments.label; ram = arguments.ram; caps = arguments.caps })
 
--- what a client of this name and with these routes asks for: the arguments are read first, and then the route is taken
-abbrev pub wish_in : List ℕ → List Rule → List ℕ → Option Arguments → Result Wish Refusal
-wish_in name routes service None = Err BadArgs
-wish_in name routes service (Some arguments) = wish_of name arguments (provider routes service arguments.label)
+-- what a client of this label and with these routes asks for: the arguments are read first, and then the route is taken
+abbrev pub wish_in : List ℕ → List Level → List ℕ → Option Arguments → Result Wish Refusal
+wish_in client routes service None = Err BadArgs
+wish_in client routes service (Some arguments) = wish_of client arguments (provider routes service arguments.label)
 
-abbrev pub wish : List ℕ → List Rule → List ℕ → List ℕ → Result Wish Refusal
-wish name routes service text = wish_in name routes service (arguments_of text)
+abbrev pub wish : List ℕ → List Level → List ℕ → List ℕ → Result Wish Refusal
+wish client routes service text = wish_in client routes service (arguments_of text)
 
 -- the session that is made of it
 abbrev pub new_session : Wish → Session

@@ -18,12 +18,12 @@ use Rattle.own_model.specs.Region.{most_regions, user_low, user_high, can_stand,
 use Rattle.own_model.specs.Reply.{Reply}
 use Rattle.own_model.specs.Reply.Reply.{Selected, Attached, Bytes, Done, Quotas, Reserved, Told, Refused}
 use Rattle.own_model.specs.Reserve.{reserve_account}
-use Rattle.own_model.specs.Routes.{Rule, provider}
+use Rattle.own_model.specs.Routes.{Level, provider}
 use Rattle.own_model.specs.Session.{Session, session_ram, session_caps, given_by}
 use Rattle.own_model.specs.SessionArgs.{Arguments, arguments_of}
 use Rattle.own_model.specs.Sliced.{sliced_header, sliced_size}
 use Rattle.own_model.specs.StartList.{Entry, Kind}
-use Rattle.own_model.specs.StartList.Kind.{Script, Server}
+use Rattle.own_model.specs.StartList.Kind.{Script, Server, Init}
 
 -- a refusal, and whether there is reason for it
 pub record Test : Type 0 where
@@ -89,7 +89,7 @@ abbrev pub new_line : ℕ → OwnState → List Test
 new_line n s = if is_large n then memory_line (page_of n) (own_heap_gap (page_of n) s) s else small_line n (hole_for n s.heap.shape) s
 
 -- the line for a session of a service: the arguments, the route, the client's account, and the least donation
-abbrev pub open_line : List Rule → List ℕ → Option Arguments → OwnState → List Test
+abbrev pub open_line : List Level → List ℕ → Option Arguments → OwnState → List Test
 open_line routes service arguments s =
     when (is_none arguments) BadArgs ∷ when (is_none (provider routes service (given_by arguments).label)) ServiceDenied
     ∷ when (lacks_ram s.account (given_by arguments).ram) OutOfRam ∷ when (lacks_caps s.account (given_by arguments).caps) OutOfCaps
@@ -138,9 +138,10 @@ line_of entry (CallSession selector request) s = when (is_none (session_named (g
 line_of entry (Close selector) s = when (is_none (session_named (get s.selectors selector))) InvalidSession ∷ []
 line_of entry Exit s = []
 
--- any component's line, by its kind: a server's, one's that has exited, or else the call's
+-- any component's line, by its kind: that of who is no script, one's that has exited, or else the call's
 abbrev pub line_by : Kind → Entry → Call → OwnState → List Test
 line_by Server entry call s = when true NotAScript ∷ []
+line_by Init entry call s = when true NotAScript ∷ []
 line_by Script entry call s = when s.gone Gone ∷ line_of entry call s
 
 abbrev pub whole_line : Entry → Call → OwnState → List Test

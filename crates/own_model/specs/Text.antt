@@ -36,6 +36,10 @@ is_name_byte b = is_ascii_alphanumeric b || (b == 95 || (b == 45 || b == 46))
 abbrev pub is_name : List ℕ → Bool
 is_name bs = (nat_le 1 (length bs) && nat_le (length bs) 32) && list_all is_name_byte bs
 
+-- a path: 1 to 4 names parted by `/`
+abbrev pub is_path : List ℕ → Bool
+is_path bs = nat_le (length (slice_split (λ b. b == 47) bs)) 4 && list_all is_name (slice_split (λ b. b == 47) bs)
+
 -- the value of a hex digit of either case: `A` is 65, `a` is 97 and `0` is 48
 abbrev pub hex_digit_of : ℕ → Option ℕ
 hex_digit_of b =

@@ -8,8 +8,8 @@ use Rattle.own_model.specs.OwnState.{OwnState}
 use Rattle.own_model.specs.OwnStep.{Outcome, gone_state, own_step, own_run}
 use Rattle.own_model.specs.Reply.{Reply, reply_text, log_text}
 use Rattle.own_model.specs.Reply.Reply.{Refused}
-use Rattle.own_model.specs.StartList.{Entry}
-use Rattle.own_model.specs.StartList.Kind.{Server}
+use Rattle.own_model.specs.StartList.{Entry, Kind}
+use Rattle.own_model.specs.StartList.Kind.{Script, Server, Init}
 use Rattle.own_model.specs.Text.{lines_of}
 
 -- a call, and the component that makes it by its number in the start list
@@ -26,7 +26,7 @@ own_part component (made ∷ rest) =
 
 -- a number that the list doesn't have is a server without anything
 abbrev pub nobody : Entry
-nobody = record { name = []; kind = Server; routes = [] }
+nobody = record { name = []; label = []; kind = Server; home = 0; routes = [] }
 
 abbrev pub entry_at : List Entry → ℕ → Entry
 entry_at entries component = slice_index_or entries component nobody
@@ -48,7 +48,7 @@ abbrev pub answer : List Entry → List OwnState → List Made → Made → Outc
 answer entries starts earlier made =
     own_step (entry_at entries made.component) made.call (state_after entries starts earlier made.component)
 
--- what a line is to a machine with these entries: no call, one of an unknown name, or a component's
+-- what a line is to a machine with these entries: no call, one of a name that no component has, or a component's
 pub data Heard : Type 0 where
   NoCall : Heard
   Stranger : List ℕ → Heard
@@ -58,13 +58,19 @@ pub data Heard : Type 0 where
 abbrev pub longest_line : ℕ
 longest_line = 8192
 
-abbrev pub heard_call : Spoken → Option ℕ → Heard
-heard_call says None = Stranger says.name
-heard_call says (Some component) = Caller (record { component = component; call = says.call })
+-- an init makes no calls: its name is none that a line can call
+abbrev pub heard_of : Kind → Spoken → ℕ → Heard
+heard_of Script says component = Caller (record { component = component; call = says.call })
+heard_of Server says component = Caller (record { component = component; call = says.call })
+heard_of Init says component = Stranger says.name
+
+abbrev pub heard_call : List Entry → Spoken → Option ℕ → Heard
+heard_call entries says None = Stranger says.name
+heard_call entries says (Some component) = heard_of (entry_at entries component).kind says component
 
 abbrev pub heard_spoken : List Entry → Option Spoken → Heard
 heard_spoken entries None = NoCall
-heard_spoken entries (Some says) = heard_call says (position (λ entry. bytes_eq entry.name says.name) entries)
+heard_spoken entries (Some says) = heard_call entries says (position (λ entry. bytes_eq entry.name says.name) entries)
 
 abbrev pub heard : List Entry → List ℕ → Heard
 heard entries line = if nat_le (length line) longest_line then heard_spoken entries (spoken line) else NoCall

@@ -1,5 +1,5 @@
 //! Laws of answers: what is told by history and from running states is the same, and hangs on the caller's own part alone.
-ghost use Rattle.own_model.specs.Laws.{TranscriptIsRunning, StatesAreOwnRuns, StatesOverFirst, StatesOverLast, StatesKeepLength, InitOverFirst, InitOverLast, ToldOverFirst, ToldOverLast, EqualPartsEqualStates, EqualPartsEqualAnswers};
+ghost use Rattle.own_model.specs.Laws.{TranscriptIsRunning, StatesAreOwnRuns, StatesOverFirst, StatesOverLast, StatesKeepLength, InitsOverFirst, InitsOverLast, ToldOverFirst, ToldOverLast, EqualPartsEqualStates, EqualPartsEqualAnswers};
 ghost use Rattle.own_model.specs.SaidBy.{PiecesAreTold, PiecesStandAlone, StateStandsAlone};
 
 /// The transcript, whose answers come from the history of calls, is what the running states tell.
@@ -19,10 +19,10 @@ pub fn states_over_a_line()
     ensures count { StatesKeepLength }
 {}
 
-/// Init's account goes on line by line too.
-pub fn init_over_a_line()
-    ensures first { InitOverFirst }
-    ensures last { InitOverLast }
+/// Inits' accounts go on line by line too.
+pub fn inits_over_a_line()
+    ensures first { InitsOverFirst }
+    ensures last { InitsOverLast }
 {}
 
 /// What is told of lines is told line by line: the first from the states at hand, the last from those that the others left.

@@ -25,7 +25,7 @@ mod start;
 
 pub use accounts::totals_are_the_machine;
 pub use answers::{
-    equal_parts_equal_answers, equal_parts_equal_states, init_over_a_line, lines_stand_alone,
+    equal_parts_equal_answers, equal_parts_equal_states, inits_over_a_line, lines_stand_alone,
     states_are_own_runs, states_over_a_line, told_over_a_line, transcript_is_running,
 };
 pub use buffers::{

@@ -6,9 +6,9 @@ use Rattle.own_model.specs.BestFit.{Spot}
 use Rattle.own_model.specs.Call.{Call, is_exit}
 use Rattle.own_model.specs.Call.Call.{Alloc, Free, Attach, AttachAt, Detach, Peek, Poke, Capalloc, Capfree, New, Del, Snew, Sdel, Quota, Reserve, Request, Yield, Open, Upgrade, CallSession, Close, Exit}
 use Rattle.own_model.specs.Growth.{Growth, is_large, hole_for, growth_of, heap_refusal}
-use Rattle.own_model.specs.OwnState.{OwnState, Object, named_bytes, session_named, pages_in, object_with, buffer_of, bytes_of_buffer}
+use Rattle.own_model.specs.OwnState.{OwnState, Object, named_bytes, session_named, pages_in}
 use Rattle.own_model.specs.OwnState.Object.{Dataspace, RpcObject, OpenSession, Buffer}
-use Rattle.own_model.specs.OwnStep.{Outcome, entry_step, own_step, turned_away, unless, refused, allocated, freed, with_region, attached_first, attached_at, region_detached, count_refusal, peeked, poked, poked_at, payload_poked, block_poked, cap_allocated, cap_freed, newed, large_in, small_new, grown_in, deleted, given_back, sliced_in, sliced_freed, own_heap_gap, opened_by, session_opened, upgraded_by, session_upgraded, session_called, session_closed}
+use Rattle.own_model.specs.OwnStep.{Outcome, entry_step, unless, refused, freed, attached_first, attached_at, count_refusal, peeked, poked, poked_at, payload_poked, block_poked, cap_freed, large_in, small_new, grown_in, deleted, given_back, sliced_in, sliced_freed, own_heap_gap, opened_by, upgraded_by, session_called, session_closed}
 use Rattle.own_model.specs.Account.{alloc_refusal, shortage}
 use Rattle.own_model.specs.Place.{Place, found}
 use Rattle.own_model.specs.Place.Place.{InDataspace, InPayload, InBlock}
@@ -16,8 +16,7 @@ use Rattle.own_model.specs.Region.{most_regions, attach_refusal, attach_at_refus
 use Rattle.own_model.specs.Session.{Session, Wish, wish, donation_refusal}
 use Rattle.own_model.specs.SessionArgs.{Arguments, arguments_of}
 use Rattle.own_model.specs.Sliced.{sliced_refusal, sliced_size}
-use Rattle.own_model.specs.StartList.{Entry, Kind}
-use Rattle.own_model.specs.StartList.Kind.{Script, Server}
+use Rattle.own_model.specs.StartList.{Entry}
 use Rattle.trade_base.specs.Page.{page_of}
 use Rattle.std.specs.FinMap.{get}
 use Rattle.std.specs.Prelude.{length}
@@ -151,7 +150,7 @@ module _ (r : Amounts) (s : OwnState) where
   stands_aside entry Reserve other on = absurd (true≢false other)
   stands_aside entry (Request text) other on = absurd (true≢false other)
   stands_aside entry (Yield text) other on = absurd (true≢false other)
-  stands_aside entry (Open service text) other on = opens (wish entry.name entry.routes service text)
+  stands_aside entry (Open service text) other on = opens (wish entry.label entry.routes service text)
   stands_aside entry (Upgrade q text) other on = upgrades q (session_named (get s.selectors q)) (arguments_of text)
   stands_aside entry (CallSession q request) other on = serves q (session_named (get s.selectors q)) request
   stands_aside entry (Close q) other on = closes q (session_named (get s.selectors q))

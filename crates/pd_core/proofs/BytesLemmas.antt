@@ -8,7 +8,6 @@ use Rattle.std.specs.FinMap.{get, insert}
 use Rattle.trade_base.specs.declared.refusal.Refusal.{Refusal}
 use Rattle.trade_base.specs.declared.refusal.Refusal.TheVariants.{PageFault}
 use Rattle.trade_base.specs.Bytes.{with_bytes}
-use Rattle.trade_base.specs.declared.id.DsId.{DsId}
 use Rattle.own_model.specs.Call.Call.{Peek, Poke}
 use Rattle.own_model.specs.OwnState.Object.{Dataspace as ADataspace}
 use Rattle.own_model.specs.OwnStep.{Outcome, refused, unless, count_refusal, most_bytes, peeked, poked, script_step}
@@ -24,7 +23,6 @@ use Rattle.own_model.proofs.RangeLemmas.{range_fits, with_part-within}
 use Rattle.own_model.proofs.RegionLemmas.{resolved_renamed, resolved_facts}
 use Rattle.own_model.proofs.NatMapLemmas.{some_of}
 use Rattle.cap_space.specs.Space.{Space}
-use Rattle.cap_space.specs.declared.cap.Cap.TheVariants.{Dataspace}
 use Rattle.region_map.specs.Regions.{Regions}
 use Rattle.dataspace_core.specs.Store.{Part, bytes_of, part_with_bytes}
 use Rattle.pd_core.specs.Own.{Sessions, selector_of, regions_of, own_of, range_refusal, Lent}

@@ -1,6 +1,6 @@
 -- A change of the core, whichever call makes it: what it has to say of the caller, of the one session that it touches and of
 -- the accounts, and that the core stays sound.
-use Rattle.std.proofs.Common.{◌≡◌, ◌≢◌, ℕ, ◌≤◌, Some, refl, sym, ap, subst, ◌∙◌, inl, inr, None}
+use Rattle.std.proofs.Common.{◌≡◌, ◌≢◌, ℕ, zero, suc, ◌≤◌, false, true, Some, refl, sym, ap, subst, ◌∙◌, inl, inr, None}
 use Rattle.std.proofs.lemmas.Bool.{cases_eq}
 use Rattle.std.specs.FinMap.{get}
 use Rattle.std.specs.Option.{option_map}
@@ -14,14 +14,17 @@ use Rattle.dataspace_core.specs.Room.{HasRoom}
 use Rattle.dataspace_core.specs.Store.{Store, part, account_of, opened_part, parents_in, root_in, IsOpenIn, IsChildIn}
 use Rattle.server_frame.specs.Frame.{Row}
 use Rattle.trade_base.specs.declared.id.SessionId.{SessionId}
-use Rattle.pd_core.specs.Component.{Pays, reserve_in, IsReserve, caps_in, places_in, own_in, lent_of, lent_by, NamesItsSessions, HasPlaces, IsSoundRole}
-use Rattle.pd_core.specs.Core.{Roles, rows_at, sessions_in, Owner, Owns, NamesAccount, IsSoundCore}
+use Rattle.pd_core.specs.Component.{Pays, payer_in, reserve_in, IsReserve, caps_in, places_in, own_in, lent_of, lent_by, NamesItsSessions, HasPlaces, IsSoundRole}
+use Rattle.pd_core.specs.Core.{Heads, Places, Roles, rows_at, sessions_in, Owner, Owns, NamesAccount, IsInitOf, IsInits, IsSoundCore}
+use Rattle.pd_core.specs.Exit.{IsScriptRole}
+use Rattle.pd_core.specs.SessionCalls.{IsAtHome}
+use Rattle.pd_core.proofs.ComponentLemmas.{pays_is}
 use Rattle.pd_core.specs.Core.Owner.{Init, Place, ReserveAt, SessionAt}
 use Rattle.pd_core.specs.Own.{Sessions}
 use Rattle.pd_core.specs.Sessions.{row_session}
 use Rattle.pd_core.specs.Sound.{session_at, buffer_at}
 use Rattle.pd_core.specs.declared.component.Role.{Role}
-use Rattle.pd_core.proofs.HeldLemmas.{same_place, not_place, client_pays}
+use Rattle.pd_core.proofs.HeldLemmas.{same_place, client_pays, reserve_pays, script_no_init, script_head, below_init, init_below}
 
 -- ---- what a change has to say
 
@@ -34,8 +37,8 @@ pub record Rests (account : ℕ) (store store' : Store) : Type 0 where
   pub own : part account store' ≡ part account store
   pub parent : get (parents_in store') account ≡ get (parents_in store) account
 
--- a role is another's after the change: it is sound, and has its accounts, its capabilities and its own state, and its reserve
--- rests
+-- a role is another's after the change: it is sound, is an init where that is one, and has its accounts, its capabilities and its
+-- own state, and its reserve rests
 pub record Follows (store : Store) (before : Role) (store' : Store) (after : Role) : Type 0 where
   pub sound : IsSoundRole store' after
   pub own : (S S' : Sessions) → AgreeOn (caps_in before) S S' → own_in S' store' after ≡ own_in S store before
@@ -43,6 +46,7 @@ pub record Follows (store : Store) (before : Role) (store' : Store) (after : Rol
   pub places : places_in after ≡ places_in before
   pub pays : (account : ℕ) → Pays after account → Pays before account
   pub paid : (account : ℕ) → Pays before account → Pays after account
+  pub inits : (account : ℕ) → IsInitOf before account → IsInitOf after account
   pub reserve : reserve_in after ≡ reserve_in before
   pub reserved : (account : ℕ) → reserve_in before ≡ Some account → Rests account store store'
 
@@ -52,14 +56,15 @@ pub record IsTouched (store : Store) (roles : Roles) (i server id : ℕ) (was is
   pub is_its : (row : Row Labelled) → is ≡ Some row → Pays (roles i) row.client
   pub alone : (account : ℕ) → option_map (λ (row : Row Labelled). row.key) is ≡ Some account → (owner : Owner) → Owns store roles owner account → owner ≡ SessionAt server id
 
--- the component at a place changes, and perhaps one session of it, under a key of the server at another place; the other roles
+-- the script at a place changes, and perhaps one session of it, under a key of the server at another place; the other roles
 -- follow theirs. An account that is below another was so before, or is below the caller's, where a selector names its session
-pub record ChangesCore (i s key : ℕ) (store : Store) (roles : Roles) (store' : Store) (roles' : Roles) : Type 0 where
+pub record ChangesCore (heads : Heads) (i s key : ℕ) (store : Store) (roles : Roles) (store' : Store) (roles' : Roles) : Type 0 where
+  pub script : IsScriptRole (roles i)
   pub others : (k : ℕ) → k ≢ i → Follows store (roles k) store' (roles' k)
   pub sound : IsSoundRole store' (roles' i)
   pub pays : (account : ℕ) → Pays (roles' i) account → Pays (roles i) account
   pub reserve : (account : ℕ) → reserve_in (roles' i) ≡ Some account → reserve_in (roles i) ≡ Some account
-  pub reserved : (account : ℕ) → reserve_in (roles' i) ≡ Some account → IsReserve store' account
+  pub reserved : (account : ℕ) → reserve_in (roles' i) ≡ Some account → IsReserve store' (payer_in (roles' i)) account
   pub rows : (server id : ℕ) → ((server ≡ s) → (id ≡ key) → ⊥) → get (rows_at store' roles' server) id ≡ get (rows_at store roles server) id
   pub row : (get (rows_at store' roles' s) key ≡ get (rows_at store roles s) key) ⊎ IsTouched store roles i s key (get (rows_at store roles s) key) (get (rows_at store' roles' s) key)
   pub named : NamesItsSessions (rows_at store' roles') (roles' i)
@@ -69,11 +74,11 @@ pub record ChangesCore (i s key : ℕ) (store : Store) (roles : Roles) (store' :
   pub root : root_in store' ≡ root_in store
   pub children : (k account : ℕ) → Pays (roles k) account → Pays (roles' k) account → get (parents_in store') account ≡ get (parents_in store) account
   pub parents : (child parent : ℕ) → IsChildIn store' child parent → Pays (roles i) parent ⊎ IsChildIn store child parent
-  pub room : HasRoom store'
+  pub room : HasRoom heads store'
 
 -- ---- what follows
 
-module _ {i s key : ℕ} {store store' : Store} {roles roles' : Roles} (core : IsSoundCore store roles) (changes : ChangesCore i s key store roles store' roles') where
+module _ {i s key : ℕ} {store store' : Store} {roles roles' : Roles} (core : IsSoundCore store roles) (changes : ChangesCore core.heads i s key store roles store' roles') where
   -- a row stays, or it is the one that is touched
   each_row : (server id : ℕ) → (get (rows_at store' roles' server) id ≡ get (rows_at store roles server) id)
       ⊎ (((server ≡ s) × (id ≡ key)) × IsTouched store roles i server id (get (rows_at store roles server) id) (get (rows_at store' roles' server) id))
@@ -120,15 +125,42 @@ module _ {i s key : ℕ} {store store' : Store} {roles roles' : Roles} (core : I
     | inr other ↦ sym (changes.others k other).reserve ∙ has
   ]
 
-  reserved_after : (k account : ℕ) → reserve_in (roles' k) ≡ Some account → IsReserve store' account
+  reserved_after : (k account : ℕ) → reserve_in (roles' k) ≡ Some account → IsReserve store' (payer_in (roles' k)) account
   reserved_after k account has = elim (cases_eq k i) [
-    | inl at ↦ changes.reserved account (ap (λ n. reserve_in (roles' n)) (sym at) ∙ has)
+    | inl at ↦ subst (λ n. IsReserve store' (payer_in (roles' n)) account) (sym at) (changes.reserved account (ap (λ n. reserve_in (roles' n)) (sym at) ∙ has))
     | inr other ↦
+        let payer : ℕ = payer_in (roles' k) in
+        let pays : Pays (roles' k) payer = reserve_pays (roles' k) account has in
+        let paid : Pays (roles k) payer = was_place k payer pays in
         let was = was_reserve k account has in
         let rests = (changes.others k other).reserved account was in
         let before = core.reserved k account was in
-        record { child = rests.parent ∙ before.child ∙ ap Some (sym changes.root); unused = subst (λ p. p ≡ opened_part (account_of p).ram_limit (account_of p).caps_limit) (sym rests.own) before.unused }
+        record {
+          beside = rests.parent ∙ before.beside ∙ ap (λ n. get (parents_in store) n) (pays_is (roles k) payer paid) ∙ sym (changes.children k payer paid pays);
+          unused = subst (λ p. p ≡ opened_part (account_of p).ram_limit (account_of p).caps_limit) (sym rests.own) before.unused;
+        }
   ]
+
+  -- inits stay, each with its account
+  pub init_follows : (k account : ℕ) → IsInitOf (roles k) account → IsInitOf (roles' k) account
+  init_follows k account is = elim (cases_eq k i) [
+    | inl at ↦ absurd (script_no_init (roles i) changes.script account (subst (λ n. IsInitOf (roles n) account) at is))
+    | inr other ↦ (changes.others k other).inits account is
+  ]
+
+  inits_after : (account : ℕ) → IsInits store roles account → IsInits store' roles' account
+  inits_after account is = elim is [ inl root ↦ inl (changes.root ∙ root) | inr its ↦ inr (its.0, init_follows its.0 account its.1) ]
+
+  -- and each component's account is below its init's still
+  home_kept : (k number account : ℕ) → Pays (roles k) account → Pays (roles' k) account → IsAtHome store roles number account → IsAtHome store' roles' number account
+  home_kept k zero account was pays at = changes.children k account was pays ∙ at ∙ ap Some (sym changes.root)
+  home_kept k (suc place) account was pays at =
+      let its = below_init store (roles place) account at in
+      init_below store' (roles' place) account its.0 (init_follows place its.0 its.1.0) (changes.children k account was pays ∙ its.1.1)
+
+  pub homes_after : (places : Places) → ((k account : ℕ) → Pays (roles k) account → IsAtHome store roles (places k).home account) →
+      (k account : ℕ) → Pays (roles' k) account → IsAtHome store' roles' (places k).home account
+  homes_after places homes k account pays = home_kept k (places k).home account (was_place k account pays) pays (homes k account (was_place k account pays))
 
   -- who has an account had it, or has the touched session's, which nobody else had
   owned : (owner : Owner) (account : ℕ) → Owns store' roles' owner account →
@@ -159,10 +191,10 @@ module _ {i s key : ℕ} {store store' : Store} {roles roles' : Roles} (core : I
   at_each : (P : ℕ → Type 0) → P i → ((k : ℕ) → k ≢ i → P k) → (k : ℕ) → P k
   at_each P one others k = elim (cases_eq k i) [ inl at ↦ subst P (sym at) one | inr other ↦ others k other ]
 
-  clients_after : (server id : ℕ) (row : Row Labelled) → get (rows_at store' roles' server) id ≡ Some row → row.client ≢ root_in store'
-  clients_after server id row there e = elim (each_row server id) [
-    | inl same ↦ core.clients server id row (sym same ∙ there) (e ∙ changes.root)
-    | inr touched ↦ not_place i (core.apart Init (Place i) (root_in store) refl (subst (Pays (roles i)) (e ∙ changes.root) (touched.1.is_its row there)))
+  clients_after : (server id : ℕ) (row : Row Labelled) → get (rows_at store' roles' server) id ≡ Some row → core.heads row.client ≡ false
+  clients_after server id row there = elim (each_row server id) [
+    | inl same ↦ core.clients server id row (sym same ∙ there)
+    | inr touched ↦ script_head core i row.client (touched.1.is_its row there) changes.script
   ]
 
   -- what the sessions lend that another than the caller names
@@ -191,11 +223,11 @@ module _ {i s key : ℕ} {store store' : Store} {roles roles' : Roles} (core : I
             (its.0, ap (λ (m : NatMap Cap). buffer_at (get m its.0)) follows.caps ∙ its.1);
       }
 
-  held_after : (child parent : ℕ) → IsChildIn store' child parent → parent ≢ root_in store' → (place : ℕ) × NamesAccount (rows_at store' roles') (roles' place) child parent
+  held_after : (child parent : ℕ) → IsChildIn store' child parent → core.heads parent ≡ false → (place : ℕ) × NamesAccount (rows_at store' roles') (roles' place) child parent
   held_after child parent below inner = elim (changes.parents child parent below) [
     | inl its ↦ (i, changes.held child parent its below)
     | inr was ↦
-        let held = core.held child parent was (λ e. inner (e ∙ sym changes.root)) in
+        let held = core.held child parent was inner in
         let k = held.0 in
         let names = held.1 in
         elim (cases_eq k i) [
@@ -219,9 +251,14 @@ module _ {i s key : ℕ} {store store' : Store} {roles roles' : Roles} (core : I
   -- the core stays sound
   pub core_after : IsSoundCore store' roles'
   core_after = record {
+    heads = core.heads;
+    root_head = subst (λ root. core.heads root ≡ true) (sym changes.root) core.root_head;
+    inits = λ account head. inits_after account (core.inits account head);
     init = subst (IsOpenIn store') (sym changes.root) changes.init;
     sound = at_each (λ k. IsSoundRole store' (roles' k)) changes.sound (λ k other. (changes.others k other).sound);
-    children = λ k account pays. changes.children k account (was_place k account pays) pays ∙ core.children k account (was_place k account pays) ∙ ap Some (sym changes.root);
+    children = λ k account pays.
+        let below = core.children k account (was_place k account pays) in
+        record { head = below.head; is_head = below.is_head; child = changes.children k account (was_place k account pays) pays ∙ below.child };
     reserved = reserved_after;
     apart = apart_after;
     clients = clients_after;

@@ -1,6 +1,6 @@
 -- Calls of a session between a script and a server: what they require follows from the core, and what they change is one
 -- session.
-use Rattle.std.proofs.Common.{◌≡◌, ◌≢◌, ℕ, ◌+◌, ◌<◌, ◌≤◌, List, Some, is_some, unwrap_or, refl, sym, ap, subst, ◌∙◌, arith, inl, inr}
+use Rattle.std.proofs.Common.{◌≡◌, ◌≢◌, ℕ, ◌+◌, ◌<◌, ◌≤◌, List, false, Some, is_some, unwrap_or, refl, sym, ap, subst, ◌∙◌, arith, inl, inr}
 use Rattle.std.proofs.lemmas.Bool.{cases_eq}
 use Rattle.std.specs.FinMap.{get, insert, remove}
 use Rattle.std.specs.Prelude.{Option, None, IsSome, IfSome}
@@ -18,8 +18,7 @@ use Rattle.own_model.proofs.NatMapLemmas.{apart_from_free, some_of, value_at, ge
 use Rattle.own_model.proofs.NewSelector.{new_selector_free}
 use Rattle.own_model.proofs.SessionLemmas.{donation_covered, large_enough}
 use Rattle.own_model.proofs.Totals.{total-remove, total_le, total-picked, total-insert_same}
-use Rattle.cap_space.specs.declared.cap.Cap.{Cap}
-use Rattle.cap_space.specs.declared.cap.Cap.TheVariants.{Dataspace, RpcObject, Session, Buffer}
+use Rattle.cap_space.specs.declared.cap.Cap.TheVariants.{Session}
 use Rattle.dataspace_core.specs.Room.{IsOuter}
 use Rattle.dataspace_core.specs.Store.{Store, Part, part, space_at, account_in, account_of, accounts_in, parents_in, room_in, ram_limits_in, IsChildIn, IsOpenIn, PartBecomes, RaisesPart, ClosesPart}
 use Rattle.dataspace_core.proofs.LimitLaws.{accounts_after}
@@ -38,13 +37,13 @@ use Rattle.pd_core.specs.Sessions.{row_session, IsLentAt, HoldsLent, NamesSessio
 use Rattle.pd_core.specs.Sound.{session_at, buffer_at, lent_from, IsOthers, AreOthers, session_weight, lent_weight, IsOne, IsSoundScript}
 use Rattle.pd_core.specs.declared.component.Role.TheVariants.{Script as AScript}
 use Rattle.pd_core.specs.declared.script.Script.{Script}
-use Rattle.pd_core.proofs.HeldLemmas.{no_place, same_session, lender, owned_open, owns_row, pays_no_init, row_paid as paid_row}
+use Rattle.pd_core.proofs.HeldLemmas.{no_place, same_session, lender, owned_open, owns_row, place_outer, script_head, row_paid as paid_row}
 use Rattle.pd_core.proofs.CostLemmas.{row_covers, cost, weight, cost_covers}
 use Rattle.pd_core.proofs.LentPlaceLemmas.{counted_by_sessions}
 use Rattle.pd_core.proofs.NameLemmas.{buffer_key, own_or_lent, lent_key, Names}
 use Rattle.pd_core.proofs.LentLemmas.{LendAlike, paid_still}
 use Rattle.pd_core.proofs.ServerLemmas.{IsPaidRow, lent_paid, sound_works, place_in}
-use Rattle.pd_core.proofs.SessionChangeLemmas.{AreTwo, MovesAccounts, IsTied, KeepsBut, lent_pair, ChangesSession, at_script, pays_client}
+use Rattle.pd_core.proofs.SessionChangeLemmas.{AreTwo, MovesAccounts, IsTied, KeepsBut, lent_pair, ChangesSession, at_script, calls, pays_client}
 use Rattle.pd_core.proofs.SessionTurnLemmas.{Turns}
 use Rattle.pd_core.proofs.SessionOpenLemmas.{NamesOpen, script_with, free_before}
 
@@ -63,8 +62,11 @@ module _ {store : Store} {roles : Roles} {i s : ℕ} {script : Script} (two : Ar
   pub payer_open : IsOpenIn store payer
   payer_open = owned_open core (Place i) payer (pays_client two)
 
-  payer_outer : IsOuter store payer
-  payer_outer parent is = same_Some _ _ (sym is ∙ core.children i payer (pays_client two))
+  payer_outer : IsOuter core.heads store payer
+  payer_outer = place_outer core i payer (pays_client two)
+
+  payer_head : core.heads payer ≡ false
+  payer_head = script_head core i payer (pays_client two) (calls two)
 
   pub named : NamesItsSessions (rows_at store roles) (AScript script)
   named = at_script two (NamesItsSessions (rows_at store roles)) (core.named i)
@@ -244,7 +246,7 @@ module _ {store : Store} {roles : Roles} {i s : ℕ} {script : Script} (two : Ar
 
     module _ (store' : Store) where
       -- more is donated
-      pub raise_moves : (ram caps : ℕ) → RaisesPart payer row.key ram caps store store' → Fits (account_in store payer) ram caps → MovesAccounts payer row.key store store'
+      pub raise_moves : (ram caps : ℕ) → RaisesPart payer row.key ram caps store store' → Fits (account_in store payer) ram caps → MovesAccounts core.heads payer row.key store store'
       raise_moves ram caps raises fits = record {
         others = raises.others;
         parents = λ other _. ap (λ (m : NatMap ℕ). get m other) raises.parents;
@@ -254,12 +256,12 @@ module _ {store : Store} {roles : Roles} {i s : ℕ} {script : Script} (two : Ar
             (ap (λ (p : Part). p.account) raises.parted_one ∙ ap (λ a. Some (parted_with a ram caps)) (account_of-part payer store))
             (ap (λ (p : Part). p.account) raises.raised_one ∙ ap (λ a. Some (raised a ram caps)) (account_of-part row.key store))
             raises.others apart payer_open row_paid.opens (let fit = fits.caps_fit in omega arith);
-        room = room_is_raised payer row.key ram caps store store' raises payer_open payer_outer child apart fits core.room;
+        room = room_is_raised core.heads payer row.key ram caps store store' raises payer_open payer_outer child apart fits core.room;
       }
 
       -- a request is served
       pub serve_moves : {effect : Effect} {served : Served Labelled} {rows' : NatMap (Row Labelled)} → ServesSession row session.0 effect served store store' rows rows' → IsOpenIn store' row.key →
-          (account_in store' row.key).caps_limit ≡ row.account.caps_limit → MovesAccounts payer row.key store store'
+          (account_in store' row.key).caps_limit ≡ row.account.caps_limit → MovesAccounts core.heads payer row.key store store'
       serve_moves serves opens same_limit =
           let becomes : PartBecomes row.key (part row.key store') store store' = record { own = refl; others = serves.others; root = serves.root; parents = serves.parents; room = serves.room } in
           let has = some_of (part row.key store').account (part_open row.key store' opens) in
@@ -274,14 +276,14 @@ module _ {store : Store} {roles : Roles} {i s : ℕ} {script : Script} (two : Ar
             root = serves.root;
             caps = ap (total (λ (a : Account). a.caps_limit)) (accounts_after row.key (part row.key store') store store' has.0 becomes has.1)
                 ∙ total-insert_same (λ a. a.caps_limit) (accounts_in store) row.key has.0 was.0 was.1 (limit_stays ∙ ap (λ (o : Option Account). (unwrap_or o (opened 0 0)).caps_limit) was.1);
-            room = room_stays row.key (part row.key store') store store' has.0 becomes has.1 row_paid.opens limit_stays core.room;
+            room = room_stays core.heads row.key (part row.key store') store store' has.0 becomes has.1 row_paid.opens limit_stays core.room;
           }
 
       -- its row is written
       pub changes_written : {next : Row Labelled} {rows' : NatMap (Row Labelled)} {script' : Script} → KeepsBut script script' q under → get script'.caps.caps q ≡ Some (Session s session) →
           IsLentAt script'.caps.caps q under next.buffer → next.client ≡ row.client → next.key ≡ row.key → rows' ≡ insert rows session.0 next →
-          MovesAccounts payer row.key store store' → IsSoundScript store' script' → ram_limits_in store' ≡ ram_limits_in store →
-          ChangesSession row.key s q under session store store' script script' rows rows' (Some row) (Some next)
+          MovesAccounts core.heads payer row.key store store' → IsSoundScript store' script' → ram_limits_in store' ≡ ram_limits_in store →
+          ChangesSession core.heads row.key s q under session store store' script script' rows rows' (Some row) (Some next)
       changes_written {next} {rows'} stays has lent client key written moves sound ram = record {
         moves = moves;
         ram = ram;
@@ -304,7 +306,7 @@ module _ {store : Store} {roles : Roles} {i s : ℕ} {script : Script} (two : Ar
         key_gone : (other : ℕ) → IsChildIn store' row.key other → ⊥
         key_gone other is = none-some other (sym (ap (λ (m : NatMap ℕ). get m row.key) closes.parents ∙ get-remove_same (parents_in store) row.key row.key refl) ∙ is)
 
-        close_moves : MovesAccounts payer row.key store store'
+        close_moves : MovesAccounts core.heads payer row.key store store'
         unfolding part
         close_moves =
             let client_had = some_of (part payer store).account (part_open payer store payer_open) in
@@ -320,12 +322,12 @@ module _ {store : Store} {roles : Roles} {i s : ℕ} {script : Script} (two : Ar
               caps = sym (limits_opened (λ x. x.caps_limit) payer row.key client_had.0 key_had.0 store' store client_had.1 key_had.1
                   (λ other not_client not_key. sym (closes.others other not_key not_client)) (ap (λ (p : Part). p.account) closes.closed_one)
                   (open_in_part payer store' (ap (λ (p : Part). is_some p.account) closes.raised_one)) (omega (arith, one, other, now)));
-              room = room_is_given_back row.key payer store store' closes payer_open payer_outer child apart (pays_no_init core i payer (pays_client two)) core.room;
+              room = room_is_given_back core.heads row.key payer store store' closes payer_open payer_outer child apart payer_head core.room;
             }
 
         pub changes_closed : {rows' : NatMap (Row Labelled)} {script' : Script} → KeepsBut script script' q under → get script'.caps.caps q ≡ None → get script'.caps.caps under ≡ None →
             rows' ≡ remove rows session.0 → IsSoundScript store' script' → ram_limits_in store' ≡ ram_limits_in store →
-            ChangesSession row.key s q under session store store' script script' rows rows' (Some row) None
+            ChangesSession core.heads row.key s q under session store store' script script' rows rows' (Some row) None
         changes_closed stays gone none written sound ram = record {
           moves = close_moves;
           ram = ram;
@@ -362,10 +364,10 @@ module _ {store : Store} {roles : Roles} {i s : ℕ} {script : Script} (two : Ar
 
     -- there is a place for it, and for its account
     pub has_place : HasPlace (roles s)
-    has_place = place_in store (roles s) serving (core.sound s) (core.clients s) core.room payer ram caps no_session fits least
+    has_place = place_in core.heads store (roles s) serving (core.sound s) (core.clients s) core.room payer ram caps no_session fits least
 
     pub has_room : 0 < room_in store
-    has_room = room_for_one_more store payer ram caps core.room payer_outer fits least
+    has_room = room_for_one_more core.heads store payer ram caps core.room payer_outer fits least
 
     module _ (store' : Store) {session : SessionId} {first : Labelled} {rows' : NatMap (Row Labelled)} (opens : OpensSession payer ram caps session.0 first store store' rows rows') where
       -- nobody had its account
@@ -386,7 +388,7 @@ module _ {store : Store} {roles : Roles} {i s : ℕ} {script : Script} (two : Ar
       open_others p by key has = others_beside opens.key session.0 new_alone store' opens.others p by key has (not_there key)
 
       pub changes_opened : (selector : ℕ) → get script.caps.caps selector ≡ None → IsSoundScript store' (script_with script selector s session) → ram_limits_in store' ≡ ram_limits_in store →
-          ChangesSession opens.key s selector (new_selector (insert script.caps.caps selector (Session s session))) session store store' script (script_with script selector s session) rows rows' None (Some first_row)
+          ChangesSession core.heads opens.key s selector (new_selector (insert script.caps.caps selector (Session s session))) session store store' script (script_with script selector s session) rows rows' None (Some first_row)
       changes_opened selector free sound limits = record {
         moves = record {
           others = opens.others;
@@ -396,8 +398,8 @@ module _ {store : Store} {roles : Roles} {i s : ℕ} {script : Script} (two : Ar
           caps = limits_opened (λ x. x.caps_limit) payer opens.key (parted_with (account_in store payer) ram caps) (session_account ram caps) store store'
               (ap (λ (p : Part). p.account) opens.parted ∙ ap (λ a. Some (parted_with a ram caps)) (account_of-part payer store))
               opens.charge opens.others opens.fresh payer_open (let fit = fits.caps_fit in omega arith);
-          room = room_is_taken payer opens.key ram caps (session_account ram caps) store store' (opens_an_account Labelled payer ram caps session.0 first store store' rows rows' opens)
-              payer_open payer_outer (pays_no_init core i payer (pays_client two)) fits least core.room;
+          room = room_is_taken core.heads payer opens.key ram caps (session_account ram caps) store store' (opens_an_account Labelled payer ram caps session.0 first store store' rows rows' opens)
+              payer_open payer_outer payer_head fits least core.room;
         };
         ram = limits;
         sound = sound;

@@ -1,5 +1,5 @@
 -- A session that a selector names is closed, with its buffer if it has one: that it goes as the model's.
-use Rattle.std.proofs.Common.{◌≡◌, ◌≢◌, ℕ, ◌<◌, List, Option, None, Some, length, get_or, set, refl, sym, ap, subst, ◌∙◌, [], ◌+◌}
+use Rattle.std.proofs.Common.{◌≡◌, ◌≢◌, ℕ, ◌<◌, List, Option, None, Some, get_or, set, refl, sym, ap, subst, ◌∙◌, [], ◌+◌}
 use Rattle.std.proofs.lemmas.Grind.{get_or-set_at}
 use Rattle.std.proofs.lemmas.List.{get_or-set_other, length-set}
 use Rattle.std.proofs.lemmas.Option.{none-some}
@@ -18,7 +18,7 @@ use Rattle.server_frame.specs.Frame.{Row}
 use Rattle.server_frame.specs.Lent.{key_of}
 use Rattle.pd_core.specs.Answer.{told_alone}
 use Rattle.pd_core.specs.Component.{caps_in, rows_in, rows_of, StaysServer}
-use Rattle.pd_core.specs.Core.{Rules, roles_of}
+use Rattle.pd_core.specs.Core.{Places, roles_of}
 use Rattle.pd_core.specs.Sessions.{IsLentAt}
 use Rattle.pd_core.specs.SessionCalls.{Goes, NamesBuffer, DropsBuffer, without_selector, without_buffer}
 use Rattle.pd_core.specs.Sound.{session_weight, lent_weight, buffer_at}
@@ -59,9 +59,9 @@ module _ {store : Store} (components : List Component) {i s : ℕ} {script : Scr
   -- a close goes as the model's where the client has turned so
   turned_closes : (components' : List Component) (script' : Script) → Turns script script' q k its_row.buffer None → get script'.caps.caps q ≡ None →
       total session_weight script'.caps.caps + 1 + lent_weight its_row.buffer ≡ total session_weight script.caps.caps →
-      ReplacesTwo (roles_of components) (roles_of components') i s (AScript script') host'.role → SameFaces components components' → (rules : Rules) →
-      Goes rules (Close q) i (told_alone (reply_text Done)) store components store' components'
-  turned_closes components' script' turns gone fewer replaced faces rules =
+      ReplacesTwo (roles_of components) (roles_of components') i s (AScript script') host'.role → SameFaces components components' → (places : Places) →
+      Goes places (Close q) i (told_alone (reply_text Done)) store components store' components'
+  turned_closes components' script' turns gone fewer replaced faces places =
       let keeps = keeps_but two q session names turns in
       let done = closes_done store store' script script' (rows_in store (roles_of components s)) q s session (script_sound two) (named components two d host host_is q session names) stays.machine None turns
       (lent_alike two q session names store' others) (are_others two q session names store' others None (λ key is. absurd (none-some key is)) keeps (ap buffer_at gone) turns.tables.after)
@@ -69,11 +69,11 @@ module _ {store : Store} (components : List Component) {i s : ℕ} {script : Scr
       session_goes components components' two d host_is replaced faces (row_alone two q session names)
       (changes_closed two q session names store' (subst (λ n. ClosesPart its_row.key n store store') its_client closes) keeps gone (turns.tables.after.free refl)
       (written ∙ ap (λ r. remove (rows_in store r) session.0) (sym host_is)) done.sound stays.machine) stays
-      rules (Close q) refl refl Done [] (told_alone (reply_text Done)) refl refl done.does
+      places (Close q) refl refl Done [] (told_alone (reply_text Done)) refl refl done.does
 
   -- ---- the caller is put back first
 
-  module _ (client e : Component) (read : host ≡ get_or (set components i client) s e) (is : client ≡ record (get_or components i d) { role = without_selector (get_or components i d).role q }) (rules : Rules) where
+  module _ (client e : Component) (read : host ≡ get_or (set components i client) s e) (is : client ≡ record (get_or components i d) { role = without_selector (get_or components i d).role q }) (places : Places) where
     abbrev left : Script
     left = record script { caps = without_cap script.caps q }
 
@@ -85,19 +85,19 @@ module _ {store : Store} (components : List Component) {i s : ℕ} {script : Scr
 
     both_faces : SameFaces components (set (set components i client) s host')
     both_faces =
-        face_set (set components i client) s host' e (face components two d host host_is q session names store' host' stays rules ∙ ap face_of read)
+        face_set (set components i client) s host' e (face components two d host host_is q session names store' host' stays places ∙ ap face_of read)
         ∙ face_set components i client d (face_as (get_or components i d) client (caller_is components two d host host_is q session names) is now_role)
 
     -- it had no buffer
     pub closed_goes : (told : Option DsId) → ((store : Store) (one : Row Labelled) → get (rows_of store host) session.0 ≡ Some one → key_of told ≡ one.buffer) → told ≡ None →
-        Goes rules (Close q) i (told_alone (reply_text Done)) store components store' (set (set components i client) s host')
+        Goes places (Close q) i (told_alone (reply_text Done)) store components store' (set (set components i client) s host')
     closed_goes told tells none =
         let lent : its_row.buffer ≡ None = lent_told components two d host host_is q session names told tells ∙ ap key_of none in
         let free : IsLentAt script.caps.caps q k None = subst (IsLentAt script.caps.caps q k) lent at in
         turned_closes (set (set components i client) s host') (closed_script script q k s session names free)
         (subst (λ a. Turns script (closed_script script q k s session names free) q k a None) (sym lent) (turns_closed script q k s session names free)) (closed_gone script q k s session names free)
         (subst (λ a. total session_weight left.caps.caps + 1 + lent_weight a ≡ total session_weight script.caps.caps) (sym lent) (closed_fewer script q k s session names free))
-        (subst (λ r. ReplacesTwo (roles_of components) (roles_of (set (set components i client) s host')) i s r host'.role) client_role (both_put components two client host')) both_faces rules
+        (subst (λ r. ReplacesTwo (roles_of components) (roles_of (set (set components i client) s host')) i s r host'.role) client_role (both_put components two client host')) both_faces places
 
     -- or it had one, which goes after it
     module _ (told : Option DsId) (tells : (store : Store) (one : Row Labelled) → get (rows_of store host) session.0 ≡ Some one → key_of told ≡ one.buffer) (space : DsId) (lends : told ≡ Some space) (d' : Component) where
@@ -129,7 +129,7 @@ module _ {store : Store} (components : List Component) {i s : ℕ} {script : Scr
           }
 
       pub ended_goes : (dropped : Component) → DropsBuffer space.0 (get_or (set (set components i client) s host') i d') dropped →
-          Goes rules (Close q) i (told_alone (reply_text Done)) store components store' (set (set (set components i client) s host') i dropped)
+          Goes places (Close q) i (told_alone (reply_text Done)) store components store' (set (set (set components i client) s host') i dropped)
       ended_goes dropped drops =
           let one = (script_sound two).own.named.one in
           let tested = ap (λ r. is_buffer space.0 (get (caps_in r) drops.selector)) (sym same_role) ∙ drops.named in
@@ -144,4 +144,4 @@ module _ {store : Store} (components : List Component) {i s : ℕ} {script : Scr
           (ended_gone script q k s session names space.0 lent_at)
           (subst (λ a. total session_weight (ended_script script q k s session names space.0 lent_at).caps.caps + 1 + lent_weight a ≡ total session_weight script.caps.caps) (sym its_lent) (ended_fewer script q k s session names space.0 lent_at))
           (subst (λ r. ReplacesTwo (roles_of components) (roles_of (set (set (set components i client) s host') i dropped)) i s r host'.role) role (all_put dropped))
-          (face_set (set (set components i client) s host') i dropped d' (face_as (get_or (set (set components i client) s host') i d') dropped same_role drops.gone last_role) ∙ both_faces) rules
+          (face_set (set (set components i client) s host') i dropped d' (face_as (get_or (set (set components i client) s host') i d') dropped same_role drops.gone last_role) ∙ both_faces) places

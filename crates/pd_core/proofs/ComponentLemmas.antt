@@ -1,5 +1,5 @@
 -- A component that is a script; the accounts of components; and what a plain call keeps of the memory.
-use Rattle.std.proofs.Common.{◌≡◌, ◌≢◌, ℕ, List, ◌∙◌, Some, IsSome, unwrap_or, refl, sym, ap, subst, inl, inr}
+use Rattle.std.proofs.Common.{◌≡◌, ◌≢◌, ℕ, ◌∙◌, Some, IsSome, unwrap_or, refl, sym, ap, subst, inl, inr}
 use Rattle.std.specs.Prelude.{Option}
 use Rattle.own_model.specs.Account.{Account, opened}
 use Rattle.own_model.specs.NatMap.{NatMap, total}
@@ -7,10 +7,9 @@ use Rattle.own_model.proofs.NatMapLemmas.{some_of, value_at}
 use Rattle.own_model.proofs.Totals.{total-insert_same}
 use Rattle.dataspace_core.specs.Room.{HasRoom}
 use Rattle.dataspace_core.proofs.LimitLaws.{accounts_after}
-use Rattle.dataspace_core.proofs.PartLaws.{account_of-part, open_in_part}
+use Rattle.dataspace_core.proofs.PartLaws.{account_of-part, open_in_part, part_open}
 use Rattle.dataspace_core.proofs.RoomLaws.{room_stays}
 use Rattle.own_model.proofs.RouteLemmas.{routes_alike}
-use Rattle.own_model.specs.Routes.{Rule}
 use Rattle.pd_core.specs.Call.{model_call, IsPlain}
 use Rattle.pd_core.specs.declared.call.Call.{Call}
 use Rattle.own_model.specs.OwnStep.{own_step, script_step}
@@ -19,25 +18,26 @@ use Rattle.pd_core.specs.declared.script.Script.{Script}
 use Rattle.trade_base.specs.declared.id.AccountId.{AccountId}
 use Rattle.pd_core.specs.Own.{Sessions, own_of, own_at}
 use Rattle.pd_core.specs.Sound.{OthersStay, SparesOthers, Keeps as ScriptKeeps}
-use Rattle.pd_core.specs.Component.{Pays, amounts_in, entry_of, kind_of, payer_in, payer_of, reserve_in, served_by, own_in, own, IsSoundRole, IsSound, Keeps}
+use Rattle.pd_core.specs.Component.{Place, Pays, amounts_in, entry_of, payer_in, payer_of, served_by, own_in, own, IsSoundRole, IsSound, Keeps}
+use Rattle.pd_core.specs.Core.{Heads}
 use Rattle.pd_core.specs.Exit.{IsScriptRole}
-use Rattle.trade_base.specs.declared.refusal.Refusal.TheVariants.{Gone as IsGone}
+use Rattle.trade_base.specs.declared.refusal.Refusal.TheVariants.{Gone as IsGone, NotAScript}
 use Rattle.std.proofs.lemmas.Option.{none-some}
 use Rattle.pd_core.specs.declared.component.Role.{Role}
-use Rattle.pd_core.specs.declared.component.Role.TheVariants.{Script as AScript, Log as ALog, Files as AFiles, Gone as AGone}
+use Rattle.pd_core.specs.declared.component.Role.TheVariants.{Script as AScript, Log as ALog, Files as AFiles, Init as AnInit, Gone as AGone}
 use Rattle.pd_core.specs.declared.component.Component.{Component}
 use Rattle.pd_core.proofs.AsideLemmas.{outcome_with, stands_aside}
 use Rattle.cap_space.specs.declared.cap.Cap.{Cap}
 use Rattle.std.proofs.lemmas.Bool.{cases_eq}
 
 -- its own step is the script's, beside the reserve
-pub script_outcome : (rules : List Rule) (sessions : Sessions) (store : Store) (component : Component) (script : Script) (call : Call) → component.role ≡ AScript script → IsPlain call →
-    own_step (entry_of rules component) (model_call call) (own sessions store component) ≡ outcome_with (amounts_in (part script.reserve.0 store)) (script_step (model_call call) (own_at sessions store script))
+pub script_outcome : (place : Place) (sessions : Sessions) (store : Store) (component : Component) (script : Script) (call : Call) → component.role ≡ AScript script → IsPlain call →
+    own_step (entry_of place component) (model_call call) (own sessions store component) ≡ outcome_with (amounts_in (part script.reserve.0 store)) (script_step (model_call call) (own_at sessions store script))
 unfolding own_of
-script_outcome rules sessions store component script call is plain =
-    ap (λ role. own_step (record { name = component.name.items; kind = kind_of role; routes = rules }) (model_call call) (own_in sessions store role)) is
-    ∙ stands_aside (amounts_in (part script.reserve.0 store)) (own_at sessions store script) (entry_of rules component) (model_call call) plain.of_no_reserve plain.no_exit
-    ∙ ap (outcome_with (amounts_in (part script.reserve.0 store))) (routes_alike (entry_of rules component) (model_call call) (own_at sessions store script) plain.of_no_session)
+script_outcome place sessions store component script call is plain =
+    ap (λ role. own_step (entry_of place (record component { role = role })) (model_call call) (own_in sessions store role)) is
+    ∙ stands_aside (amounts_in (part script.reserve.0 store)) (own_at sessions store script) (entry_of place component) (model_call call) plain.of_no_reserve plain.no_exit
+    ∙ ap (outcome_with (amounts_in (part script.reserve.0 store))) (routes_alike (entry_of place component) (model_call call) (own_at sessions store script) plain.of_no_session)
 
 -- a call that spares others leaves what the reserve has
 pub reserve_spared : {account : ℕ} {caps : NatMap Cap} {store store' : Store} (before after : AccountId) → SparesOthers account caps store store' → after ≡ before → before.0 ≢ account →
@@ -57,7 +57,7 @@ pub script_keeps : {store store' : Store} (component : Component) (script script
 script_keeps {store} {store'} component script script' is keeps others =
     subst (λ role. Keeps store (record component { role = role }) store' (record component { role = AScript script' })) (sym is) (record {
       sound = keeps.sound;
-      entry = λ rules. refl;
+      entry = λ place. refl;
       service = refl;
       pays = λ account pays. ap (λ (a : AccountId). a.0) (sym keeps.account) ∙ pays;
       paid = λ account pays. ap (λ (a : AccountId). a.0) keeps.account ∙ pays;
@@ -82,6 +82,7 @@ pub pays_is : (role : Role) (account : ℕ) → Pays role account → payer_in r
 pays_is (AScript script) account pays = pays
 pays_is (ALog key server) account pays = pays
 pays_is (AFiles key server) account pays = pays
+pays_is (AnInit key) account pays = pays
 pays_is AGone account pays = absurd pays
 
 -- a script and a server have it
@@ -89,12 +90,14 @@ pub pays_script : (role : Role) → IsScriptRole role → Pays role (payer_in ro
 pays_script (AScript script) is = refl
 pays_script (ALog key server) is = refl
 pays_script (AFiles key server) is = refl
+pays_script (AnInit key) is = absurd (none-some NotAScript (sym is))
 pays_script AGone is = absurd (none-some IsGone (sym is))
 
 pub pays_server : (role : Role) → IsSome (served_by role) → Pays role (payer_in role)
 pays_server (AScript script) serving = refl
 pays_server (ALog key server) serving = refl
 pays_server (AFiles key server) serving = refl
+pays_server (AnInit key) serving = absurd (cc)
 pays_server AGone serving = absurd (cc)
 
 -- and it is open
@@ -102,6 +105,7 @@ pub account_open : (store : Store) (role : Role) → IsSoundRole store role → 
 account_open store (AScript script) sound account pays = subst (λ k. IsSome (part k store).account) pays sound.own.paid.is_open
 account_open store (ALog key server) sound account pays = subst (λ k. IsSome (part k store).account) pays sound.is_open
 account_open store (AFiles key server) sound account pays = subst (λ k. IsSome (part k store).account) pays sound.is_open
+account_open store (AnInit key) sound account pays = part_open account store (subst (IsOpenIn store) pays sound)
 account_open store AGone sound account pays = absurd pays
 
 -- ---- what a plain call that leaves other parts keeps of the memory
@@ -133,5 +137,5 @@ module _ (store : Store) (before : Component) (store' : Store) (after : Componen
       ∙ total-insert_same (λ a. a.caps_limit) (accounts_in store) (payer_of before) has.0 was.0 was.1 (same_limit ∙ ap (λ (a : Account). a.caps_limit) is)
 
   -- and so does the room for accounts
-  pub same_room : HasRoom store → HasRoom store'
-  same_room = room_stays (payer_of before) (part (payer_of before) store') store store' has.0 part_becomes has.1 was_open same_limit
+  pub same_room : (heads : Heads) → HasRoom heads store → HasRoom heads store'
+  same_room heads = room_stays heads (payer_of before) (part (payer_of before) store') store store' has.0 part_becomes has.1 was_open same_limit

@@ -2,7 +2,6 @@
 use Rattle.std.proofs.Common.{◌≡◌, ℕ, ◌+◌, ◌≤◌, Some, unwrap_or, ap, subst, arith}
 use Rattle.std.specs.FinMap.{get}
 use Rattle.std.specs.Option.{option_map}
-use Rattle.trade_base.specs.declared.id.SessionId.{SessionId}
 use Rattle.own_model.specs.Account.{Account}
 use Rattle.own_model.specs.Limits.{caps_limits, caps_with}
 use Rattle.own_model.specs.NatMap.{total}

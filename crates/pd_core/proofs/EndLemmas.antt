@@ -185,25 +185,29 @@ module _ {account : ℕ} {old mid : Store} (cleared : IsCleared account old mid)
 
 -- ---- its reserve closes after it
 
-module _ {payer kept : ℕ} {old mid : Store} (own : IsOwnReserve old payer kept) (child : IsChildIn old payer (root_in old)) (closed : ClosesPart payer (parent_in old payer) old mid) where
-  -- the account was below init's
-  first : ClosesPart payer (root_in old) old mid
-  first = subst (λ p. ClosesPart payer p old mid) (ap (λ o. unwrap_or o (root_in old)) child) closed
+module _ {payer kept : ℕ} {old mid : Store} (own : IsOwnReserve old payer kept) (child : IsSome (get (parents_in old) payer)) (closed : ClosesPart payer (parent_in old payer) old mid) where
+  -- the account was below another, and so was its reserve
+  payer_below : IsChildIn old payer (parent_in old payer)
+  payer_below = let above = some_of (get (parents_in old) payer) child in above.1 ∙ ap Some (sym (ap (λ o. unwrap_or o (root_in old)) above.1))
 
-  reserve_below : IsChildIn mid kept (root_in old)
-  reserve_below = ap (λ (m : NatMap ℕ). get m kept) first.parents ∙ get-remove_other (parents_in old) payer kept own.apart ∙ own.is_reserve.child
+  reserve_below : IsChildIn mid kept (parent_in old payer)
+  reserve_below = ap (λ (m : NatMap ℕ). get m kept) closed.parents ∙ get-remove_other (parents_in old) payer kept own.apart ∙ own.is_reserve.beside ∙ payer_below
 
   -- so the reserve still is, has none below it and uses nothing
   pub reserve_there : IsSome (get (parents_in mid) kept)
   reserve_there = ap is_some reserve_below
 
   pub reserve_leaf : IsLeafIn mid kept
-  reserve_leaf one below = own.leaf one (before_remove (parents_in old) payer one kept (ap (λ (m : NatMap ℕ). get m one) (sym first.parents) ∙ below))
+  reserve_leaf one below = own.leaf one (before_remove (parents_in old) payer one kept (ap (λ (m : NatMap ℕ). get m one) (sym closed.parents) ∙ below))
+
+  -- it isn't the account above
+  reserve_beside : kept ≢ parent_in old payer
+  reserve_beside e = own.not_above (payer_below ∙ ap Some (sym e))
 
   pub reserve_unused : (account_in mid kept).caps_used ≡ 0
-  reserve_unused = ap (λ (a : Account). a.caps_used) (sym (account_of-part kept mid) ∙ ap account_of (first.others kept own.apart own.not_root ∙ own.is_reserve.unused))
+  reserve_unused = ap (λ (a : Account). a.caps_used) (sym (account_of-part kept mid) ∙ ap account_of (closed.others kept own.apart reserve_beside ∙ own.is_reserve.unused))
 
   -- and both close
-  pub closes_both : {new : Store} → caps_limits_in mid ≡ caps_limits_in old → ClosesPart kept (parent_in mid kept) mid new → ClosesBoth payer kept (root_in old) old new
+  pub closes_both : {new : Store} → caps_limits_in mid ≡ caps_limits_in old → ClosesPart kept (parent_in mid kept) mid new → ClosesBoth payer kept (parent_in old payer) old new
   closes_both {new} caps last =
-      record { between = mid; first = first; caps = caps; last = subst (λ p. ClosesPart kept p mid new) (ap (λ o. unwrap_or o (root_in mid)) reserve_below) last }
+      record { between = mid; first = closed; caps = caps; last = subst (λ p. ClosesPart kept p mid new) (ap (λ o. unwrap_or o (root_in mid)) reserve_below) last }

@@ -1,42 +1,43 @@
 -- A component goes that has no session any more: the change that it makes to the core, and the world that it leaves.
-use Rattle.std.proofs.Common.{◌≡◌, ◌≢◌, arith, ℕ, ◌<◌, List, None, Some, is_some, length, get_or, set, refl, sym, ap, subst, ◌∙◌, inl, inr}
+use Rattle.std.proofs.Common.{◌≡◌, ◌≢◌, arith, ℕ, ◌<◌, List, None, Some, is_some, true, true≢false, unwrap_or, length, get_or, set, refl, sym, ap, subst, ◌∙◌, inl, inr}
 use Rattle.std.proofs.lemmas.Bool.{cases_eq}
 use Rattle.std.proofs.lemmas.Option.{none-some}
 use Rattle.std.proofs.lemmas.List.{get_or-map}
-use Rattle.trade_base.specs.declared.id.SessionId.{SessionId}
 use Rattle.own_model.specs.OwnState.{OwnState}
 use Rattle.std.specs.FinMap.{get, empty}
-use Rattle.std.specs.Prelude.{◌⊎◌, ◌+◌, IfSome}
+use Rattle.std.specs.Prelude.{◌⊎◌, ◌+◌, IfSome, IsSome}
 use Rattle.own_model.specs.Account.{Account}
 use Rattle.own_model.specs.Donation.{raised}
 use Rattle.own_model.specs.NatMap.{NatMap}
 use Rattle.own_model.specs.OwnStep.{gone_state}
 use Rattle.own_model.specs.Session.{Labelled}
+use Rattle.own_model.specs.StartList.{Entry, init_at}
 use Rattle.own_model.specs.StartList.Kind.{Script as AScriptKind}
-use Rattle.own_model.specs.Transcript.{nothing, state_at}
-use Rattle.own_model.proofs.NatMapLemmas.{none_if, before_remove, get-empty, get-remove_other}
+use Rattle.own_model.specs.Transcript.{nothing, entry_at, state_at}
+use Rattle.own_model.proofs.NatMapLemmas.{none_if, before_remove, get-remove_other}
 use Rattle.dataspace_core.specs.Room.{HasRoom}
 use Rattle.dataspace_core.specs.Share.{share_in}
-use Rattle.dataspace_core.specs.Store.{Store, Part, part, account_of, account_in, parents_in, root_in, ram_limits_in, caps_limits_in, IsChildIn, IsLeafIn, ClosesPart}
-use Rattle.dataspace_core.proofs.PartLaws.{account_of-part, open_in_part}
+use Rattle.dataspace_core.specs.Store.{Store, Part, part, account_of, account_in, parents_in, parent_in, root_in, ram_limits_in, caps_limits_in, IsOpenIn, IsChildIn, IsLeafIn}
+use Rattle.dataspace_core.proofs.PartLaws.{account_of-part, open_in_part, part_open}
 use Rattle.server_frame.specs.Frame.{Row}
 use Rattle.server_frame.specs.Session.{holding}
-use Rattle.pd_core.specs.Component.{Pays, amounts_in, reserve_in, reserve_of, IsOwnReserve, HasOwnReserve, kind_of, served_by, payer_in, payer_of, caps_in, caps_of, rows_in, own_in, own, lent_by, NamesItsSessions, HasPlaces, IsSoundRole}
-use Rattle.pd_core.specs.Core.{Rules, Roles, roles_of, rows_at, sessions_in, world_of, Owner, Owns, IsCore}
+use Rattle.pd_core.specs.Component.{Pays, amounts_in, reserve_in, reserve_of, IsReserve, IsOwnReserve, HasOwnReserve, kind_of, served_by, payer_in, payer_of, caps_in, caps_of, rows_in, own_in, own, lent_by, NamesItsSessions, HasPlaces, IsSoundRole}
+use Rattle.pd_core.specs.Core.{Places, Roles, roles_of, rows_at, sessions_in, entries_of, world_of, Owner, Owns, IsInitOf, IsInits, IsBelowHead, IsCore}
 use Rattle.pd_core.specs.Core.Owner.{Init, Place, ReserveAt, SessionAt}
 use Rattle.pd_core.specs.Exit.{IsScriptRole, ClosesBoth}
 use Rattle.pd_core.specs.Own.{Sessions, own_of}
-use Rattle.pd_core.specs.SessionCalls.{Agrees, Leads}
+use Rattle.pd_core.specs.SessionCalls.{Agrees, AreAtHome, Leads}
 use Rattle.pd_core.specs.Sound.{session_at, buffer_at}
 use Rattle.pd_core.specs.declared.component.Component.{Component}
 use Rattle.pd_core.specs.declared.component.Role.{Role}
-use Rattle.pd_core.specs.declared.component.Role.TheVariants.{Script as AScript, Log as ALog, Files as AFiles, Gone as AGone}
-use Rattle.pd_core.proofs.ChangeLemmas.{ChangesCore, Follows, core_after}
+use Rattle.pd_core.specs.declared.component.Role.TheVariants.{Script as AScript, Log as ALog, Files as AFiles, Init as AnInit, Gone as AGone}
+use Rattle.pd_core.proofs.ChangeLemmas.{ChangesCore, Follows, core_after, homes_after}
 use Rattle.pd_core.proofs.ComponentLemmas.{pays_is, pays_script}
 use Rattle.dataspace_core.proofs.RoomLaws.{room_after_exit}
-use Rattle.pd_core.proofs.HeldLemmas.{names_none, same_place, same_reserve, not_place, not_session, no_place, no_reserve_init, no_reserve_place, no_reserve_session, pays_alone, held_by, client_pays}
+use Rattle.pd_core.proofs.HeldLemmas.{names_none, same_place, same_reserve, not_place, no_place, no_reserve_place, no_reserve_session, init_pays, session_no_init, reserve_no_init, reserve_no_head, place_outer, pays_alone, script_inits, held_by, client_pays}
+use Rattle.pd_core.proofs.HomeLemmas.{inits_gain}
 use Rattle.pd_core.proofs.RoleLemmas.{Leaves, role_left, rows_left}
-use Rattle.pd_core.proofs.WorldLemmas.{same_leads, SameFaces, face_set, world_changed, role_at, role_set, role_kept}
+use Rattle.pd_core.proofs.WorldLemmas.{same_leads, SameFaces, face_set, entries_at, world_changed, role_at, role_set, role_kept}
 
 -- ---- a role that is a script's
 
@@ -45,6 +46,7 @@ pub kind_of_script : (role : Role) → IsScriptRole role → kind_of role ≡ AS
 kind_of_script (AScript script) is = refl
 kind_of_script (ALog account server) is = absurd (none-some _ (sym is))
 kind_of_script (AFiles account server) is = absurd (none-some _ (sym is))
+kind_of_script (AnInit account) is = absurd (none-some _ (sym is))
 kind_of_script AGone is = refl
 
 -- it serves no session
@@ -52,6 +54,7 @@ rows_of_script : (store : Store) (role : Role) → IsScriptRole role → rows_in
 rows_of_script store (AScript script) is = refl
 rows_of_script store (ALog account server) is = absurd (none-some _ (sym is))
 rows_of_script store (AFiles account server) is = absurd (none-some _ (sym is))
+rows_of_script store (AnInit account) is = absurd (none-some _ (sym is))
 rows_of_script store AGone is = refl
 
 -- its own state has its account
@@ -60,6 +63,7 @@ unfolding own_of
 account_of_script S store (AScript script) is = refl
 account_of_script S store (ALog account server) is = absurd (none-some _ (sym is))
 account_of_script S store (AFiles account server) is = absurd (none-some _ (sym is))
+account_of_script S store (AnInit account) is = absurd (none-some _ (sym is))
 account_of_script S store AGone is = absurd (none-some _ (sym is))
 
 -- it has a reserve
@@ -67,6 +71,7 @@ abbrev pub script_reserve : (role : Role) → IsScriptRole role → (account : �
 script_reserve (AScript script) is = (script.reserve.0, refl)
 script_reserve (ALog account server) is = absurd (none-some _ (sym is))
 script_reserve (AFiles account server) is = absurd (none-some _ (sym is))
+script_reserve (AnInit account) is = absurd (none-some _ (sym is))
 script_reserve AGone is = absurd (none-some _ (sym is))
 
 -- which its own state tells
@@ -74,6 +79,7 @@ reserve_of_script : (S : Sessions) (store : Store) (role : Role) (is : IsScriptR
 reserve_of_script S store (AScript script) is = refl
 reserve_of_script S store (ALog account server) is = absurd (none-some _ (sym is))
 reserve_of_script S store (AFiles account server) is = absurd (none-some _ (sym is))
+reserve_of_script S store (AnInit account) is = absurd (none-some _ (sym is))
 reserve_of_script S store AGone is = absurd (none-some _ (sym is))
 
 -- limits that come in two parts
@@ -88,7 +94,26 @@ service_of_script : (role : Role) → IsScriptRole role → served_by role ≡ N
 service_of_script (AScript script) is = refl
 service_of_script (ALog account server) is = absurd (none-some _ (sym is))
 service_of_script (AFiles account server) is = absurd (none-some _ (sym is))
+service_of_script (AnInit account) is = absurd (none-some _ (sym is))
 service_of_script AGone is = refl
+
+-- an init follows where its account is open
+init_role_follows : {store store' : Store} (role : Role) (account : ℕ) → IsInitOf role account → IsOpenIn store' account → Follows store role store' role
+init_role_follows (AScript script) account is opens = absurd is
+init_role_follows (ALog key server) account is opens = absurd is
+init_role_follows (AFiles key server) account is opens = absurd is
+init_role_follows {store' = store'} (AnInit key) account is opens = record {
+  sound = subst (IsOpenIn store') (sym is) opens;
+  own = λ S S' _. refl;
+  caps = refl;
+  places = refl;
+  pays = λ a pays. pays;
+  paid = λ a pays. pays;
+  inits = λ a its. its;
+  reserve = refl;
+  reserved = λ a has. absurd (none-some a has);
+}
+init_role_follows AGone account is opens = absurd is
 
 -- ---- a script without a session
 
@@ -114,14 +139,32 @@ module _ {store : Store} {components : List Component} {i : ℕ} {d : Component}
   pays : Pays (roles_of components i) (payer_of (get_or components i d))
   pays = subst (λ r. Pays r (payer_of (get_or components i d))) (sym is_caller) (pays_script (get_or components i d).role is_script)
 
-  -- its account was opened below init's
-  pub alone_child : IsChildIn store (payer_of (get_or components i d)) (root_in store)
-  alone_child = core.children i (payer_of (get_or components i d)) pays
+  calls : IsScriptRole (roles_of components i)
+  calls = subst IsScriptRole (sym is_caller) is_script
+
+  -- its account was opened below a head, which is an init's
+  home : IsBelowHead store core.heads (payer_of (get_or components i d))
+  home = core.children i (payer_of (get_or components i d)) pays
+
+  pub alone_child : IsSome (get (parents_in store) (payer_of (get_or components i d)))
+  alone_child = ap is_some home.child
+
+  abbrev head : ℕ
+  head = parent_in store (payer_of (get_or components i d))
+
+  below_head : IsChildIn store (payer_of (get_or components i d)) (parent_in store (payer_of (get_or components i d)))
+  below_head = home.child ∙ ap Some (sym (ap (λ o. unwrap_or o (root_in store)) home.child))
+
+  is_head : core.heads head ≡ true
+  is_head = place_outer core i payer pays head below_head
+
+  head_inits : IsInits store roles head
+  head_inits = core.inits head is_head
 
   -- and none below it
   pub alone_leaf : IsLeafIn store (payer_of (get_or components i d))
   alone_leaf child below =
-      let names = held_by core i (payer_of (get_or components i d)) pays child below in
+      let names = held_by core i (payer_of (get_or components i d)) pays calls child below in
       none-some (names.server, names.session) (sym (none names.selector) ∙ ap (λ r. session_at (get (caps_in r) names.selector)) (sym is_caller) ∙ names.names)
 
   -- nor has it a buffer, as that is of a session that it names
@@ -142,29 +185,32 @@ module _ {store : Store} {components : List Component} {i : ℕ} {d : Component}
   reserve_apart : reserve ≢ payer
   reserve_apart e = no_reserve_place i i (sym (pays_alone core i payer pays (ReserveAt i) (has_reserve ∙ ap Some e)))
 
-  reserve_not_root : reserve ≢ root_in store
-  reserve_not_root e = no_reserve_init i (core.apart Init (ReserveAt i) reserve (sym e) has_reserve)
+  -- below the same head
+  reserve_below : IsChildIn store reserve head
+  reserve_below = (core.reserved i reserve has_reserve).beside ∙ ap (λ r. get (parents_in store) (payer_in r)) is_caller ∙ below_head
 
   -- is one of its own, with none below it
   pub alone_reserve : HasOwnReserve store (get_or components i d).role
   alone_reserve =
       subst (λ o. IfSome o (λ one. IsOwnReserve store (payer_of (get_or components i d)) one)) (sym (script_reserve (get_or components i d).role is_script).1) (record {
         apart = reserve_apart;
-        not_root = reserve_not_root;
-        is_reserve = core.reserved i reserve has_reserve;
+        not_above = λ below. true≢false (sym (place_outer core i payer pays reserve below) ∙ reserve_no_head core i reserve has_reserve);
+        is_reserve = subst (λ r. IsReserve store (payer_in r) reserve) is_caller (core.reserved i reserve has_reserve);
         leaf = λ child below.
-            let held = core.held child reserve below reserve_not_root in
+            let held = core.held child reserve below (reserve_no_head core i reserve has_reserve) in
             no_reserve_place held.0 i (core.apart (Place held.0) (ReserveAt i) reserve (client_pays core held.0 child reserve held.1) has_reserve);
       })
 
   -- which closes after the component's own
-  pub closes_reserve : (store' : Store) → IfSome (reserve_of (get_or components i d)) (λ one. ClosesBoth (payer_of (get_or components i d)) one (root_in store) store store') →
-      ClosesBoth (payer_of (get_or components i d)) (script_reserve (get_or components i d).role is_script).0 (root_in store) store store'
-  closes_reserve store' closes = subst (λ o. IfSome o (λ one. ClosesBoth (payer_of (get_or components i d)) one (root_in store) store store')) (script_reserve (get_or components i d).role is_script).1 closes
+  pub closes_reserve : (store' : Store) →
+      IfSome (reserve_of (get_or components i d)) (λ one. ClosesBoth (payer_of (get_or components i d)) one (parent_in store (payer_of (get_or components i d))) store store') →
+      ClosesBoth (payer_of (get_or components i d)) (script_reserve (get_or components i d).role is_script).0 (parent_in store (payer_of (get_or components i d))) store store'
+  closes_reserve store' closes =
+      subst (λ o. IfSome o (λ one. ClosesBoth (payer_of (get_or components i d)) one (parent_in store (payer_of (get_or components i d))) store store')) (script_reserve (get_or components i d).role is_script).1 closes
 
   -- ---- it goes, and both accounts
 
-  module _ {store' : Store} (closes : ClosesBoth (payer_of (get_or components i d)) (script_reserve (get_or components i d).role is_script).0 (root_in store) store store')
+  module _ {store' : Store} (closes : ClosesBoth (payer_of (get_or components i d)) (script_reserve (get_or components i d).role is_script).0 (parent_in store (payer_of (get_or components i d))) store store')
       (ram : ram_limits_in store' ≡ ram_limits_in store) (caps : caps_limits_in store' ≡ caps_limits_in store) where
     open closes use {between, first, last}
 
@@ -180,9 +226,9 @@ module _ {store : Store} {components : List Component} {i : ℕ} {d : Component}
     is_gone : roles_of (set components i (record (get_or components i d) { role = AGone })) i ≡ AGone
     is_gone = role_set components i (record (get_or components i d) { role = AGone }) i refl here
 
-    -- init and it are touched, and its reserve
+    -- its init and it are touched, and its reserve
     abbrev Touched : Owner → Type 0
-    Touched owner = (owner ≡ Init) ⊎ ((owner ≡ Place i) ⊎ (owner ≡ ReserveAt i))
+    Touched owner = Owns store roles owner head ⊎ ((owner ≡ Place i) ⊎ (owner ≡ ReserveAt i))
 
     was_child : (child parent : ℕ) → IsChildIn store' child parent → IsChildIn store child parent
     was_child child parent is =
@@ -198,13 +244,17 @@ module _ {store : Store} {components : List Component} {i : ℕ} {d : Component}
     same_root : root_in store' ≡ root_in store
     same_root = last.root ∙ first.root
 
-    leaves : Leaves store roles store' (λ owner. (owner ≡ Init) ⊎ ((owner ≡ Place i) ⊎ (owner ≡ ReserveAt i)))
+    -- all other accounts have the parts that they had
+    rest : (account : ℕ) → account ≢ payer → account ≢ reserve → account ≢ head → part account store' ≡ part account store
+    rest account not_payer not_reserve not_head = last.others account not_reserve not_head ∙ first.others account not_payer not_head
+
+    leaves : Leaves store roles store' (λ owner. Owns store roles owner head ⊎ ((owner ≡ Place i) ⊎ (owner ≡ ReserveAt i)))
     leaves = record {
       stays = λ owner account other owns regions.
-          let not_init : account ≢ root_in store = λ e. other (inl (core.apart owner Init account owns (sym e))) in
+          let not_head : account ≢ head = λ e. other (inl (subst (Owns store roles owner) e owns)) in
           let not_payer : account ≢ payer = λ e. other (inr (inl (pays_alone core i payer pays owner (subst (Owns store roles owner) e owns)))) in
           let not_reserve : account ≢ reserve = λ e. other (inr (inr (core.apart owner (ReserveAt i) reserve (subst (Owns store roles owner) e owns) has_reserve))) in
-          let own = last.others account not_reserve not_init ∙ first.others account not_payer not_init in
+          let own = rest account not_payer not_reserve not_head in
           record {
             own = own;
             held = ap (λ p. holding (share_in p regions.heap regions.tags)) own;
@@ -216,13 +266,38 @@ module _ {store : Store} {components : List Component} {i : ℕ} {d : Component}
     }
 
     no_session : (k id : ℕ) → Touched (SessionAt k id) → ⊥
-    no_session k id touched = elim touched [ inl e ↦ not_session k id (sym e) | inr its ↦ elim its [ inl e ↦ no_place i k id e | inr e ↦ no_reserve_session k id i e ] ]
+    no_session k id touched = elim touched [ inl owns ↦ session_no_init core k id head owns head_inits | inr its ↦ elim its [ inl e ↦ no_place i k id e | inr e ↦ no_reserve_session k id i e ] ]
 
-    other_place : (k : ℕ) → k ≢ i → Touched (Place k) → ⊥
-    other_place k other touched = elim touched [ inl e ↦ not_place k (sym e) | inr its ↦ elim its [ inl e ↦ other (same_place k i e) | inr e ↦ no_reserve_place k i e ] ]
+    other_place : (k : ℕ) → k ≢ i → (IsInitOf (roles k) head → ⊥) → Touched (Place k) → ⊥
+    other_place k other no_init touched = elim touched [
+      | inl owns ↦ elim head_inits [
+        | inl root ↦ not_place k (core.apart Init (Place k) head root owns)
+        | inr its ↦ no_init (subst (λ n. IsInitOf (roles n) head) (same_place its.0 k (core.apart (Place its.0) (Place k) head (init_pays (roles its.0) head its.1) owns)) its.1)
+      ]
+      | inr its ↦ elim its [ inl e ↦ other (same_place k i e) | inr e ↦ no_reserve_place k i e ]
+    ]
 
     other_reserve : (k : ℕ) → k ≢ i → Touched (ReserveAt k) → ⊥
-    other_reserve k other touched = elim touched [ inl e ↦ no_reserve_init k (sym e) | inr its ↦ elim its [ inl e ↦ no_reserve_place i k (sym e) | inr e ↦ other (same_reserve k i e) ] ]
+    other_reserve k other touched = elim touched [
+      | inl owns ↦ reserve_no_init core k head owns head_inits
+      | inr its ↦ elim its [ inl e ↦ no_reserve_place i k (sym e) | inr e ↦ other (same_reserve k i e) ]
+    ]
+
+    head_open : IsOpenIn store' head
+    head_open = open_in_part head store' (ap (λ (p : Part). is_some p.account) last.raised_one)
+
+    -- a role that isn't the init follows, and so does the init
+    follows_but : (k : ℕ) → k ≢ i → (IsInitOf (roles k) head → ⊥) → Follows store (roles k) store' (roles k)
+    follows_but k other no_init = role_left leaves k (no_session k) core (other_place k other no_init) (other_reserve k other) (λ server id _ _ _. no_session server id)
+
+    follows : (k : ℕ) → k ≢ i → Follows store (roles k) store' (roles k)
+    follows k other = elim head_inits [
+      | inl root ↦ follows_but k other (λ its. not_place k (core.apart Init (Place k) head root (init_pays (roles k) head its)))
+      | inr its ↦ elim (cases_eq k its.0) [
+        | inl at ↦ init_role_follows (roles k) head (subst (λ n. IsInitOf (roles n) head) (sym at) its.1) head_open
+        | inr apart ↦ follows_but k other (λ one. apart (same_place k its.0 (core.apart (Place k) (Place its.0) head (init_pays (roles k) head one) (init_pays (roles its.0) head its.1))))
+      ]
+    ]
 
     same_rows : (k : ℕ) → rows_at store' roles' k ≡ rows_at store roles k
     same_rows k = elim (cases_eq k i) [
@@ -233,19 +308,29 @@ module _ {store : Store} {components : List Component} {i : ℕ} {d : Component}
     ]
 
     -- there is room after one close, and after the other
-    room_between : HasRoom between
-    room_between = room_after_exit first closes.caps alone_child core.room
+    room_between : HasRoom core.heads between
+    room_between = room_after_exit core.heads payer head store between first is_head closes.caps below_head core.room
 
-    room_last : HasRoom store'
+    room_last : HasRoom core.heads store'
     room_last =
-        let below : IsChildIn between reserve (root_in between)
-        = ap (λ (m : NatMap ℕ). get m reserve) first.parents ∙ get-remove_other (parents_in store) payer reserve reserve_apart ∙ (core.reserved i reserve has_reserve).child ∙ ap Some (sym first.root) in
-        room_after_exit (subst (λ r. ClosesPart reserve r between store') (sym first.root) last) (caps ∙ sym closes.caps) below room_between
+        let below : IsChildIn between reserve head = ap (λ (m : NatMap ℕ). get m reserve) first.parents ∙ get-remove_other (parents_in store) payer reserve reserve_apart ∙ reserve_below in
+        room_after_exit core.heads reserve head between store' last is_head (caps ∙ sym closes.caps) below room_between
 
-    changes : ChangesCore i 0 0 store roles store' roles'
+    -- each init's account but that one's has the part that it had
+    inits_rest : (account : ℕ) → IsInits store roles account → account ≢ head → part account store' ≡ part account store
+    inits_rest account its not_head =
+        rest account (λ e. script_inits core i payer pays calls (subst (IsInits store roles) e its)) (λ e. reserve_no_init core i reserve has_reserve (subst (IsInits store roles) e its)) not_head
+
+    root_open : IsOpenIn store' (root_in store)
+    root_open = elim (cases_eq (root_in store) head) [
+      | inl at ↦ subst (IsOpenIn store') (sym at) head_open
+      | inr other ↦ open_in_part (root_in store) store' (ap (λ (p : Part). is_some p.account) (inits_rest (root_in store) (inl refl) other) ∙ part_open (root_in store) store core.init)
+    ]
+
+    changes : ChangesCore core.heads i 0 0 store roles store' roles'
     changes = record {
-      others = λ k other. subst (Follows store (roles k) store') (sym (role_kept components i after k other))
-          (role_left leaves k (no_session k) core (other_place k other) (other_reserve k other) (λ server id _ _ _. no_session server id));
+      script = calls;
+      others = λ k other. subst (Follows store (roles k) store') (sym (role_kept components i after k other)) (follows k other);
       sound = subst (IsSoundRole store') (sym is_gone) tt;
       pays = λ account its. absurd (subst (λ r. Pays r account) is_gone its);
       reserve = λ account is. absurd (none-some account (sym (ap reserve_in is_gone) ∙ is));
@@ -256,7 +341,7 @@ module _ {store : Store} {components : List Component} {i : ℕ} {d : Component}
       held = λ child parent its is.
           absurd (alone_leaf child (was_child child parent is ∙ ap Some (sym (pays_is (get_or components i d).role parent (subst (λ r. Pays r parent) is_caller its)))));
       placed = subst (HasPlaces (sessions_in store' roles') store') (sym is_gone) tt;
-      init = open_in_part (root_in store) store' (ap (λ (p : Part). is_some p.account) last.raised_one);
+      init = root_open;
       root = same_root;
       children = λ k account its still.
           same_parent account
@@ -268,7 +353,7 @@ module _ {store : Store} {components : List Component} {i : ℕ} {d : Component}
 
     same_faces : SameFaces components components'
     same_faces = face_set components i after d (λ j. record {
-      name = (get_or components i d).name.items;
+      label = (get_or components i d).name.items;
       kind = sym (kind_of_script (get_or components i d).role is_script) j;
       service = sym (service_of_script (get_or components i d).role is_script) j;
     })
@@ -276,36 +361,46 @@ module _ {store : Store} {components : List Component} {i : ℕ} {d : Component}
     pub core_alone : IsCore store' components'
     core_alone = core_after core changes
 
-    pub leads_alone : (rules : Rules) (leads : Leads) → Agrees rules leads components → Agrees rules leads components'
-    leads_alone = same_leads components components' same_faces
+    pub homes_alone : (places : Places) → AreAtHome places store components → AreAtHome places store' components'
+    homes_alone places = homes_after core changes places
 
-    -- init gains the limits of its account and of its reserve
-    init_gains : let root = part (root_in store) store in let own = account_of (part payer store) in let more = amounts_in (part reserve store) in
-        account_in store' (root_in store') ≡ raised (account_of root) (own.ram_limit + more.ram) (own.caps_limit + more.caps)
-    init_gains =
-        let still : part reserve between ≡ part reserve store = first.others reserve reserve_apart reserve_not_root in
+    pub leads_alone : (places : Places) (leads : Leads) → Agrees places leads store components → Agrees places leads store' components'
+    leads_alone places leads = same_leads components components' same_faces store store' places leads (homes_after core changes places)
+
+    -- its init gains the limits of its account and of its reserve
+    head_gains : let own = account_of (part payer store) in let more = amounts_in (part reserve store) in
+        account_in store' head ≡ raised (account_in store head) (own.ram_limit + more.ram) (own.caps_limit + more.caps)
+    head_gains =
+        let beside : reserve ≢ head = λ e. reserve_no_init core i reserve has_reserve (subst (IsInits store roles) (sym e) head_inits) in
+        let still : part reserve between ≡ part reserve store = first.others reserve reserve_apart beside in
         let own = account_of (part payer store) in
         let more = amounts_in (part reserve store) in
-        ap (account_in store') same_root ∙ sym (account_of-part (root_in store) store') ∙ ap account_of last.raised_one
+        sym (account_of-part head store') ∙ ap account_of last.raised_one
         ∙ (λ j. raised (account_of (first.raised_one j)) (account_of (still j)).ram_limit (account_of (still j)).caps_limit)
-        ∙ raised_twice (account_of (part (root_in store) store)) own.ram_limit own.caps_limit more.ram more.caps
+        ∙ raised_twice (account_of (part head store)) own.ram_limit own.caps_limit more.ram more.caps
+        ∙ ap (λ a. raised a (own.ram_limit + more.ram) (own.caps_limit + more.caps)) (account_of-part head store)
 
-    pub world_alone : (rules : Rules) → let world = world_of rules store components in let s = state_at world.states i in
-        world_of rules store' components' ≡ record world {
-          init = raised world.init (s.account.ram_limit + s.reserve.ram) (s.account.caps_limit + s.reserve.caps);
+    pub world_alone : (places : Places) → AreAtHome places store components →
+        let world = world_of places store components in let s = state_at world.states i in let number = (entry_at world.entries i).home in
+        world_of places store' components' ≡ record world {
+          inits = set world.inits number (raised (init_at world.inits number) (s.account.ram_limit + s.reserve.ram) (s.account.caps_limit + s.reserve.caps));
           states = set world.states i gone_state;
         }
-    world_alone rules =
+    world_alone places homes =
         let S = sessions_in store roles in
-        let s = state_at (world_of rules store components).states i in
-        let state : state_at (world_of rules store components).states i ≡ own S store (get_or components i d) = get_or-map (own S store) components i d nothing here in
+        let world = world_of places store components in
+        let s = state_at (world_of places store components).states i in
+        let state : state_at (world_of places store components).states i ≡ own S store (get_or components i d) = get_or-map (own S store) components i d nothing here in
         let account = ap (λ (x : OwnState). x.account) state ∙ account_of_script S store (get_or components i d).role is_script in
         let held = ap (λ (x : OwnState). x.reserve) state ∙ reserve_of_script S store (get_or components i d).role is_script in
-        let init : account_in store' (root_in store') ≡ raised (account_in store (root_in store)) (s.account.ram_limit + s.reserve.ram) (s.account.caps_limit + s.reserve.caps)
-        = init_gains
-        ∙ (λ j. raised (account_of-part (root_in store) store j) ((sym account j).ram_limit + (sym held j).ram) ((sym account j).caps_limit + (sym held j).caps)) in
-        world_changed components components' core changes same_faces here d rules
-        ∙ (λ j. record (world_of rules store components) {
-          init = init j;
-          states = set (world_of rules store components).states i (own_in (sessions_in store' roles') store' (is_gone j));
+        let number : (entry_at (entries_of places components) i).home ≡ (places i).home = ap (λ (e : Entry). e.home) (entries_at places components i d here) in
+        let inits = inits_gain components components' core changes same_faces here d head payer _ _ inits_rest head_gains below_head (places i).home (homes i payer pays) in
+        world_changed components components' core changes same_faces here d places
+        ∙ (λ j. record (world_of places store components) {
+          inits = inits j;
+          states = set (world_of places store components).states i (own_in (sessions_in store' roles') store' (is_gone j));
+        })
+        ∙ (λ j. record (world_of places store components) {
+          inits = set world.inits (sym number j) (raised (init_at world.inits (sym number j)) ((sym account j).ram_limit + (sym held j).ram) ((sym account j).caps_limit + (sym held j).caps));
+          states = set world.states i gone_state;
         })

@@ -13,7 +13,7 @@ use Rattle.own_model.specs.OwnState.{OwnState, Object, NamedBuffer, session_name
 use Rattle.own_model.specs.OwnState.Object.{Dataspace, RpcObject, OpenSession, Buffer as ABuffer}
 use Rattle.own_model.specs.OwnStep.{Outcome, own_step, selectors_lent, session_closed, exited, gone_state}
 use Rattle.own_model.specs.Session.{Session}
-use Rattle.own_model.specs.StartList.{Entry}
+use Rattle.own_model.specs.StartList.{Entry, init_at}
 use Rattle.own_model.specs.StartList.Kind.{Script as AScript}
 use Rattle.own_model.specs.Transcript.{nothing, entry_at, state_at}
 use Rattle.own_model.specs.World.{World, outcome_at, with_state}
@@ -110,11 +110,11 @@ account_alone s none =
     let caps = total_same caps_with (λ _. 0) s.selectors (λ k o there. (no_limits o (ap session_named (sym there) ∙ none k)).1) ∙ total-zero s.selectors in
     (omega (arith, ram), omega (arith, caps))
 
--- a component is gone that had no session, and init has the limits of its account and of its reserve
+-- a component is gone that had no session, and its init has the limits of its account and of its reserve
 pub record IsGoneFrom (i : ℕ) (old new : World) : Type 0 where
   pub none : (q : ℕ) → session_named (get (state_at old.states i).selectors q) ≡ None
-  pub stepped : let s = state_at old.states i in new ≡ record old {
-    init = raised old.init (s.account.ram_limit + s.reserve.ram) (s.account.caps_limit + s.reserve.caps);
+  pub stepped : let s = state_at old.states i in let home = (entry_at old.entries i).home in new ≡ record old {
+    inits = set old.inits home (raised (init_at old.inits home) (s.account.ram_limit + s.reserve.ram) (s.account.caps_limit + s.reserve.caps));
     states = set old.states i gone_state;
   }
 
@@ -127,9 +127,12 @@ gone_world i count old mid new before goes =
     let ram : s.account.ram_limit + s.reserve.ram ≡ ram_limits was = sym alone.0 ∙ before.closed.ram in
     let caps : s.account.caps_limit + s.reserve.caps ≡ caps_limits was = sym alone.1 ∙ before.closed.caps in
     goes.stepped
-    ∙ (λ j. record mid { init = raised mid.init (ram j) (caps j); states = set mid.states i gone_state })
-    ∙ ap (λ (w : World). record w { init = raised w.init (ram_limits was) (caps_limits was); states = set w.states i gone_state }) before.others
-    ∙ ap (λ states. record old { init = raised old.init (ram_limits was) (caps_limits was); states = states }) (set-set old.states i s gone_state)
+    ∙ (λ j. let home = (entry_at mid.entries i).home in
+    record mid { inits = set mid.inits home (raised (init_at mid.inits home) (ram j) (caps j)); states = set mid.states i gone_state })
+    ∙ ap (λ (w : World). let home = (entry_at w.entries i).home in
+    record w { inits = set w.inits home (raised (init_at w.inits home) (ram_limits was) (caps_limits was)); states = set w.states i gone_state }) before.others
+    ∙ ap (λ states. let home = (entry_at old.entries i).home in
+    record old { inits = set old.inits home (raised (init_at old.inits home) (ram_limits was) (caps_limits was)); states = states }) (set-set old.states i s gone_state)
     ∙ sym (world_exited old i)
 
 -- a script that isn't gone may exit

@@ -1,5 +1,5 @@
 -- A core of fresh parts is sound, and its own states are the start states.
-use Rattle.std.proofs.Common.{◌≡◌, ℕ, ◌+◌, ◌*◌, ◌<◌, ◌≤◌, Option, Some, is_some, List, [], ◌∷◌, inl, inr, get_or, length, map, subst, refl, sym, ap, ◌∙◌, arith, nat_cmp}
+use Rattle.std.proofs.Common.{◌≡◌, ℕ, ◌+◌, ◌*◌, ◌<◌, ◌≤◌, Option, Some, is_some, List, [], ◌∷◌, inl, inr, get_or, length, map, subst, refl, sym, ap, ◌∙◌, arith, nat_cmp, true≢false}
 use Rattle.std.specs.Prelude.{IfSome, IsSome, None}
 use Rattle.std.proofs.lemmas.Option.{none-some}
 use Rattle.std.specs.Option.{option_map, unwrap_or}
@@ -14,9 +14,9 @@ use Rattle.own_model.specs.Account.{Account, opened}
 use Rattle.own_model.specs.Moved.{moved_up}
 use Rattle.own_model.specs.Limits.{caps_with, caps_limits}
 use Rattle.own_model.specs.Region.{Region}
-use Rattle.own_model.specs.Routes.{Rule}
 use Rattle.own_model.specs.Sliced.{sliced_header}
-use Rattle.own_model.specs.StartList.{StartEntry, start_state}
+use Rattle.own_model.specs.StartList.{StartEntry, Kind, start_state}
+use Rattle.own_model.specs.StartList.Kind.{Script as AScriptKind}
 use Rattle.own_model.specs.Transcript.{nobody}
 use Rattle.own_model.proofs.MovedLemmas.{same_moved, get-moved_up, get-moved_up_below}
 use Rattle.own_model.proofs.NatMapLemmas.{same, get-empty, some_of, none_in_empty, picked-empty}
@@ -26,14 +26,13 @@ use Rattle.own_model.proofs.Totals.{total-empty, total_at_le}
 use Rattle.slab_map.proofs.SlabMap.{map_of-empty}
 use Rattle.trade_base.specs.declared.id.AccountId.{AccountId}
 use Rattle.own_model.specs.Session.{Labelled}
-use Rattle.dataspace_core.specs.Room.{HasRoom}
 use Rattle.region_map.specs.Regions.{Regions}
 use Rattle.slab.specs.Slab.{Slab}
 use Rattle.server_frame.specs.Frame.{Row, row_of}
 use Rattle.server_frame.specs.declared.server.Session.{Session as Kept}
 use Rattle.server_frame.proofs.FrameLaws.{server_at_first}
 use Rattle.cap_space.specs.declared.cap.Cap.{Cap}
-use Rattle.dataspace_core.specs.Store.{Store, Part, part, root_in, account_in, accounts_in, account_of, IsOpenIn, IsChildIn, ram_limits_in, caps_limits_in}
+use Rattle.dataspace_core.specs.Store.{Store, Part, part, root_in, accounts_in, account_of, IsOpenIn, ram_limits_in, caps_limits_in}
 use Rattle.dataspace_core.specs.Share.{Share}
 use Rattle.dataspace_core.proofs.PartLaws.{open_in_part}
 use Rattle.own_model.specs.Use.{heap_count}
@@ -46,32 +45,32 @@ use Rattle.pd_core.specs.Sessions.{log_value, log_buffer, IsLogKept, files_value
 use Rattle.pd_core.specs.declared.component.Component.{Component}
 use Rattle.pd_core.specs.declared.component.Role.{Role}
 use Rattle.own_model.specs.OwnHeap.{no_heap}
-use Rattle.pd_core.specs.declared.component.Role.TheVariants.{Script as AScript, Log as ALog, Files as AFiles, Gone as AGone}
+use Rattle.pd_core.specs.declared.component.Role.TheVariants.{Script as AScript, Log as ALog, Files as AFiles, Init as AnInit, Gone as AGone}
 use Rattle.pd_core.specs.declared.script.Script.{Script}
 use Rattle.sliced_heap.proofs.HeapLaws.{empty_map}
 use Rattle.pd_core.specs.Own.{Sessions, no_sessions, own_of, own_at, part_at, own_heap_at, sliced_at, object_of, regions_of, selector_of, Lent, lent_in, no_lent}
-use Rattle.pd_core.specs.Sound.{session_at, buffer_at, rpc_weight, session_weight, IsLawful, IsSoundScript}
-use Rattle.pd_core.specs.Component.{Pays, amounts_in, with_reserve, reserve_in, reserve_of, reserve_held, entry_of, payer_in, payer_of, caps_in, caps_of, places_in, places_of, rows_in, tables_in, NamesItsSessions, HasPlaces, HasNewHeap, HasNewHeaps, own_in, own, IsSoundServer, IsSoundRole}
-use Rattle.pd_core.specs.Core.{Rules, Roles, roles_of, rows_at, sessions_in, world_of, Owner, Owns, IsCore}
-use Rattle.pd_core.specs.Core.Owner.{Init, Place, ReserveAt, SessionAt}
+use Rattle.pd_core.specs.Sound.{buffer_at, rpc_weight, session_weight, IsLawful, IsSoundScript}
+use Rattle.pd_core.specs.Component.{Place, Pays, amounts_in, with_reserve, reserve_in, reserve_of, reserve_held, entry_of, kind_of, payer_in, payer_of, caps_in, rows_in, tables_in, NamesItsSessions, HasPlaces, HasNewHeap, HasNewHeaps, own_in, own, IsSoundServer, IsSoundRole}
+use Rattle.pd_core.specs.Core.{Heads, Places, Roles, roles_of, rows_at, sessions_in, inits_of, world_of, Owner, Owns, IsBelowHead, IsCore}
+use Rattle.pd_core.specs.Core.Owner.{Init, Place as PlaceAt, ReserveAt, SessionAt}
 use Rattle.pd_core.proofs.NameLemmas.{cap_named}
 use Rattle.pd_core.proofs.ComponentLemmas.{pays_is}
 use Rattle.pd_core.proofs.HeldLemmas.{names_none}
 use Rattle.pd_core.proofs.WorldLemmas.{all_roles, place_of, role_at, one_of}
 use Rattle.std.proofs.lemmas.Bool.{cases_lt}
-use Rattle.pd_core.specs.Fresh.{Has, IsFreshReserve, reserve_at, account_at, start_of, opened_part, started_world, AreEmpty, HasNoSessions, IsNewServer, IsFresh, AreFresh}
+use Rattle.pd_core.specs.Fresh.{Has, IsFreshReserve, account_at, start_of, opened_part, started_world, AreEmpty, HasNoSessions, IsNewServer, IsFresh, AreFresh}
 
--- a start with these limits and this reserve
-abbrev beginning : ℕ → ℕ → Amounts → StartEntry
-beginning ram caps reserve = record { entry = nobody; ram = ram; caps = caps; reserve = reserve }
+-- a start of a component of this kind, with these limits and this reserve
+abbrev beginning : Kind → ℕ → ℕ → Amounts → StartEntry
+beginning kind ram caps reserve = record { entry = record nobody { kind = kind }; ram = ram; caps = caps; reserve = reserve }
 
 -- who has nothing has the own state of a start
-own_opened : (L : Lent) (sessions : Sessions) (ram caps : ℕ) → own_of L sessions (opened_part ram caps) empty empty no_heap empty ≡ start_state (beginning ram caps no_reserve)
+own_opened : (L : Lent) (sessions : Sessions) (ram caps : ℕ) → own_of L sessions (opened_part ram caps) empty empty no_heap empty ≡ start_state (beginning AScriptKind ram caps no_reserve)
 unfolding own_of regions_of
 own_opened L sessions ram caps =
     let selectors = picked-empty (object_of L sessions (opened_part ram caps)) in
     let regions = picked-empty (λ (region : Region). option_map (λ (other : ℕ). record region { of = other }) (selector_of empty region.of)) in
-    λ j. record { account = (start_state (beginning ram caps no_reserve)).account; reserve = no_reserve; selectors = selectors j; regions = regions j; heap = no_heap; sliced = empty; gone = (start_state (beginning ram caps no_reserve)).gone }
+    λ j. record { account = (start_state (beginning AScriptKind ram caps no_reserve)).account; reserve = no_reserve; selectors = selectors j; regions = regions j; heap = no_heap; sliced = empty; gone = (start_state (beginning AScriptKind ram caps no_reserve)).gone }
 
 -- where no block is, no payload stands
 no_payloads : (share : Share) → HasNoBlocks share → sliced_of share ≡ empty
@@ -107,7 +106,7 @@ module _ (store : Store) (ram caps : ℕ) where
     no_blocks = no_payloads (share_at script.account.0 store script.regions) (maps.1 script.account.0)
 
     -- the own state is that of a start
-    script_unused : (sessions : Sessions) → own_at sessions store script ≡ start_state (beginning ram caps no_reserve)
+    script_unused : (sessions : Sessions) → own_at sessions store script ≡ start_state (beginning AScriptKind ram caps no_reserve)
     script_unused sessions =
         (λ i. own_of (lent_in store) sessions (unused i) (fresh.no_caps i) (fresh.no_regions i) (no_heap_yet i) (no_blocks i)) ∙ own_opened (lent_in store) sessions ram caps
 
@@ -143,7 +142,7 @@ module _ (store : Store) (ram caps : ℕ) where
               unnamed = λ start q region ds there names. absurd (none_in_empty _ fresh.no_heap start region there);
             };
             lawful = λ open_sessions ready. subst IsLawful (sym (script_unused open_sessions))
-                (record { sound = start_sound (beginning ram caps no_reserve); uses = start_uses (beginning ram caps no_reserve); within = record { ram = omega arith; caps = omega arith } });
+                (record { sound = start_sound (beginning AScriptKind ram caps no_reserve); uses = start_uses (beginning AScriptKind ram caps no_reserve); within = record { ram = omega arith; caps = omega arith } });
           };
           lent = λ s q key names. absurd (none-some (q, key) (sym (ap (λ (m : NatMap Cap). buffer_at (get m s)) fresh.no_caps ∙ ap buffer_at (get-empty s)) ∙ names));
           heaps = record {
@@ -158,13 +157,13 @@ module _ (store : Store) (ram caps : ℕ) where
   -- the same of a role
   record RoleIsFresh (role : Role) : Type 0 where
     sound : IsSoundRole store role
-    state : (sessions : Sessions) → own_in sessions store role ≡ start_state (beginning ram caps (reserve_held store role))
+    state : (sessions : Sessions) → own_in sessions store role ≡ start_state (beginning (kind_of role) ram caps (reserve_held store role))
     no_caps : caps_in role ≡ empty
     no_rows : rows_in store role ≡ empty
-    places : IfSome (places_in role) (λ places. caps + (reserve_held store role).caps ≤ places)
+    places : (sessions : Sessions) → HasPlaces sessions store role
 
   -- a server's account is all that it has
-  server_state : (account : AccountId) → part account.0 store ≡ opened_part ram caps → own_of no_lent no_sessions (part account.0 store) empty empty no_heap empty ≡ start_state (beginning ram caps no_reserve)
+  server_state : (account : AccountId) → part account.0 store ≡ opened_part ram caps → own_of no_lent no_sessions (part account.0 store) empty empty no_heap empty ≡ start_state (beginning AScriptKind ram caps no_reserve)
   server_state account unused = ap (λ p. own_of no_lent no_sessions p empty empty no_heap empty) unused ∙ own_opened no_lent no_sessions ram caps
 
   -- and it is sound where it has no sessions
@@ -185,33 +184,40 @@ module _ (store : Store) (ram caps : ℕ) where
         state = λ sessions. ap (with_reserve has) (script_unused script unused has.caps fresh heap sessions);
         no_caps = fresh.no_caps;
         no_rows = refl;
-        places = fresh.places;
+        places = λ sessions. omega (arith, ap caps_limits (script_unused script unused has.caps fresh heap sessions), total-empty caps_with, fresh.places);
       }
   role_fresh (ALog account server) unused fresh heap new = record {
     sound = server_sound IsLogKept account.0 server.sessions server.map unused new;
     state = λ sessions. server_state account unused;
     no_caps = refl;
     no_rows = map_of-empty (row_of log_value log_buffer store server.map) server.sessions new.none;
-    places = tt;
+    places = λ sessions. tt;
   }
   role_fresh (AFiles account server) unused fresh heap new = record {
     sound = server_sound IsFilesKept account.0 server.sessions server.map unused new;
     state = λ sessions. server_state account unused;
     no_caps = refl;
     no_rows = map_of-empty (row_of files_value files_buffer store server.map) server.sessions new.none;
-    places = tt;
+    places = λ sessions. tt;
+  }
+  role_fresh (AnInit account) unused fresh heap new = record {
+    sound = open_in_part account.0 store (subst (λ (p : Part). IsSome p.account) (sym unused) refl);
+    state = λ sessions. refl;
+    no_caps = refl;
+    no_rows = refl;
+    places = λ sessions. tt;
   }
   role_fresh AGone unused fresh heap new = absurd heap
 
 -- a fresh component is sound, and its own state is that of its start
-module _ (store : Store) (component : Component) (fresh : IsFresh store component) where
+module _ (heads : Heads) (store : Store) (component : Component) (fresh : IsFresh heads store component) where
   -- as its role is
   role : RoleIsFresh store (account_at store component).ram_limit (account_at store component).caps_limit component.role
   role = role_fresh store _ _ component.role fresh.unused fresh.tables fresh.heap fresh.server
 
   -- its own state is that of its start
-  fresh_state : (rules : List Rule) (sessions : Sessions) → own sessions store component ≡ start_state (start_of rules store component)
-  fresh_state rules = role.state
+  fresh_state : (place : Place) (sessions : Sessions) → own sessions store component ≡ start_state (start_of place store component)
+  fresh_state place = role.state
 
   -- it names no session
   fresh_named : (rows : ℕ → NatMap (Row Labelled)) → NamesItsSessions rows component.role
@@ -219,32 +225,32 @@ module _ (store : Store) (component : Component) (fresh : IsFresh store componen
 
   -- there is a place for each capability of its budget
   fresh_places : (sessions : Sessions) → HasPlaces sessions store component.role
-  fresh_places sessions =
-      let all : caps_limits (own sessions store component) ≡ (account_at store component).caps_limit + (reserve_at store component).caps = omega (arith, ap caps_limits (fresh_state [] sessions), total-empty caps_with) in
-      subst (λ n. IfSome (places_of component) (λ places. n ≤ places)) (sym all) role.places
+  fresh_places = role.places
 
 -- the entries are those of the starts
-fresh_entries : (rules : Rules) (store : Store) (components : List (ℕ × Component)) →
-    map (λ c. entry_of (rules c.0) c.1) components ≡ map (λ (start : StartEntry). start.entry) (map (λ c. start_of (rules c.0) store c.1) components)
-fresh_entries rules store [] = refl
-fresh_entries rules store (c ∷ rest) = ap (λ entries. entry_of (rules c.0) c.1 ∷ entries) (fresh_entries rules store rest)
+fresh_entries : (places : Places) (store : Store) (components : List (ℕ × Component)) →
+    map (λ c. entry_of (places c.0) c.1) components ≡ map (λ (start : StartEntry). start.entry) (map (λ c. start_of (places c.0) store c.1) components)
+fresh_entries places store [] = refl
+fresh_entries places store (c ∷ rest) = ap (λ entries. entry_of (places c.0) c.1 ∷ entries) (fresh_entries places store rest)
 
 -- and the own states are, from any place on
-fresh_states : (rules : Rules) (sessions : Sessions) (store : Store) (n : ℕ) (components : List Component) → All (IsFresh store) components →
-    map (own sessions store) components ≡ map start_state (map (λ c. start_of (rules c.0) store c.1) (enumerate_from n components))
-fresh_states rules sessions store n [] fresh = refl
-fresh_states rules sessions store n (c ∷ rest) fresh =
-    let first = fresh_state store c (All-head (IsFresh store) c rest fresh) (rules n) sessions in
-    let others = fresh_states rules sessions store (n + 1) rest (All-tail (IsFresh store) c rest fresh) in
+fresh_states : (places : Places) (sessions : Sessions) (heads : Heads) (store : Store) (n : ℕ) (components : List Component) → All (IsFresh heads store) components →
+    map (own sessions store) components ≡ map start_state (map (λ c. start_of (places c.0) store c.1) (enumerate_from n components))
+fresh_states places sessions heads store n [] fresh = refl
+fresh_states places sessions heads store n (c ∷ rest) fresh =
+    let first = fresh_state heads store c (All-head (IsFresh heads store) c rest fresh) (places n) sessions in
+    let others = fresh_states places sessions heads store (n + 1) rest (All-tail (IsFresh heads store) c rest fresh) in
     λ j. first j ∷ others j
 
 module _ (store : Store) (components : List Component) (fresh : AreFresh store components) where
+  open fresh use {heads, parts}
+
   abbrev roles : Roles
   roles = roles_of components
 
   -- each is fresh
   fresh_at : (k : ℕ) → k < length components → (d : Component) → RoleIsFresh store (account_at store (get_or components k d)).ram_limit (account_at store (get_or components k d)).caps_limit (get_or components k d).role
-  fresh_at k h d = role store (get_or components k d) (fresh.each k d h)
+  fresh_at k h d = role heads store (get_or components k d) (parts.each k d h)
 
   -- no session is open
   none_open : (server id : ℕ) → get (rows_at store roles server) id ≡ None
@@ -279,9 +285,9 @@ module _ (store : Store) (components : List Component) (fresh : AreFresh store c
   -- no two places share one
   same_where : (j k account : ℕ) → HasAt j account → HasAt k account → j ≡ k
   same_where j k account one two = elim (cases_lt j k) [
-    | inl before ↦ let d = one_of components k two.0 in absurd (fresh.apart j k d before two.0 account (one.1 d) (two.1 d))
+    | inl before ↦ let d = one_of components k two.0 in absurd (parts.apart j k d before two.0 account (one.1 d) (two.1 d))
     | inr after ↦ elim (cases_lt k j) [
-      | inl before ↦ let d = one_of components j one.0 in absurd (fresh.apart k j d before one.0 account (two.1 d) (one.1 d))
+      | inl before ↦ let d = one_of components j one.0 in absurd (parts.apart k j d before one.0 account (two.1 d) (one.1 d))
       | inr same ↦ omega (arith, after, same)
     ]
   ]
@@ -290,69 +296,66 @@ module _ (store : Store) (components : List Component) (fresh : AreFresh store c
   no_init k account root pays =
       let at = payer_at k account pays in
       let d = one_of components k at.0 in
-      (fresh.each k d at.0).not_init (at.1 d ∙ sym root)
+      (parts.each k d at.0).not_init (at.1 d ∙ sym root)
 
   -- a reserve is fresh
-  reserve_fresh : (k account : ℕ) → reserve_in (roles k) ≡ Some account → (payer : ℕ) × (((d : Component) → payer_of (get_or components k d) ≡ payer) × IsFreshReserve store payer account)
+  reserve_fresh : (k account : ℕ) → reserve_in (roles k) ≡ Some account → IsFreshReserve store (payer_in (roles k)) account
   reserve_fresh k account is =
       let at = reserve_where k account is in
-      let d = one_of components k at.0 in (
-        payer_in (roles k),
-        (
-          (λ e. ap payer_in (sym (role_at components k e at.0))),
-          subst (λ n. IsFreshReserve store n account) (ap payer_in (sym (role_at components k d at.0)))
-              (subst (λ o. IfSome o (λ reserve. IsFreshReserve store (payer_of (get_or components k d)) reserve)) (at.1 d) (fresh.each k d at.0).reserve),
-        ),
-      )
+      let d = one_of components k at.0 in
+      subst (λ n. IsFreshReserve store n account) (ap payer_in (sym (role_at components k d at.0)))
+      (subst (λ o. IfSome o (λ reserve. IsFreshReserve store (payer_of (get_or components k d)) reserve)) (at.1 d) (parts.each k d at.0).reserve)
 
   -- no reserve is a component's own account
   not_both : (j k account : ℕ) → Pays (roles j) account → reserve_in (roles k) ≡ Some account → ⊥
   not_both j k account pays is =
       let same = same_where j k account (pays_at j account pays) (keeps_at k account is) in
-      let its = reserve_fresh k account is in
       let at = payer_at k account (subst (λ n. Pays (roles n) account) same pays) in
       let d = one_of components k at.0 in
-      its.1.1.apart (sym (at.1 d) ∙ its.1.0 d)
+      (reserve_fresh k account is).apart (sym (at.1 d) ∙ ap payer_in (sym (role_at components k d at.0)))
 
   apart : (one other : Owner) (account : ℕ) → Owns store roles one account → Owns store roles other account → one ≡ other
   apart Init Init account first second = refl
-  apart Init (Place k) account first second = absurd (no_init k account first second)
-  apart (Place j) Init account first second = absurd (no_init j account second first)
-  apart (Place j) (Place k) account first second = ap Place (same_where j k account (pays_at j account first) (pays_at k account second))
+  apart Init (PlaceAt k) account first second = absurd (no_init k account first second)
+  apart (PlaceAt j) Init account first second = absurd (no_init j account second first)
+  apart (PlaceAt j) (PlaceAt k) account first second = ap PlaceAt (same_where j k account (pays_at j account first) (pays_at k account second))
   apart (ReserveAt j) (ReserveAt k) account first second = ap ReserveAt (same_where j k account (keeps_at j account first) (keeps_at k account second))
-  apart (Place j) (ReserveAt k) account first second = absurd (not_both j k account first second)
-  apart (ReserveAt j) (Place k) account first second = absurd (not_both k j account second first)
-  apart Init (ReserveAt k) account first second = absurd ((reserve_fresh k account second).1.1.not_init (sym first))
-  apart (ReserveAt k) Init account first second = absurd ((reserve_fresh k account first).1.1.not_init (sym second))
+  apart (PlaceAt j) (ReserveAt k) account first second = absurd (not_both j k account first second)
+  apart (ReserveAt j) (PlaceAt k) account first second = absurd (not_both k j account second first)
+  apart Init (ReserveAt k) account first second = absurd ((reserve_fresh k account second).not_init (sym first))
+  apart (ReserveAt k) Init account first second = absurd ((reserve_fresh k account first).not_init (sym second))
   apart (SessionAt server id) other account first second = absurd (none-some account (sym (ap (option_map (λ (r : Row Labelled). r.key)) (none_open server id)) ∙ first))
   apart one (SessionAt server id) account first second = absurd (none-some account (sym (ap (option_map (λ (r : Row Labelled). r.key)) (none_open server id)) ∙ second))
 
   -- fresh components are a sound core
-  pub fresh_core : HasRoom store → IsCore store components
-  fresh_core room = record {
-    init = fresh.init;
+  pub fresh_core : IsCore store components
+  fresh_core = record {
+    heads = heads;
+    root_head = parts.root_head;
+    inits = parts.inits;
+    init = parts.init;
     sound = all_roles (λ _ r. IsSoundRole store r) components (λ _. tt) (λ k h d. (fresh_at k h d).sound);
     children = λ k account pays.
         let at = payer_at k account pays in
         let d = one_of components k at.0 in
-        subst (λ n. IsChildIn store n (root_in store)) (at.1 d) (fresh.each k d at.0).child;
-    reserved = λ k account is. (reserve_fresh k account is).1.1.is_reserve;
+        subst (IsBelowHead store heads) (at.1 d) (parts.each k d at.0).child;
+    reserved = λ k account is. (reserve_fresh k account is).is_reserve;
     apart = apart;
     clients = λ server id row there. no_row server id row there;
     named = all_roles (λ _ r. NamesItsSessions (rows_at store roles) r) components
         (λ _. names_none (rows_at store roles) _ refl)
-        (λ k h d. fresh_named store _ (fresh.each k d h) (rows_at store roles));
-    placed = all_roles (λ _ r. HasPlaces (sessions_in store roles) store r) components (λ _. tt) (λ k h d. fresh_places store _ (fresh.each k d h) (sessions_in store roles));
-    held = λ child parent is inner. absurd (inner (fresh.outer child parent is));
-    room = room;
+        (λ k h d. fresh_named heads store _ (parts.each k d h) (rows_at store roles));
+    placed = all_roles (λ _ r. HasPlaces (sessions_in store roles) store r) components (λ _. tt) (λ k h d. fresh_places heads store _ (parts.each k d h) (sessions_in store roles));
+    held = λ child parent is inner. absurd (true≢false (sym (parts.outer child parent is) ∙ inner));
+    room = fresh.room;
   }
 
   -- their world is the one that starts with them
-  pub fresh_world : (rules : Rules) → world_of rules store components ≡ started_world rules store components
-  fresh_world rules =
-      let entries = fresh_entries rules store (enumerate_from 0 components) in
-      let states = fresh_states rules (sessions_in store roles) store 0 components fresh.each in
-      λ j. record { entries = entries j; init = account_in store (root_in store); states = states j }
+  pub fresh_world : (places : Places) → world_of places store components ≡ started_world places store components
+  fresh_world places =
+      let entries = fresh_entries places store (enumerate_from 0 components) in
+      let states = fresh_states places (sessions_in store roles) heads store 0 components parts.each in
+      λ j. record { entries = entries j; inits = inits_of store components; states = states j }
 
 -- a new server is still new while other accounts are opened
 module _ (store store' : Store) (ram : ram_limits_in store' ≡ ram_limits_in store) (caps : caps_limits_in store' ≡ caps_limits_in store) where
@@ -364,4 +367,5 @@ module _ (store store' : Store) (ram : ram_limits_in store' ≡ ram_limits_in st
   new_server_stays (AScript script) new = tt
   new_server_stays (ALog account server) new = no_sessions_stay server.sessions server.map new
   new_server_stays (AFiles account server) new = no_sessions_stay server.sessions server.map new
+  new_server_stays (AnInit key) new = tt
   new_server_stays AGone new = tt

@@ -1,5 +1,6 @@
 -- What follows of the accounts and the sessions of a sound core.
-use Rattle.std.proofs.Common.{◌≡◌, ◌≢◌, ℕ, Some, is_some, refl, sym, ap, subst, ◌∙◌}
+use Rattle.std.proofs.Common.{◌≡◌, ◌≢◌, ℕ, Some, false, true, inl, inr, is_some, refl, sym, ap, subst, ◌∙◌}
+use Rattle.std.proofs.lemmas.Bool.{cases_Bool}
 use Rattle.std.proofs.lemmas.Option.{none-some, same_Some}
 use Rattle.std.specs.FinMap.{get, empty}
 use Rattle.std.specs.Option.{option_map}
@@ -8,17 +9,21 @@ use Rattle.own_model.specs.NatMap.{NatMap}
 use Rattle.own_model.specs.Session.{Labelled}
 use Rattle.own_model.proofs.NatMapLemmas.{get-empty}
 use Rattle.cap_space.specs.declared.cap.Cap.{Cap}
-use Rattle.dataspace_core.specs.Store.{Store, Part, part, space_at, root_in, IsOpenIn, IsChildIn}
+use Rattle.trade_base.specs.declared.refusal.Refusal.TheVariants.{NotAScript}
+use Rattle.dataspace_core.specs.Room.{IsOuter}
+use Rattle.dataspace_core.specs.Store.{Store, Part, part, space_at, IsOpenIn, IsChildIn}
 use Rattle.dataspace_core.proofs.PartLaws.{open_in_part, paid_in_part}
 use Rattle.server_frame.specs.Frame.{Row}
-use Rattle.pd_core.specs.Component.{Pays, HasReserveApart, reserve_in, caps_in, lent_of, lent_by, NamesItsSessions}
-use Rattle.pd_core.specs.Core.{Roles, rows_at, sessions_in, Owner, Owns, NamesAccount, IsSoundCore}
+use Rattle.pd_core.specs.Component.{Pays, HasReserveApart, payer_in, reserve_in, caps_in, lent_of, lent_by, NamesItsSessions}
+use Rattle.pd_core.specs.Core.{Roles, rows_at, sessions_in, Owner, Owns, NamesAccount, Heads, IsInitOf, IsInits, IsBelowHead, IsSoundCore}
+use Rattle.pd_core.specs.Exit.{IsScriptRole}
 use Rattle.pd_core.specs.Core.Owner.{Init, Place, ReserveAt, SessionAt}
 use Rattle.pd_core.specs.Own.{HasSessions}
+use Rattle.pd_core.specs.SessionCalls.{IsBelowInit}
 use Rattle.pd_core.specs.Sessions.{row_session}
 use Rattle.pd_core.specs.Sound.{session_at, buffer_at}
 use Rattle.pd_core.specs.declared.component.Role.{Role}
-use Rattle.pd_core.specs.declared.component.Role.TheVariants.{Script, Log, Files, Gone}
+use Rattle.pd_core.specs.declared.component.Role.TheVariants.{Script, Log, Files, Init as AnInit, Gone}
 use Rattle.trade_base.specs.declared.id.SessionId.{SessionId}
 use Rattle.pd_core.proofs.ComponentLemmas.{account_open}
 use Rattle.pd_core.proofs.ServerLemmas.{IsPaidRow, paid_in, lent_paid, sound_works}
@@ -52,6 +57,51 @@ no_reserve_place j k e = cc
 
 pub no_reserve_session : (server id k : ℕ) → SessionAt server id ≢ ReserveAt k
 no_reserve_session server id k e = cc
+
+-- ---- inits
+
+-- an init pays for its account
+pub init_pays : (role : Role) (account : ℕ) → IsInitOf role account → Pays role account
+init_pays (Script script) account is = absurd is
+init_pays (Log key server) account is = absurd is
+init_pays (Files key server) account is = absurd is
+init_pays (AnInit key) account is = is
+init_pays Gone account is = absurd is
+
+-- a script is none
+pub script_no_init : (role : Role) → IsScriptRole role → (account : ℕ) → IsInitOf role account → ⊥
+script_no_init (Script script) script_is account is = is
+script_no_init (Log key server) script_is account is = is
+script_no_init (Files key server) script_is account is = is
+script_no_init (AnInit key) script_is account is = none-some NotAScript (sym script_is)
+script_no_init Gone script_is account is = is
+
+-- who has a reserve is a script, which pays for an account
+pub reserve_pays : (role : Role) (account : ℕ) → reserve_in role ≡ Some account → Pays role (payer_in role)
+reserve_pays (Script script) account has = refl
+reserve_pays (Log key server) account has = absurd (none-some account has)
+reserve_pays (Files key server) account has = absurd (none-some account has)
+reserve_pays (AnInit key) account has = absurd (none-some account has)
+reserve_pays Gone account has = absurd (none-some account has)
+
+-- what is below the account of a role's init is so by its key
+pub below_init : (store : Store) (role : Role) (account : ℕ) → IsBelowInit store role account → (head : ℕ) × (IsInitOf role head × IsChildIn store account head)
+below_init store (Script script) account below = absurd below
+below_init store (Log key server) account below = absurd below
+below_init store (Files key server) account below = absurd below
+below_init store (AnInit key) account below = (key.0, (refl, below))
+below_init store Gone account below = absurd below
+
+pub init_below : (store : Store) (role : Role) (account head : ℕ) → IsInitOf role head → IsChildIn store account head → IsBelowInit store role account
+init_below store (Script script) account head is below = is
+init_below store (Log key server) account head is below = is
+init_below store (Files key server) account head is below = is
+init_below store (AnInit key) account head is below = below ∙ ap Some (sym is)
+init_below store Gone account head is below = is
+
+-- what is below a head is below no other account
+pub below_outer : {heads : Heads} {store : Store} {account : ℕ} → IsBelowHead store heads account → IsOuter heads store account
+below_outer {heads} below parent is = subst (λ p. heads p ≡ true) (same_Some _ _ (sym below.child ∙ is)) below.is_head
 
 -- ---- a role without a capability
 
@@ -130,18 +180,56 @@ module _ {store : Store} {roles : Roles} (core : IsSoundCore store roles) where
       let same : row.row ≡ names.row = same_Some row.row names.row (sym row.there ∙ names.there) in
       subst (Pays (roles k)) (ap (λ (r : Row Labelled). r.client) same ∙ names.its) row.client
 
-  module _ (i account : ℕ) (pays : Pays (roles i) account) where
-    -- a component's account isn't init's, and no other owner's
-    pub pays_no_init : account ≢ root_in store
-    pays_no_init e = not_place i (core.apart Init (Place i) account (sym e) pays)
+  -- an account that is a component's, its reserve's or a session's is no init's, unless the component is the init
+  pub no_init : (owner : Owner) (account : ℕ) → Owns store roles owner account → (Init ≢ owner) → ((k : ℕ) → owner ≡ Place k → IsInitOf (roles k) account → ⊥) → IsInits store roles account → ⊥
+  no_init owner account owns other none is = elim is [
+    | inl root ↦ other (core.apart Init owner account root owns)
+    | inr its ↦ none its.0 (core.apart owner (Place its.0) account owns (init_pays (roles its.0) account its.1)) its.1
+  ]
 
+  -- so it is no head
+  pub not_head : (owner : Owner) (account : ℕ) → Owns store roles owner account → (Init ≢ owner) → ((k : ℕ) → owner ≡ Place k → IsInitOf (roles k) account → ⊥) → core.heads account ≡ false
+  not_head owner account owns other none = elim (cases_Bool (core.heads account)) [
+    | inl is ↦ absurd (no_init owner account owns other none (core.inits account is))
+    | inr none_is ↦ none_is
+  ]
+
+  -- a session's is none
+  pub session_no_init : (server id account : ℕ) → Owns store roles (SessionAt server id) account → IsInits store roles account → ⊥
+  session_no_init server id account owns = no_init (SessionAt server id) account owns (not_session server id) (λ k e. absurd (no_place k server id e))
+
+  -- nor is a reserve's
+  pub reserve_no_init : (k account : ℕ) → reserve_in (roles k) ≡ Some account → IsInits store roles account → ⊥
+  reserve_no_init k account owns = no_init (ReserveAt k) account owns (no_reserve_init k) (λ j e. absurd (no_reserve_place j k (sym e)))
+
+  pub reserve_no_head : (k account : ℕ) → reserve_in (roles k) ≡ Some account → core.heads account ≡ false
+  reserve_no_head k account owns = not_head (ReserveAt k) account owns (no_reserve_init k) (λ j e. absurd (no_reserve_place j k (sym e)))
+
+  -- each component's account is below heads alone
+  pub place_outer : (k account : ℕ) → Pays (roles k) account → IsOuter core.heads store account
+  place_outer k account pays = below_outer (core.children k account pays)
+
+  -- and so is its reserve's
+  pub reserve_outer : (k account : ℕ) → reserve_in (roles k) ≡ Some account → IsOuter core.heads store account
+  reserve_outer k account has parent below =
+      place_outer k (payer_in (roles k)) (reserve_pays (roles k) account has) parent (sym (core.reserved k account has).beside ∙ below)
+
+  module _ (i account : ℕ) (pays : Pays (roles i) account) where
+    -- a component's account is no other owner's
     pub pays_alone : (owner : Owner) → Owns store roles owner account → owner ≡ Place i
     pays_alone owner owns = core.apart owner (Place i) account owns pays
 
-    -- each account below it is that of a session that one of its selectors names
-    pub held_by : (child : ℕ) → IsChildIn store child account → NamesAccount (rows_at store roles) (roles i) child account
-    held_by child below =
-        let held = core.held child account below pays_no_init in
+    -- a script's is no init's
+    pub script_inits : IsScriptRole (roles i) → IsInits store roles account → ⊥
+    script_inits script = no_init (Place i) account pays (not_place i) (λ k e is. script_no_init (roles i) script account (subst (λ n. IsInitOf (roles n) account) (sym (same_place i k e)) is))
+
+    pub script_head : IsScriptRole (roles i) → core.heads account ≡ false
+    script_head script = not_head (Place i) account pays (not_place i) (λ k e is. script_no_init (roles i) script account (subst (λ n. IsInitOf (roles n) account) (sym (same_place i k e)) is))
+
+    -- and each account below it is that of a session that one of its selectors names
+    pub held_by : IsScriptRole (roles i) → (child : ℕ) → IsChildIn store child account → NamesAccount (rows_at store roles) (roles i) child account
+    held_by script child below =
+        let held = core.held child account below (script_head script) in
         let k = held.0 in
         let names = held.1 in
         let its = client_pays k child account names in
@@ -155,6 +243,7 @@ module _ {store : Store} {roles : Roles} (core : IsSoundCore store roles) where
         no_reserve_place k k (core.apart (Place k) (ReserveAt k) script.reserve.0 (subst (λ r. Pays r script.reserve.0) (sym is) (sym e)) (ap reserve_in is))
     by_role (Log account server) is = tt
     by_role (Files account server) is = tt
+    by_role (AnInit key) is = tt
     by_role Gone is = tt
 
   -- it is open

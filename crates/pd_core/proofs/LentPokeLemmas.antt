@@ -1,24 +1,22 @@
 -- A script's poke into what a session lends it.
 use Rattle.std.proofs.Common.{◌≡◌, ◌≢◌, ℕ, false, ◌+◌, ◌≤◌, List, [], length, Some, refl, sym, ap, subst, ◌∙◌, inl, inr}
 use Rattle.std.proofs.lemmas.Bool.{cases_eq}
-use Rattle.std.specs.Prelude.{Option}
 use Rattle.std.specs.Option.{option_and_then}
 use Rattle.std.specs.FinMap.{get, insert}
 use Rattle.trade_base.specs.Bytes.{with_bytes}
 use Rattle.own_model.specs.Reserve.{no_reserve}
 use Rattle.own_model.specs.Call.Call.{Poke}
 use Rattle.own_model.specs.NatMap.{NatMap, picked}
-use Rattle.own_model.specs.OwnState.{OwnState, Object, object_with, with_part}
+use Rattle.own_model.specs.OwnState.{Object, object_with, with_part}
 use Rattle.own_model.specs.OwnState.Object.{Buffer as ABuffer}
 use Rattle.own_model.specs.OwnStep.{Outcome, script_step, unrouted}
 use Rattle.own_model.specs.Reply.Reply.{Done}
 use Rattle.own_model.proofs.NatMapLemmas.{same, get-picked, get-insert_same, get-insert_other, and_then_alike}
-use Rattle.cap_space.specs.declared.cap.Cap.{Cap}
 use Rattle.quota_core.specs.Books.{Books, ram_limits}
 use Rattle.dataspace_core.specs.Store.{Store, Part, part, part_with_bytes, account_of, space_at, ram_limits_in, PartBecomes}
 use Rattle.pd_core.specs.Does.{DoesPoke}
 use Rattle.pd_core.specs.Own.{Sessions, HasSessions, lent_in, object_of, regions_of, own_of, own_at, part_at, own_heap_at, sliced_at}
-use Rattle.pd_core.specs.Sound.{buffer_at, AreOthers, IsLawful, IsScript, IsSoundScript, IsOthers, Keeps}
+use Rattle.pd_core.specs.Sound.{buffer_at, AreOthers, IsLawful, IsSoundScript, IsOthers}
 use Rattle.pd_core.specs.declared.script.Script.{Script}
 use Rattle.pd_core.proofs.LentLemmas.{object_lent}
 use Rattle.pd_core.proofs.LentWriteLemmas.{same_books, other_stays, put_there}

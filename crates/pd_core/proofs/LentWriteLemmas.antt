@@ -1,5 +1,5 @@
 -- A write into what a session lends: what it leaves of the memory and of the accounts.
-use Rattle.std.proofs.Common.{◌≡◌, ◌≢◌, ℕ, ◌+◌, ◌*◌, ◌≤◌, List, [], Some, unwrap_or, refl, sym, ap, subst, ◌∙◌, inl, inr}
+use Rattle.std.proofs.Common.{◌≡◌, ◌≢◌, ℕ, ◌+◌, ◌*◌, ◌≤◌, List, [], false, Some, unwrap_or, refl, sym, ap, subst, ◌∙◌, inl, inr}
 use Rattle.std.proofs.lemmas.Bool.{cases_eq}
 use Rattle.std.specs.Prelude.{Option}
 use Rattle.std.specs.FinMap.{get}
@@ -10,6 +10,7 @@ use Rattle.quota_core.specs.Books.{Books, IsOpen, IsChildOf, account_at, caps_li
 use Rattle.dataspace_core.specs.Room.{inner_weight, HasRoom}
 use Rattle.dataspace_core.specs.Store.{Store, Part, part, part_with_bytes, accounts_in, space_at, Exists, PartBecomes}
 use Rattle.dataspace_core.proofs.PartLaws.{IsPaidBy, paid_in_part, part_of_payer}
+use Rattle.pd_core.specs.Core.{Heads}
 
 module _ (store store' : Store) (key offset : ℕ) (put : List ℕ) (there : Exists store key)
     (becomes : PartBecomes (space_at store key).payer (part_with_bytes (part (space_at store key).payer store) key offset put) store store') where
@@ -47,9 +48,9 @@ module _ (store store' : Store) (key offset : ℕ) (put : List ℕ) (there : Exi
       ∙ ap (λ (o : Option (List ℕ)). Some (with_bytes (unwrap_or o []) offset put)) (part_of_payer store key there))
 
 -- room for accounts goes by the books
-pub room_by_books : {store store' : Store} → store'.books ≡ store.books → HasRoom store → HasRoom store'
-room_by_books same room = record {
-  counted = subst (λ (b : Books). caps_limits b ≤ (b.room + total (inner_weight b.root) b.parents) * 2 + 1) (sym same) room.counted;
+pub room_by_books : (heads : Heads) {store store' : Store} → store'.books ≡ store.books → HasRoom heads store → HasRoom heads store'
+room_by_books heads same room = record {
+  counted = subst (λ (b : Books). caps_limits b ≤ (b.room + total (inner_weight heads) b.parents) * 2 + 1) (sym same) room.counted;
   there = subst (λ (b : Books). (account parent : ℕ) → IsChildOf b account parent → IsOpen b account) (sym same) room.there;
-  paid = subst (λ (b : Books). (account parent : ℕ) → IsChildOf b account parent → parent ≢ b.root → 2 ≤ (account_at b account).caps_limit) (sym same) room.paid;
+  paid = subst (λ (b : Books). (account parent : ℕ) → IsChildOf b account parent → heads parent ≡ false → 2 ≤ (account_at b account).caps_limit) (sym same) room.paid;
 }

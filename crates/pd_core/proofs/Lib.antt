@@ -49,5 +49,6 @@ pub mod HeapPlaceLemmas
 pub mod ReleaseLemmas
 pub mod EndLemmas
 pub mod ExitWorldLemmas
+pub mod HomeLemmas
 pub mod ExitLemmas
 pub mod ExitCallLemmas

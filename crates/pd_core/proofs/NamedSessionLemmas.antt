@@ -34,7 +34,7 @@ use Rattle.pd_core.specs.Sessions.{row_session, AgreeBut, NamesSession, DoesSess
 use Rattle.pd_core.specs.Sound.{session_weight, lent_weight, buffer_at, AreOthers, IsSoundScript}
 use Rattle.pd_core.specs.declared.script.Script.{Script}
 use Rattle.pd_core.proofs.OwnLemmas.{same_new_selector}
-use Rattle.pd_core.proofs.SessionOwnLemmas.{AreCounted, regions_after}
+use Rattle.pd_core.proofs.SessionOwnLemmas.{regions_after}
 use Rattle.pd_core.proofs.SessionStepLemmas.{ChangesTwo, named_at, some_sessions, some_are_open, some_same, with_session, with_session_same, with_session_other, closes_own, upgrades_own, serves_own, lawful_after}
 use Rattle.pd_core.proofs.SessionScriptLemmas.{own_still, sound_still}
 use Rattle.pd_core.proofs.SessionTurnLemmas.{Turns}

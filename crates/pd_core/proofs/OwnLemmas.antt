@@ -1,5 +1,5 @@
 -- A script's own state when its part of the memory and its tables change.
-use Rattle.std.proofs.Common.{◌≡◌, ℕ, false, ◌+◌, ◌*◌, ◌/◌, ◌≤◌, ◌≢◌, List, [], ◌∷◌, length, Option, Some, None, is_some, IsSome, inl, inr, subst, true≢false, refl, sym, ap, ◌∙◌, arith}
+use Rattle.std.proofs.Common.{◌≡◌, ℕ, false, ◌+◌, ◌≤◌, ◌≢◌, List, [], ◌∷◌, Option, Some, None, is_some, IsSome, inl, inr, subst, true≢false, refl, sym, ap, ◌∙◌, arith}
 use Rattle.std.specs.Option.{option_map, option_and_then, unwrap_or}
 use Rattle.std.specs.FinMap.{get, insert, remove, len}
 use Rattle.std.proofs.lemmas.Bool.{cases_eq}
@@ -12,19 +12,18 @@ use Rattle.own_model.specs.NatMap.{NatMap, picked, total}
 use Rattle.own_model.specs.Account.{opened, charged, credited}
 use Rattle.own_model.specs.Call.{Call}
 use Rattle.own_model.specs.OwnHeap.{OwnHeap}
-use Rattle.own_model.specs.OwnState.{OwnState, Object, new_selector, pages_in, is_buffer_of, buffer_of}
-use Rattle.own_model.specs.OwnState.Object.{Dataspace as ADataspace, RpcObject as AnRpcObject, OpenSession, Buffer as ABuffer}
-use Rattle.own_model.proofs.LentLemmas.{buffer_none}
+use Rattle.own_model.specs.OwnState.{OwnState, Object, new_selector, pages_in}
+use Rattle.own_model.specs.OwnState.Object.{Dataspace as ADataspace, OpenSession}
 use Rattle.own_model.specs.OwnStep.{Outcome, script_step, unrouted}
 use Rattle.own_model.specs.Region.{Region}
 use Rattle.own_model.specs.Reply.{Reply}
 use Rattle.own_model.specs.Reply.Reply.{Selected, Done}
 use Rattle.own_model.specs.Session.ServiceState.{Logging}
-use Rattle.own_model.specs.Use.{object_size, object_caps}
+use Rattle.own_model.specs.Use.{object_caps}
 use Rattle.own_model.specs.StartList.{Entry}
 use Rattle.own_model.proofs.NatMapLemmas.{same, get-insert_same, get-insert_other, get-remove_same, get-remove_other, get-picked, picked-insert_some, picked-remove, picked_alike, alike_insert, alike_remove, and_then_alike, after_insert, apart_from_free, none_at, before_remove}
 use Rattle.own_model.proofs.NewSelector.{new_selector_is, new_selector_positive, new_selector_free, new_selector_least}
-use Rattle.own_model.proofs.Totals.{len-insert_new, len-insert_at, len-remove_at, total-insert_new, total-remove, total_at_le}
+use Rattle.own_model.proofs.Totals.{len-insert_new, len-insert_at, len-remove_at, total-insert_new, total-remove}
 use Rattle.own_model.proofs.SoundLemmas.{step_sound}
 use Rattle.own_model.proofs.UseLemmas.{run_uses}
 use Rattle.own_model.proofs.LimitLemmas.{step_within}
@@ -37,7 +36,7 @@ use Rattle.dataspace_core.proofs.PartLaws.{paid_in_part}
 use Rattle.sliced_heap.specs.Laws.{KeepsHeapWindow}
 use Rattle.pd_core.specs.Own.{Sessions, HasSessions, object_of, selector_of, regions_of, own_of, Lent, key_at}
 use Rattle.pd_core.specs.Sound.{rpc_weight, session_weight, session_at, buffer_at, IsOne, AreNamed, AreBlocks, IsLawful, IsScript}
-use Rattle.pd_core.proofs.SettleLemmas.{Spares, Leaves, DoesOwn, Makes, Settles, same_window}
+use Rattle.pd_core.proofs.SettleLemmas.{DoesOwn, Makes, Settles, same_window}
 use Rattle.pd_core.proofs.NameLemmas.{Names, is_named, regions_alike, attached_alike, cap_named, key_before, own_or_lent, lent_key}
 
 -- what holds of a capability's object, by kinds: a dataspace's depends on its bytes alone

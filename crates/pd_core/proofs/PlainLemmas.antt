@@ -8,16 +8,14 @@ use Rattle.std.specs.Prelude.{IsSome}
 use Rattle.own_model.specs.Call.{Call, is_exit}
 use Rattle.own_model.specs.NatMap.{NatMap}
 use Rattle.own_model.specs.OwnStep.{own_step}
-use Rattle.own_model.specs.Routes.{Rule}
 use Rattle.own_model.specs.Session.{Labelled}
-use Rattle.dataspace_core.specs.Store.{Store, Part, part, account_of, opened_part, root_in}
+use Rattle.dataspace_core.specs.Store.{Store, Part, account_of, opened_part, parents_in, root_in}
 use Rattle.dataspace_core.proofs.PartLaws.{open_in_part, part_open}
 use Rattle.server_frame.specs.Frame.{Row}
 use Rattle.server_frame.specs.Told.{Told as Written}
 use Rattle.pd_core.specs.Answer.{Told, told, told_of}
-use Rattle.pd_core.specs.Component.{Pays, IsReserve, reserve_in, entry_of, payer_of, service_of, caps_in, places_in, rows_in, own_in, own, lent_by, NamesItsSessions, IsSoundRole, IsSound, Keeps}
-use Rattle.pd_core.specs.Core.{Rules, Roles, roles_of, rows_at, sessions_in, Owns, NamesAccount, IsCore}
-use Rattle.pd_core.specs.Core.Owner.{Place}
+use Rattle.pd_core.specs.Component.{Place, Pays, IsReserve, reserve_in, entry_of, payer_in, payer_of, service_of, caps_in, places_in, rows_in, own_in, own, lent_by, NamesItsSessions, IsSoundRole, IsSound, Keeps}
+use Rattle.pd_core.specs.Core.{Places, Roles, roles_of, rows_at, sessions_in, NamesAccount, IsCore}
 use Rattle.pd_core.specs.Exit.{refusal_of, IsScriptRole}
 use Rattle.pd_core.specs.Own.{Sessions}
 use Rattle.pd_core.specs.SessionCalls.{Goes}
@@ -25,23 +23,28 @@ use Rattle.pd_core.specs.Sessions.{row_session}
 use Rattle.pd_core.specs.Sound.{session_at, buffer_at, WritesLent}
 use Rattle.pd_core.specs.declared.component.Component.{Component}
 use Rattle.pd_core.specs.declared.component.Role.{Role}
-use Rattle.pd_core.specs.declared.component.Role.TheVariants.{Script as AScript, Log as ALog, Files as AFiles, Gone as AGone}
+use Rattle.pd_core.specs.declared.component.Role.TheVariants.{Script as AScript, Log as ALog, Files as AFiles, Init as AnInit, Gone as AGone}
 use Rattle.pd_core.proofs.ChangeLemmas.{ChangesCore, Follows}
-use Rattle.pd_core.proofs.ComponentLemmas.{pays_script, part_becomes, same_caps, same_room}
-use Rattle.pd_core.proofs.HeldLemmas.{same_place, no_place, pays_alone, pays_no_init, held_by}
+use Rattle.pd_core.proofs.ComponentLemmas.{pays_is, pays_script, part_becomes, same_caps, same_room}
+use Rattle.pd_core.proofs.HeldLemmas.{held_by}
 use Rattle.pd_core.proofs.SparesLemmas.{SparesRest, spares_beside, spares_lent}
-use Rattle.pd_core.proofs.WorldLemmas.{face_of, face_set, goes, places_kept, stays_goes, role_at, role_set, role_kept, same_init}
+use Rattle.pd_core.proofs.WorldLemmas.{face_of, face_set, goes, places_kept, stays_goes, role_at, role_set, role_kept, same_inits}
 
 -- a role makes calls or is refused
 by_refusal : (role : Role) (X : Type 0) → (IsScriptRole role → X) → (IsSome (refusal_of role) → X) → X
 by_refusal (AScript script) X calls refused = calls refl
 by_refusal (ALog account server) X calls refused = refused refl
 by_refusal (AFiles account server) X calls refused = refused refl
+by_refusal (AnInit key) X calls refused = refused refl
 by_refusal AGone X calls refused = refused refl
 
+-- a place of which a start list says nothing
+pub unlisted : Place
+unlisted = record { name = []; home = 0; routes = [] }
+
 -- what an entry and a service say is a face
-pub face_is : (before after : Component) → ((rules : List Rule) → entry_of rules after ≡ entry_of rules before) → service_of after ≡ service_of before → face_of after ≡ face_of before
-face_is before after entry service j = record { name = (entry [] j).name; kind = (entry [] j).kind; service = service j }
+pub face_is : (before after : Component) → ((place : Place) → entry_of place after ≡ entry_of place before) → service_of after ≡ service_of before → face_of after ≡ face_of before
+face_is before after entry service j = record { label = (entry unlisted j).label; kind = (entry unlisted j).kind; service = service j }
 
 module _ (store : Store) (components : List Component) (i : ℕ) (d : Component) (here : i < length components) (core : IsCore store components) where
   abbrev caller : Component
@@ -82,12 +85,16 @@ module _ (store : Store) (components : List Component) (i : ℕ) (d : Component)
       caps_are : caps_in caller.role ≡ caps_in (roles i)
       caps_are = ap caps_in (sym is_caller)
 
+      -- it is a script at its place
+      calls : IsScriptRole (roles i)
+      calls = subst IsScriptRole (sym is_caller) script
+
       -- what isn't the caller's stays, but for what a session lends it
-      rest : SparesRest i store roles store'
+      rest : SparesRest core.heads i store roles store'
       rest = elim keeps.others [
         | inl others ↦
             let becomes = part_becomes store caller store' after sound script keeps others in
-            spares_beside core i payer pays becomes keeps.limits (same_caps store caller store' after sound script keeps others) (same_room store caller store' after sound script keeps others core.room)
+            spares_beside core i payer calls pays becomes keeps.limits (same_caps store caller store' after sound script keeps others) (same_room store caller store' after sound script keeps others core.heads core.room)
         | inr writes ↦ spares_lent core i (subst (λ caps. WritesLent caps store store') caps_are writes)
       ]
 
@@ -128,7 +135,7 @@ module _ (store : Store) (components : List Component) (i : ℕ) (d : Component)
 
       held : (child parent : ℕ) → Pays (roles i) parent → get store'.books.parents child ≡ Some parent → NamesAccount (rows_at store' roles') (roles' i) child parent
       held child parent its below =
-          let names = held_by core i parent its child (ap (λ (m : NatMap ℕ). get m child) (sym keeps.parents) ∙ below) in
+          let names = held_by core i parent its calls child (ap (λ (m : NatMap ℕ). get m child) (sym keeps.parents) ∙ below) in
           record {
             selector = names.selector;
             server = names.server;
@@ -144,21 +151,27 @@ module _ (store : Store) (components : List Component) (i : ℕ) (d : Component)
       has_reserve : (account : ℕ) → reserve_in (roles' i) ≡ Some account → reserve_in (roles i) ≡ Some account
       has_reserve account is = ap reserve_in is_caller ∙ sym keeps.reserve ∙ ap reserve_in (sym is_after) ∙ is
 
-      reserve_rests : (account : ℕ) → reserve_in (roles i) ≡ Some account → IsReserve store' account
+      same_payer : payer_in (roles i) ≡ payer_in (roles' i)
+      same_payer =
+          let its : Pays after.role payer = keeps.paid payer (pays_script caller.role script) in
+          ap payer_in is_caller ∙ sym (pays_is after.role payer its) ∙ ap payer_in (sym is_after)
+
+      reserve_rests : (account : ℕ) → reserve_in (roles i) ≡ Some account → IsReserve store' (payer_in (roles' i)) account
       reserve_rests account is =
           let before = core.reserved i account is in
           record {
-            child = ap (λ (m : NatMap ℕ). get m account) keeps.parents ∙ before.child ∙ ap Some (sym keeps.root);
+            beside = ap (λ (m : NatMap ℕ). get m account) keeps.parents ∙ before.beside ∙ ap (λ (m : NatMap ℕ). get m (payer_in (roles i))) (sym keeps.parents) ∙ ap (get (parents_in store')) same_payer;
             unused = subst (λ p. p ≡ opened_part (account_of p).ram_limit (account_of p).caps_limit) (sym (rest.reserve account is)) before.unused;
           }
 
-      module _ (call : Call) (on : is_exit call ≡ false) (rules : Rules)
-          (next : own (sessions_in store' roles') store' after ≡ (own_step (entry_of (rules i) caller) call (own S store caller)).next) where
-        own_next : own_in (sessions_in store' roles') store' (roles' i) ≡ (own_step (entry_of (rules i) caller) call (own_in S store (roles i))).next
-        own_next = ap (own_in (sessions_in store' roles') store') is_after ∙ next ∙ ap (λ r. (own_step (entry_of (rules i) caller) call (own_in S store r)).next) (sym is_caller)
+      module _ (call : Call) (on : is_exit call ≡ false) (places : Places)
+          (next : own (sessions_in store' roles') store' after ≡ (own_step (entry_of (places i) caller) call (own S store caller)).next) where
+        own_next : own_in (sessions_in store' roles') store' (roles' i) ≡ (own_step (entry_of (places i) caller) call (own_in S store (roles i))).next
+        own_next = ap (own_in (sessions_in store' roles') store') is_after ∙ next ∙ ap (λ r. (own_step (entry_of (places i) caller) call (own_in S store r)).next) (sym is_caller)
 
-        changes : ChangesCore i 0 0 store roles store' roles'
+        changes : ChangesCore core.heads i 0 0 store roles store' roles'
         changes = record {
+          script = calls;
           others = λ k other. subst (Follows store (roles k) store') (sym (role_kept components i after k other))
               (rest.follows k other);
           sound = subst (IsSoundRole store') (sym is_after) keeps.sound;
@@ -169,35 +182,36 @@ module _ (store : Store) (components : List Component) (i : ℕ) (d : Component)
           row = inl (ap (λ (m : NatMap (Row Labelled)). get m 0) (same_rows 0));
           named = named;
           held = held;
-          placed = places_kept S (sessions_in store' roles') store store' (roles i) (roles' i) (entry_of (rules i) caller) call on own_next
+          placed = places_kept S (sessions_in store' roles') store store' (roles i) (roles' i) (entry_of (places i) caller) call on own_next
               (ap places_in is_after ∙ keeps.places ∙ ap places_in (sym is_caller)) (core.placed i);
-          init = open_in_part (root_in store) store' (ap (λ (p : Part). is_some p.account) rest.init ∙ part_open (root_in store) store core.init);
+          init = open_in_part (root_in store) store' (ap (λ (p : Part). is_some p.account) (rest.inits (root_in store) (inl refl)) ∙ part_open (root_in store) store core.init);
           root = keeps.root;
           children = λ k account _ _. ap (λ (m : NatMap ℕ). get m account) keeps.parents;
           parents = λ child parent below. inr (ap (λ (m : NatMap ℕ). get m child) (sym keeps.parents) ∙ below);
           room = rest.room;
         }
 
-      script_goes : (call : Call) → is_exit call ≡ false → (rules : Rules) (reply : Written) → told reply (own S store' after) ≡ told_of (own_step (entry_of (rules i) caller) call (own S store caller)) →
-          Goes rules call i reply store components store' components'
-      script_goes call on rules reply is =
+      script_goes : (call : Call) → is_exit call ≡ false → (places : Places) (reply : Written) → told reply (own S store' after) ≡ told_of (own_step (entry_of (places i) caller) call (own S store caller)) →
+          Goes places call i reply store components store' components'
+      script_goes call on places reply is =
           let next = ap (λ S. own S store' after) same_sessions ∙ ap (λ (t : Told). t.next) is in
-          goes components components' core (changes call on rules next) (face_set components i after d (face_is caller after keeps.entry keeps.service)) here d rules call on
-          (same_init store store' keeps.root rest.init) reply (own_step (entry_of (rules i) caller) call (own S store caller)) refl (ap (λ (t : Told). t.text) is) (ap (λ (t : Told). t.lines) is)
+          let faces = face_set components i after d (face_is caller after keeps.entry keeps.service) in
+          goes components components' core (changes call on places next) faces here d places call on
+          (same_inits components components' core (changes call on places next) faces here d rest.inits) reply (own_step (entry_of (places i) caller) call (own S store caller)) refl (ap (λ (t : Told). t.text) is) (ap (λ (t : Told). t.lines) is)
           (sym next ∙ ap (own_in (sessions_in store' roles') store') (sym is_after))
 
     -- ---- a plain call, of a script or of one that makes none
 
     -- it goes as the model's
     pub plain_goes : (IsScriptRole caller.role → Keeps store caller store' after) → (IsSome (refusal_of caller.role) → (store' ≡ store) × (after ≡ caller)) →
-        (rules : Rules) (call : Call) (reply : Written) → is_exit call ≡ false → told reply (own S store' after) ≡ told_of (own_step (entry_of (rules i) caller) call (own S store caller)) →
-        Goes rules call i reply store components store' components'
-    plain_goes keeps stays rules call reply on is =
-        by_refusal caller.role (Goes rules call i reply store components store' components')
-        (λ script. script_goes script (keeps script) call on rules reply is)
+        (places : Places) (call : Call) (reply : Written) → is_exit call ≡ false → told reply (own S store' after) ≡ told_of (own_step (entry_of (places i) caller) call (own S store caller)) →
+        Goes places call i reply store components store' components'
+    plain_goes keeps stays places call reply on is =
+        by_refusal caller.role (Goes places call i reply store components store' components')
+        (λ script. script_goes script (keeps script) call on places reply is)
         (λ refused.
         let same = stays refused in
-        subst (λ m. Goes rules call i reply store components m components') (sym same.0)
-        (subst (Goes rules call i reply store components store) (sym (ap (set components i) same.1 ∙ set-get_or components i d))
-        (stays_goes rules components i d call (own_step (entry_of (rules i) caller) call (own S store caller)) core here refl reply (ap (λ (t : Told). t.text) is) (ap (λ (t : Told). t.lines) is)
+        subst (λ m. Goes places call i reply store components m components') (sym same.0)
+        (subst (Goes places call i reply store components store) (sym (ap (set components i) same.1 ∙ set-get_or components i d))
+        (stays_goes places components i d call (own_step (entry_of (places i) caller) call (own S store caller)) core here refl reply (ap (λ (t : Told). t.text) is) (ap (λ (t : Told). t.lines) is)
         (ap (λ (t : Told). t.next) (sym is) ∙ (λ j. own S (same.0 j) (same.1 j))))))

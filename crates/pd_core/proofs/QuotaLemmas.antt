@@ -1,5 +1,5 @@
 -- The accounts of components and of their sessions, as own states tell them.
-use Rattle.std.proofs.Common.{◌≡◌, ◌≢◌, ℕ, ◌<◌, ◌≤◌, List, Some, IsSome, is_some, length, get_or, refl, sym, ap, subst, ◌∙◌, arith, true≢false}
+use Rattle.std.proofs.Common.{◌≡◌, ◌≢◌, ℕ, ◌+◌, add-one, ◌<◌, ◌≤◌, List, Some, IsSome, is_some, length, get_or, refl, sym, ap, subst, ◌∙◌, arith, true≢false}
 use Rattle.std.proofs.lemmas.List.{get_or-map}
 use Rattle.std.specs.Prelude.{Option, None, IfSome, Result, Ok, Err}
 use Rattle.std.specs.Option.{option_map, option_and_then, ok_or}
@@ -14,7 +14,11 @@ use Rattle.own_model.specs.OwnState.Object.{OpenSession}
 use Rattle.own_model.specs.Reserve.{no_reserve}
 use Rattle.pd_core.specs.declared.script.Script.{Script}
 use Rattle.own_model.specs.Session.{Session as AnOpenSession, Labelled}
+use Rattle.own_model.specs.Account.{Account}
+use Rattle.own_model.specs.StartList.{Entry, init_at, no_account}
+use Rattle.pd_core.specs.Answer.{CountsLimits}
 use Rattle.own_model.specs.Transcript.{nothing, state_at}
+use Rattle.own_model.specs.World.{account_at, account_by}
 use Rattle.own_model.proofs.NatMapLemmas.{get-empty, get-picked, get-picked_none}
 use Rattle.cap_space.specs.declared.cap.Cap.{Cap}
 use Rattle.cap_space.specs.declared.cap.Cap.TheVariants.{Dataspace, RpcObject, Session, Buffer}
@@ -27,8 +31,8 @@ use Rattle.slab.specs.Slab as slab
 use Rattle.server_frame.specs.Frame.{Row, sessions_of}
 use Rattle.server_frame.specs.declared.server.Session.{Session as Kept}
 use Rattle.pd_core.specs.Own.{Sessions, no_sessions, object_of, own_of, part_at, Lent, lent_in, no_lent}
-use Rattle.pd_core.specs.Component.{Pays, caps_in, rows_in, own_in, own, rows_of}
-use Rattle.pd_core.specs.Core.{Rules, roles_of, rows_at, sessions_in, world_of, IsCore}
+use Rattle.pd_core.specs.Component.{Pays, kind_of, caps_in, rows_in, own_in, own, rows_of}
+use Rattle.pd_core.specs.Core.{Places, init_in, inits_of, roles_of, rows_at, sessions_in, world_of, IsCore}
 use Rattle.pd_core.specs.Exit.{HasSelectorsTo}
 use Rattle.pd_core.specs.SessionCalls.{named_in}
 use Rattle.pd_core.specs.Sound.{session_at}
@@ -36,25 +40,27 @@ use Rattle.pd_core.proofs.ServerLemmas.{row_is}
 use Rattle.pd_core.proofs.ClientServerLemmas.{its as named_row}
 use Rattle.pd_core.proofs.SessionRefusedLemmas.{no_space}
 use Rattle.pd_core.proofs.SessionWorldLemmas.{Names, named_two, named_cap, host_within}
-use Rattle.pd_core.proofs.WorldLemmas.{role_at}
+use Rattle.pd_core.proofs.WorldLemmas.{entries_at, role_at}
 use Rattle.pd_core.specs.declared.component.Component.{Component}
 use Rattle.pd_core.specs.declared.component.Role.{Role}
-use Rattle.pd_core.specs.declared.component.Role.TheVariants.{Script as AScript, Log as ALog, Files as AFiles, Gone as AGone}
+use Rattle.pd_core.specs.declared.component.Role.TheVariants.{Script as AScript, Log as ALog, Files as AFiles, Init as AnInit, Gone as AGone}
 
 -- ---- a component's account
 
--- the account of an own state is the one that its role pays with
-account_of_role : (sessions : Sessions) (store : Store) (role : Role) (account : ℕ) → Pays role account → (own_in sessions store role).account ≡ account_in store account
+-- a role's account is the one that it pays with: an init's is no part of its own state
+account_of_role : (sessions : Sessions) (store : Store) (role : Role) (account : ℕ) → Pays role account →
+    account_by (kind_of role) (init_in store role) (own_in sessions store role).account ≡ account_in store account
 unfolding own_of
 account_of_role sessions store (AScript script) account pays = account_of-part script.account.0 store ∙ ap (account_in store) pays
 account_of_role sessions store (ALog key server) account pays = account_of-part key.0 store ∙ ap (account_in store) pays
 account_of_role sessions store (AFiles key server) account pays = account_of-part key.0 store ∙ ap (account_in store) pays
+account_of_role sessions store (AnInit key) account pays = ap (account_in store) pays
 account_of_role sessions store AGone account pays = absurd pays
 
 -- so it is where a role is known
-pub account_of_known : (sessions : Sessions) (store : Store) (role known : Role) (account : ℕ) → role ≡ known → Pays known account → account_in store account ≡ (own_in sessions store role).account
-account_of_known sessions store role known account is pays =
-    sym (account_of_role sessions store known account pays) ∙ ap (λ r. (own_in sessions store r).account) (sym is)
+pub account_of_known : (sessions : Sessions) (store : Store) (role known : Role) (account : ℕ) → role ≡ known → Pays known account →
+    account_in store account ≡ account_by (kind_of role) (init_in store role) (own_in sessions store role).account
+account_of_known sessions store role known account is pays = sym (account_of_role sessions store role account (subst (λ r. Pays r account) (sym is) pays))
 
 -- who is no script has nothing in reserve
 pub none_in_reserve : (sessions : Sessions) (store : Store) (role : Role) → ((script : Script) → role ≢ AScript script) → no_reserve ≡ (own_in sessions store role).reserve
@@ -62,22 +68,49 @@ unfolding own_of
 none_in_reserve sessions store (AScript script) other = absurd (other script refl)
 none_in_reserve sessions store (ALog account server) other = refl
 none_in_reserve sessions store (AFiles account server) other = refl
+none_in_reserve sessions store (AnInit key) other = refl
 none_in_reserve sessions store AGone other = refl
 
 -- a component's own state is the one at its place of the world
-own_at_place : (rules : Rules) (store : Store) (components : List Component) (i : ℕ) (d : Component) → i < length components →
-    state_at (world_of rules store components).states i ≡ own (sessions_in store (roles_of components)) store (get_or components i d)
-own_at_place rules store components i d here = get_or-map (own (sessions_in store (roles_of components)) store) components i d nothing here
+own_at_place : (places : Places) (store : Store) (components : List Component) (i : ℕ) (d : Component) → i < length components →
+    state_at (world_of places store components).states i ≡ own (sessions_in store (roles_of components)) store (get_or components i d)
+own_at_place places store components i d here = get_or-map (own (sessions_in store (roles_of components)) store) components i d nothing here
 
--- and so is its account
-pub account_at_place : (rules : Rules) (store : Store) (components : List Component) (i : ℕ) (d : Component) → i < length components →
-    (state_at (world_of rules store components).states i).account ≡ (own (sessions_in store (roles_of components)) store (get_or components i d)).account
-account_at_place rules store components i d here = ap (λ (s : OwnState). s.account) (own_at_place rules store components i d here)
+-- and so is its account, an init's among inits'
+pub account_at_place : (places : Places) (store : Store) (components : List Component) (i : ℕ) (d : Component) → i < length components →
+    account_at (world_of places store components) i
+    ≡ account_by (kind_of (get_or components i d).role) (init_in store (get_or components i d).role) (own (sessions_in store (roles_of components)) store (get_or components i d)).account
+account_at_place places store components i d here =
+    let kind = ap (λ (e : Entry). e.kind) (entries_at places components i d here) in
+    let init : init_at (inits_of store components) (i + 1) ≡ init_in store (get_or components i d).role
+    = ap (init_at (inits_of store components)) (add-one i) ∙ get_or-map (λ (c : Component). init_in store c.role) components i d no_account here in
+    let own = ap (λ (s : OwnState). s.account) (own_at_place places store components i d here) in
+    λ j. account_by (kind j) (init j) (own j)
+
+-- the limits of that are those of both together
+limits_of_role : (sessions : Sessions) (store : Store) (role : Role) →
+    CountsLimits (account_by (kind_of role) (init_in store role) (own_in sessions store role).account) (init_in store role) (own_in sessions store role).account
+unfolding own_of
+limits_of_role sessions store (AScript script) = record { ram = omega arith; caps = omega arith }
+limits_of_role sessions store (ALog key server) = record { ram = omega arith; caps = omega arith }
+limits_of_role sessions store (AFiles key server) = record { ram = omega arith; caps = omega arith }
+limits_of_role sessions store (AnInit key) = record { ram = omega arith; caps = omega arith }
+limits_of_role sessions store AGone = record { ram = omega arith; caps = omega arith }
+
+pub limits_at_place : (places : Places) (store : Store) (components : List Component) (i : ℕ) (d : Component) (told : Account) → i < length components →
+    told ≡ account_by (kind_of (get_or components i d).role) (init_in store (get_or components i d).role) (own (sessions_in store (roles_of components)) store (get_or components i d)).account →
+    CountsLimits told (init_at (world_of places store components).inits (i + 1)) (state_at (world_of places store components).states i).account
+limits_at_place places store components i d told here is =
+    let init : init_at (inits_of store components) (i + 1) ≡ init_in store (get_or components i d).role
+    = ap (init_at (inits_of store components)) (add-one i) ∙ get_or-map (λ (c : Component). init_in store c.role) components i d no_account here in
+    let own = ap (λ (s : OwnState). s.account) (own_at_place places store components i d here) in
+    subst (λ (a : Account × (Account × Account)). CountsLimits a.0 a.1.0 a.1.1) (λ j. (sym is j, (sym init j, sym own j)))
+    (limits_of_role (sessions_in store (roles_of components)) store (get_or components i d).role)
 
 -- and its reserve
-pub reserve_at_place : (rules : Rules) (store : Store) (components : List Component) (i : ℕ) (d : Component) → i < length components →
-    (state_at (world_of rules store components).states i).reserve ≡ (own (sessions_in store (roles_of components)) store (get_or components i d)).reserve
-reserve_at_place rules store components i d here = ap (λ (s : OwnState). s.reserve) (own_at_place rules store components i d here)
+pub reserve_at_place : (places : Places) (store : Store) (components : List Component) (i : ℕ) (d : Component) → i < length components →
+    (state_at (world_of places store components).states i).reserve ≡ (own (sessions_in store (roles_of components)) store (get_or components i d)).reserve
+reserve_at_place places store components i d here = ap (λ (s : OwnState). s.reserve) (own_at_place places store components i d here)
 
 -- ---- the last selector
 
@@ -98,14 +131,15 @@ unfolding own_of
 no_object sessions store (AScript script) q none = get-picked_none (object_of (lent_in store) sessions (part_at store script)) script.caps.caps q none
 no_object sessions store (ALog account server) q none = get-picked_none (object_of no_lent no_sessions (part account.0 store)) empty q none
 no_object sessions store (AFiles account server) q none = get-picked_none (object_of no_lent no_sessions (part account.0 store)) empty q none
+no_object sessions store (AnInit key) q none = get-empty q
 no_object sessions store AGone q none = get-empty q
 
 -- so at each place of the world none does past the selectors in use
-pub none_at_place : (rules : Rules) (store : Store) (components : List Component) (i : ℕ) (d : Component) (last : ℕ) → i < length components → d ≡ get_or components i d →
-    HasSelectorsTo last d.role → (q : ℕ) → last < q → get (state_at (world_of rules store components).states i).selectors q ≡ None
-none_at_place rules store components i d last here read to q past =
+pub none_at_place : (places : Places) (store : Store) (components : List Component) (i : ℕ) (d : Component) (last : ℕ) → i < length components → d ≡ get_or components i d →
+    HasSelectorsTo last d.role → (q : ℕ) → last < q → get (state_at (world_of places store components).states i).selectors q ≡ None
+none_at_place places store components i d last here read to q past =
     let S = sessions_in store (roles_of components) in
-    ap (λ (s : OwnState). get s.selectors q) (own_at_place rules store components i d here ∙ ap (own S store) (sym read)) ∙ no_object S store d.role q (none_past last (caps_in d.role) to q past)
+    ap (λ (s : OwnState). get s.selectors q) (own_at_place places store components i d here ∙ ap (own S store) (sym read)) ∙ no_object S store d.role q (none_past last (caps_in d.role) to q past)
 
 -- ---- the sessions that selectors name
 
@@ -138,13 +172,14 @@ by_role sessions store (AScript script) q =
     ap session_named (get-picked (object_of (lent_in store) sessions part) script.caps.caps q) ∙ by_cap (lent_in store) sessions part (get script.caps.caps q)
 by_role sessions store (ALog account server) q = by_none (part account.0 store) q
 by_role sessions store (AFiles account server) q = by_none (part account.0 store) q
+by_role sessions store (AnInit key) q = ap session_named (get-empty q)
 by_role sessions store AGone q = ap session_named (get-empty q)
 
 -- so it is at each place of the world
-pub session_at_place : (rules : Rules) (store : Store) (components : List Component) (i : ℕ) (d : Component) (q : ℕ) → i < length components →
-    session_named (get (state_at (world_of rules store components).states i).selectors q) ≡ found_in (sessions_in store (roles_of components)) (named_in (get_or components i d).role q)
-session_at_place rules store components i d q here =
-    ap (λ (s : OwnState). session_named (get s.selectors q)) (own_at_place rules store components i d here)
+pub session_at_place : (places : Places) (store : Store) (components : List Component) (i : ℕ) (d : Component) (q : ℕ) → i < length components →
+    session_named (get (state_at (world_of places store components).states i).selectors q) ≡ found_in (sessions_in store (roles_of components)) (named_in (get_or components i d).role q)
+session_at_place places store components i d q here =
+    ap (λ (s : OwnState). session_named (get s.selectors q)) (own_at_place places store components i d here)
     ∙ by_role (sessions_in store (roles_of components)) store (get_or components i d).role q
 
 -- a session that is found is in its server's table

@@ -1,9 +1,9 @@
 -- The calls of a reserve go as the model's.
-use Rattle.std.proofs.Common.{◌≡◌, ◌≢◌, ℕ, ◌+◌, ◌<◌, ◌≤◌, is_some, List, [], Option, Some, None, Err, length, get_or, false, refl, sym, ap, subst, ◌∙◌, arith}
-use Rattle.std.proofs.lemmas.Option.{same_Some}
+use Rattle.std.proofs.Common.{◌≡◌, ◌≢◌, ℕ, ◌+◌, ◌<◌, ◌≤◌, is_some, List, [], Some, None, length, get_or, false, refl, sym, ap, subst, ◌∙◌, arith}
+use Rattle.std.specs.FinMap.{get}
 use Rattle.trade_base.specs.declared.refusal.Refusal.{Refusal}
 use Rattle.trade_base.specs.declared.refusal.Refusal.TheVariants.{BadArgs}
-use Rattle.own_model.specs.Account.{Account, Fits, WithinLimits, shortage, parted_with}
+use Rattle.own_model.specs.Account.{Account, WithinLimits, shortage, parted_with}
 use Rattle.own_model.specs.Amounts.{Amounts}
 use Rattle.own_model.specs.Call.{Call, is_exit}
 use Rattle.own_model.specs.Call.Call.{Reserve, Request, Yield}
@@ -16,14 +16,13 @@ use Rattle.own_model.specs.Reply.Reply.{Done, Refused, Reserved}
 use Rattle.own_model.specs.Reserve.{reserve_account, filled, drawn}
 use Rattle.own_model.specs.SessionArgs.{Arguments, arguments_of}
 use Rattle.own_model.proofs.StepLemmas.{covers}
-use Rattle.dataspace_core.specs.Room.{IsOuter}
-use Rattle.dataspace_core.specs.Store.{Store, part, account_of, account_in, opened_part, parted_part, raised_part, root_in, ram_limits_in, caps_limits_in, IsChildIn, IsOpenIn, AreSiblingsIn, ShiftsPart}
+use Rattle.dataspace_core.specs.Store.{Store, part, account_of, account_in, opened_part, parted_part, raised_part, parents_in, ram_limits_in, caps_limits_in, IsChildIn, IsOpenIn, AreSiblingsIn, ShiftsPart}
 use Rattle.dataspace_core.proofs.PartLaws.{account_of-part}
 use Rattle.dataspace_core.proofs.RoomLaws.{room_is_shifted}
 use Rattle.pd_core.specs.Answer.{told_alone, reserve_amounts}
 use Rattle.pd_core.specs.declared.answer.Reserve.{Reserve as ReserveTold}
-use Rattle.pd_core.specs.Component.{Pays, amounts_in, with_reserve, reserve_in, kind_of, entry_of, caps_in, own_in, own, IsSoundRole}
-use Rattle.pd_core.specs.Core.{Rules, Roles, roles_of, sessions_in, IsCore}
+use Rattle.pd_core.specs.Component.{Pays, amounts_in, with_reserve, payer_in, reserve_in, kind_of, entry_of, caps_in, own_in, own, IsSoundRole}
+use Rattle.pd_core.specs.Core.{Places, Roles, roles_of, sessions_in, IsBelowHead, IsCore}
 use Rattle.pd_core.specs.Core.Owner.{Place, ReserveAt}
 use Rattle.pd_core.specs.Own.{Sessions, HasSessions, own_of, own_at, part_at}
 use Rattle.pd_core.specs.SessionCalls.{Goes}
@@ -32,12 +31,12 @@ use Rattle.pd_core.specs.declared.component.Component.{Component}
 use Rattle.pd_core.specs.declared.component.Role.TheVariants.{Script as AScript}
 use Rattle.pd_core.specs.declared.script.Script.{Script}
 use Rattle.pd_core.proofs.CostLemmas.{placed_with_reserve}
-use Rattle.pd_core.proofs.HeldLemmas.{names_open, no_reserve_place, owned_open}
+use Rattle.pd_core.proofs.HeldLemmas.{names_open, no_reserve_place, owned_open, place_outer, reserve_outer}
 use Rattle.pd_core.proofs.SessionOwnLemmas.{is_step}
-use Rattle.pd_core.proofs.ShiftLemmas.{Shifts, UsesAsMuch, own_shifted, sessions_same, init_rests, shift_change}
-use Rattle.pd_core.proofs.WorldLemmas.{goes, refused_goes, stays_goes, role_at, same_init}
+use Rattle.pd_core.proofs.ShiftLemmas.{Shifts, UsesAsMuch, own_shifted, sessions_same, inits_rest, shift_change}
+use Rattle.pd_core.proofs.WorldLemmas.{goes, refused_goes, stays_goes, role_at, same_inits}
 
-module _ (rules : Rules) {store : Store} (components : List Component) {i : ℕ} (d : Component) (core : IsCore store components) (here : i < length components) (script : Script) (is : (get_or components i d).role ≡ AScript script) where
+module _ (places : Places) {store : Store} (components : List Component) {i : ℕ} (d : Component) (core : IsCore store components) (here : i < length components) (script : Script) (is : (get_or components i d).role ≡ AScript script) where
   abbrev caller : Component
   caller = get_or components i d
 
@@ -67,23 +66,23 @@ module _ (rules : Rules) {store : Store} (components : List Component) {i : ℕ}
   sound = subst (IsSoundRole store) is_script (core.sound i)
 
   -- it isn't turned away
-  steps : (call : Call) → own_step (entry_of (rules i) (get_or components i d)) call (own_in (sessions_in store (roles_of components)) store (AScript script))
-      ≡ entry_step (entry_of (rules i) (get_or components i d)) call (own_in (sessions_in store (roles_of components)) store (AScript script))
+  steps : (call : Call) → own_step (entry_of (places i) (get_or components i d)) call (own_in (sessions_in store (roles_of components)) store (AScript script))
+      ≡ entry_step (entry_of (places i) (get_or components i d)) call (own_in (sessions_in store (roles_of components)) store (AScript script))
   unfolding own_of
-  steps call = is_step (entry_of (rules i) (get_or components i d)) call (own_in (sessions_in store (roles_of components)) store (AScript script)) (ap kind_of is) refl
+  steps call = is_step (entry_of (places i) (get_or components i d)) call (own_in (sessions_in store (roles_of components)) store (AScript script)) (ap kind_of is) refl
 
-  refused_call : (call : Call) (refusal : Refusal) → entry_step (entry_of (rules i) (get_or components i d)) call (own_in (sessions_in store (roles_of components)) store (AScript script))
-      ≡ refused (own_in (sessions_in store (roles_of components)) store (AScript script)) refusal → Goes rules call i (told_alone (reply_text (Refused refusal))) store components store components
+  refused_call : (call : Call) (refusal : Refusal) → entry_step (entry_of (places i) (get_or components i d)) call (own_in (sessions_in store (roles_of components)) store (AScript script))
+      ≡ refused (own_in (sessions_in store (roles_of components)) store (AScript script)) refusal → Goes places call i (told_alone (reply_text (Refused refusal))) store components store components
   refused_call call refusal why =
-      refused_goes rules components i d call refusal core here
-      (subst (λ r. own_step (entry_of (rules i) (get_or components i d)) call (own_in S store r) ≡ refused (own_in S store r) refusal) (sym is) (steps call ∙ why))
+      refused_goes places components i d call refusal core here
+      (subst (λ r. own_step (entry_of (places i) (get_or components i d)) call (own_in S store r) ≡ refused (own_in S store r) refusal) (sym is) (steps call ∙ why))
 
   -- ---- it is told
 
   pub told_goes : (told : ReserveTold) → reserve_amounts told ≡ (own (sessions_in store (roles_of components)) store (get_or components i d)).reserve →
-      Goes rules Reserve i (told_alone (reply_text (Reserved (reserve_amounts told)))) store components store components
+      Goes places Reserve i (told_alone (reply_text (Reserved (reserve_amounts told)))) store components store components
   told_goes told same =
-      stays_goes rules components i d Reserve (told_reserve before) core here (ap (λ r. own_step (entry_of (rules i) (get_or components i d)) Reserve (own_in S store r)) is ∙ steps Reserve)
+      stays_goes places components i d Reserve (told_reserve before) core here (ap (λ r. own_step (entry_of (places i) (get_or components i d)) Reserve (own_in S store r)) is ∙ steps Reserve)
       (told_alone (reply_text (Reserved (reserve_amounts told)))) (ap (λ m. reply_text (Reserved m)) (same ∙ ap (λ r. (own_in S store r).reserve) is)) refl (ap (own_in S store) (sym is))
 
   -- ---- both accounts
@@ -97,11 +96,12 @@ module _ (rules : Rules) {store : Store} (components : List Component) {i : ℕ}
   apart : payer ≢ kept
   apart e = no_reserve_place i i (core.apart (Place i) (ReserveAt i) kept (subst (Pays (roles i)) e pays) has_reserve)
 
-  payer_child : IsChildIn store payer (root_in store)
-  payer_child = core.children i payer pays
+  -- are below one head
+  home : IsBelowHead store core.heads script.account.0
+  home = core.children i payer pays
 
-  kept_child : IsChildIn store kept (root_in store)
-  kept_child = (core.reserved i kept has_reserve).child
+  kept_child : IsChildIn store kept home.head
+  kept_child = (core.reserved i kept has_reserve).beside ∙ ap (λ r. get (parents_in store) (payer_in r)) is_script ∙ home.child
 
   payer_open : IsOpenIn store payer
   payer_open = owned_open core (Place i) payer pays
@@ -109,12 +109,12 @@ module _ (rules : Rules) {store : Store} (components : List Component) {i : ℕ}
   kept_open : IsOpenIn store kept
   kept_open = owned_open core (ReserveAt i) kept has_reserve
 
-  -- are below init's
+  -- so they are siblings
   pub from_reserve : AreSiblingsIn store script.reserve.0 script.account.0
-  from_reserve = record { apart = λ e. apart (sym e); child = ap is_some kept_child; same = payer_child ∙ sym kept_child }
+  from_reserve = record { apart = λ e. apart (sym e); child = ap is_some kept_child; same = home.child ∙ sym kept_child }
 
   pub to_reserve : AreSiblingsIn store script.account.0 script.reserve.0
-  to_reserve = record { apart = apart; child = ap is_some payer_child; same = kept_child ∙ sym payer_child }
+  to_reserve = record { apart = apart; child = ap is_some home.child; same = kept_child ∙ sym home.child }
 
   -- nothing is used of the reserve
   whole : part script.reserve.0 store ≡ opened_part has.ram has.caps
@@ -130,48 +130,49 @@ module _ (rules : Rules) {store : Store} (components : List Component) {i : ℕ}
   -- ---- a refusal
 
   module _ (text : List ℕ) where
-    pub request_unread : arguments_of text ≡ None → Goes rules (Request text) i (told_alone (reply_text (Refused BadArgs))) store components store components
+    pub request_unread : arguments_of text ≡ None → Goes places (Request text) i (told_alone (reply_text (Refused BadArgs))) store components store components
     request_unread none = refused_call (Request text) BadArgs (ap (λ o. requested_by o before) none)
 
-    pub yield_unread : arguments_of text ≡ None → Goes rules (Yield text) i (told_alone (reply_text (Refused BadArgs))) store components store components
+    pub yield_unread : arguments_of text ≡ None → Goes places (Yield text) i (told_alone (reply_text (Refused BadArgs))) store components store components
     yield_unread none = refused_call (Yield text) BadArgs (ap (λ o. yielded_by o before) none)
 
     module _ {more : Arguments} (reads : arguments_of text ≡ Some more) where
-      pub request_short : (refusal : Refusal) → Some refusal ≡ shortage (account_in store script.reserve.0) more.ram more.caps → Goes rules (Request text) i (told_alone (reply_text (Refused refusal))) store components store components
+      pub request_short : (refusal : Refusal) → Some refusal ≡ shortage (account_in store script.reserve.0) more.ram more.caps → Goes places (Request text) i (told_alone (reply_text (Refused refusal))) store components store components
       request_short refusal short =
           refused_call (Request text) refusal (ap (λ o. requested_by o before) reads ∙ ap (λ o. unless o before (reserve_requested more before)) (ap (λ a. shortage a more.ram more.caps) (sym reserve_is) ∙ sym short))
 
-      pub yield_short : (refusal : Refusal) → Some refusal ≡ shortage (account_in store script.account.0) more.ram more.caps → Goes rules (Yield text) i (told_alone (reply_text (Refused refusal))) store components store components
+      pub yield_short : (refusal : Refusal) → Some refusal ≡ shortage (account_in store script.account.0) more.ram more.caps → Goes places (Yield text) i (told_alone (reply_text (Refused refusal))) store components store components
       unfolding own_of
       yield_short refusal short =
           refused_call (Yield text) refusal (ap (λ o. yielded_by o before) reads ∙ ap (λ o. unless o before (reserve_yielded more before)) (ap (λ a. shortage a more.ram more.caps) (account_of-part payer store) ∙ sym short))
 
   -- ---- limits move
 
-  shift_goes : {store' : Store} {a : Account} {now : Amounts} → Shifts script a now store store' → UsesAsMuch (account_of (part_at store script)) a → a.caps_limit + total session_weight script.caps.caps ≤ script.caps.places →
-      (call : Call) → is_exit call ≡ false → own_step (entry_of (rules i) (get_or components i d)) call (own_in (sessions_in store (roles_of components)) store (AScript script))
+  shift_goes : {store' : Store} {a : Account} {now : Amounts} → Shifts core.heads script a now store store' → UsesAsMuch (account_of (part_at store script)) a → a.caps_limit + total session_weight script.caps.caps ≤ script.caps.places →
+      (call : Call) → is_exit call ≡ false → own_step (entry_of (places i) (get_or components i d)) call (own_in (sessions_in store (roles_of components)) store (AScript script))
       ≡ record { reply = Done; lines = []; next = with_reserve now (record (own_at (sessions_in store (roles_of components)) store script) { account = a }) } →
-      Goes rules call i (told_alone (reply_text Done)) store components store' components
+      Goes places call i (told_alone (reply_text Done)) store components store' components
   shift_goes {store'} {a} {now} shifts as_much placed call on step =
       let S' = sessions_in store' roles in
       let after : own_in (sessions_in store' (roles_of components)) store' (roles_of components i) ≡ with_reserve now (record (own_at S store script) { account = a })
       = ap (own_in S' store') is_script ∙ (λ j. own_in (sessions_same core i script is_script shifts j) store' (AScript script)) ∙ own_shifted core i script is_script shifts S in
-      let next = after ∙ ap (λ (o : Outcome). o.next) (sym step) ∙ ap (λ r. (own_step (entry_of (rules i) (get_or components i d)) call (own_in S store r)).next) (sym is_script) in
-      goes components components core (shift_change core i script is_script shifts as_much placed rules caller call on next) refl here d rules call on
-      (same_init store store' shifts.root (init_rests core i script is_script shifts)) (told_alone (reply_text Done))
+      let next = after ∙ ap (λ (o : Outcome). o.next) (sym step) ∙ ap (λ r. (own_step (entry_of (places i) (get_or components i d)) call (own_in S store r)).next) (sym is_script) in
+      let change = shift_change core i script is_script shifts as_much placed places caller call on next in
+      goes components components core change refl here d places call on
+      (same_inits components components core change refl here d (inits_rest core i script is_script shifts)) (told_alone (reply_text Done))
       (record { reply = Done; lines = []; next = with_reserve now (record (own_at S store script) { account = a }) })
-      (ap (λ r. own_step (entry_of (rules i) (get_or components i d)) call (own_in S store r)) is ∙ step) refl refl (sym after)
+      (ap (λ r. own_step (entry_of (places i) (get_or components i d)) call (own_in S store r)) is ∙ step) refl refl (sym after)
 
   module _ {store' : Store} (text : List ℕ) {more : Arguments} (reads : arguments_of text ≡ Some more) (ram : ram_limits_in store' ≡ ram_limits_in store) (caps : caps_limits_in store' ≡ caps_limits_in store) where
     -- from the reserve
     pub request_goes : None ≡ shortage (account_in store script.reserve.0) more.ram more.caps → ShiftsPart script.reserve.0 script.account.0 more.ram more.caps store store' →
-        Goes rules (Request text) i (told_alone (reply_text Done)) store components store' components
+        Goes places (Request text) i (told_alone (reply_text Done)) store components store' components
     unfolding own_of
     request_goes enough moves =
         let fits = covers (account_in store kept) more.ram more.caps (sym enough) in
         let least : more.caps ≤ has.caps = omega (arith, fits.caps_fit, ap (λ (x : Account). x.caps_limit) reserve_is) in
         let within = account_within in
-        let shifts : Shifts script (raised (account_of (part_at store script)) more.ram more.caps) (drawn has more.ram more.caps) store store' = record {
+        let shifts : Shifts core.heads script (raised (account_of (part_at store script)) more.ram more.caps) (drawn has more.ram more.caps) store store' = record {
           own = moves.raised_one;
           kept = moves.parted_one ∙ (λ j. parted_part (whole j) more.ram more.caps);
           others = λ other not_payer not_kept. moves.others other not_kept not_payer;
@@ -179,7 +180,7 @@ module _ (rules : Rules) {store : Store} (components : List Component) {i : ℕ}
           parents = moves.parents;
           ram = ram;
           caps = caps;
-          room = room_is_shifted kept payer more.ram more.caps store store' moves kept_open payer_open (λ parent below. same_Some _ _ (sym below ∙ kept_child)) (λ e. apart (sym e)) fits core.room;
+          room = room_is_shifted core.heads kept payer more.ram more.caps store store' moves kept_open payer_open (reserve_outer core i kept has_reserve) (λ e. apart (sym e)) fits core.room;
         } in
         shift_goes shifts
         (record { ram = refl; caps = refl; within = record { ram = omega (arith, within.ram); caps = omega (arith, within.caps) } })
@@ -188,12 +189,12 @@ module _ (rules : Rules) {store : Store} (components : List Component) {i : ℕ}
 
     -- and to it
     pub yield_goes : None ≡ shortage (account_in store script.account.0) more.ram more.caps → ShiftsPart script.account.0 script.reserve.0 more.ram more.caps store store' →
-        Goes rules (Yield text) i (told_alone (reply_text Done)) store components store' components
+        Goes places (Yield text) i (told_alone (reply_text Done)) store components store' components
     unfolding own_of
     yield_goes enough moves =
         let fits = covers (account_in store payer) more.ram more.caps (sym enough) in
         let account = account_of-part payer store in
-        let shifts : Shifts script (parted_with (account_of (part_at store script)) more.ram more.caps) (filled has more.ram more.caps) store store' = record {
+        let shifts : Shifts core.heads script (parted_with (account_of (part_at store script)) more.ram more.caps) (filled has more.ram more.caps) store store' = record {
           own = moves.parted_one;
           kept = moves.raised_one ∙ (λ j. raised_part (whole j) more.ram more.caps);
           others = λ other not_payer not_kept. moves.others other not_payer not_kept;
@@ -201,7 +202,7 @@ module _ (rules : Rules) {store : Store} (components : List Component) {i : ℕ}
           parents = moves.parents;
           ram = ram;
           caps = caps;
-          room = room_is_shifted payer kept more.ram more.caps store store' moves payer_open kept_open (λ parent below. same_Some _ _ (sym below ∙ payer_child)) apart fits core.room;
+          room = room_is_shifted core.heads payer kept more.ram more.caps store store' moves payer_open kept_open (place_outer core i payer pays) apart fits core.room;
         } in
         shift_goes shifts
         (record {

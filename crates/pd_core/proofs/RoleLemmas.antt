@@ -19,6 +19,7 @@ use Rattle.slab_map.proofs.SlabMap.{get-map_of, get-map_of_at}
 use Rattle.region_map.specs.Regions.{Regions}
 use Rattle.dataspace_core.specs.Share.{Share}
 use Rattle.dataspace_core.specs.Store.{Store, Part, part, account_of, space_at, ram_limits_in, caps_limits_in}
+use Rattle.dataspace_core.proofs.PartLaws.{open_in_part, part_open}
 use Rattle.server_frame.specs.Frame.{Row, row_of, sessions_of}
 use Rattle.server_frame.specs.declared.server.Session.{Session as Kept}
 use Rattle.server_frame.proofs.FrameLemmas.{Stays, row_stays}
@@ -29,7 +30,7 @@ use Rattle.pd_core.specs.Sessions.{log_value, log_buffer, IsLogKept, files_value
 use Rattle.pd_core.specs.Sound.{session_at, buffer_at, IsSoundScript}
 use Rattle.pd_core.specs.Component.{Pays, amounts_in, with_reserve, reserve_in, caps_in, rows_in, own_in, IsSoundServer, IsSoundRole}
 use Rattle.pd_core.specs.declared.component.Role.{Role}
-use Rattle.pd_core.specs.declared.component.Role.TheVariants.{Script as AScript, Log as ALog, Files as AFiles, Gone as AGone}
+use Rattle.pd_core.specs.declared.component.Role.TheVariants.{Script as AScript, Log as ALog, Files as AFiles, Init as AnInit, Gone as AGone}
 use Rattle.pd_core.specs.Core.{Roles, rows_at, Owner, Owns, IsSoundCore}
 use Rattle.pd_core.specs.Core.Owner.{Place, ReserveAt, SessionAt}
 use Rattle.pd_core.proofs.ChangeLemmas.{AgreeOn, Follows}
@@ -70,6 +71,10 @@ read_alike f g (Some x) alike = ap Some (alike x refl)
 map_of_alike : {T X : Type 0} (f g : T → X) (s : Slab T) → ((q : ℕ) (x : T) → slab.get s q ≡ Some x → g x ≡ f x) → map_of g s ≡ map_of f s
 map_of_alike f g s alike = same _ _ (λ q. get-map_of g s q ∙ read_alike f g (slab.get s q) (alike q) ∙ sym (get-map_of f s q))
 
+-- a map without a region, since what stays does so whatever the map is
+no_regions : Regions
+no_regions = record { user = empty; most = 0; heap = empty; tags = empty; heap_most = 0; pages = 0 }
+
 -- all that is seen of some accounts stays, and so do all limits
 module _ (store store' : Store) (Beside : ℕ → Type 0) (stays : (regions : Regions) (account : ℕ) → Beside account → Stays account store store' regions regions)
     (limits : ram_limits_in store' ≡ ram_limits_in store) (caps_limits : caps_limits_in store' ≡ caps_limits_in store) where
@@ -102,6 +107,7 @@ module _ (store store' : Store) (Beside : ℕ → Type 0) (stays : (regions : Re
   rows_stay (AScript script) beside = refl
   rows_stay (ALog account server) beside = table_stays log_value log_buffer IsLogKept server.sessions server.map beside
   rows_stay (AFiles account server) beside = table_stays files_value files_buffer IsFilesKept server.sessions server.map beside
+  rows_stay (AnInit key) beside = refl
   rows_stay AGone beside = refl
 
   -- who pays for what a role is lent is such an account
@@ -119,6 +125,7 @@ module _ (store store' : Store) (Beside : ℕ → Type 0) (stays : (regions : Re
   role_sound (AScript script) sound apart beside lent = (script_stays script sound (apart _ refl) lent).sound
   role_sound (ALog account server) sound apart beside lent = table_sound log_value log_buffer IsLogKept server.sessions server.map beside account.0 (apart _ refl) sound
   role_sound (AFiles account server) sound apart beside lent = table_sound files_value files_buffer IsFilesKept server.sessions server.map beside account.0 (apart _ refl) sound
+  role_sound (AnInit key) sound apart beside lent = open_in_part key.0 store' (ap (λ (p : Part). is_some p.account) (stays no_regions key.0 (apart _ refl)).own ∙ part_open key.0 store sound)
   role_sound AGone sound apart beside lent = tt
 
   -- the own state of a server
@@ -134,11 +141,8 @@ module _ (store store' : Store) (Beside : ℕ → Type 0) (stays : (regions : Re
       λ j. with_reserve (amounts_in ((stays script.regions script.reserve.0 (kept _ refl)).own j)) (same j)
   own_stays S S' (ALog account server) sound apart kept lent agrees = server_own server.map account.0 (apart _ refl)
   own_stays S S' (AFiles account server) sound apart kept lent agrees = server_own server.map account.0 (apart _ refl)
+  own_stays S S' (AnInit key) sound apart kept lent agrees = refl
   own_stays S S' AGone sound apart kept lent agrees = refl
-
--- a map without a region, since what stays does so whatever the map is
-no_regions : Regions
-no_regions = record { user = empty; most = 0; heap = empty; tags = empty; heap_most = 0; pages = 0 }
 
 -- ---- the roles of a core
 
@@ -179,6 +183,7 @@ module _ {store store' : Store} {roles : Roles} {Touched : Owner → Type 0} (le
         places = refl;
         pays = λ account pays. pays;
         paid = λ account pays. pays;
+        inits = λ account is. is;
         reserve = refl;
         reserved = λ account is. let same = stays_beside no_regions account (reserve account is) in record { own = same.own; parent = same.parent };
       }

@@ -11,8 +11,8 @@ use Rattle.own_model.specs.OwnState.{new_selector}
 use Rattle.own_model.specs.OwnStep.{own_step, refused, unless, opened_by, session_opened}
 use Rattle.own_model.specs.Reply.{reply_text}
 use Rattle.own_model.specs.Reply.Reply.{Selected, Refused}
-use Rattle.own_model.specs.Routes.{Service, provider}
-use Rattle.own_model.specs.Session.{Wish, donation_refusal, label_with, state_at_first, wish, wish_in, wish_of, Labelled}
+use Rattle.own_model.specs.Routes.{Service, provider, label_with}
+use Rattle.own_model.specs.Session.{Wish, donation_refusal, state_at_first, wish, wish_in, wish_of, Labelled}
 use Rattle.own_model.specs.SessionArgs.{Arguments, arguments_of}
 use Rattle.own_model.proofs.NewSelector.{new_selector_free}
 use Rattle.dataspace_core.specs.Store.{Store, account_in}
@@ -21,8 +21,8 @@ use Rattle.server_frame.specs.Frame.{OpensSession}
 use Rattle.server_frame.proofs.RowLaws.{IsNoRows}
 use Rattle.pd_core.specs.Answer.{told_alone}
 use Rattle.pd_core.specs.Component.{entry_of, kind_of, served_by, caps_of, caps_in, rows_in, rows_of, service_of, own_in, HasPlace, IsSoundRole, Admits, StaysServer}
-use Rattle.pd_core.specs.Core.{Rules, Roles, roles_of, sessions_in, IsCore}
-use Rattle.pd_core.specs.Own.{Sessions, HasSessions, own_of, own_at}
+use Rattle.pd_core.specs.Core.{Places, Roles, roles_of, sessions_in, IsCore}
+use Rattle.pd_core.specs.Own.{Sessions, HasSessions, own_of}
 use Rattle.pd_core.specs.Sessions.{row_session}
 use Rattle.pd_core.specs.SessionCalls.{Agrees, Goes, HasSelectorLeft, Leads, with_session}
 use Rattle.pd_core.specs.declared.component.Component.{Component}
@@ -39,16 +39,16 @@ use Rattle.pd_core.proofs.SessionOwnLemmas.{is_step}
 use Rattle.pd_core.proofs.WorldLemmas.{face_of, SameFaces, face_set, refused_goes, role_at}
 
 -- the component at a place is a script that asks for a session with these arguments, and is led to a place
-pub record IsLed (rules : Rules) (leads : Leads) (store : Store) (components : List Component) (i s : ℕ) (d : Component) (script : Script) (service text : List ℕ) (args : Arguments) : Type 0 where
+pub record IsLed (places : Places) (leads : Leads) (store : Store) (components : List Component) (i s : ℕ) (d : Component) (script : Script) (service text : List ℕ) (args : Arguments) : Type 0 where
   pub core : IsCore store components
   pub here : i < length components
-  pub agrees : Agrees rules leads components
+  pub agrees : Agrees places leads store components
   pub is_script : (get_or components i d).role ≡ AScript script
   pub reads : arguments_of text ≡ Some args
   pub led : leads i service args.label ≡ Some s
 
-module _ {rules : Rules} {leads : Leads} {store : Store} {components : List Component} {i s : ℕ} {d : Component} {script : Script} {service text : List ℕ} {args : Arguments}
-    (is_led : IsLed rules leads store components i s d script service text args) where
+module _ {places : Places} {leads : Leads} {store : Store} {components : List Component} {i s : ℕ} {d : Component} {script : Script} {service text : List ℕ} {args : Arguments}
+    (is_led : IsLed places leads store components i s d script service text args) where
   open is_led use {core, here, agrees, is_script, reads, led}
 
   abbrev caller : Component
@@ -61,8 +61,8 @@ module _ {rules : Rules} {leads : Leads} {store : Store} {components : List Comp
   S = sessions_in store (roles_of components)
 
   -- a server of this service stands there
-  to_service : (kind : Service) × (provider (rules i) service args.label ≡ Some kind) × ((s < length components) × ((e : Component) → service_of (get_or components s e) ≡ Some kind))
-  to_service = led_to_service rules leads components i service args.label agrees here s led
+  to_service : (kind : Service) × (provider (places i).routes service args.label ≡ Some kind) × ((s < length components) × ((e : Component) → service_of (get_or components s e) ≡ Some kind))
+  to_service = led_to_service places leads store components i service args.label agrees here s led
 
   abbrev kind : Service
   kind = to_service.0
@@ -78,18 +78,18 @@ module _ {rules : Rules} {leads : Leads} {store : Store} {components : List Comp
   abbrev wished : Wish
   wished = record { service = to_service.0; label = label_with (get_or components i d).name.items args.label; ram = args.ram; caps = args.caps }
 
-  asks : wish (get_or components i d).name.items (rules i) service text ≡ Ok wished
-  asks = ap (wish_in (get_or components i d).name.items (rules i) service) reads ∙ ap (wish_of (get_or components i d).name.items args) to_service.1
+  asks : wish (get_or components i d).name.items (places i).routes service text ≡ Ok wished
+  asks = ap (wish_in (get_or components i d).name.items (places i).routes service) reads ∙ ap (wish_of (get_or components i d).name.items args) to_service.1
 
   -- a donation that is refused
   pub led_refused : (refusal : Refusal) → Some refusal ≡ donation_refusal (account_in store script.account.0) args.ram args.caps →
-      Goes rules (Open service text) i (told_alone (reply_text (Refused refusal))) store components store components
+      Goes places (Open service text) i (told_alone (reply_text (Refused refusal))) store components store components
   unfolding own_of
   led_refused refusal is =
       let before = own_in S store (AScript script) in
-      refused_goes rules components i d (Open service text) refusal core here
-      (subst (λ r. own_step (entry_of (rules i) (get_or components i d)) (Open service text) (own_in S store r) ≡ refused (own_in S store r) refusal) (sym is_script)
-      (is_step (entry_of (rules i) (get_or components i d)) (Open service text) before (ap kind_of is_script) refl
+      refused_goes places components i d (Open service text) refusal core here
+      (subst (λ r. own_step (entry_of (places i) (get_or components i d)) (Open service text) (own_in S store r) ≡ refused (own_in S store r) refusal) (sym is_script)
+      (is_step (entry_of (places i) (get_or components i d)) (Open service text) before (ap kind_of is_script) refl
       ∙ ap (λ w. opened_by w before) asks ∙ ap (λ o. unless o before (session_opened wished before))
       (ap (λ a. donation_refusal a args.ram args.caps) (account_of-part script.account.0 store) ∙ sym is)))
 
@@ -145,7 +145,7 @@ module _ {rules : Rules} {leads : Leads} {store : Store} {components : List Comp
       -- it goes as the model's
       pub led_opened : (selector : Selector) (kept : Component) → selector.0 ≡ new_selector (caps_of (get_or (set components s host') i d')) →
           kept ≡ record (get_or (set components s host') i d') { role = with_session (get_or (set components s host') i d').role selector.0 s session } →
-          Goes rules (Open service text) i (told_alone (reply_text (Selected selector.0))) store components store' (set (set components s host') i kept)
+          Goes places (Open service text) i (told_alone (reply_text (Selected selector.0))) store components store' (set (set components s host') i kept)
       led_opened selector kept least is =
           let after : List Component = set (set components s host') i kept in
           let script' : Script = script_with script selector.0 s session in
@@ -161,10 +161,10 @@ module _ {rules : Rules} {leads : Leads} {store : Store} {components : List Comp
           let name = (get_or (set components s host') i d').name.items in
           let faces : SameFaces components after
           = face_set (set components s host') i kept d' (ap face_of is
-          ∙ (λ j. record { name = name; kind = kind_of (with_session (same_role j) selector.0 s session); service = served_by (with_session (same_role j) selector.0 s session) })
-          ∙ (λ j. record { name = name; kind = kind_of (sym same_role j); service = served_by (sym same_role j) }))
+          ∙ (λ j. record { label = name; kind = kind_of (with_session (same_role j) selector.0 s session); service = served_by (with_session (same_role j) selector.0 s session) })
+          ∙ (λ j. record { label = name; kind = kind_of (sym same_role j); service = served_by (sym same_role j) }))
           ∙ face_set components s host' e (face_is (get_or components s e) host' stays.entry stays.service) in
           let ready : HasSessions S script.caps.caps = subst (λ r. HasSessions S (caps_in r)) led_two.is_script (all_open core i) in
-          step_goes components after led_two d host_is replaced faces alone changes stays rules (Open service text) refl refl (Selected selector.0) [] (told_alone (reply_text (Selected selector.0))) refl refl
-          (for_it.does (entry_of (rules i) (get_or components i d)) S (sessions_in store' (roles_of after)) service text wished ready asks refl refl
+          step_goes components after led_two d host_is replaced faces alone changes stays places (Open service text) refl refl (Selected selector.0) [] (told_alone (reply_text (Selected selector.0))) refl refl
+          (for_it.does (entry_of (places i) (get_or components i d)) S (sessions_in store' (roles_of after)) service text wished ready asks refl refl
           (sessions_agree led_two host_is replaced alone changes stays) (ap (option_map row_session) (now_there led_two host_is replaced alone changes stays)))

@@ -8,8 +8,9 @@ use Rattle.trade_base.specs.declared.refusal.Refusal.TheVariants.{ServiceDenied}
 use Rattle.own_model.specs.Routes.{Service, provider}
 use Rattle.own_model.specs.Session.{wish, wish_in, wish_of}
 use Rattle.own_model.specs.SessionArgs.{Arguments, arguments_of}
+use Rattle.dataspace_core.specs.Store.{Store}
 use Rattle.pd_core.specs.Component.{service_of}
-use Rattle.pd_core.specs.Core.{Rules}
+use Rattle.pd_core.specs.Core.{Places}
 use Rattle.pd_core.specs.SessionCalls.{Agrees, Leads, service_at}
 use Rattle.pd_core.specs.declared.component.Component.{Component}
 
@@ -34,23 +35,23 @@ nowhere : {X Y : Type 0} (f : X → Y) (o : Option X) → option_map f o ≡ Non
 nowhere f None none = refl
 nowhere f (Some x) none = absurd (none-some (f x) (sym none))
 
-module _ (rules : Rules) (leads : Leads) (components : List Component) (i : ℕ) (service label : List ℕ) (agrees : Agrees rules leads components) (here : i < length components) where
-  -- where a component is led to a place, a server stands there of the service that its rules lead to
+module _ (places : Places) (leads : Leads) (store : Store) (components : List Component) (i : ℕ) (service label : List ℕ) (agrees : Agrees places leads store components) (here : i < length components) where
+  -- where a component is led to a place, a server stands there of the service that its places lead to
   pub led_to_service : (place : ℕ) → leads i service label ≡ Some place →
-      (kind : Service) × (provider (rules i) service label ≡ Some kind)
+      (kind : Service) × (provider (places i).routes service label ≡ Some kind)
       × ((place < length components) × ((d : Component) → service_of (get_or components place d) ≡ Some kind))
   led_to_service place led =
-      let both = to_service components place (provider (rules i) service label)
+      let both = to_service components place (provider (places i).routes service label)
       (sym (ap (option_map (service_at components)) led) ∙ agrees.each i service label here) in
       (both.0, both.2, server_at components place both.0 both.1)
 
-  -- where it is led to none, its rules lead to none
-  pub led_to_none : leads i service label ≡ None → provider (rules i) service label ≡ None
-  led_to_none led = nowhere Some (provider (rules i) service label) (sym (agrees.each i service label here) ∙ ap (option_map (service_at components)) led)
+  -- where it is led to none, its places lead to none
+  pub led_to_none : leads i service label ≡ None → provider (places i).routes service label ≡ None
+  led_to_none led = nowhere Some (provider (places i).routes service label) (sym (agrees.each i service label here) ∙ ap (option_map (service_at components)) led)
 
   -- so its wish is denied
-  pub denied_wish : (name text : List ℕ) (args : Arguments) → arguments_of text ≡ Some args → label ≡ args.label → leads i service label ≡ None →
-      wish name (rules i) service text ≡ Err ServiceDenied
-  denied_wish name text args reads its none =
-      ap (wish_in name (rules i) service) reads
-      ∙ ap (wish_of name args) (ap (provider (rules i) service) (sym its) ∙ led_to_none none)
+  pub denied_wish : (client text : List ℕ) (args : Arguments) → arguments_of text ≡ Some args → label ≡ args.label → leads i service label ≡ None →
+      wish client (places i).routes service text ≡ Err ServiceDenied
+  denied_wish client text args reads its none =
+      ap (wish_in client (places i).routes service) reads
+      ∙ ap (wish_of client args) (ap (provider (places i).routes service) (sym its) ∙ led_to_none none)

@@ -1,10 +1,8 @@
 -- A request of a session that a selector names, by what it does to the session's buffer: that it goes as the model's.
-use Rattle.std.proofs.Common.{◌≡◌, ◌≢◌, ℕ, ◌+◌, [], ◌<◌, ◌≤◌, ◌++◌, List, Option, None, Some, is_some, length, get_or, set, codes, decimal, refl, sym, ap, subst, ◌∙◌, arith}
-use Rattle.std.proofs.lemmas.Bool.{cases_eq}
+use Rattle.std.proofs.Common.{◌≡◌, ◌≢◌, ℕ, ◌+◌, ◌<◌, ◌≤◌, ◌++◌, List, Option, None, Some, length, get_or, set, codes, decimal, refl, sym, ap, subst, ◌∙◌, arith}
 use Rattle.std.proofs.lemmas.List.{get_or-set_other, get_or_default, length-append}
-use Rattle.std.proofs.lemmas.Option.{none-some, same_Some}
 use Rattle.std.specs.Prelude.{false}
-use Rattle.std.specs.FinMap.{get, insert, empty, len}
+use Rattle.std.specs.FinMap.{get, insert, empty}
 use Rattle.std.specs.Option.{option_map}
 use Rattle.trade_base.specs.declared.id.DsId.{DsId}
 use Rattle.trade_base.specs.declared.id.Selector.{Selector}
@@ -15,7 +13,7 @@ use Rattle.own_model.specs.NatMap.{NatMap, total}
 use Rattle.own_model.specs.OwnState.{OwnState, Object, is_buffer_of, buffer_of, bytes_of_buffer, new_selector, session_named}
 use Rattle.own_model.specs.OwnState.Object.{OpenSession}
 use Rattle.own_model.specs.OwnStep.{session_called, session_served, completed, script_step, gone_state}
-use Rattle.own_model.specs.Reply.{reply_text, log_text}
+use Rattle.own_model.specs.Reply.{reply_text}
 use Rattle.own_model.specs.Reply.Reply.{Told as AnswerTold}
 use Rattle.own_model.specs.Session.{Session as AnOpenSession, Served as ModelServed, served, Labelled}
 use Rattle.own_model.specs.Sound.{AreLent}
@@ -25,7 +23,7 @@ use Rattle.own_model.proofs.LimitLemmas.{serve_keeps}
 use Rattle.own_model.proofs.NatMapLemmas.{alike_insert, get-empty, get-insert_same}
 use Rattle.cap_space.specs.Space.{is_buffer}
 use Rattle.cap_space.specs.declared.cap.Cap.TheVariants.{Session}
-use Rattle.dataspace_core.specs.Store.{Store, Part, part, space_at, account_of, account_in}
+use Rattle.dataspace_core.specs.Store.{Store, Part, part, space_at, account_of}
 use Rattle.dataspace_core.proofs.PartLaws.{account_of-part}
 use Rattle.server_frame.specs.Frame.{Row, row_served, ServesSession}
 use Rattle.server_frame.specs.Lent.{IsEffect}
@@ -34,15 +32,16 @@ use Rattle.server_frame.specs.declared.effect.Effect.TheVariants.{Nothing, Buffe
 use Rattle.server_frame.specs.Session.{Served, service_step}
 use Rattle.server_frame.specs.Told.{Told}
 use Rattle.pd_core.specs.Component.{kind_of, served_by, caps_of, caps_in, rows_in, rows_of, StaysServer}
-use Rattle.pd_core.specs.Core.{Rules, Roles, roles_of}
+use Rattle.pd_core.specs.Core.{Places, roles_of}
 use Rattle.pd_core.specs.Own.{Lent, lent_in, own_of}
 use Rattle.pd_core.specs.Sessions.{row_session, IsLentAt}
 use Rattle.pd_core.specs.SessionCalls.{Goes, HasSelectorLeft, NamesBuffer, DropsBuffer, with_buffer, without_buffer}
-use Rattle.pd_core.specs.Sound.{session_weight, lent_weight, buffer_at, lent_from}
+use Rattle.pd_core.specs.Sound.{session_weight, lent_weight, buffer_at}
 use Rattle.pd_core.specs.declared.component.Component.{Component}
 use Rattle.pd_core.specs.declared.component.Role.{Role}
 use Rattle.pd_core.specs.declared.component.Role.TheVariants.{Script as AScript}
 use Rattle.pd_core.specs.declared.script.Script.{Script}
+use Rattle.pd_core.proofs.PlainLemmas.{unlisted}
 use Rattle.pd_core.proofs.ClientServerLemmas.{under, holds_lent, lent_alike, are_others, fresh_lent, row_paid, row_alone, serve_moves, changes_written, keeps_but, script_sound}
 use Rattle.pd_core.proofs.NameLemmas.{buffer_key, buffer_test, tested_key}
 use Rattle.pd_core.proofs.NamedSessionLemmas.{serves_done}
@@ -113,8 +112,8 @@ module _ (x : AnOpenSession) (request bytes : List ℕ) (makes : (served None x 
 -- shows what it showed
 pub face_as : (before after : Component) {script script' : Script} {role : Role} → before.role ≡ AScript script → after ≡ record before { role = role } → role ≡ AScript script' → face_of after ≡ face_of before
 face_as before after was is now =
-    ap face_of is ∙ (λ j. record { name = before.name.items; kind = kind_of (now j); service = served_by (now j) })
-    ∙ (λ j. record { name = before.name.items; kind = kind_of (sym was j); service = served_by (sym was j) })
+    ap face_of is ∙ (λ j. record { label = before.name.items; kind = kind_of (now j); service = served_by (now j) })
+    ∙ (λ j. record { label = before.name.items; kind = kind_of (sym was j); service = served_by (sym was j) })
 
 -- ---- a request
 
@@ -165,10 +164,10 @@ module _ {store : Store} (components : List Component) {i s : ℕ} {script : Scr
   -- a request goes as the model's where the client has turned so
   turned_goes : (components' : List Component) (script' : Script) → Turns script script' q k its_row.buffer serves.lent → get script'.caps.caps q ≡ Some (Session s session) →
       (account_of (part script.account.0 store)).caps_limit + total session_weight script'.caps.caps ≤ script'.caps.places →
-      ReplacesTwo (roles_of components) (roles_of components') i s (AScript script') host'.role → SameFaces components components' → (rules : Rules) (told : Told) →
+      ReplacesTwo (roles_of components) (roles_of components') i s (AScript script') host'.role → SameFaces components components' → (places : Places) (told : Told) →
       told.text ≡ completed (option_map (named_at (lent_in store) k) its_row.buffer) (option_map (lent_in store') serves.lent) k o.reply → told.lines ≡ step.lines →
-      Goes rules (CallSession q request) i told store components store' components'
-  turned_goes components' script' turns has placed replaced faces rules told text lines =
+      Goes places (CallSession q request) i told store components store' components'
+  turned_goes components' script' turns has placed replaced faces places told text lines =
       let keeps = keeps_but two q session names turns in
       let done = serves_done store store' script script' (rows_in store (roles_of components s)) q s session (script_sound two) (named components two d host host_is q session names) stays.machine serves.lent turns
       (lent_alike two q session names store' others) (are_others two q session names store' others serves.lent paid_lent keeps (ap buffer_at has) turns.tables.after) has request same_part (sym serves.bytes) placed in
@@ -177,13 +176,13 @@ module _ {store : Store} (components : List Component) {i s : ℕ} {script : Scr
       session_goes components components' two d host_is replaced faces (row_alone two q session names)
       (changes_written two q session names store' keeps has turns.tables.after refl refl serves.sessions
       (serve_moves two q session names store' serves paid.opens (ap (λ (a : Account). a.caps_limit) paid.account ∙ limit)) done.sound stays.machine) stays
-      rules (CallSession q request) refl refl (AnswerTold (completed (option_map (named_at (lent_in store) k) its_row.buffer) (option_map (lent_in store') serves.lent) k o.reply)) o.lines told text lines done.does
+      places (CallSession q request) refl refl (AnswerTold (completed (option_map (named_at (lent_in store) k) its_row.buffer) (option_map (lent_in store') serves.lent) k o.reply)) o.lines told text lines done.does
 
   -- the server's face stays
   host_face : face_of host' ≡ face_of host
-  host_face = face components two d host host_is q session names store' host' stays (λ _. [])
+  host_face = face components two d host host_is q session names store' host' stays (λ _. unlisted)
 
-  module _ (e : Component) (read : host ≡ get_or components s e) (rules : Rules) where
+  module _ (e : Component) (read : host ≡ get_or components s e) (places : Places) where
     host_faces : SameFaces components (set components s host')
     host_faces = face_set components s host' e (host_face ∙ ap face_of read)
 
@@ -191,13 +190,13 @@ module _ {store : Store} (components : List Component) {i s : ℕ} {script : Scr
 
     pub nothing_goes : effect ≡ Nothing → (told : Told) → ((one : Row Labelled) → get (rows_of store host) session.0 ≡ Some one → told.text ≡ (row_served service_step request store one).text) →
         ((one : Row Labelled) → get (rows_of store host) session.0 ≡ Some one → told.lines ≡ (row_served service_step request store one).lines) →
-        Goes rules (CallSession q request) i told store components store' (set components s host')
+        Goes places (CallSession q request) i told store components store' (set components s host')
     nothing_goes none told text lines =
         let its = there components two d host host_is q session names in
         let same : serves.lent ≡ its_row.buffer = subst (λ f. IsEffect f its_row.buffer serves.lent) none serves.effect_is in
         turned_goes (set components s host') script
         (subst (Turns script script q k its_row.buffer) (sym same) (turns_same script q k s session names its_row.buffer at (script_sound two).own.named.one))
-        names (script_sound two).own.paid.placed (host_put components two host') host_faces rules told (text its_row its ∙ sym (told_same (lent_in store') (lent_in store) k its_row.buffer serves.lent o.reply same)) (lines its_row its)
+        names (script_sound two).own.paid.placed (host_put components two host') host_faces places told (text its_row its ∙ sym (told_same (lent_in store') (lent_in store) k its_row.buffer serves.lent o.reply same)) (lines its_row its)
 
     -- ---- the caller is read beside the server
 
@@ -244,7 +243,7 @@ module _ {store : Store} (components : List Component) {i s : ℕ} {script : Scr
             (told told' : Told) → ((one : Row Labelled) → get (rows_of store host) session.0 ≡ Some one → told.text ≡ (row_served service_step request store one).text) →
             ((one : Row Labelled) → get (rows_of store host) session.0 ≡ Some one → told.lines ≡ (row_served service_step request store one).lines) →
             told' ≡ record told { text = told.text ++ decimal selector.0 } →
-            Goes rules (CallSession q request) i told' store components store' (set (set components s host') i kept)
+            Goes places (CallSession q request) i told' store components store' (set (set components s host') i kept)
         made_goes by of selector kept least is told told' text lines added =
             let its = there components two d host host_is q session names in
             let selects : selector.0 ≡ k = least ∙ ap (λ r. new_selector (caps_in r)) same_role ∙ sym ((holds_lent two q session names).new made.0) in
@@ -259,7 +258,7 @@ module _ {store : Store} (components : List Component) {i s : ℕ} {script : Scr
             (let placed = placed_more in omega (arith, placed, one_more script q k s session names space by of free))
             (subst (λ r. ReplacesTwo (roles_of components) (roles_of (set (set components s host') i kept)) i s r host'.role) role (kept_put components two host' kept))
             (face_set (set components s host') i kept d' (face_as (get_or (set components s host') i d') kept same_role is now_role) ∙ host_faces)
-            rules told'
+            places told'
             (ap (λ (t : Told). t.text) added ∙ (λ j. text its_row its j ++ decimal (selects j)) ∙ sym (told_made (lent_in store') (lent_in store) k space.0 its_row.buffer serves.lent o.reply made.0 made.1))
             (ap (λ (t : Told). t.lines) added ∙ lines its_row its)
 
@@ -279,7 +278,7 @@ module _ {store : Store} (components : List Component) {i s : ℕ} {script : Scr
         pub given_goes : (dropped : Component) → DropsBuffer space.0 (get_or (set components s host') i d') dropped →
             (told : Told) → ((one : Row Labelled) → get (rows_of store host) session.0 ≡ Some one → told.text ≡ (row_served service_step request store one).text) →
             ((one : Row Labelled) → get (rows_of store host) session.0 ≡ Some one → told.lines ≡ (row_served service_step request store one).lines) →
-            Goes rules (CallSession q request) i told store components store' (set (set components s host') i dropped)
+            Goes places (CallSession q request) i told store components store' (set (set components s host') i dropped)
         given_goes dropped drops told text lines =
             let its = there components two d host host_is q session names in
             let one = (script_sound two).own.named.one in
@@ -295,4 +294,4 @@ module _ {store : Store} (components : List Component) {i s : ℕ} {script : Scr
             (omega (arith, (script_sound two).own.paid.placed, (given_removes script q k s session names space.0 lent_at).fewer))
             (subst (λ r. ReplacesTwo (roles_of components) (roles_of (set (set components s host') i dropped)) i s r host'.role) role (kept_put components two host' dropped))
             (face_set (set components s host') i dropped d' (face_as (get_or (set components s host') i d') dropped same_role drops.gone now_role) ∙ host_faces)
-            rules told (text its_row its ∙ sym (told_gone (lent_in store') (lent_in store) k space.0 its_row.buffer serves.lent o.reply given.0)) (lines its_row its)
+            places told (text its_row its ∙ sym (told_gone (lent_in store') (lent_in store) k space.0 its_row.buffer serves.lent o.reply given.0)) (lines its_row its)

@@ -24,7 +24,8 @@ use Rattle.server_frame.specs.Frame.{Row}
 use Rattle.server_frame.specs.Session.{holding}
 use Rattle.server_frame.specs.Told.{Told}
 use Rattle.pd_core.specs.Component.{Pays, amounts_in, with_reserve, reserve_in, caps_in, entry_of, kind_of, payer_in, payer_of, served_by, places_in, rows_in, own_in, lent_of, lent_by, NamesItsSessions, HasPlaces, IsSoundRole, StaysServer}
-use Rattle.pd_core.specs.Core.{Rules, Roles, roles_of, rows_at, sessions_in, Owner, Owns, NamesAccount, IsSoundCore}
+use Rattle.pd_core.specs.Core.{Heads, Places, Roles, roles_of, rows_at, sessions_in, Owner, Owns, NamesAccount, IsInits, IsSoundCore}
+use Rattle.pd_core.specs.Exit.{IsScriptRole}
 use Rattle.pd_core.specs.Core.Owner.{Init, Place, ReserveAt, SessionAt}
 use Rattle.pd_core.specs.Own.{Sessions, HasSessions, no_sessions, own_of, own_at, no_lent}
 use Rattle.pd_core.specs.Sessions.{row_session, AgreeBut, IsLentAt, DoesSession}
@@ -39,12 +40,12 @@ use Rattle.pd_core.specs.Call.{is_of_reserve}
 use Rattle.pd_core.proofs.AsideLemmas.{outcome_with, stands_aside}
 use Rattle.pd_core.proofs.ChangeLemmas.{ChangesCore, Follows}
 use Rattle.pd_core.proofs.ComponentLemmas.{account_open, pays_is, pays_server}
-use Rattle.pd_core.proofs.HeldLemmas.{names_open, same_place, no_place, no_reserve_place, no_reserve_session, same_session, not_session, pays_alone, pays_no_init, held_by}
+use Rattle.pd_core.proofs.HeldLemmas.{names_open, same_place, no_place, no_reserve_place, no_reserve_session, same_session, not_session, init_pays, reserve_pays, pays_alone, script_inits, held_by}
 use Rattle.pd_core.proofs.NameLemmas.{buffer_key, lent_aside}
 use Rattle.pd_core.proofs.RoleLemmas.{Leaves, role_left, rows_left}
-use Rattle.pd_core.proofs.ServerLemmas.{caps_of_server, places_of_server, reserve_of_server, own_of_server, enough_places, sound_server}
+use Rattle.pd_core.proofs.ServerLemmas.{server_no_init, caps_of_server, places_of_server, reserve_of_server, own_of_server, enough_places, sound_server}
 use Rattle.pd_core.proofs.SessionOwnLemmas.{is_step}
-use Rattle.pd_core.proofs.WorldLemmas.{SameFaces, goes, places_kept, place_of, role_at, same_init}
+use Rattle.pd_core.proofs.WorldLemmas.{SameFaces, goes, places_kept, place_of, role_at, same_inits}
 
 -- ---- between whom it is, and what it changes
 
@@ -61,13 +62,13 @@ pub record ReplacesTwo (before after : Roles) (i s : ℕ) (client host : Role) :
   pub others : (k : ℕ) → k ≢ i → k ≢ s → after k ≡ before k
 
 -- the parts of all accounts stay but those of a client and of its session, which is below nobody else; no limit is lost
-pub record MovesAccounts (payer account : ℕ) (old new : Store) : Type 0 where
+pub record MovesAccounts (heads : Heads) (payer account : ℕ) (old new : Store) : Type 0 where
   pub others : (other : ℕ) → other ≢ payer → other ≢ account → part other new ≡ part other old
   pub parents : (other : ℕ) → other ≢ account → get (parents_in new) other ≡ get (parents_in old) other
   pub parent : (other : ℕ) → IsChildIn new account other → other ≡ payer
   pub root : root_in new ≡ root_in old
   pub caps : caps_limits_in new ≡ caps_limits_in old
-  pub room : HasRoom new
+  pub room : HasRoom heads new
 
 -- a selector has a session of a client on an account, where there is a row of it, and another has what it lends, where it lends
 -- something; else they have nothing of a session
@@ -87,8 +88,8 @@ pub record KeepsBut (before after : Script) (q k : ℕ) : Type 0 where
 
 -- a call of one session, from one row to another or none: no other selector than its own and its buffer's and no other row
 -- changes
-pub record ChangesSession (account s q k : ℕ) (session : SessionId) (old new : Store) (before after : Script) (rows rows' : NatMap (Row Labelled)) (was is : Option (Row Labelled)) : Type 0 where
-  pub moves : MovesAccounts before.account.0 account old new
+pub record ChangesSession (heads : Heads) (account s q k : ℕ) (session : SessionId) (old new : Store) (before after : Script) (rows rows' : NatMap (Row Labelled)) (was is : Option (Row Labelled)) : Type 0 where
+  pub moves : MovesAccounts heads before.account.0 account old new
   pub ram : ram_limits_in new ≡ ram_limits_in old
   pub sound : IsSoundScript new after
   pub stays : KeepsBut before after q k
@@ -150,6 +151,9 @@ module _ {store : Store} {roles : Roles} {i s : ℕ} {script : Script} (two : Ar
   pub pays_client : Pays (roles i) payer
   pays_client = subst (λ r. Pays r payer) (sym is_script) refl
 
+  pub calls : IsScriptRole (roles i)
+  calls = subst IsScriptRole (sym is_script) refl
+
   -- what is so of the caller's role is so of the script
   pub at_script : (P : Role → Type 0) → P (roles i) → P (AScript script)
   at_script P its = subst P is_script its
@@ -157,7 +161,7 @@ module _ {store : Store} {roles : Roles} {i s : ℕ} {script : Script} (two : Ar
   module _ {store' : Store} {roles' : Roles} {script' : Script} {host host' : Component} {q k account : ℕ} {session : SessionId} {was is : Option (Row Labelled)}
       (host_is : roles s ≡ host.role) (replaced : ReplacesTwo roles roles' i s (AScript script') host'.role)
       (alone : (owner : Owner) → Owns store roles owner account → owner ≡ SessionAt s session.0)
-      (changes : ChangesSession account s q k session store store' script script' (rows_in store (roles s)) (rows_in store' host'.role) was is) (stays : StaysServer store host store' host') where
+      (changes : ChangesSession core.heads account s q k session store store' script script' (rows_in store (roles s)) (rows_in store' host'.role) was is) (stays : StaysServer store host store' host') where
     open changes.moves use {others, parents, parent, root}
 
     -- the client and the session are touched
@@ -261,6 +265,7 @@ module _ {store : Store} {roles : Roles} {i s : ℕ} {script : Script} (two : Ar
           places = places_of_server host'.role still_serving ∙ sym (places_of_server host.role host_serving);
           pays = λ one its. subst (Pays host.role) (sym stays.account ∙ pays_is host'.role one its) (pays_server host.role host_serving);
           paid = λ one its. subst (Pays host'.role) (stays.account ∙ pays_is host.role one its) (pays_server host'.role still_serving);
+          inits = λ one its. absurd (server_no_init host.role host_serving one its);
           reserve = reserve_of_server host'.role still_serving ∙ sym (reserve_of_server host.role host_serving);
           reserved = λ one is. absurd (none-some one (sym (reserve_of_server host.role host_serving) ∙ is));
         }
@@ -405,7 +410,7 @@ module _ {store : Store} {roles : Roles} {i s : ℕ} {script : Script} (two : Ar
             its = changes.tied_after.client row.0 row.1 ∙ subst (λ r. Pays r above) is_script its;
           }
       | inr other ↦
-          let held = at_script (λ r. NamesAccount (rows_at store roles) r child above) (held_by core i above its child (sym (parents child other) ∙ below)) in
+          let held = at_script (λ r. NamesAccount (rows_at store roles) r child above) (held_by core i above its calls child (sym (parents child other) ∙ below)) in
           let apart : held.selector ≢ q = λ e.
           let row = tied_row was changes.tied (held.server, held.session) (ap (λ n. session_at (get script.caps.caps n)) (sym e) ∙ held.names) in
           let same : row.0 ≡ held.row = same_Some row.0 held.row (sym (changes.tied.there ∙ row.1.0) ∙ (λ j. get (rows_at store roles (row.1.1 j).0) (row.1.1 j).1.0) ∙ held.there) in
@@ -422,8 +427,17 @@ module _ {store : Store} {roles : Roles} {i s : ℕ} {script : Script} (two : Ar
           }
     ]
 
-    same_root : part (root_in store) store' ≡ part (root_in store) store
-    same_root = others (root_in store) (λ e. pays_no_init core i payer pays_client (sym e)) (λ e. not_session s session.0 (alone Init e))
+    -- no init's account is the session's
+    inits_apart : (one : ℕ) → IsInits store roles one → one ≢ account
+    inits_apart one its e = elim its [
+      | inl root ↦ not_session s session.0 (alone Init (root ∙ e))
+      | inr init ↦ no_place init.0 s session.0 (sym (alone (Place init.0) (subst (Pays (roles init.0)) e (init_pays (roles init.0) one init.1))))
+    ]
+
+    -- inits' accounts have the parts that they had
+    pub inits_rest : (one : ℕ) → IsInits store roles one → part one store' ≡ part one store
+    inits_rest one its =
+        others one (λ e. script_inits core i payer pays_client calls (subst (IsInits store roles) e its)) (inits_apart one its)
 
     -- a reserve's account rests
     reserve_rests : (one : ℕ) → reserve_in (roles i) ≡ Some one → part one store' ≡ part one store
@@ -435,9 +449,17 @@ module _ {store : Store} {roles : Roles} {i s : ℕ} {script : Script} (two : Ar
     has_reserve : (one : ℕ) → reserve_in (roles' i) ≡ Some one → reserve_in (roles i) ≡ Some one
     has_reserve one is = ap reserve_in is_script ∙ ap (λ (a : AccountId). Some a.0) (sym changes.stays.reserve) ∙ ap reserve_in (sym replaced.client_at) ∙ is
 
+    -- no component's account is the session's
+    not_place_account : (k one : ℕ) → Pays (roles k) one → one ≢ account
+    not_place_account k one its e = no_place k s session.0 (sym (alone (Place k) (subst (Pays (roles k)) e its)))
+
+    same_payer : payer_in (roles i) ≡ payer_in (roles' i)
+    same_payer = ap payer_in is_script ∙ ap (λ (a : AccountId). a.0) (sym changes.stays.account) ∙ ap payer_in (sym replaced.client_at)
+
     -- so the core changes
-    pub session_change : HasPlaces (sessions_in store' roles') store' (roles' i) → ChangesCore i s session.0 store roles store' roles'
+    pub session_change : HasPlaces (sessions_in store' roles') store' (roles' i) → ChangesCore core.heads i s session.0 store roles store' roles'
     session_change placed = record {
+      script = calls;
       others = follows;
       sound = subst (IsSoundRole store') (sym replaced.client_at) changes.sound;
       pays = λ one its. subst (λ r. Pays r one) (sym is_script) (ap (λ (a : AccountId). a.0) (sym changes.stays.account) ∙ subst (λ r. Pays r one) replaced.client_at its);
@@ -446,7 +468,8 @@ module _ {store : Store} {roles : Roles} {i s : ℕ} {script : Script} (two : Ar
           let was = has_reserve one is in
           let before = core.reserved i one was in
           record {
-            child = parents one (not_account (ReserveAt i) one (other_reserve i) was) ∙ before.child ∙ ap Some (sym root);
+            beside = parents one (not_account (ReserveAt i) one (other_reserve i) was) ∙ before.beside
+                ∙ sym (parents (payer_in (roles i)) (not_place_account i (payer_in (roles i)) (reserve_pays (roles i) one was))) ∙ ap (get (parents_in store')) same_payer;
             unused = subst (λ p. p ≡ opened_part (account_of p).ram_limit (account_of p).caps_limit) (sym (reserve_rests one was)) before.unused;
           };
       rows = other_row;
@@ -458,9 +481,9 @@ module _ {store : Store} {roles : Roles} {i s : ℕ} {script : Script} (two : Ar
       named = subst (NamesItsSessions (rows_at store' roles')) (sym replaced.client_at) named_after;
       held = λ child parent its below. subst (λ r. NamesAccount (rows_at store' roles') r child parent) (sym replaced.client_at) (held_after child parent its below);
       placed = placed;
-      init = open_in_part (root_in store) store' (ap (λ (p : Part). is_some p.account) same_root ∙ part_open (root_in store) store core.init);
+      init = open_in_part (root_in store) store' (ap (λ (p : Part). is_some p.account) (inits_rest (root_in store) (inl refl)) ∙ part_open (root_in store) store core.init);
       root = root;
-      children = λ k one its _. parents one (λ e. no_place k s session.0 (sym (alone (Place k) (subst (Pays (roles k)) e its))));
+      children = λ k one its _. parents one (not_place_account k one its);
       parents = λ child above below. elim (cases_eq child account) [
         | inl at ↦ inl (subst (Pays (roles i)) (sym (changes.moves.parent above (ap (get (parents_in store')) (sym at) ∙ below))) pays_client)
         | inr other ↦ inr (sym (parents child other) ∙ below)
@@ -475,8 +498,8 @@ module _ {store store' : Store} (components components' : List Component) {i s :
     {host host' : Component} {q k account : ℕ} {session : SessionId} {was is : Option (Row Labelled)}
     (host_is : roles_of components s ≡ host.role) (replaced : ReplacesTwo (roles_of components) (roles_of components') i s (AScript script') host'.role) (faces : SameFaces components components')
     (alone : (owner : Owner) → Owns store (roles_of components) owner account → owner ≡ SessionAt s session.0)
-    (changes : ChangesSession account s q k session store store' script script' (rows_in store (roles_of components s)) (rows_in store' host'.role) was is) (stays : StaysServer store host store' host')
-    (rules : Rules) (call : Call) (on : is_exit call ≡ false) (aside : is_of_reserve call ≡ false) (reply : Reply) (lines : List LogLine) (told : Told) (text : told.text ≡ reply_text reply) (finished : told.lines ≡ flat_map log_text lines) where
+    (changes : ChangesSession two.core.heads account s q k session store store' script script' (rows_in store (roles_of components s)) (rows_in store' host'.role) was is) (stays : StaysServer store host store' host')
+    (places : Places) (call : Call) (on : is_exit call ≡ false) (aside : is_of_reserve call ≡ false) (reply : Reply) (lines : List LogLine) (told : Told) (text : told.text ≡ reply_text reply) (finished : told.lines ≡ flat_map log_text lines) where
   abbrev roles : Roles
   roles = roles_of components
 
@@ -495,29 +518,30 @@ module _ {store store' : Store} (components components' : List Component) {i s :
   caller_is : caller.role ≡ AScript script
   caller_is = sym (role_at components i d here) ∙ two.is_script
 
-  pub step_goes : entry_step (entry_of (rules i) caller) call (own_at S store script) ≡ record { reply = reply; lines = lines; next = own_at S' store' script' } →
-      Goes rules call i told store components store' components'
+  pub step_goes : entry_step (entry_of (places i) caller) call (own_at S store script) ≡ record { reply = reply; lines = lines; next = own_at S' store' script' } →
+      Goes places call i told store components store' components'
   unfolding own_of
   step_goes outcome =
       let has = amounts_in (part script.reserve.0 store) in
       let now : amounts_in (part script'.reserve.0 store') ≡ amounts_in (part script.reserve.0 store)
       = ap (λ (a : AccountId). amounts_in (part a.0 store')) changes.stays.reserve ∙ ap amounts_in (its_reserve two host_is replaced alone changes stays) in
-      let step : own_step (entry_of (rules i) caller) call (with_reserve (amounts_in (part script.reserve.0 store)) (own_at S store script))
+      let step : own_step (entry_of (places i) caller) call (with_reserve (amounts_in (part script.reserve.0 store)) (own_at S store script))
       ≡ record { reply = reply; lines = lines; next = with_reserve (amounts_in (part script.reserve.0 store)) (own_at S' store' script') }
-      = is_step (entry_of (rules i) caller) call (with_reserve has (own_at S store script)) (ap kind_of caller_is) refl
-      ∙ stands_aside has (own_at S store script) (entry_of (rules i) caller) call aside on ∙ ap (outcome_with has) outcome in
+      = is_step (entry_of (places i) caller) call (with_reserve has (own_at S store script)) (ap kind_of caller_is) refl
+      ∙ stands_aside has (own_at S store script) (entry_of (places i) caller) call aside on ∙ ap (outcome_with has) outcome in
       let own_after : own_in S' store' (roles_of components' i) ≡ with_reserve (amounts_in (part script.reserve.0 store)) (own_at S' store' script')
       = ap (own_in S' store') replaced.client_at ∙ ap (λ r. with_reserve r (own_at S' store' script')) now in
-      let next = own_after ∙ ap (λ (o : Outcome). o.next) (sym step) ∙ ap (λ r. (own_step (entry_of (rules i) caller) call (own_in S store r)).next) (sym two.is_script) in
-      let placed = places_kept S S' store store' (roles i) (roles_of components' i) (entry_of (rules i) caller) call on next
+      let next = own_after ∙ ap (λ (o : Outcome). o.next) (sym step) ∙ ap (λ r. (own_step (entry_of (places i) caller) call (own_in S store r)).next) (sym two.is_script) in
+      let placed = places_kept S S' store store' (roles i) (roles_of components' i) (entry_of (places i) caller) call on next
       (ap places_in replaced.client_at ∙ ap Some changes.stays.places ∙ ap places_in (sym two.is_script)) (two.core.placed i) in
-      goes components components' two.core (session_change two host_is replaced alone changes stays placed) faces here d rules call on
-      (same_init store store' changes.moves.root (same_root two host_is replaced alone changes stays)) told (record { reply = reply; lines = lines; next = with_reserve has (own_at S' store' script') })
-      (ap (λ r. own_step (entry_of (rules i) caller) call (own_in S store r)) caller_is ∙ step) text finished (sym own_after)
+      let change = session_change two host_is replaced alone changes stays placed in
+      goes components components' two.core change faces here d places call on
+      (same_inits components components' two.core change faces here d (inits_rest two host_is replaced alone changes stays)) told (record { reply = reply; lines = lines; next = with_reserve has (own_at S' store' script') })
+      (ap (λ r. own_step (entry_of (places i) caller) call (own_in S store r)) caller_is ∙ step) text finished (sym own_after)
 
   -- and so does one that is this to the model
-  pub session_goes : DoesSession call reply lines s session.0 (option_map row_session was) (option_map row_session is) store script store' script' → Goes rules call i told store components store' components'
+  pub session_goes : DoesSession call reply lines s session.0 (option_map row_session was) (option_map row_session is) store script store' script' → Goes places call i told store components store' components'
   session_goes does =
       let ready : HasSessions S script.caps.caps = subst (λ r. HasSessions S (caps_in r)) two.is_script (names_open two.core i) in
-      step_goes (does (entry_of (rules i) caller) S S' ready (ap kind_of caller_is) (sessions_agree two host_is replaced alone changes stays)
+      step_goes (does (entry_of (places i) caller) S S' ready (ap kind_of caller_is) (sessions_agree two host_is replaced alone changes stays)
       (ap (option_map row_session) changes.tied.there) (ap (option_map row_session) (now_there two host_is replaced alone changes stays)))

@@ -60,7 +60,7 @@ free_before script server session selector fresh =
 -- are the same before and after, and that the script is sound
 pub record OpensFor (selector server : ℕ) (session : SessionId) (ram caps : ℕ) (old new : Store) (before : Script) : Type 0 where
   pub sound : IsSoundScript new (script_with before selector server session)
-  pub does : (entry : Entry) (S S' : Sessions) (service text : List ℕ) (w : Wish) → HasSessions S before.caps.caps → wish entry.name entry.routes service text ≡ Ok w →
+  pub does : (entry : Entry) (S S' : Sessions) (service text : List ℕ) (w : Wish) → HasSessions S before.caps.caps → wish entry.label entry.routes service text ≡ Ok w →
       w.ram ≡ ram → w.caps ≡ caps → AgreeBut S S' server session.0 → S' server session.0 ≡ Some (new_session w) →
       entry_step entry (Open service text) (own_at S old before) ≡ record { reply = Selected selector; lines = []; next = own_at S' new (script_with before selector server session) }
 
@@ -135,7 +135,7 @@ module _ (store store' : Store) (script : Script) (rows : NatMap (Row Labelled))
     changes S S' agree = record { tables = opened_tables; spaces = ap (λ (q : Part). q.spaces) parted; agrees = others_agree S S' agree; alike = λ s by key _ is. alike s by key is }
 
     module _ (is_new : selector ≡ new_selector script.caps.caps) where
-      own_opens : (entry : Entry) (S S' : Sessions) (service text : List ℕ) (w : Wish) → HasSessions S script.caps.caps → wish entry.name entry.routes service text ≡ Ok w → w.ram ≡ ram → w.caps ≡ caps → AgreeBut S S' server session.0 →
+      own_opens : (entry : Entry) (S S' : Sessions) (service text : List ℕ) (w : Wish) → HasSessions S script.caps.caps → wish entry.label entry.routes service text ≡ Ok w → w.ram ≡ ram → w.caps ≡ caps → AgreeBut S S' server session.0 →
           S' server session.0 ≡ Some (new_session w) →
           entry_step entry (Open service text) (own_at S store script) ≡ record { reply = Selected selector; lines = []; next = own_of (lent_in store') S' (part script.account.0 store') opened_space.caps script.regions.user (own_heap_at store script) (sliced_at store script) }
       own_opens entry S S' service text w ready asks e f agree is =
@@ -145,7 +145,7 @@ module _ (store store' : Store) (script : Script) (rows : NatMap (Row Labelled))
           (is_new ∙ sym (same_new_selector (part_at store script) script.caps script.regions (own_heap_at store script) (sliced_at store script) sound.own S ready))
           names_it is (ap account_of parted ∙ (λ i. parted_with (account_of (part_at store script)) (sym e i) (sym f i))) refl refl
 
-      opens_does : (entry : Entry) (S S' : Sessions) (service text : List ℕ) (w : Wish) → HasSessions S script.caps.caps → wish entry.name entry.routes service text ≡ Ok w → w.ram ≡ ram → w.caps ≡ caps → AgreeBut S S' server session.0 →
+      opens_does : (entry : Entry) (S S' : Sessions) (service text : List ℕ) (w : Wish) → HasSessions S script.caps.caps → wish entry.label entry.routes service text ≡ Ok w → w.ram ≡ ram → w.caps ≡ caps → AgreeBut S S' server session.0 →
           S' server session.0 ≡ Some (new_session w) →
           entry_step entry (Open service text) (own_at S store script) ≡ record { reply = Selected selector; lines = []; next = own_at S' store' (record script { caps = opened_space }) }
       opens_does entry S S' service text w ready asks e f agree is =

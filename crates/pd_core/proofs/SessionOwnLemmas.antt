@@ -4,16 +4,14 @@ use Rattle.std.proofs.lemmas.Bool.{cases_eq}
 use Rattle.std.proofs.lemmas.Option.{none-some, same_Some}
 use Rattle.std.specs.Prelude.{Option, None}
 use Rattle.std.specs.Option.{option_map, option_and_then}
-use Rattle.std.specs.FinMap.{get, insert, remove, len}
+use Rattle.std.specs.FinMap.{get, len}
 use Rattle.trade_base.specs.declared.id.DsId.{DsId}
-use Rattle.trade_base.specs.declared.id.Selector.{Selector}
-use Rattle.trade_base.specs.declared.id.SessionId.{SessionId}
 use Rattle.trade_base.specs.declared.refusal.Refusal.TheVariants.{Gone}
 use Rattle.own_model.specs.Call.{Call}
 use Rattle.own_model.specs.NatMap.{NatMap, picked, total}
 use Rattle.own_model.specs.OwnHeap.{OwnHeap}
 use Rattle.own_model.specs.OwnState.{OwnState, named_bytes}
-use Rattle.own_model.specs.OwnState.Object.{Dataspace as ADataspace, OpenSession}
+use Rattle.own_model.specs.OwnState.Object.{OpenSession}
 use Rattle.own_model.specs.OwnStep.{Outcome, own_step, entry_step, unless, turned_away}
 use Rattle.own_model.specs.Region.{Region, without}
 use Rattle.own_model.specs.Session.{Session as AnOpenSession}

@@ -16,7 +16,7 @@ use Rattle.own_model.specs.OwnState.Object.{Dataspace as ADataspace}
 use Rattle.own_model.specs.OwnStep.{own_step, entry_step, gone_state, refused, opened_by, upgraded_by, session_called, session_closed}
 use Rattle.own_model.specs.Reply.{reply_text}
 use Rattle.own_model.specs.Reply.Reply.{Refused}
-use Rattle.own_model.specs.Routes.{Rule}
+use Rattle.own_model.specs.Routes.{Level}
 use Rattle.own_model.specs.StartList.{Entry}
 use Rattle.own_model.specs.Session.{wish, wish_in}
 use Rattle.own_model.specs.SessionArgs.{Arguments, arguments_of}
@@ -27,15 +27,15 @@ use Rattle.dataspace_core.specs.Store.{Store, Part}
 use Rattle.server_frame.specs.Told.{Told}
 use Rattle.pd_core.specs.Answer.{told_alone, reply_of}
 use Rattle.pd_core.specs.declared.answer.Answer.{Answer}
-use Rattle.pd_core.specs.Component.{kind_of, own_in}
-use Rattle.pd_core.specs.Core.{Rules, roles_of, sessions_in, IsCore}
+use Rattle.pd_core.specs.Component.{Place, entry_of, own_in}
+use Rattle.pd_core.specs.Core.{Places, roles_of, sessions_in, IsCore}
 use Rattle.pd_core.specs.Exit.{refusal_of}
 use Rattle.pd_core.specs.Own.{Sessions, object_of, own_of, own_at, part_at, Lent, lent_in}
 use Rattle.pd_core.specs.SessionCalls.{named_in, Goes}
 use Rattle.pd_core.specs.Sound.{session_at}
 use Rattle.pd_core.specs.declared.component.Component.{Component}
 use Rattle.pd_core.specs.declared.component.Role.{Role}
-use Rattle.pd_core.specs.declared.component.Role.TheVariants.{Script as AScript, Log as ALog, Files as AFiles, Gone as AGone}
+use Rattle.pd_core.specs.declared.component.Role.TheVariants.{Script as AScript, Log as ALog, Files as AFiles, Init as AnInit, Gone as AGone}
 use Rattle.pd_core.specs.declared.script.Script.{Script}
 use Rattle.pd_core.proofs.WorldLemmas.{refused_goes}
 use Rattle.pd_core.proofs.NamedSessionLemmas.{refused_reply}
@@ -56,6 +56,7 @@ pub named_script : (role : Role) (selector : ℕ) (named : ℕ × SessionId) →
 named_script (AScript script) selector named is = (script, refl, ok_is (session_at (get script.caps.caps selector)) InvalidSession named is)
 named_script (ALog account server) selector named is = absurd (none-some named (ap result_ok is))
 named_script (AFiles account server) selector named is = absurd (none-some named (ap result_ok is))
+named_script (AnInit key) selector named is = absurd (none-some named (ap result_ok is))
 named_script AGone selector named is = absurd (none-some named (ap result_ok is))
 
 -- ---- refusals
@@ -92,19 +93,20 @@ upgrade_asks selector text entry s none = ap (λ o. upgraded_by selector o (argu
 pub call_asks : (selector : ℕ) (request : List ℕ) → AsksFor (CallSession selector request) selector
 call_asks selector request entry s none = ap (λ o. session_called selector o request s) none
 
-module _ (S : Sessions) (store : Store) (name : List ℕ) (rules : List Rule) where
+module _ (S : Sessions) (store : Store) (place : Place) (component : Component) where
   abbrev Refuses : Role → Call → Refusal → Type 0
   Refuses role call refusal =
-      own_step (record { name = name; kind = kind_of role; routes = rules }) call (own_in S store role) ≡ refused (own_in S store role) refusal
+      own_step (entry_of place (record component { role = role })) call (own_in S store role) ≡ refused (own_in S store role) refusal
 
   -- a call of a session that a selector doesn't name
   unnamed_step : (call : Call) (selector : ℕ) → AsksFor call selector → (role : Role) (refusal : Refusal) → named_in role selector ≡ Err refusal → Refuses role call refusal
   unfolding own_of
   unnamed_step call selector asks (AScript script) refusal is =
       let why = err_is (session_at (get script.caps.caps selector)) InvalidSession refusal is in
-      asks (record { name = name; kind = kind_of (AScript script); routes = rules }) (own_in S store (AScript script)) (unnamed S store script selector why.0) ∙ ap (refused (own_in S store (AScript script))) why.1
+      asks (entry_of place (record component { role = AScript script })) (own_in S store (AScript script)) (unnamed S store script selector why.0) ∙ ap (refused (own_in S store (AScript script))) why.1
   unnamed_step call selector asks (ALog account server) refusal is = ap (refused (own_in S store (ALog account server))) (same_Some NotAScript refusal (ap result_err is))
   unnamed_step call selector asks (AFiles account server) refusal is = ap (refused (own_in S store (AFiles account server))) (same_Some NotAScript refusal (ap result_err is))
+  unnamed_step call selector asks (AnInit account) refusal is = ap (refused (own_in S store (AnInit account))) (same_Some NotAScript refusal (ap result_err is))
   unnamed_step call selector asks AGone refusal is = ap (refused gone_state) (same_Some Gone refusal (ap result_err is))
 
   -- a call of a server, or of one that has exited
@@ -112,16 +114,17 @@ module _ (S : Sessions) (store : Store) (name : List ℕ) (rules : List Rule) wh
   no_script call (AScript script) refusal other why = absurd (other script refl)
   no_script call (ALog account server) refusal other why = ap (refused (own_in S store (ALog account server))) (same_Some NotAScript refusal (sym why))
   no_script call (AFiles account server) refusal other why = ap (refused (own_in S store (AFiles account server))) (same_Some NotAScript refusal (sym why))
+  no_script call (AnInit account) refusal other why = ap (refused (own_in S store (AnInit account))) (same_Some NotAScript refusal (sym why))
   no_script call AGone refusal other why = ap (refused gone_state) (same_Some Gone refusal (sym why))
 
   -- a script that asks for no session that there is
-  unasked : (role : Role) (script : Script) (service text : List ℕ) (refusal : Refusal) → role ≡ AScript script → wish name rules service text ≡ Err refusal → Refuses role (Open service text) refusal
+  unasked : (role : Role) (script : Script) (service text : List ℕ) (refusal : Refusal) → role ≡ AScript script → wish component.name.items place.routes service text ≡ Err refusal → Refuses role (Open service text) refusal
   unfolding own_of
   unasked role script service text refusal it is =
       subst (λ r. Refuses r (Open service text) refusal) (sym it) (ap (λ w. opened_by w (own_in S store (AScript script))) is)
 
 -- the component at a place calls
-module _ (rules : Rules) {store : Store} (components : List Component) {i : ℕ} (d : Component) (core : IsCore store components) (here : i < length components) where
+module _ (places : Places) {store : Store} (components : List Component) {i : ℕ} (d : Component) (core : IsCore store components) (here : i < length components) where
   abbrev caller : Component
   caller = get_or components i d
 
@@ -129,35 +132,35 @@ module _ (rules : Rules) {store : Store} (components : List Component) {i : ℕ}
   S = sessions_in store (roles_of components)
 
   abbrev IsRefused : Call → Refusal → Type 0
-  IsRefused call refusal = Goes rules call i (told_alone (reply_text (Refused refusal))) store components store components
+  IsRefused call refusal = Goes places call i (told_alone (reply_text (Refused refusal))) store components store components
 
   pub unnamed_goes : (call : Call) (selector : ℕ) (asks : AsksFor call selector) {found : Result (ℕ × SessionId) Refusal} (refusal : Refusal) → found ≡ named_in caller.role selector → found ≡ Err refusal → IsRefused call refusal
   unnamed_goes call selector asks refusal result was =
-      refused_goes rules components i d call refusal core here (unnamed_step S store caller.name.items (rules i) call selector asks caller.role refusal (sym result ∙ was))
+      refused_goes places components i d call refusal core here (unnamed_step S store (places i) caller call selector asks caller.role refusal (sym result ∙ was))
 
   pub no_script_goes : (call : Call) (refusal : Refusal) → ((script : Script) → caller.role ≢ AScript script) → Some refusal ≡ option_or (refusal_of caller.role) (Some NotAScript) → IsRefused call refusal
-  no_script_goes call refusal other why = refused_goes rules components i d call refusal core here (no_script S store caller.name.items (rules i) call caller.role refusal other why)
+  no_script_goes call refusal other why = refused_goes places components i d call refusal core here (no_script S store (places i) caller call caller.role refusal other why)
 
-  pub unasked_goes : (script : Script) (service text : List ℕ) (refusal : Refusal) → caller.role ≡ AScript script → wish caller.name.items (rules i) service text ≡ Err refusal → IsRefused (Open service text) refusal
+  pub unasked_goes : (script : Script) (service text : List ℕ) (refusal : Refusal) → caller.role ≡ AScript script → wish caller.name.items (places i).routes service text ≡ Err refusal → IsRefused (Open service text) refusal
   unasked_goes script service text refusal it is =
-      refused_goes rules components i d (Open service text) refusal core here (unasked S store caller.name.items (rules i) caller.role script service text refusal it is)
+      refused_goes places components i d (Open service text) refusal core here (unasked S store (places i) caller caller.role script service text refusal it is)
 
 -- what a call that is refused gives back
-pub passed_on : {rules : Rules} {call : Call} {i : ℕ} {store store' : Store} {components components' : List Component} (refusal : Refusal) (r : Result Answer Refusal) → IsErrAnd r (λ y. y ≡ refusal) →
-    Goes rules call i (told_alone (reply_text (Refused refusal))) store components store' components' → Goes rules call i (told_alone (reply_text (reply_of r))) store components store' components'
-passed_on {rules} {call} {i} {store} {store'} {components} {components'} refusal r is =
-    subst (λ o. Goes rules call i (told_alone (reply_text o)) store components store' components') (sym (refused_reply r refusal is))
+pub passed_on : {places : Places} {call : Call} {i : ℕ} {store store' : Store} {components components' : List Component} (refusal : Refusal) (r : Result Answer Refusal) → IsErrAnd r (λ y. y ≡ refusal) →
+    Goes places call i (told_alone (reply_text (Refused refusal))) store components store' components' → Goes places call i (told_alone (reply_text (reply_of r))) store components store' components'
+passed_on {places} {call} {i} {store} {store'} {components} {components'} refusal r is =
+    subst (λ o. Goes places call i (told_alone (reply_text o)) store components store' components') (sym (refused_reply r refusal is))
 
 -- a component that is put back as it was read leaves all, where the memory stays
-pub unchanged : {rules : Rules} {call : Call} {i : ℕ} {told : Told} {store store' : Store} {components : List Component} (s : ℕ) (d : Component) {after : Component} → store' ≡ store → after ≡ get_or components s d →
-    Goes rules call i told store components store components → Goes rules call i told store components store' (set components s after)
-unchanged {rules} {call} {i} {told} {store} {components = components} s d {after} same_store same goes =
-    subst (λ m. Goes rules call i told store components m (set components s after)) (sym same_store)
-    (subst (Goes rules call i told store components store) (sym (ap (set components s) same ∙ set-get_or components s d)) goes)
+pub unchanged : {places : Places} {call : Call} {i : ℕ} {told : Told} {store store' : Store} {components : List Component} (s : ℕ) (d : Component) {after : Component} → store' ≡ store → after ≡ get_or components s d →
+    Goes places call i told store components store components → Goes places call i told store components store' (set components s after)
+unchanged {places} {call} {i} {told} {store} {components = components} s d {after} same_store same goes =
+    subst (λ m. Goes places call i told store components m (set components s after)) (sym same_store)
+    (subst (Goes places call i told store components store) (sym (ap (set components s) same ∙ set-get_or components s d)) goes)
 
 -- the text of arguments can't be read
-pub unread_wish : (name : List ℕ) (rules : List Rule) (service text : List ℕ) → arguments_of text ≡ None → wish name rules service text ≡ Err BadArgs
-unread_wish name rules service text none = ap (wish_in name rules service) none
+pub unread_wish : (client : List ℕ) (routes : List Level) (service text : List ℕ) → arguments_of text ≡ None → wish client routes service text ≡ Err BadArgs
+unread_wish client routes service text none = ap (wish_in client routes service) none
 
 -- arguments are their parts
 pub arguments_are : (text : List ℕ) {args : Arguments} (ram caps : ℕ) (label : List ℕ) → arguments_of text ≡ Some args → ram ≡ args.ram → caps ≡ args.caps → label ≡ args.label →

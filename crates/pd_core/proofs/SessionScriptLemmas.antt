@@ -1,6 +1,6 @@
 -- A script over the memory after a call of a session, which changes the limits of its account, two of its selectors and the
 -- regions of one.
-use Rattle.std.proofs.Common.{◌≡◌, ◌≢◌, ℕ, List, Some, is_some, IsSome, length, refl, sym, ap, subst, ◌∙◌}
+use Rattle.std.proofs.Common.{◌≡◌, ℕ, List, Some, is_some, IsSome, length, refl, sym, ap, subst, ◌∙◌}
 use Rattle.std.specs.Prelude.{◌⊎◌, Option}
 use Rattle.std.specs.FinMap.{get}
 use Rattle.own_model.specs.Account.{Account}

@@ -329,7 +329,7 @@ module _ {L L' : Lent} {S S' : Sessions} {p p' : Part} {caps caps' : NatMap Cap}
           ∙ ap {B = Outcome} (λ s. record { reply = Done; lines = []; next = s }) (sym (own_gone _ gone is_new account))
 
   -- a session is opened
-  pub opens_own : (entry : Entry) (service text : List ℕ) (w : Wish) (server : ℕ) (session : SessionId) → wish entry.name entry.routes service text ≡ Ok w → donation_refusal (account_of p) w.ram w.caps ≡ None →
+  pub opens_own : (entry : Entry) (service text : List ℕ) (w : Wish) (server : ℕ) (session : SessionId) → wish entry.label entry.routes service text ≡ Ok w → donation_refusal (account_of p) w.ram w.caps ≡ None →
       q ≡ new_selector before.selectors → get caps' q ≡ Some (Session server session) → S' server session.0 ≡ Some (new_session w) → account_of p' ≡ parted_with (account_of p) w.ram w.caps →
       option_map L' lent' ≡ option_map L lent → regions_after lent lent' user ≡ user →
       entry_step entry (Open service text) before ≡ record { reply = Selected q; lines = []; next = after }

@@ -1,5 +1,5 @@
 -- What calls of a session make of its client: a buffer comes or goes, or the session goes with its buffer.
-use Rattle.std.proofs.Common.{◌≡◌, ◌≢◌, ℕ, ◌+◌, Some, is_some, refl, sym, ap, ◌∙◌, arith}
+use Rattle.std.proofs.Common.{◌≡◌, ◌≢◌, ℕ, ◌+◌, Some, refl, sym, ap, ◌∙◌, arith}
 use Rattle.std.proofs.lemmas.Option.{none-some}
 use Rattle.std.specs.Prelude.{Option, None}
 use Rattle.std.specs.FinMap.{get, len, remove}
@@ -15,7 +15,7 @@ use Rattle.cap_space.specs.declared.cap.Cap.TheVariants.{Session, Buffer}
 use Rattle.region_map.specs.Regions.{all_detached}
 use Rattle.pd_core.specs.Own.{key_at}
 use Rattle.pd_core.specs.Sessions.{IsLentAt}
-use Rattle.pd_core.specs.Sound.{rpc_weight, session_weight, lent_weight, buffer_at, lent_from, IsOne}
+use Rattle.pd_core.specs.Sound.{rpc_weight, session_weight, lent_weight, buffer_at, IsOne}
 use Rattle.pd_core.specs.declared.script.Script.{Script}
 use Rattle.pd_core.proofs.LentLemmas.{buffer_is}
 use Rattle.pd_core.proofs.NameLemmas.{Names}

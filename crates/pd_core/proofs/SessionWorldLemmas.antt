@@ -28,19 +28,19 @@ use Rattle.server_frame.specs.Frame.{Row}
 use Rattle.server_frame.specs.Lent.{key_of}
 use Rattle.pd_core.specs.Answer.{told_alone}
 use Rattle.pd_core.specs.Component.{amounts_in, entry_of, kind_of, served_by, caps_in, rows_in, rows_of, own_in, IsSoundRole, Serves, StaysServer}
-use Rattle.pd_core.specs.Core.{Rules, roles_of, sessions_in, IsCore}
+use Rattle.pd_core.specs.Core.{Places, roles_of, sessions_in, IsCore}
 use Rattle.pd_core.specs.Own.{Sessions, own_of, own_at, lent_in}
 use Rattle.pd_core.specs.Sessions.{row_session, NamesSession}
 use Rattle.pd_core.specs.SessionCalls.{Goes, named_in}
 use Rattle.pd_core.specs.Sound.{session_at, buffer_at}
 use Rattle.pd_core.specs.declared.component.Component.{Component}
 use Rattle.pd_core.specs.declared.component.Role.{Role}
-use Rattle.pd_core.specs.declared.component.Role.TheVariants.{Script as AScript, Log as ALog, Files as AFiles, Gone as AGone}
+use Rattle.pd_core.specs.declared.component.Role.TheVariants.{Script as AScript, Log as ALog, Files as AFiles, Init as AnInit, Gone as AGone}
 use Rattle.pd_core.specs.declared.script.Script.{Script}
 use Rattle.pd_core.proofs.AsideLemmas.{refused_aside}
 use Rattle.pd_core.proofs.PlainLemmas.{face_is}
 use Rattle.pd_core.proofs.ServerLemmas.{lent_paid}
-use Rattle.pd_core.proofs.ClientServerLemmas.{its as its_row, under, holds_lent, its_lent, lent_alike, are_others, row_paid, names_session, row_alone, raise_moves, changes_written, script_sound}
+use Rattle.pd_core.proofs.ClientServerLemmas.{its as its_row, under, holds_lent, its_lent, lent_alike, are_others, names_session, row_alone, raise_moves, changes_written, script_sound}
 use Rattle.pd_core.proofs.SessionChangeLemmas.{AreTwo, ReplacesTwo, KeepsBut, session_goes, two_places}
 use Rattle.pd_core.proofs.NamedSessionLemmas.{upgrades_done, upgrade_unread, upgrade_refused}
 use Rattle.pd_core.proofs.SessionOwnLemmas.{is_step, regions_same}
@@ -53,6 +53,7 @@ serving_role : (store : Store) (role : Role) (id : ℕ) (row : Row Labelled) →
 serving_role store (AScript script) id row there = absurd (none-some row (sym (get-empty id) ∙ there))
 serving_role store (ALog account server) id row there = refl
 serving_role store (AFiles account server) id row there = refl
+serving_role store (AnInit key) id row there = absurd (none-some row (sym (get-empty id) ∙ there))
 serving_role store AGone id row there = absurd (none-some row (sym (get-empty id) ∙ there))
 
 -- a capability that names a session
@@ -168,35 +169,35 @@ module _ {store : Store} (components : List Component) {i s : ℕ} {script : Scr
 
   -- ---- refusals of an upgrade
 
-  module _ (rules : Rules) (text : List ℕ) where
+  module _ (places : Places) (text : List ℕ) where
     abbrev S : Sessions
     S = sessions_in store (roles_of components)
 
-    refused_step : (refusal : Refusal) → entry_step (entry_of (rules i) (get_or components i d)) (Upgrade q text) (own_at S store script) ≡ refused (own_at S store script) refusal →
-        Goes rules (Upgrade q text) i (told_alone (reply_text (Refused refusal))) store components store components
+    refused_step : (refusal : Refusal) → entry_step (entry_of (places i) (get_or components i d)) (Upgrade q text) (own_at S store script) ≡ refused (own_at S store script) refusal →
+        Goes places (Upgrade q text) i (told_alone (reply_text (Refused refusal))) store components store components
     unfolding own_of
     refused_step refusal is =
-        refused_goes rules components i d (Upgrade q text) refusal two.core (caller_within components two)
-        (subst (λ r. own_step (entry_of (rules i) (get_or components i d)) (Upgrade q text) (own_in S store r) ≡ refused (own_in S store r) refusal) (sym caller_is)
-        (is_step (entry_of (rules i) (get_or components i d)) (Upgrade q text) (own_in S store (AScript script)) (ap kind_of caller_is) refl
-        ∙ refused_aside (amounts_in (part script.reserve.0 store)) (own_at S store script) (entry_of (rules i) (get_or components i d)) (Upgrade q text) refusal refl refl is))
+        refused_goes places components i d (Upgrade q text) refusal two.core (caller_within components two)
+        (subst (λ r. own_step (entry_of (places i) (get_or components i d)) (Upgrade q text) (own_in S store r) ≡ refused (own_in S store r) refusal) (sym caller_is)
+        (is_step (entry_of (places i) (get_or components i d)) (Upgrade q text) (own_in S store (AScript script)) (ap kind_of caller_is) refl
+        ∙ refused_aside (amounts_in (part script.reserve.0 store)) (own_at S store script) (entry_of (places i) (get_or components i d)) (Upgrade q text) refusal refl refl is))
 
     -- arguments that can't be read
-    pub unread_goes : arguments_of text ≡ None → Goes rules (Upgrade q text) i (told_alone (reply_text (Refused BadArgs))) store components store components
+    pub unread_goes : arguments_of text ≡ None → Goes places (Upgrade q text) i (told_alone (reply_text (Refused BadArgs))) store components store components
     unread_goes none =
-        refused_step BadArgs (upgrade_unread store script (rows_in store (roles_of components s)) q s session named (entry_of (rules i) (get_or components i d)) S (ap (option_map row_session) named.there) text none)
+        refused_step BadArgs (upgrade_unread store script (rows_in store (roles_of components s)) q s session named (entry_of (places i) (get_or components i d)) S (ap (option_map row_session) named.there) text none)
 
     -- more than its client covers
     pub short_goes : {more : Arguments} (refusal : Refusal) → arguments_of text ≡ Some more →
         ((one : Row Labelled) → get (rows_of store host) session.0 ≡ Some one → Some refusal ≡ shortage (account_in store one.client) more.ram more.caps) →
-        Goes rules (Upgrade q text) i (told_alone (reply_text (Refused refusal))) store components store components
+        Goes places (Upgrade q text) i (told_alone (reply_text (Refused refusal))) store components store components
     short_goes {more} refusal reads short =
-        refused_step refusal (upgrade_refused store script (rows_in store (roles_of components s)) q s session named (entry_of (rules i) (get_or components i d)) S
+        refused_step refusal (upgrade_refused store script (rows_in store (roles_of components s)) q s session named (entry_of (places i) (get_or components i d)) S
         (ap (option_map row_session) named.there) text more refusal reads (sym (short row there)))
 
   -- ---- the call is made
 
-  module _ (store' : Store) (host' : Component) (stays : StaysServer store host store' host') (rules : Rules) where
+  module _ (store' : Store) (host' : Component) (stays : StaysServer store host store' host') (places : Places) where
     pub face : face_of host' ≡ face_of host
     face = face_is host host' stays.entry stays.service
 
@@ -206,7 +207,7 @@ module _ {store : Store} (components : List Component) {i s : ℕ} {script : Scr
         ((one : Row Labelled) → get (rows_of store host) session.0 ≡ Some one → RaisesPart one.client one.key more.ram more.caps store store') →
         ((one : Row Labelled) → get (rows_of store host) session.0 ≡ Some one →
         rows_of store' host' ≡ insert (rows_of store host) session.0 (record one { account = raised one.account more.ram more.caps })) →
-        Goes rules (Upgrade q text) i (told_alone (reply_text Done)) store components store' (set components s host')
+        Goes places (Upgrade q text) i (told_alone (reply_text Done)) store components store' (set components s host')
     upgrade_goes e read text {more} reads accepted raised_by written_by =
         let enough = sym (accepted row there) in
         let raises = raised_by row there in
@@ -224,4 +225,4 @@ module _ {store : Store} (components : List Component) {i s : ℕ} {script : Scr
         (covers (account_in store script.account.0) more.ram more.caps (ap (λ k. shortage (account_in store k) more.ram more.caps) (sym pays) ∙ enough)) in
         session_goes components (set components s host') two d host_is (host_put components two host') (face_set components s host' e (face ∙ ap face_of read)) (row_alone two q session names)
         (changes_written two q session names store' keeps names (holds_lent two q session names).at refl refl written moves done.sound stays.machine) stays
-        rules (Upgrade q text) refl refl Done [] (told_alone (reply_text Done)) refl refl done.does
+        places (Upgrade q text) refl refl Done [] (told_alone (reply_text Done)) refl refl done.does

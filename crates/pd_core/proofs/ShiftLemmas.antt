@@ -1,16 +1,14 @@
 -- Limits move between a script's account and its reserve: what that makes of the script, and the change that it makes to the core.
-use Rattle.std.proofs.Common.{◌≡◌, ◌≢◌, ℕ, ◌+◌, ◌*◌, ◌≤◌, ◌<◌, List, [], length, get_or, Some, None, is_some, IsSome, false, refl, sym, ap, subst, ◌∙◌, inl, inr, arith}
-use Rattle.std.proofs.lemmas.Bool.{cases_eq}
+use Rattle.std.proofs.Common.{◌≡◌, ◌≢◌, ℕ, ◌+◌, ◌*◌, ◌≤◌, List, Some, is_some, false, refl, sym, ap, subst, ◌∙◌, inl, inr, arith}
 use Rattle.std.proofs.lemmas.Option.{same_Some}
-use Rattle.std.specs.FinMap.{get, len}
+use Rattle.std.specs.FinMap.{get}
 use Rattle.std.specs.Option.{option_map}
-use Rattle.std.specs.Prelude.{◌⊎◌, Option}
+use Rattle.std.specs.Prelude.{◌⊎◌}
 use Rattle.own_model.specs.Account.{Account, WithinLimits}
 use Rattle.own_model.specs.Amounts.{Amounts}
 use Rattle.own_model.specs.Call.{Call, is_exit}
 use Rattle.own_model.specs.NatMap.{NatMap, total}
 use Rattle.own_model.specs.OwnHeap.{OwnHeap}
-use Rattle.own_model.specs.OwnState.{OwnState}
 use Rattle.own_model.specs.OwnStep.{own_step}
 use Rattle.own_model.specs.Region.{Region}
 use Rattle.own_model.specs.Reserve.{no_reserve}
@@ -23,24 +21,23 @@ use Rattle.cap_space.specs.declared.cap.Cap.TheVariants.{Dataspace, RpcObject, S
 use Rattle.region_map.specs.Regions.{Regions}
 use Rattle.dataspace_core.specs.Room.{HasRoom}
 use Rattle.dataspace_core.specs.Share.{share_in}
-use Rattle.dataspace_core.specs.Store.{Store, Part, part, account_of, accounts_in, opened_part, root_in, parents_in, ram_limits_in, caps_limits_in, space_at, IsChildIn}
+use Rattle.dataspace_core.specs.Store.{Store, Part, part, account_of, accounts_in, opened_part, root_in, parents_in, ram_limits_in, caps_limits_in, space_at}
 use Rattle.dataspace_core.proofs.PartLaws.{open_in_part, part_open}
 use Rattle.dataspace_core.proofs.RoomLaws.{account_in_part}
 use Rattle.server_frame.specs.Frame.{Row}
 use Rattle.server_frame.specs.Session.{holding}
-use Rattle.trade_base.specs.declared.id.SessionId.{SessionId}
-use Rattle.pd_core.specs.Component.{Pays, IsReserve, reserve_in, amounts_in, with_reserve, caps_in, places_in, rows_in, own_in, entry_of, IsSoundRole, NamesItsSessions}
-use Rattle.pd_core.specs.Core.{Rules, Roles, roles_of, rows_at, sessions_in, Owner, Owns, NamesAccount, IsSoundCore, IsCore}
-use Rattle.pd_core.specs.Core.Owner.{Init, Place, ReserveAt, SessionAt}
-use Rattle.pd_core.specs.Own.{Sessions, HasSessions, Lent, lent_in, object_of, regions_of, own_of, own_at, own_heap_at, sliced_at, part_at}
+use Rattle.pd_core.specs.Component.{Pays, IsReserve, payer_in, reserve_in, amounts_in, with_reserve, caps_in, own_in, entry_of, IsSoundRole, NamesItsSessions}
+use Rattle.pd_core.specs.Core.{Heads, Places, Roles, rows_at, sessions_in, Owner, Owns, NamesAccount, IsInits, IsSoundCore}
+use Rattle.pd_core.specs.Exit.{IsScriptRole}
+use Rattle.pd_core.specs.Core.Owner.{Place, ReserveAt, SessionAt}
+use Rattle.pd_core.specs.Own.{Sessions, Lent, lent_in, object_of, regions_of, own_of, own_at, own_heap_at, sliced_at, part_at}
 use Rattle.pd_core.specs.Sessions.{row_session}
-use Rattle.pd_core.specs.Sound.{session_at, buffer_at, session_weight, IsLawful, IsScript, IsSoundScript, HasHeaps}
+use Rattle.pd_core.specs.Sound.{buffer_at, session_weight, IsLawful, IsScript, IsSoundScript}
 use Rattle.pd_core.specs.declared.component.Component.{Component}
-use Rattle.pd_core.specs.declared.component.Role.{Role}
 use Rattle.pd_core.specs.declared.component.Role.TheVariants.{Script as AScript}
 use Rattle.pd_core.specs.declared.script.Script.{Script}
-use Rattle.pd_core.proofs.ChangeLemmas.{ChangesCore, Follows}
-use Rattle.pd_core.proofs.HeldLemmas.{lender, same_place, same_reserve, not_place, no_place, no_reserve_init, no_reserve_place, no_reserve_session, held_by, pays_no_init}
+use Rattle.pd_core.proofs.ChangeLemmas.{ChangesCore}
+use Rattle.pd_core.proofs.HeldLemmas.{lender, same_place, same_reserve, no_place, no_reserve_place, no_reserve_session, reserve_no_init, script_inits, held_by}
 use Rattle.pd_core.proofs.LentLemmas.{LendersStay, LendAlike, own_lent, script_lent, others_still, lent_still}
 use Rattle.pd_core.proofs.RoleLemmas.{Leaves, role_left, rows_left}
 use Rattle.pd_core.proofs.SessionScriptLemmas.{own_still, same_heap, same_sliced, heaps_stay}
@@ -133,7 +130,7 @@ module _ (store store' : Store) (script : Script) (sound : IsSoundScript store s
 -- ---- limits move
 
 -- a script's account has other limits, and its reserve these; all else stays
-pub record Shifts (script : Script) (a : Account) (has : Amounts) (store store' : Store) : Type 0 where
+pub record Shifts (heads : Heads) (script : Script) (a : Account) (has : Amounts) (store store' : Store) : Type 0 where
   pub own : part script.account.0 store' ≡ record (part_at store script) { account = Some a }
   pub kept : part script.reserve.0 store' ≡ opened_part has.ram has.caps
   pub others : (other : ℕ) → other ≢ script.account.0 → other ≢ script.reserve.0 → part other store' ≡ part other store
@@ -141,9 +138,9 @@ pub record Shifts (script : Script) (a : Account) (has : Amounts) (store store' 
   pub parents : parents_in store' ≡ parents_in store
   pub ram : ram_limits_in store' ≡ ram_limits_in store
   pub caps : caps_limits_in store' ≡ caps_limits_in store
-  pub room : HasRoom store'
+  pub room : HasRoom heads store'
 
-module _ {store store' : Store} {roles : Roles} (core : IsSoundCore store roles) (i : ℕ) (script : Script) (is_script : roles i ≡ AScript script) {a : Account} {has : Amounts} (shifts : Shifts script a has store store') where
+module _ {store store' : Store} {roles : Roles} (core : IsSoundCore store roles) (i : ℕ) (script : Script) (is_script : roles i ≡ AScript script) {a : Account} {has : Amounts} (shifts : Shifts core.heads script a has store store') where
   abbrev payer : ℕ
   payer = script.account.0
 
@@ -193,8 +190,8 @@ module _ {store store' : Store} {roles : Roles} (core : IsSoundCore store roles)
   other_reserve : (k : ℕ) → k ≢ i → Touched (ReserveAt k) → ⊥
   other_reserve k other touched = elim touched [ inl e ↦ no_reserve_place i k (sym e) | inr e ↦ other (same_reserve k i e) ]
 
-  no_init : Touched Init → ⊥
-  no_init touched = elim touched [ inl e ↦ not_place i e | inr e ↦ no_reserve_init i e ]
+  calls : IsScriptRole (roles i)
+  calls = subst IsScriptRole (sym is_script) refl
 
   -- all rows stay
   same_rows : (k : ℕ) → rows_at store' roles k ≡ rows_at store roles k
@@ -207,8 +204,10 @@ module _ {store store' : Store} {roles : Roles} (core : IsSoundCore store roles)
   pub sessions_same : sessions_in store' roles ≡ sessions_in store roles
   sessions_same j server session = option_map row_session (get (same_rows server j) session)
 
-  pub init_rests : part (root_in store) store' ≡ part (root_in store) store
-  init_rests = rests Init (root_in store) no_init refl
+  -- inits' accounts rest
+  pub inits_rest : (one : ℕ) → IsInits store roles one → part one store' ≡ part one store
+  inits_rest one its =
+      shifts.others one (λ e. script_inits core i payer pays calls (subst (IsInits store roles) e its)) (λ e. reserve_no_init core i reserve has_reserve (subst (IsInits store roles) e its))
 
   -- what the script is lent is others'
   lenders : LendersStay store store' script.caps.caps
@@ -224,10 +223,11 @@ module _ {store store' : Store} {roles : Roles} (core : IsSoundCore store roles)
 
   -- so the core changes
   module _ (as_much : UsesAsMuch (account_of (part_at store script)) a) (placed : a.caps_limit + total session_weight script.caps.caps ≤ script.caps.places)
-      (rules : Rules) (caller : Component) (call : Call) (on : is_exit call ≡ false)
-      (next : own_in (sessions_in store' roles) store' (roles i) ≡ (own_step (entry_of (rules i) caller) call (own_in (sessions_in store roles) store (roles i))).next) where
-    pub shift_change : ChangesCore i 0 0 store roles store' roles
+      (places : Places) (caller : Component) (call : Call) (on : is_exit call ≡ false)
+      (next : own_in (sessions_in store' roles) store' (roles i) ≡ (own_step (entry_of (places i) caller) call (own_in (sessions_in store roles) store (roles i))).next) where
+    pub shift_change : ChangesCore core.heads i 0 0 store roles store' roles
     shift_change = record {
+      script = calls;
       others = λ k other. role_left leaves k (no_session k) core (other_place k other) (other_reserve k other) (λ server id _ _ _. no_session server id);
       sound = subst (IsSoundRole store') (sym is_script) (sound_moved store store' script script_sound a shifts.own shifts.ram lenders as_much placed);
       pays = λ account its. its;
@@ -235,17 +235,17 @@ module _ {store store' : Store} {roles : Roles} (core : IsSoundCore store roles)
       reserved = λ account is.
           let same : account ≡ reserve = same_Some account reserve (sym is ∙ has_reserve) in
           let was = core.reserved i reserve has_reserve in
-          subst (IsReserve store') (sym same) (record {
-            child = ap (λ (m : NatMap ℕ). get m reserve) shifts.parents ∙ was.child ∙ ap Some (sym shifts.root);
+          subst (IsReserve store' (payer_in (roles i))) (sym same) (record {
+            beside = ap (λ (m : NatMap ℕ). get m reserve) shifts.parents ∙ was.beside ∙ ap (λ (m : NatMap ℕ). get m (payer_in (roles i))) (sym shifts.parents);
             unused = subst (λ p. p ≡ opened_part (account_of p).ram_limit (account_of p).caps_limit) (sym shifts.kept) refl;
           });
       rows = λ server id _. ap (λ (m : NatMap (Row Labelled)). get m id) (same_rows server);
       row = inl (ap (λ (m : NatMap (Row Labelled)). get m 0) (same_rows 0));
       named = subst (λ rows. NamesItsSessions rows (roles i)) all_rows (core.named i);
       held = λ child parent its below.
-          subst (λ rows. NamesAccount rows (roles i) child parent) all_rows (held_by core i parent its child (ap (λ (m : NatMap ℕ). get m child) (sym shifts.parents) ∙ below));
-      placed = places_kept (sessions_in store roles) (sessions_in store' roles) store store' (roles i) (roles i) (entry_of (rules i) caller) call on next refl (core.placed i);
-      init = open_in_part (root_in store) store' (ap (λ (p : Part). is_some p.account) init_rests ∙ part_open (root_in store) store core.init);
+          subst (λ rows. NamesAccount rows (roles i) child parent) all_rows (held_by core i parent its calls child (ap (λ (m : NatMap ℕ). get m child) (sym shifts.parents) ∙ below));
+      placed = places_kept (sessions_in store roles) (sessions_in store' roles) store store' (roles i) (roles i) (entry_of (places i) caller) call on next refl (core.placed i);
+      init = open_in_part (root_in store) store' (ap (λ (p : Part). is_some p.account) (inits_rest (root_in store) (inl refl)) ∙ part_open (root_in store) store core.init);
       root = shifts.root;
       children = λ k account _ _. ap (λ (m : NatMap ℕ). get m account) shifts.parents;
       parents = λ child parent below. inr (ap (λ (m : NatMap ℕ). get m child) (sym shifts.parents) ∙ below);

@@ -8,40 +8,41 @@ use Rattle.own_model.specs.Session.{Labelled}
 use Rattle.own_model.proofs.NatMapLemmas.{get-empty}
 use Rattle.quota_core.specs.Books.{Books, ram_limits, caps_limits}
 use Rattle.dataspace_core.specs.Room.{HasRoom}
-use Rattle.dataspace_core.specs.Store.{Store, Part, part, part_with_bytes, root_in, ram_limits_in, caps_limits_in, space_at, Exists, PartBecomes}
+use Rattle.dataspace_core.specs.Store.{Store, Part, part, part_with_bytes, ram_limits_in, caps_limits_in, space_at, Exists, PartBecomes}
 use Rattle.dataspace_core.proofs.PartLaws.{paid_in_part}
 use Rattle.file_service.specs.Aside.{lends_aside}
 use Rattle.server_frame.specs.Frame.{Row}
 use Rattle.server_frame.specs.Laws.{WritesLent as WritesRow}
 use Rattle.server_frame.proofs.FrameLaws.{stays_of_others}
 use Rattle.server_frame.proofs.LentLaws.{lends_nothing, writes_leave_sessions}
-use Rattle.pd_core.specs.Component.{Pays, reserve_in, caps_in, rows_in, own_in, Works, IsSoundRole}
-use Rattle.pd_core.specs.Core.{Roles, rows_at, Owner, Owns, IsSoundCore}
-use Rattle.pd_core.specs.Core.Owner.{Init, Place, ReserveAt, SessionAt}
-use Rattle.pd_core.specs.Own.{Sessions, no_sessions, no_lent, own_of}
+use Rattle.pd_core.specs.Component.{Pays, reserve_in, caps_in, rows_in, Works, IsSoundRole}
+use Rattle.pd_core.specs.Core.{Heads, Roles, rows_at, Owner, Owns, IsInits, IsSoundCore}
+use Rattle.pd_core.specs.Exit.{IsScriptRole}
+use Rattle.pd_core.specs.Core.Owner.{Place, ReserveAt, SessionAt}
+use Rattle.pd_core.specs.Own.{no_sessions, no_lent, own_of}
 use Rattle.pd_core.specs.Sessions.{log_value, log_buffer, IsLogKept, files_value, files_buffer, IsFilesKept}
 use Rattle.pd_core.specs.Sound.{WritesLent}
 use Rattle.pd_core.specs.declared.component.Role.{Role}
-use Rattle.pd_core.specs.declared.component.Role.TheVariants.{Script as AScript, Log as ALog, Files as AFiles, Gone as AGone}
+use Rattle.pd_core.specs.declared.component.Role.TheVariants.{Script as AScript, Log as ALog, Files as AFiles, Init as AnInit, Gone as AGone}
 use Rattle.pd_core.proofs.ChangeLemmas.{Follows}
-use Rattle.pd_core.proofs.HeldLemmas.{IsLender, lender, same_place, no_place, no_reserve_place, no_reserve_session, not_session, same_session, pays_alone, pays_no_init}
+use Rattle.pd_core.proofs.HeldLemmas.{IsLender, lender, same_place, no_place, no_reserve_place, no_reserve_session, same_session, session_no_init, pays_alone, script_inits}
 use Rattle.pd_core.proofs.LentWriteLemmas.{same_books, room_by_books}
 use Rattle.pd_core.proofs.RoleLemmas.{Leaves, role_left, rows_left}
 use Rattle.pd_core.proofs.ServerLemmas.{sound_works}
 
--- all sessions of the others and all their roles stay, and so do init's part, the caller's reserve and the room for accounts
-pub record SparesRest (i : ℕ) (store : Store) (roles : Roles) (store' : Store) : Type 0 where
+-- all sessions of the others and all their roles stay, and so do inits' parts, the caller's reserve and the room for accounts
+pub record SparesRest (heads : Heads) (i : ℕ) (store : Store) (roles : Roles) (store' : Store) : Type 0 where
   pub rows : (k : ℕ) → k ≢ i → rows_in store' (roles k) ≡ rows_in store (roles k)
   pub follows : (k : ℕ) → k ≢ i → Follows store (roles k) store' (roles k)
-  pub init : part (root_in store) store' ≡ part (root_in store) store
+  pub inits : (account : ℕ) → IsInits store roles account → part account store' ≡ part account store
   pub reserve : (account : ℕ) → reserve_in (roles i) ≡ Some account → part account store' ≡ part account store
   pub caps : caps_limits_in store' ≡ caps_limits_in store
-  pub room : HasRoom store'
+  pub room : HasRoom heads store'
 
 -- ---- all other parts stay
 
-module _ {store store' : Store} {roles : Roles} (core : IsSoundCore store roles) (i payer : ℕ) (pays : Pays (roles i) payer) (becomes : PartBecomes payer (part payer store') store store')
-    (ram : ram_limits_in store' ≡ ram_limits_in store) (caps : caps_limits_in store' ≡ caps_limits_in store) (room : HasRoom store') where
+module _ {store store' : Store} {roles : Roles} (core : IsSoundCore store roles) (i payer : ℕ) (script : IsScriptRole (roles i)) (pays : Pays (roles i) payer) (becomes : PartBecomes payer (part payer store') store store')
+    (ram : ram_limits_in store' ≡ ram_limits_in store) (caps : caps_limits_in store' ≡ caps_limits_in store) (room : HasRoom core.heads store') where
   leaves : Leaves store roles store' (λ owner. owner ≡ Place i)
   leaves = record {
     stays = λ owner account other owns regions.
@@ -50,11 +51,11 @@ module _ {store store' : Store} {roles : Roles} (core : IsSoundCore store roles)
     caps = caps;
   }
 
-  pub spares_beside : SparesRest i store roles store'
+  pub spares_beside : SparesRest core.heads i store roles store'
   spares_beside = record {
     rows = λ k other. rows_left leaves k (λ id. no_place i k id);
     follows = λ k other. role_left leaves k (λ id. no_place i k id) core (λ e. other (same_place k i e)) (λ e. no_reserve_place i k (sym e)) (λ server id _ _ _. no_place i server id);
-    init = becomes.others (root_in store) (λ e. pays_no_init core i payer pays (sym e));
+    inits = λ account is. becomes.others account (λ e. script_inits core i payer pays script (subst (IsInits store roles) e is));
     reserve = λ account is. becomes.others account (λ e. no_reserve_place i i (sym (pays_alone core i payer pays (ReserveAt i) (is ∙ ap Some e))));
     caps = caps;
     room = room;
@@ -72,6 +73,7 @@ module _ (store store' : Store) (role : Role) (id : ℕ) (row : Row Labelled) wh
     by_role (AScript script) there works = absurd (none-some row (sym (get-empty id) ∙ there))
     by_role (ALog account server) there works = writes_leave_sessions IsLogKept log_value log_buffer lends_nothing server.sessions store store' server.map id ds offset bytes works row there writes
     by_role (AFiles account server) there works = writes_leave_sessions IsFilesKept files_value files_buffer lends_aside server.sessions store store' server.map id ds offset bytes works row there writes
+    by_role (AnInit key) there works = absurd (none-some row (sym (get-empty id) ∙ there))
     by_role AGone there works = absurd (none-some row (sym (get-empty id) ∙ there))
 
 -- it is what it was
@@ -85,6 +87,7 @@ server_follows store store' id row (ALog account server) there sound works same 
   places = refl;
   pays = λ a pays. pays;
   paid = λ a pays. pays;
+  inits = λ a is. is;
   reserve = refl;
   reserved = λ a is. absurd (none-some a is);
 }
@@ -95,9 +98,11 @@ server_follows store store' id row (AFiles account server) there sound works sam
   places = refl;
   pays = λ a pays. pays;
   paid = λ a pays. pays;
+  inits = λ a is. is;
   reserve = refl;
   reserved = λ a is. absurd (none-some a is);
 }
+server_follows store store' id row (AnInit key) there sound works same caps = absurd (none-some row (sym (get-empty id) ∙ there))
 server_follows store store' id row AGone there sound works same caps = absurd (none-some row (sym (get-empty id) ∙ there))
 
 -- ---- a session's buffer is written
@@ -164,7 +169,7 @@ module _ {store store' : Store} {roles : Roles} (core : IsSoundCore store roles)
 
   -- ---- so the rest stays
 
-  pub spares_lent : SparesRest i store roles store'
+  pub spares_lent : SparesRest core.heads i store roles store'
   spares_lent = record {
     rows = λ k other. elim (cases_eq k by.server) [
       | inl at ↦ subst (λ n. rows_in store' (roles n) ≡ rows_in store (roles n)) (sym at) server_written.1
@@ -174,8 +179,8 @@ module _ {store store' : Store} {roles : Roles} (core : IsSoundCore store roles)
       | inl at ↦ subst (λ n. Follows store (roles n) store' (roles n)) (sym at) host_follows
       | inr differs ↦ role_left leaves_session k (other_server k differs) core (λ e. no_place k by.server by.id (sym e)) (λ e. no_reserve_session by.server by.id k (sym e)) (other_client k other)
     ];
-    init = writes.becomes.others (root_in store) (not_its Init (root_in store) (not_session by.server by.id) refl);
+    inits = λ account is. writes.becomes.others account (λ e. session_no_init core by.server by.id (space_at store writes.key).payer by.owns (subst (IsInits store roles) e is));
     reserve = λ account is. writes.becomes.others account (not_its (ReserveAt i) account (λ e. no_reserve_session by.server by.id i (sym e)) is);
     caps = caps;
-    room = room_by_books books core.room;
+    room = room_by_books core.heads books core.room;
   }

@@ -1,5 +1,5 @@
 -- An answer as the model sees it.
-use Rattle.std.specs.Prelude.{ℕ, List, [], Result, Ok, Err}
+use Rattle.std.specs.Prelude.{◌≡◌, ◌+◌, ℕ, List, [], Result, Ok, Err}
 use Rattle.std.specs.List.{flat_map}
 use Rattle.trade_base.specs.declared.refusal.Refusal.{Refusal}
 use Rattle.own_model.specs.Account.{Account}
@@ -61,3 +61,9 @@ told reply next = record { text = reply.text; lines = reply.lines; next = next }
 -- a reply of this text, without log lines
 abbrev pub told_alone : List ℕ → Written
 told_alone text = record { lines = []; text = text }
+
+-- the limits of the account that is told of a component are those of its account among inits' and of its own state's together: of
+-- an init its own state has none, and who is no init has none among inits'
+pub record CountsLimits (told init own : Account) : Type 0 where
+  pub ram : told.ram_limit ≡ init.ram_limit + own.ram_limit
+  pub caps : told.caps_limit ≡ init.caps_limit + own.caps_limit

@@ -9,11 +9,11 @@ use Rattle.own_model.specs.Amounts.{Amounts, coded_amounts}
 use Rattle.own_model.specs.OwnHeap.{OwnHeap, coded_heap}
 use Rattle.own_model.specs.OwnState.{OwnState, Object}
 use Rattle.own_model.specs.OwnState.Object.{Dataspace, RpcObject, OpenSession, Buffer}
-use Rattle.own_model.specs.CodedSession.{coded_rule, coded_session}
-use Rattle.own_model.specs.Routes.{Rule}
+use Rattle.own_model.specs.CodedSession.{coded_level, coded_session}
+use Rattle.own_model.specs.Routes.{Level}
 use Rattle.own_model.specs.Session.{Session}
 use Rattle.own_model.specs.StartList.{Entry, Kind}
-use Rattle.own_model.specs.StartList.Kind.{Script, Server}
+use Rattle.own_model.specs.StartList.Kind.{Script, Server, Init}
 use Rattle.own_model.specs.World.{World}
 use Rattle.own_model.specs.Region.{Region}
 use Rattle.region_map.specs.Regions.{coded_region}
@@ -44,30 +44,33 @@ coded_object =
     (coded⊎ (coded_option (coded_list coded_ℕ)) (coded⊎ coded_session (coded× coded_ℕ (coded_list coded_ℕ))))
     object_parts object_from object_back
 
--- a kind is stored as whether it is a script
-abbrev pub is_script : Kind → Bool
-is_script Script = true
-is_script Server = false
+-- a kind is stored as whether it is a script, where it is no init
+abbrev pub kind_code : Kind → Option Bool
+kind_code Script = Some true
+kind_code Server = Some false
+kind_code Init = None
 
-abbrev pub kind_from : Bool → Kind
-kind_from true = Script
-kind_from false = Server
+abbrev pub kind_from : Option Bool → Kind
+kind_from (Some true) = Script
+kind_from (Some false) = Server
+kind_from None = Init
 
-abbrev pub kind_back : (k : Kind) → kind_from (is_script k) ≡ k
+abbrev pub kind_back : (k : Kind) → kind_from (kind_code k) ≡ k
 kind_back Script = refl
 kind_back Server = refl
+kind_back Init = refl
 
 abbrev pub coded_kind : Coded Kind
-coded_kind = code_by Bool coded_bool is_script kind_from kind_back
+coded_kind = code_by (Option Bool) (coded_option coded_bool) kind_code kind_from kind_back
 
 -- the records are stored as the tuples of their fields
 abbrev pub coded_entry : Coded Entry
 coded_entry =
     code_by
-    (List ℕ × (Kind × List Rule))
-    (coded× (coded_list coded_ℕ) (coded× coded_kind (coded_list coded_rule)))
-    (λ e. (e.name, (e.kind, e.routes)))
-    (λ p. record { name = p.0; kind = p.1.0; routes = p.1.1 })
+    (List ℕ × (List ℕ × (Kind × (ℕ × List Level))))
+    (coded× (coded_list coded_ℕ) (coded× (coded_list coded_ℕ) (coded× coded_kind (coded× coded_ℕ (coded_list coded_level)))))
+    (λ e. (e.name, (e.label, (e.kind, (e.home, e.routes)))))
+    (λ p. record { name = p.0; label = p.1.0; kind = p.1.1.0; home = p.1.1.1.0; routes = p.1.1.1.1 })
     (λ _. refl)
 
 abbrev pub coded_own_state : Coded OwnState
@@ -91,8 +94,8 @@ coded_own_state =
 abbrev pub coded_world : Coded World
 coded_world =
     code_by
-    (List Entry × (Account × List OwnState))
-    (coded× (coded_list coded_entry) (coded× coded_account (coded_list coded_own_state)))
-    (λ w. (w.entries, (w.init, w.states)))
-    (λ p. record { entries = p.0; init = p.1.0; states = p.1.1 })
+    (List Entry × (List Account × List OwnState))
+    (coded× (coded_list coded_entry) (coded× (coded_list coded_account) (coded_list coded_own_state)))
+    (λ w. (w.entries, (w.inits, w.states)))
+    (λ p. record { entries = p.0; inits = p.1.0; states = p.1.1 })
     (λ _. refl)

@@ -1,5 +1,5 @@
 -- A component as the model sees it.
-use Rattle.std.specs.Prelude.{◌≡◌, ◌≢◌, ℕ, List, ◌+◌, ◌*◌, ◌<◌, ◌≤◌, Option, Some, None, IsSome, IfSome}
+use Rattle.std.specs.Prelude.{◌≡◌, ◌≢◌, ℕ, List, false, ◌+◌, ◌*◌, ◌<◌, ◌≤◌, Option, Some, None, IsSome, IfSome}
 use Rattle.std.specs.FinMap.{get, empty}
 use Rattle.std.specs.Option.{option_map, unwrap_or}
 use Rattle.slab.specs.Slab.{Slab, ContainsKey, slab_len}
@@ -11,10 +11,10 @@ use Rattle.own_model.specs.OwnHeap.{no_heap}
 use Rattle.own_model.specs.OwnState.{OwnState}
 use Rattle.own_model.specs.OwnStep.{gone_state}
 use Rattle.own_model.specs.Reserve.{no_reserve}
-use Rattle.own_model.specs.Routes.{Rule, Service}
+use Rattle.own_model.specs.Routes.{Level, Service}
 use Rattle.own_model.specs.Routes.Service.{Log as LogKind, Files as FilesKind}
 use Rattle.own_model.specs.StartList.{Entry, Kind}
-use Rattle.own_model.specs.StartList.Kind.{Script as AScript, Server as AServer}
+use Rattle.own_model.specs.StartList.Kind.{Script as AScript, Server as AServer, Init as AnInit}
 use Rattle.own_model.specs.Session.{Labelled, donation_refusal}
 use Rattle.cap_space.specs.Space.{Space}
 use Rattle.cap_space.specs.declared.cap.Cap.{Cap}
@@ -29,7 +29,7 @@ use Rattle.pd_core.specs.Own.{Sessions, no_sessions, no_lent, own_of, own_at}
 use Rattle.pd_core.specs.Sessions.{log_value, log_buffer, IsLogKept, files_value, files_buffer, IsFilesKept}
 use Rattle.pd_core.specs.Sound.{session_at, buffer_at, IsNewHeap, IsNewSliced, IsSoundScript, SparesOthers}
 use Rattle.pd_core.specs.declared.component.Role.{Role}
-use Rattle.pd_core.specs.declared.component.Role.TheVariants.{Script, Log, Files, Gone}
+use Rattle.pd_core.specs.declared.component.Role.TheVariants.{Script, Log, Files, Init, Gone}
 use Rattle.pd_core.specs.declared.component.Component.{Component}
 use Rattle.pd_core.specs.declared.script.Script.{Script as AnyScript}
 
@@ -38,6 +38,7 @@ abbrev pub Pays : Role → ℕ → Type 0
 Pays (Script script) account = script.account.0 ≡ account
 Pays (Log key server) account = key.0 ≡ account
 Pays (Files key server) account = key.0 ≡ account
+Pays (Init key) account = key.0 ≡ account
 Pays Gone account = ⊥
 
 -- the key of the account that a role is charged on, and 0 of one that has exited
@@ -45,6 +46,7 @@ abbrev pub payer_in : Role → ℕ
 payer_in (Script script) = script.account.0
 payer_in (Log account server) = account.0
 payer_in (Files account server) = account.0
+payer_in (Init account) = account.0
 payer_in Gone = 0
 
 -- that of a component
@@ -56,6 +58,7 @@ abbrev pub reserve_in : Role → Option ℕ
 reserve_in (Script script) = Some script.reserve.0
 reserve_in (Log account server) = None
 reserve_in (Files account server) = None
+reserve_in (Init account) = None
 reserve_in Gone = None
 
 -- that of a component
@@ -66,20 +69,20 @@ reserve_of component = reserve_in component.role
 abbrev pub IsUnused : Store → ℕ → Type 0
 IsUnused store account = part account store ≡ opened_part (account_of (part account store)).ram_limit (account_of (part account store)).caps_limit
 
--- an account is that of a reserve: below the root's, and unused
-pub record IsReserve (store : Store) (account : ℕ) : Type 0 where
-  pub child : IsChildIn store account (root_in store)
+-- an account is that of a reserve: below the account that its component's own is below, and unused
+pub record IsReserve (store : Store) (payer account : ℕ) : Type 0 where
+  pub beside : get (parents_in store) account ≡ get (parents_in store) payer
   pub unused : IsUnused store account
 
 -- a role's reserve is another account than the role's own
 abbrev pub HasReserveApart : Role → Type 0
 HasReserveApart role = IfSome (reserve_in role) (λ reserve. reserve ≢ payer_in role)
 
--- it is one, and neither init's nor one with an account below it
+-- it is one, and neither the account above it nor one with an account below it
 pub record IsOwnReserve (store : Store) (payer reserve : ℕ) : Type 0 where
   pub apart : reserve ≢ payer
-  pub not_root : reserve ≢ root_in store
-  pub is_reserve : IsReserve store reserve
+  pub not_above : IsChildIn store payer reserve → ⊥
+  pub is_reserve : IsReserve store payer reserve
   pub leaf : IsLeafIn store reserve
 
 abbrev pub HasOwnReserve : Store → Role → Type 0
@@ -89,6 +92,7 @@ abbrev pub kind_of : Role → Kind
 kind_of (Script script) = AScript
 kind_of (Log account server) = AServer
 kind_of (Files account server) = AServer
+kind_of (Init account) = AnInit
 kind_of Gone = AScript
 
 -- a script's capabilities and regions
@@ -96,20 +100,35 @@ abbrev pub tables_in : Role → Option (Space × Regions)
 tables_in (Script script) = Some (script.caps, script.regions)
 tables_in (Log account server) = None
 tables_in (Files account server) = None
+tables_in (Init account) = None
 tables_in Gone = None
 
 abbrev pub tables_of : Component → Option (Space × Regions)
 tables_of component = tables_in component.role
 
--- what a start list says of the component whose wishes lead by these rules
-abbrev pub entry_of : List Rule → Component → Entry
-entry_of rules component = record { name = component.name.items; kind = kind_of component.role; routes = rules }
+-- what a start list says of a component's place: the name by which lines call it, the number of its init, and where its wishes
+-- for sessions lead
+pub record Place : Type 0 where
+  pub name : List ℕ
+  pub home : ℕ
+  pub routes : List Level
+
+-- its entry: the component's own name is the label under which it opens sessions
+abbrev pub entry_of : Place → Component → Entry
+entry_of place component = record {
+  name = place.name;
+  label = component.name.items;
+  kind = kind_of component.role;
+  home = place.home;
+  routes = place.routes;
+}
 
 -- the service that a role serves to others
 abbrev pub served_by : Role → Option Service
 served_by (Script script) = None
 served_by (Log account server) = Some LogKind
 served_by (Files account server) = Some FilesKind
+served_by (Init account) = None
 served_by Gone = None
 
 abbrev pub service_of : Component → Option Service
@@ -126,6 +145,7 @@ abbrev pub HasNewHeap : Role → Type 0
 HasNewHeap (Script script) = HasNewHeaps script
 HasNewHeap (Log account server) = Unit {0}
 HasNewHeap (Files account server) = Unit {0}
+HasNewHeap (Init account) = Unit {0}
 HasNewHeap Gone = ⊥
 
 -- ---- sessions
@@ -135,6 +155,7 @@ abbrev pub caps_in : Role → NatMap Cap
 caps_in (Script script) = script.caps.caps
 caps_in (Log account server) = empty
 caps_in (Files account server) = empty
+caps_in (Init account) = empty
 caps_in Gone = empty
 
 abbrev pub caps_of : Component → NatMap Cap
@@ -145,6 +166,7 @@ abbrev pub places_in : Role → Option ℕ
 places_in (Script script) = Some script.caps.places
 places_in (Log account server) = None
 places_in (Files account server) = None
+places_in (Init account) = None
 places_in Gone = None
 
 abbrev pub places_of : Component → Option ℕ
@@ -155,6 +177,7 @@ abbrev pub rows_in : Store → Role → NatMap (Row Labelled)
 rows_in store (Script script) = empty
 rows_in store (Log account server) = sessions_of log_value log_buffer server.sessions store server.map
 rows_in store (Files account server) = sessions_of files_value files_buffer server.sessions store server.map
+rows_in store (Init account) = empty
 rows_in store Gone = empty
 
 abbrev pub rows_of : Store → Component → NatMap (Row Labelled)
@@ -165,6 +188,7 @@ abbrev pub capacity_in : Role → ℕ
 capacity_in (Script script) = 0
 capacity_in (Log account server) = server.sessions.capacity
 capacity_in (Files account server) = server.sessions.capacity
+capacity_in (Init account) = 0
 capacity_in Gone = 0
 
 -- a session is open under a key
@@ -172,6 +196,7 @@ abbrev pub HasSession : Role → ℕ → Type 0
 HasSession (Script script) id = ⊥
 HasSession (Log account server) id = ContainsKey server.sessions id
 HasSession (Files account server) id = ContainsKey server.sessions id
+HasSession (Init account) id = ⊥
 HasSession Gone id = ⊥
 
 -- there is a place for one more
@@ -179,6 +204,7 @@ abbrev pub HasPlace : Role → Type 0
 HasPlace (Script script) = ⊥
 HasPlace (Log account server) = slab_len server.sessions < server.sessions.capacity
 HasPlace (Files account server) = slab_len server.sessions < server.sessions.capacity
+HasPlace (Init account) = ⊥
 HasPlace Gone = ⊥
 
 -- a server works on this memory
@@ -186,6 +212,7 @@ abbrev pub Works : Store → Role → Type 0
 Works store (Script script) = Unit {0}
 Works store (Log account server) = IsServer IsLogKept server.sessions store server.map
 Works store (Files account server) = IsServer IsFilesKept server.sessions store server.map
+Works store (Init account) = Unit {0}
 Works store Gone = Unit {0}
 
 -- a session is there, and its client's account is the role's
@@ -230,11 +257,16 @@ reserve_held store role = unwrap_or (option_map (λ account. amounts_in (part ac
 abbrev pub with_reserve : Amounts → OwnState → OwnState
 with_reserve reserve s = record s { reserve = reserve }
 
--- the own state of a role: a script's has its reserve, a server has its account alone, and who is gone has nothing
+-- the own state of an init: it has nothing by itself, for its account is one of inits
+abbrev pub init_state : OwnState
+init_state = record gone_state { gone = false }
+
+-- the own state of a role: a script's has its reserve, a server has its account alone, and an init and who is gone have nothing
 abbrev pub own_in : Sessions → Store → Role → OwnState
 own_in sessions store (Script script) = with_reserve (amounts_in (part script.reserve.0 store)) (own_at sessions store script)
 own_in sessions store (Log account server) = own_of no_lent no_sessions (part account.0 store) empty empty no_heap empty
 own_in sessions store (Files account server) = own_of no_lent no_sessions (part account.0 store) empty empty no_heap empty
+own_in sessions store (Init account) = init_state
 own_in sessions store Gone = gone_state
 
 -- the component's own state
@@ -251,11 +283,12 @@ pub record IsSoundServer {T : Type 0} (kept : T → Share → Type 0) (store : S
   pub server : IsServer kept sessions store regions
   pub places : caps_limits_in store ≤ sessions.capacity * 2 + 1
 
--- a script is sound, and so is a server
+-- a script is sound, and so is a server; the account of an init is open
 abbrev pub IsSoundRole : Store → Role → Type 0
 IsSoundRole store (Script script) = IsSoundScript store script
 IsSoundRole store (Log account server) = IsSoundServer IsLogKept store account.0 server.sessions server.map
 IsSoundRole store (Files account server) = IsSoundServer IsFilesKept store account.0 server.sessions server.map
+IsSoundRole store (Init account) = IsOpenIn store account.0
 IsSoundRole store Gone = Unit {0}
 
 abbrev pub IsSound : Store → Component → Type 0
@@ -264,7 +297,7 @@ IsSound store component = IsSoundRole store component.role
 -- a server after a call of one of its sessions: it works on the memory, and is the same but for its sessions, and so are the
 -- limits of RAM in all
 pub record StaysServer (old : Store) (before : Component) (new : Store) (after : Component) : Type 0 where
-  pub entry : (rules : List Rule) → entry_of rules after ≡ entry_of rules before
+  pub entry : (place : Place) → entry_of place after ≡ entry_of place before
   pub service : service_of after ≡ service_of before
   pub account : payer_of after ≡ payer_of before
   pub capacity : capacity_in after.role ≡ capacity_in before.role
@@ -292,7 +325,7 @@ pub record Admits (store : Store) (component : Component) (client ram caps : ℕ
 -- session lends and the call writes into
 pub record Keeps (old : Store) (before : Component) (new : Store) (after : Component) : Type 0 where
   pub sound : IsSound new after
-  pub entry : (rules : List Rule) → entry_of rules after ≡ entry_of rules before
+  pub entry : (place : Place) → entry_of place after ≡ entry_of place before
   pub service : service_of after ≡ service_of before
   pub pays : (account : ℕ) → Pays after.role account → Pays before.role account
   pub paid : (account : ℕ) → Pays before.role account → Pays after.role account

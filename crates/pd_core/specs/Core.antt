@@ -1,11 +1,11 @@
 -- The core as the model sees it, and what is true of it between calls.
-use Rattle.std.specs.Prelude.{◌≡◌, ◌≢◌, ℕ, List, map, get_or, Some, None, ◌<◌, length}
+use Rattle.std.specs.Prelude.{◌≡◌, ◌⊎◌, ℕ, Bool, true, false, List, ◌∷◌, map, get_or, Some, ◌<◌, length}
 use Rattle.std.specs.FinMap.{get}
 use Rattle.std.specs.List.{enumerate_from}
 use Rattle.std.specs.Option.{option_map}
 use Rattle.own_model.specs.NatMap.{NatMap}
-use Rattle.own_model.specs.Routes.{Rule}
-use Rattle.own_model.specs.StartList.{Entry}
+use Rattle.own_model.specs.Account.{Account}
+use Rattle.own_model.specs.StartList.{Entry, no_account}
 use Rattle.own_model.specs.World.{World}
 use Rattle.own_model.specs.Session.{Labelled}
 use Rattle.dataspace_core.specs.Room.{HasRoom}
@@ -15,10 +15,10 @@ use Rattle.pd_core.specs.Own.{Sessions}
 use Rattle.pd_core.specs.Sessions.{row_session}
 use Rattle.trade_base.specs.declared.id.SessionId.{SessionId}
 use Rattle.pd_core.specs.Sound.{session_at}
-use Rattle.pd_core.specs.Component.{Pays, reserve_in, IsReserve, entry_of, caps_in, rows_in, own, NamesItsSessions, HasPlaces, IsSoundRole}
+use Rattle.pd_core.specs.Component.{Place as ListedPlace, Pays, payer_in, reserve_in, IsReserve, entry_of, caps_in, rows_in, own, NamesItsSessions, HasPlaces, IsSoundRole}
 use Rattle.pd_core.specs.declared.component.Component.{Component}
 use Rattle.pd_core.specs.declared.component.Role.{Role}
-use Rattle.pd_core.specs.declared.component.Role.TheVariants.{Gone}
+use Rattle.pd_core.specs.declared.component.Role.TheVariants.{Script, Log, Files, Init as AnInit, Gone}
 
 -- the role at each place: past the components it is that of one that has exited
 abbrev pub Roles : Type 0
@@ -35,23 +35,36 @@ rows_at store roles server = rows_in store (roles server)
 abbrev pub sessions_in : Store → Roles → Sessions
 sessions_in store roles server session = option_map row_session (get (rows_at store roles server) session)
 
--- the rules by which the wishes of the component at each place lead
-abbrev pub Rules : Type 0
-Rules = ℕ → List Rule
+-- what a start list says of each place
+abbrev pub Places : Type 0
+Places = ℕ → ListedPlace
 
--- what a start list says of the components
-abbrev pub entries_of : Rules → List Component → List Entry
-entries_of rules components = map (λ c. entry_of (rules c.0) c.1) (enumerate_from 0 components)
+-- and of the components there
+abbrev pub entries_of : Places → List Component → List Entry
+entries_of places components = map (λ c. entry_of (places c.0) c.1) (enumerate_from 0 components)
 
--- the entries and own states of the components, and the root's account, which is init's
-abbrev pub world_of : Rules → Store → List Component → World
-world_of rules store components = record {
-  entries = entries_of rules components;
-  init = account_in store (root_in store);
+-- the account that a role has as an init
+abbrev pub init_in : Store → Role → Account
+init_in store (Script script) = no_account
+init_in store (Log account server) = no_account
+init_in store (Files account server) = no_account
+init_in store (AnInit account) = account_in store account.0
+init_in store Gone = no_account
+
+-- the accounts of inits by their numbers: the root's, which is that of the machine's init, and then the components'
+abbrev pub inits_of : Store → List Component → List Account
+inits_of store components = account_in store (root_in store) ∷ map (λ c. init_in store c.role) components
+
+-- the entries and own states of the components, and inits' accounts
+abbrev pub world_of : Places → Store → List Component → World
+world_of places store components = record {
+  entries = entries_of places components;
+  inits = inits_of store components;
   states = map (own (sessions_in store (roles_of components)) store) components;
 }
 
--- who has accounts: init, the component at a place, its reserve, and the session of the server at a place under a key
+-- who has accounts: the machine's init, the component at a place, its reserve, and the session of the server at a place under a
+-- key
 pub data Owner : Type 0 where
   Init : Owner
   Place : ℕ → Owner
@@ -76,26 +89,52 @@ pub record NamesAccount (rows : ℕ → NatMap (Row Labelled)) (role : Role) (ac
   pub key : row.key ≡ account
   pub its : row.client ≡ client
 
--- each account that was opened under another than init's is that of a session, which a component's selector names
-abbrev pub AreHeld : Store → Roles → Type 0
-AreHeld store roles =
-    (child parent : ℕ) → IsChildIn store child parent → parent ≢ root_in store →
+-- which accounts components are opened below: those of inits
+abbrev pub Heads : Type 0
+Heads = ℕ → Bool
+
+-- an account is the one of a role as an init
+abbrev pub IsInitOf : Role → ℕ → Type 0
+IsInitOf (Script script) account = ⊥
+IsInitOf (Log key server) account = ⊥
+IsInitOf (Files key server) account = ⊥
+IsInitOf (AnInit key) account = key.0 ≡ account
+IsInitOf Gone account = ⊥
+
+-- an account is that of an init, the machine's or one that is a component
+abbrev pub IsInits : Store → Roles → ℕ → Type 0
+IsInits store roles account = (root_in store ≡ account) ⊎ ((place : ℕ) × IsInitOf (roles place) account)
+
+-- an account is below that of an init
+pub record IsBelowHead (store : Store) (heads : Heads) (account : ℕ) : Type 0 where
+  pub head : ℕ
+  pub is_head : heads head ≡ true
+  pub child : IsChildIn store account head
+
+-- each account that was opened under one that is no init's is that of a session, which a component's selector names
+abbrev pub AreHeld : Heads → Store → Roles → Type 0
+AreHeld heads store roles =
+    (child parent : ℕ) → IsChildIn store child parent → heads parent ≡ false →
     (place : ℕ) × NamesAccount (rows_at store roles) (roles place) child parent
 
--- init's account is open; each component is sound, its account is below init's, and so is that of its reserve, of which nothing is
--- used; no account has two owners, and init is no session's client; each session that a component names is its own, and so is what that lends; its capabilities find places;
--- each session is named; and the memory has room for those still to be opened
+-- which accounts are inits' is known, and the root is one; the root is open; each component is sound, its account is below an
+-- init's, and its reserve beside it, of which nothing is used; no account has two owners, and no init is a session's client; each
+-- session that a component names is its own, and so is what that lends; its capabilities find places; each session is named; and
+-- the memory has room for those still to be opened
 pub record IsSoundCore (store : Store) (roles : Roles) : Type 0 where
+  pub heads : Heads
+  pub root_head : heads (root_in store) ≡ true
+  pub inits : (account : ℕ) → heads account ≡ true → IsInits store roles account
   pub init : IsOpenIn store (root_in store)
   pub sound : (place : ℕ) → IsSoundRole store (roles place)
-  pub children : (place account : ℕ) → Pays (roles place) account → IsChildIn store account (root_in store)
-  pub reserved : (place account : ℕ) → reserve_in (roles place) ≡ Some account → IsReserve store account
+  pub children : (place account : ℕ) → Pays (roles place) account → IsBelowHead store heads account
+  pub reserved : (place account : ℕ) → reserve_in (roles place) ≡ Some account → IsReserve store (payer_in (roles place)) account
   pub apart : (one other : Owner) (account : ℕ) → Owns store roles one account → Owns store roles other account → one ≡ other
-  pub clients : (server id : ℕ) (row : Row Labelled) → get (rows_at store roles server) id ≡ Some row → row.client ≢ root_in store
+  pub clients : (server id : ℕ) (row : Row Labelled) → get (rows_at store roles server) id ≡ Some row → heads row.client ≡ false
   pub named : (place : ℕ) → NamesItsSessions (rows_at store roles) (roles place)
   pub placed : (place : ℕ) → HasPlaces (sessions_in store roles) store (roles place)
-  pub held : AreHeld store roles
-  pub room : HasRoom store
+  pub held : AreHeld heads store roles
+  pub room : HasRoom heads store
 
 -- so are the components on a memory
 abbrev pub IsCore : Store → List Component → Type 0

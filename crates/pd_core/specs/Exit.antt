@@ -9,17 +9,18 @@ use Rattle.own_model.specs.Transcript.{state_at}
 use Rattle.own_model.specs.World.{World}
 use Rattle.pd_core.specs.Component.{caps_in}
 use Rattle.dataspace_core.specs.Store.{Store, ClosesPart, caps_limits_in}
-use Rattle.pd_core.specs.Core.{Rules, world_of, IsCore}
-use Rattle.pd_core.specs.SessionCalls.{Agrees, Leads}
+use Rattle.pd_core.specs.Core.{Places, world_of, IsCore}
+use Rattle.pd_core.specs.SessionCalls.{Agrees, AreAtHome, Leads}
 use Rattle.pd_core.specs.declared.component.Component.{Component}
 use Rattle.pd_core.specs.declared.component.Role.{Role}
-use Rattle.pd_core.specs.declared.component.Role.TheVariants.{Script, Log, Files, Gone}
+use Rattle.pd_core.specs.declared.component.Role.TheVariants.{Script, Log, Files, Init, Gone}
 
 -- why a role's calls are refused, if they are
 abbrev pub refusal_of : Role → Option Refusal
 refusal_of (Script script) = None
 refusal_of (Log account server) = Some NotAScript
 refusal_of (Files account server) = Some NotAScript
+refusal_of (Init account) = Some NotAScript
 refusal_of Gone = Some IsGone
 
 abbrev pub IsScriptRole : Role → Type 0
@@ -37,6 +38,7 @@ abbrev pub places_told : Role → Result ℕ Refusal
 places_told (Script script) = Ok script.caps.places
 places_told (Log account server) = Err NotAScript
 places_told (Files account server) = Err NotAScript
+places_told (Init account) = Err NotAScript
 places_told Gone = Err IsGone
 
 -- each selector in use is one of 1 to so many
@@ -56,8 +58,10 @@ pub record HasClosedAt (i count : ℕ) (old new : World) : Type 0 where
   pub closed : HasClosed count (state_at old.states i) (state_at new.states i)
   pub others : new ≡ record old { states = slice_set old.states i (state_at new.states i) }
 
--- so many sessions of the component at a place are closed, the core is sound after it, and routes lead where they did
+-- so many sessions of the component at a place are closed, the core is sound after it, each account is below its init's still, and
+-- routes lead where they did
 pub record ClosesTo (i count : ℕ) (old : Store) (before : List Component) (new : Store) (after : List Component) : Type 0 where
-  pub closed : (rules : Rules) → HasClosedAt i count (world_of rules old before) (world_of rules new after)
+  pub closed : (places : Places) → HasClosedAt i count (world_of places old before) (world_of places new after)
   pub core : IsCore new after
-  pub leads : (rules : Rules) (leads : Leads) → Agrees rules leads before → Agrees rules leads after
+  pub homes : (places : Places) → AreAtHome places old before → AreAtHome places new after
+  pub leads : (places : Places) (leads : Leads) → Agrees places leads old before → Agrees places leads new after

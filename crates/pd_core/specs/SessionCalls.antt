@@ -1,5 +1,5 @@
 -- A call of a session in the core: what it requires of the components, and what it does to the world.
-use Rattle.std.specs.Prelude.{◌≡◌, true, false, ℕ, ◌<◌, ◌≤◌, List, length, map, get_or, Option, Some, None, Result, Err}
+use Rattle.std.specs.Prelude.{◌≡◌, true, false, ℕ, zero, suc, ◌<◌, ◌≤◌, List, length, map, get_or, Option, Some, None, Result, Err}
 use Rattle.std.specs.FinMap.{get, len}
 use Rattle.std.specs.List.{All, flat_map}
 use Rattle.std.specs.Option.{ok_or, option_map}
@@ -17,15 +17,15 @@ use Rattle.own_model.specs.NatMap.{NatMap}
 use Rattle.cap_space.specs.declared.cap.Cap.{Cap}
 use Rattle.cap_space.specs.declared.cap.Cap.TheVariants.{Session as ASession, Buffer as ABuffer}
 use Rattle.region_map.specs.Regions.{all_detached}
-use Rattle.dataspace_core.specs.Store.{Store}
+use Rattle.dataspace_core.specs.Store.{Store, root_in, IsChildIn}
 use Rattle.server_frame.specs.Told.{Told}
 use Rattle.pd_core.specs.Answer.{told_alone, reply_of}
 use Rattle.pd_core.specs.declared.answer.Answer.{Answer}
-use Rattle.pd_core.specs.Component.{service_of, caps_in}
-use Rattle.pd_core.specs.Core.{Rules, world_of, IsCore}
+use Rattle.pd_core.specs.Component.{Pays, service_of, caps_in}
+use Rattle.pd_core.specs.Core.{Places, Roles, roles_of, world_of, IsCore}
 use Rattle.pd_core.specs.Sound.{session_at}
 use Rattle.pd_core.specs.declared.component.Role.{Role}
-use Rattle.pd_core.specs.declared.component.Role.TheVariants.{Script, Log, Files, Gone as GoneRole}
+use Rattle.pd_core.specs.declared.component.Role.TheVariants.{Script, Log, Files, Init as InitRole, Gone as GoneRole}
 use Rattle.pd_core.specs.declared.component.Component.{Component}
 
 -- the place of the component that serves what the component at a place asks for: a service by its name, with a given label
@@ -36,18 +36,38 @@ Leads = ℕ → List ℕ → List ℕ → Option ℕ
 abbrev pub service_at : List Component → ℕ → Option Service
 service_at components place = get_or (map service_of components) place None
 
--- what a component asks for leads to one that serves what its rules say, and to none where they lead to none; and a label
--- has room for the name of each component
-pub record Agrees (rules : Rules) (leads : Leads) (components : List Component) : Type 0 where
-  pub names : All (λ c. length c.name.items ≤ 32) components
+-- an account is below that of the role of an init
+abbrev pub IsBelowInit : Store → Role → ℕ → Type 0
+IsBelowInit store (Script script) account = ⊥
+IsBelowInit store (Log key server) account = ⊥
+IsBelowInit store (Files key server) account = ⊥
+IsBelowInit store (InitRole key) account = IsChildIn store account key.0
+IsBelowInit store GoneRole account = ⊥
+
+-- an account is below that of the init of a number: the root's, or that of the init at the place before the number
+abbrev pub IsAtHome : Store → Roles → ℕ → ℕ → Type 0
+IsAtHome store roles zero account = IsChildIn store account (root_in store)
+IsAtHome store roles (suc place) account = IsBelowInit store (roles place) account
+
+-- each component's account is below that of its init
+abbrev pub AreAtHome : Places → Store → List Component → Type 0
+AreAtHome places store components =
+    (i account : ℕ) → Pays (roles_of components i) account → IsAtHome store (roles_of components) (places i).home account
+
+-- what a component asks for leads to one that serves what its routes say, and to none where they lead to none; a label has room
+-- for the name of each component; and each one's account is below its init's
+pub record Agrees (places : Places) (leads : Leads) (store : Store) (components : List Component) : Type 0 where
+  pub names : All (λ c. length c.name.items ≤ 140) components
   pub each : (i : ℕ) (service label : List ℕ) → i < length components →
-      option_map (service_at components) (leads i service label) ≡ option_map Some (provider (rules i) service label)
+      option_map (service_at components) (leads i service label) ≡ option_map Some (provider (places i).routes service label)
+  pub homes : AreAtHome places store components
 
 -- the session that a selector of a script names, by its server's entry and its key there, or why there is none
 abbrev pub named_in : Role → ℕ → Result (ℕ × SessionId) Refusal
 named_in (Script script) selector = ok_or (session_at (get script.caps.caps selector)) InvalidSession
 named_in (Log account server) selector = Err NotAScript
 named_in (Files account server) selector = Err NotAScript
+named_in (InitRole account) selector = Err NotAScript
 named_in GoneRole selector = Err Gone
 
 -- a role without a selector's capability
@@ -55,6 +75,7 @@ abbrev pub without_selector : Role → ℕ → Role
 without_selector (Script script) selector = Script (record script { caps = without_cap script.caps selector })
 without_selector (Log account server) selector = Log account server
 without_selector (Files account server) selector = Files account server
+without_selector (InitRole account) selector = InitRole account
 without_selector GoneRole selector = GoneRole
 
 -- there is a selector for one capability more
@@ -62,6 +83,7 @@ abbrev pub HasSelectorLeft : Role → Type 0
 HasSelectorLeft (Script script) = len script.caps.caps < script.caps.places
 HasSelectorLeft (Log account server) = ⊥
 HasSelectorLeft (Files account server) = ⊥
+HasSelectorLeft (InitRole account) = ⊥
 HasSelectorLeft GoneRole = ⊥
 
 -- a role with a session under a selector
@@ -70,6 +92,7 @@ with_session (Script script) selector server session =
     Script (record script { caps = with_cap script.caps selector (ASession server session) })
 with_session (Log account server) selector entry session = Log account server
 with_session (Files account server) selector entry session = Files account server
+with_session (InitRole account) selector entry session = InitRole account
 with_session GoneRole selector entry session = GoneRole
 
 -- a role with a buffer under a selector
@@ -78,6 +101,7 @@ with_buffer (Script script) selector space session =
     Script (record script { caps = with_cap script.caps selector (ABuffer space session) })
 with_buffer (Log account server) selector space session = Log account server
 with_buffer (Files account server) selector space session = Files account server
+with_buffer (InitRole account) selector space session = InitRole account
 with_buffer GoneRole selector space session = GoneRole
 
 -- a role without a selector's capability and without the regions of a dataspace
@@ -86,6 +110,7 @@ without_buffer (Script script) selector space =
     Script (record script { caps = without_cap script.caps selector; regions = all_detached script.regions space })
 without_buffer (Log account server) selector space = Log account server
 without_buffer (Files account server) selector space = Files account server
+without_buffer (InitRole account) selector space = InitRole account
 without_buffer GoneRole selector space = GoneRole
 
 -- a selector names the buffer in a dataspace
@@ -98,6 +123,7 @@ abbrev pub NamesBuffer : ℕ → Role → Type 0
 NamesBuffer space (Script script) = IsLentTo space script.caps.caps
 NamesBuffer space (Log account server) = ⊥
 NamesBuffer space (Files account server) = ⊥
+NamesBuffer space (InitRole account) = ⊥
 NamesBuffer space GoneRole = ⊥
 
 -- the buffer in a dataspace goes from its least selector, and its regions go
@@ -108,17 +134,18 @@ pub record DropsBuffer (space : ℕ) (old new : Component) : Type 0 where
   pub gone : new ≡ record old { role = without_buffer old.role selector space }
 
 -- a call of the component at a place is answered as the model's, and leaves the world that the model's leaves
-pub record Answers (rules : Rules) (call : Call) (i : ℕ) (reply : Told) (old : Store) (before : List Component) (new : Store) (after : List Component) : Type 0 where
-  pub answered : reply.text ≡ reply_text (outcome_at (world_of rules old before) i call).reply
-  pub lines : reply.lines ≡ flat_map log_text (outcome_at (world_of rules old before) i call).lines
-  pub stepped : world_of rules new after ≡ with_state (world_of rules old before) i (outcome_at (world_of rules old before) i call).next
+pub record Answers (places : Places) (call : Call) (i : ℕ) (reply : Told) (old : Store) (before : List Component) (new : Store) (after : List Component) : Type 0 where
+  pub answered : reply.text ≡ reply_text (outcome_at (world_of places old before) i call).reply
+  pub lines : reply.lines ≡ flat_map log_text (outcome_at (world_of places old before) i call).lines
+  pub stepped : world_of places new after ≡ with_state (world_of places old before) i (outcome_at (world_of places old before) i call).next
 
--- so it goes, the core is sound after it, and routes lead where they did
-pub record Goes (rules : Rules) (call : Call) (i : ℕ) (reply : Told) (old : Store) (before : List Component) (new : Store) (after : List Component) : Type 0 where
-  pub answers : Answers rules call i reply old before new after
+-- so it goes, the core is sound after it, each account is below its init's still, and routes lead where they did
+pub record Goes (places : Places) (call : Call) (i : ℕ) (reply : Told) (old : Store) (before : List Component) (new : Store) (after : List Component) : Type 0 where
+  pub answers : Answers places call i reply old before new after
   pub core : IsCore new after
-  pub leads : (all : Rules) (leads : Leads) → Agrees all leads before → Agrees all leads after
+  pub homes : (all : Places) → AreAtHome all old before → AreAtHome all new after
+  pub leads : (all : Places) (leads : Leads) → Agrees all leads old before → Agrees all leads new after
 
 -- so does one that is answered alone
-abbrev pub GoesWith : Rules → Call → ℕ → Result Answer Refusal → Store → List Component → Store → List Component → Type 0
-GoesWith rules call i result old before new after = Goes rules call i (told_alone (reply_text (reply_of result))) old before new after
+abbrev pub GoesWith : Places → Call → ℕ → Result Answer Refusal → Store → List Component → Store → List Component → Type 0
+GoesWith places call i result old before new after = Goes places call i (told_alone (reply_text (reply_of result))) old before new after

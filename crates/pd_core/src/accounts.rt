@@ -1,13 +1,15 @@
 //! The accounts of a core: their limits, and what of them is used.
-ghost use Rattle.std.specs.Prelude.{◌≡◌};
+ghost use Rattle.std.specs.Prelude.{◌≡◌, ◌+◌};
 ghost use Rattle.std.specs.FinMap.{get};
 ghost use Rattle.std.specs.Option.{option_map};
 ghost use Rattle.own_model.specs.OwnState.{session_named};
 ghost use Rattle.own_model.specs.Session.{Session as AnOpenSession};
 ghost use Rattle.own_model.specs.Transcript.{state_at};
+ghost use Rattle.own_model.specs.World.{account_at};
 ghost use Rattle.dataspace_core.specs.Store.{account_in, IsOpenIn};
-ghost use Rattle.pd_core.specs.Answer.{quotas_account, reserve_amounts};
-ghost use Rattle.pd_core.specs.Core.{Rules, world_of, IsCoreAt};
+ghost use Rattle.own_model.specs.StartList.{init_at};
+ghost use Rattle.pd_core.specs.Answer.{quotas_account, reserve_amounts, CountsLimits};
+ghost use Rattle.pd_core.specs.Core.{Places, world_of, IsCoreAt};
 
 use crate::answer::{Quotas, Reserve};
 use crate::component::{Component, Role};
@@ -32,26 +34,31 @@ pub(crate) fn quotas_of(memory: &Memory, account: AccountId) -> Quotas
 }
 
 impl<R: Router + Drop> Core<R> {
-    ghost use Rattle.std.specs.Prelude.{◌≡◌, ◌<◌, ◌≤◌, ℕ, length, None};
+    ghost use Rattle.std.specs.Prelude.{◌≡◌, ◌+◌, ◌<◌, ◌≤◌, ℕ, length, None};
     ghost use Rattle.std.specs.FinMap.{get};
     ghost use Rattle.std.specs.Option.{option_map};
     ghost use Rattle.own_model.specs.OwnState.{session_named};
     ghost use Rattle.own_model.specs.Session.{Session as AnOpenSession};
     ghost use Rattle.own_model.specs.Transcript.{state_at};
-    ghost use Rattle.pd_core.specs.Answer.{quotas_account, reserve_amounts};
+    ghost use Rattle.own_model.specs.World.{account_at, machine_init};
+    ghost use Rattle.own_model.specs.StartList.{init_at};
+    ghost use Rattle.pd_core.specs.Answer.{quotas_account, reserve_amounts, CountsLimits};
 
-    /// How many components there are: each has an entry and an own state.
+    /// How many components there are: each has an entry, an own state, and a place among inits, where the machine's comes first.
     pub fn count(&self) -> usize
         ensures entries { result ≡ length self.now.entries }
         ensures states { result ≡ length self.now.states }
+        ensures inits { length self.now.inits ≡ result + 1 }
     {
         self.components.as_slice().len()
     }
 
-    /// The limits and the use of the account of the component at a place.
+    /// The limits and the use of the account of the component at a place: of an init, what it has for those that it starts.
     pub fn account(&self, component: usize) -> Quotas
         requires { component < length self.now.entries }
-        ensures { quotas_account result ≡ (state_at self.now.states component).account }
+        ensures value { quotas_account result ≡ account_at self.now component }
+        ensures limits { CountsLimits (quotas_account result) (init_at self.now.inits (component + 1))
+            (state_at self.now.states component).account }
     {
         component_quotas(&self.memory, self.components.as_slice(), component)
     }
@@ -64,9 +71,9 @@ impl<R: Router + Drop> Core<R> {
         component_reserve(&self.memory, self.components.as_slice(), component)
     }
 
-    /// The limits and the use of init's account.
+    /// The limits and the use of the account of the machine's init.
     pub fn init_account(&self) -> Quotas
-        ensures { quotas_account result ≡ self.now.init }
+        ensures { quotas_account result ≡ machine_init self.now }
     {
         quotas_of(&self.memory, self.memory.root())
     }
@@ -104,20 +111,24 @@ impl Component {
     ghost use Rattle.dataspace_core.specs.Store.{IsOpenIn};
     ghost use Rattle.server_frame.specs.Frame.{AtRow};
     ghost use Rattle.pd_core.specs.Answer.{quotas_account, reserve_amounts};
-    ghost use Rattle.pd_core.specs.Component.{reserve_of, rows_of, own, IsSound, Serves};
+    ghost use Rattle.pd_core.specs.Component.{kind_of, reserve_of, rows_of, own, IsSound, Serves};
+    ghost use Rattle.own_model.specs.World.{account_by};
+    ghost use Rattle.pd_core.specs.Core.{init_in};
     ghost use Rattle.pd_core.specs.Exit.{HasSelectorsTo};
     ghost use Rattle.pd_core.specs.Own.{Sessions};
 
-    /// The limits and the use of the account that the component is charged on, all of them 0 once it has exited.
+    /// The limits and the use of the component's account, all of them 0 once it has exited.
     fn quotas(&self, memory: &Memory) -> Quotas
         requires { IsSound memory.now self.now }
         ensures { (sessions : Sessions) → quotas_account result
-            ≡ (own sessions memory.now self.now).account }
+            ≡ account_by (kind_of self.now.role) (init_in memory.now self.now.role)
+            (own sessions memory.now self.now).account }
     {
         match &self.role {
             Role::Script(script) => quotas_of(memory, script.account),
             Role::Log(account, _) => quotas_of(memory, *account),
             Role::Files(account, _) => quotas_of(memory, *account),
+            Role::Init(account) => quotas_of(memory, *account),
             Role::Gone => Quotas {
                 ram_used: Ram(0),
                 ram_limit: Ram(0),
@@ -153,12 +164,12 @@ impl Component {
     {
         match &self.role {
             Role::Script(script) => script.caps.places() as u64,
-            Role::Log(..) | Role::Files(..) | Role::Gone => 0,
+            Role::Log(..) | Role::Files(..) | Role::Init(_) | Role::Gone => 0,
         }
     }
 
     /// The limits and the use of the account of a session that the component serves.
-    #[tactic(auto, using(crate::proofs::ServerLemmas::log_open, crate::proofs::ServerLemmas::files_open, crate::proofs::ServerLemmas::script_open, crate::proofs::ServerLemmas::gone_open))]
+    #[tactic(auto, using(crate::proofs::ServerLemmas::log_open, crate::proofs::ServerLemmas::files_open, crate::proofs::ServerLemmas::script_open, crate::proofs::ServerLemmas::init_open, crate::proofs::ServerLemmas::gone_open))]
     fn session_quotas(&self, memory: &Memory, id: SessionId) -> Quotas
         requires { Serves memory.now self.now id.0 }
         ensures { AtRow (rows_of memory.now self.now) id.0 (λ row.
@@ -167,7 +178,7 @@ impl Component {
         match &self.role {
             Role::Log(_, server) => quotas_of(memory, server.account(id)),
             Role::Files(_, server) => quotas_of(memory, server.account(id)),
-            Role::Script(_) | Role::Gone => unreachable!(),
+            Role::Script(_) | Role::Init(_) | Role::Gone => unreachable!(),
         }
     }
 }
@@ -175,8 +186,11 @@ impl Component {
 // The limits and the use of the account of the component at a place.
 fn component_quotas(memory: &Memory, components: &[Component], place: usize) -> Quotas
     requires { IsCoreAt place memory.now components.now }
-    ensures { (rules : Rules) → quotas_account result
-        ≡ (state_at (world_of rules memory.now components.now).states place).account }
+    ensures value { (places : Places) → quotas_account result
+        ≡ account_at (world_of places memory.now components.now) place }
+    ensures limits { (places : Places) → CountsLimits (quotas_account result)
+        (init_at (world_of places memory.now components.now).inits (place + 1))
+        (state_at (world_of places memory.now components.now).states place).account }
 {
     components[place].quotas(memory)
 }
@@ -184,8 +198,8 @@ fn component_quotas(memory: &Memory, components: &[Component], place: usize) -> 
 // What the component at a place has in reserve.
 fn component_reserve(memory: &Memory, components: &[Component], place: usize) -> Reserve
     requires { IsCoreAt place memory.now components.now }
-    ensures { (rules : Rules) → reserve_amounts result
-        ≡ (state_at (world_of rules memory.now components.now).states place).reserve }
+    ensures { (places : Places) → reserve_amounts result
+        ≡ (state_at (world_of places memory.now components.now).states place).reserve }
 {
     components[place].reserve(memory)
 }
@@ -198,9 +212,9 @@ fn session_quotas(
     selector: u64,
 ) -> Option<Quotas>
     requires { IsCoreAt place memory.now components.now }
-    ensures { (rules : Rules) → option_map quotas_account result
+    ensures { (places : Places) → option_map quotas_account result
         ≡ option_map (λ (s : AnOpenSession). s.account) (session_named (get
-        (state_at (world_of rules memory.now components.now).states place).selectors selector)) }
+        (state_at (world_of places memory.now components.now).states place).selectors selector)) }
 {
     match components[place].session(selector) {
         Ok((server, session)) => Some(components[server].session_quotas(memory, session)),

@@ -26,9 +26,9 @@ pub(crate) fn carry_out_beyond<R: Router>(
     reply: &mut Reply,
 )
     requires at { IsCoreAt caller memory.old components.old }
-    requires routes { Agrees (R.rules routes.now) (R.leads routes.now) components.old }
+    requires routes { Agrees (R.places routes.now) (R.leads routes.now) memory.old components.old }
     requires beyond { goes_beyond (model_call call) ≡ true }
-    ensures { Goes (R.rules routes.now) (model_call call.entry) caller reply.new
+    ensures { Goes (R.places routes.now) (model_call call.entry) caller reply.new
         memory.old components.old memory.new components.new }
 {
     let outcome = match call {

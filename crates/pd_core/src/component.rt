@@ -16,7 +16,7 @@ use sliced_heap::SlicedHeap;
 use std::mem;
 use trade_base::{AccountId, DsId, Refusal, Selector, SessionId};
 
-/// What a component is for. A server answers the calls of others, and is charged on the account.
+/// What a component is for. A server answers the calls of others, and is charged on the account; an init does neither.
 #[derive(Drop)]
 pub(crate) enum Role {
     /// It makes calls.
@@ -25,11 +25,13 @@ pub(crate) enum Role {
     Log(AccountId, Server<LogService>),
     /// The file server.
     Files(AccountId, Server<FileService>),
+    /// An init: the components that it starts have accounts below this one.
+    Init(AccountId),
     /// It made calls and has exited.
     Gone,
 }
 
-/// A component: its name and its role.
+/// A component: its name, under which it opens sessions, and its role.
 #[derive(Drop)]
 pub struct Component {
     pub(crate) name: ArrayVec<u8, LONGEST_NAME>,
@@ -43,21 +45,21 @@ impl Component {
     ghost use Rattle.trade_base.specs.declared.refusal.Refusal.TheVariants.{NotAScript};
     ghost use Rattle.own_model.specs.OwnState.{new_selector};
     ghost use Rattle.own_model.specs.OwnStep.{own_step};
-    ghost use Rattle.own_model.specs.Routes.{Rule};
     ghost use Rattle.own_model.specs.Routes.Service.{Log as LogKind, Files as FilesKind};
-    ghost use Rattle.own_model.specs.StartList.Kind.{Script as AScript, Server as AServer};
+    ghost use Rattle.own_model.specs.StartList.Kind.{Script as AScript, Server as AServer, Init as AnInit};
     ghost use Rattle.pd_core.specs.Answer.{told, told_of};
     ghost use Rattle.pd_core.specs.Call.{model_call, IsPlain, IsWellFormed};
-    ghost use Rattle.dataspace_core.specs.Store.{Store, root_in, ram_limits_in, caps_limits_in, IsChildIn, IsLeafIn};
+    ghost use Rattle.dataspace_core.specs.Store.{Store, parents_in, parent_in, ram_limits_in, caps_limits_in, IsLeafIn};
     ghost use Rattle.pd_core.specs.Exit.{places_told, refusal_of, IsScriptRole, HasSelectorsTo, ClosesBoth};
     ghost use Rattle.pd_core.specs.Sound.{session_at, buffer_at};
     ghost use Rattle.pd_core.specs.declared.component.Role.TheVariants.{Gone as GoneRole};
-    ghost use Rattle.pd_core.specs.Component.{entry_of, payer_of, reserve_of, service_of, HasReserveApart, HasOwnReserve, tables_of, caps_of, HasNewHeap, own, IsSound, Keeps};
+    ghost use Rattle.pd_core.specs.Component.{Place, entry_of, payer_of, reserve_of, service_of, HasReserveApart, HasOwnReserve, tables_of, caps_of, HasNewHeap, own, IsSound, Keeps};
+    ghost use Rattle.pd_core.specs.Core.{IsInitOf};
     ghost use Rattle.pd_core.specs.Fresh.{HasNoSessions, IsNewServer};
     ghost use Rattle.pd_core.specs.Own.{Sessions, HasSessions};
     ghost use Rattle.pd_core.specs.SessionCalls.{named_in, with_session, with_buffer, without_selector, HasSelectorLeft, NamesBuffer, DropsBuffer};
 
-    /// A script of a name of at most 32 bytes that is charged on the account, with the account of its reserve, with these
+    /// A script of a name of at most 140 bytes that is charged on the account, with the account of its reserve, with these
     /// capabilities and regions, and with empty heaps.
     pub fn script(
         name: &[u8],
@@ -66,9 +68,14 @@ impl Component {
         caps: CapSpace,
         regions: RegionMap,
     ) -> Component
-        requires { length name.now ≤ 32 }
-        ensures entry { (rules : List Rule) → entry_of rules result
-            ≡ record { name = name.now; kind = AScript; routes = rules } }
+        requires { length name.now ≤ 140 }
+        ensures entry { (place : Place) → entry_of place result ≡ record {
+          name = place.name;
+          label = name.now;
+          kind = AScript;
+          home = place.home;
+          routes = place.routes;
+        } }
         ensures account { payer_of result ≡ account.0 }
         ensures reserve { reserve_of result ≡ Some reserve.0 }
         ensures tables { tables_of result ≡ Some (caps, regions) }
@@ -89,11 +96,16 @@ impl Component {
         }
     }
 
-    /// A log server of a name of at most 32 bytes that is charged on the account.
+    /// A log server of a name of at most 140 bytes that is charged on the account.
     pub fn log(name: &[u8], account: AccountId, server: Server<LogService>) -> Component
-        requires { length name.now ≤ 32 }
-        ensures entry { (rules : List Rule) → entry_of rules result
-            ≡ record { name = name.now; kind = AServer; routes = rules } }
+        requires { length name.now ≤ 140 }
+        ensures entry { (place : Place) → entry_of place result ≡ record {
+          name = place.name;
+          label = name.now;
+          kind = AServer;
+          home = place.home;
+          routes = place.routes;
+        } }
         ensures account { payer_of result ≡ account.0 }
         ensures reserve { reserve_of result ≡ None }
         ensures tables { tables_of result ≡ None }
@@ -108,11 +120,16 @@ impl Component {
         }
     }
 
-    /// A file server of a name of at most 32 bytes that is charged on the account.
+    /// A file server of a name of at most 140 bytes that is charged on the account.
     pub fn files(name: &[u8], account: AccountId, server: Server<FileService>) -> Component
-        requires { length name.now ≤ 32 }
-        ensures entry { (rules : List Rule) → entry_of rules result
-            ≡ record { name = name.now; kind = AServer; routes = rules } }
+        requires { length name.now ≤ 140 }
+        ensures entry { (place : Place) → entry_of place result ≡ record {
+          name = place.name;
+          label = name.now;
+          kind = AServer;
+          home = place.home;
+          routes = place.routes;
+        } }
         ensures account { payer_of result ≡ account.0 }
         ensures reserve { reserve_of result ≡ None }
         ensures tables { tables_of result ≡ None }
@@ -124,6 +141,30 @@ impl Component {
         Component {
             name: name_of(name),
             role: Role::Files(account, server),
+        }
+    }
+
+    /// An init of a name of at most 140 bytes that starts components below the account.
+    pub fn init(name: &[u8], account: AccountId) -> Component
+        requires { length name.now ≤ 140 }
+        ensures entry { (place : Place) → entry_of place result ≡ record {
+          name = place.name;
+          label = name.now;
+          kind = AnInit;
+          home = place.home;
+          routes = place.routes;
+        } }
+        ensures account { payer_of result ≡ account.0 }
+        ensures init { IsInitOf result.role account.0 }
+        ensures reserve { reserve_of result ≡ None }
+        ensures tables { tables_of result ≡ None }
+        ensures heap { HasNewHeap result.role }
+        ensures server { (store : Store) → IsNewServer store result.role }
+        ensures service { service_of result ≡ None }
+    {
+        Component {
+            name: name_of(name),
+            role: Role::Init(account),
         }
     }
 
@@ -141,7 +182,7 @@ impl Component {
                     _ => Err(Refusal::InvalidSession),
                 }
             }
-            Role::Log(..) | Role::Files(..) => Err(Refusal::NotAScript),
+            Role::Log(..) | Role::Files(..) | Role::Init(_) => Err(Refusal::NotAScript),
             Role::Gone => Err(Refusal::Gone),
         }
     }
@@ -159,7 +200,7 @@ impl Component {
                 .caps
                 .take_session(selector)
                 .ok_or(Refusal::InvalidSession),
-            Role::Log(..) | Role::Files(..) => Err(Refusal::NotAScript),
+            Role::Log(..) | Role::Files(..) | Role::Init(_) => Err(Refusal::NotAScript),
             Role::Gone => Err(Refusal::Gone),
         }
     }
@@ -173,7 +214,7 @@ impl Component {
     {
         match &mut self.role {
             Role::Script(script) => script.caps.insert(Cap::Session { server, session }),
-            Role::Log(..) | Role::Files(..) | Role::Gone => unreachable!(),
+            Role::Log(..) | Role::Files(..) | Role::Init(_) | Role::Gone => unreachable!(),
         }
     }
 
@@ -186,7 +227,7 @@ impl Component {
     {
         match &mut self.role {
             Role::Script(script) => script.caps.insert(Cap::Buffer { space, session }),
-            Role::Log(..) | Role::Files(..) | Role::Gone => unreachable!(),
+            Role::Log(..) | Role::Files(..) | Role::Init(_) | Role::Gone => unreachable!(),
         }
     }
 
@@ -200,7 +241,7 @@ impl Component {
                 let _ = script.caps.take_buffer(space);
                 script.regions.detach_all(space);
             }
-            Role::Log(..) | Role::Files(..) | Role::Gone => unreachable!(),
+            Role::Log(..) | Role::Files(..) | Role::Init(_) | Role::Gone => unreachable!(),
         }
     }
 
@@ -226,18 +267,19 @@ impl Component {
     }
 
     /// A script without a session and without a buffer exits: all that it holds goes, its account and its reserve close, and
-    /// their limits go back to init's.
+    /// their limits go back to its init's.
     pub(crate) fn end(&mut self, memory: &mut Memory)
         requires sound { IsSound memory.old self.old }
         requires script { IsScriptRole self.old.role }
         requires none { (selector : ℕ) → session_at (get (caps_of self.old) selector) ≡ None }
         requires unlent { (selector : ℕ) → buffer_at (get (caps_of self.old) selector) ≡ None }
-        requires child { IsChildIn memory.old (payer_of self.old) (root_in memory.old) }
+        requires child { IsSome (get (parents_in memory.old) (payer_of self.old)) }
         requires leaf { IsLeafIn memory.old (payer_of self.old) }
         requires reserve { HasOwnReserve memory.old self.old.role }
         ensures gone { self.new ≡ record self.old { role = GoneRole } }
         ensures closes { IfSome (reserve_of self.old) (λ reserve.
-            ClosesBoth (payer_of self.old) reserve (root_in memory.old) memory.old memory.new) }
+            ClosesBoth (payer_of self.old) reserve (parent_in memory.old (payer_of self.old))
+            memory.old memory.new) }
         ensures machine { ram_limits_in memory.new ≡ ram_limits_in memory.old }
         ensures caps { caps_limits_in memory.new ≡ caps_limits_in memory.old }
     {
@@ -258,10 +300,10 @@ impl Component {
         requires call { IsWellFormed call }
         requires plain { IsPlain call }
         requires reserve { HasReserveApart self.old.role }
-        ensures outcome { (rules : List Rule) (sessions : Sessions) →
+        ensures outcome { (place : Place) (sessions : Sessions) →
             HasSessions sessions (caps_of self.old) →
             told reply.new (own sessions memory.new self.new)
-            ≡ told_of (own_step (entry_of rules self.old) (model_call call.entry)
+            ≡ told_of (own_step (entry_of place self.old) (model_call call.entry)
             (own sessions memory.old self.old)) }
         ensures keeps { IsScriptRole self.old.role → Keeps memory.old self.old memory.new self.new }
         ensures stays { IsSome (refusal_of self.old.role) → (memory.new ≡ memory.old)
@@ -269,7 +311,7 @@ impl Component {
     {
         match &mut self.role {
             Role::Script(script) => script.step(memory, call, reply),
-            Role::Log(..) | Role::Files(..) => refuse(Refusal::NotAScript, reply),
+            Role::Log(..) | Role::Files(..) | Role::Init(_) => refuse(Refusal::NotAScript, reply),
             Role::Gone => refuse(Refusal::Gone, reply),
         }
     }

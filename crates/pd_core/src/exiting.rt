@@ -1,9 +1,9 @@
 //! How a component exits.
 ghost use Rattle.std.specs.Prelude.{get_or};
 ghost use Rattle.own_model.specs.Call.Call.{Exit as ModelledExit};
-ghost use Rattle.pd_core.specs.Core.{Rules, IsCoreAt};
+ghost use Rattle.pd_core.specs.Core.{Places, IsCoreAt};
 ghost use Rattle.pd_core.specs.Exit.{ClosesTo, IsScriptRole};
-ghost use Rattle.pd_core.specs.SessionCalls.{GoesWith};
+ghost use Rattle.pd_core.specs.SessionCalls.{AreAtHome, GoesWith};
 ghost use Rattle.pd_core.specs.declared.component.Component.{Component as AnyComponent};
 
 use crate::answer::Answer;
@@ -13,14 +13,15 @@ use dataspace_core::Memory;
 use trade_base::Refusal;
 
 /// The component at a place goes with all that it has, or why not: `NotAScript`, then `Gone`. Its sessions close, all that it
-/// holds is freed, its account closes, and its limits go back to init's. Its name stays.
+/// holds is freed, its account closes, and its limits go back to its init's. Its name stays.
 pub(crate) fn exit(
     memory: &mut Memory,
     components: &mut [Component],
     caller: usize,
 ) -> Result<Answer, Refusal>
     requires { IsCoreAt caller memory.old components.old }
-    ensures { (rules : Rules) → GoesWith rules ModelledExit caller result
+    ensures { (places : Places) → AreAtHome places memory.old components.old →
+        GoesWith places ModelledExit caller result
         memory.old components.old memory.new components.new }
 {
     let places = components[caller].places()?;

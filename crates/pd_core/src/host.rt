@@ -46,12 +46,12 @@ impl Component {
         match &mut self.role {
             Role::Log(_, server) => server.open(memory, client, label, ram, caps),
             Role::Files(_, server) => server.open(memory, client, label, ram, caps),
-            Role::Script(_) | Role::Gone => unreachable!(),
+            Role::Script(_) | Role::Init(_) | Role::Gone => unreachable!(),
         }
     }
 
     /// Moves so much more of its client's limits to a session's account, or why not: `OutOfRam`, then `OutOfCaps`.
-    #[tactic(auto, using(crate::proofs::ServerLemmas::log_open, crate::proofs::ServerLemmas::files_open, crate::proofs::ServerLemmas::script_open, crate::proofs::ServerLemmas::gone_open))]
+    #[tactic(auto, using(crate::proofs::ServerLemmas::log_open, crate::proofs::ServerLemmas::files_open, crate::proofs::ServerLemmas::script_open, crate::proofs::ServerLemmas::init_open, crate::proofs::ServerLemmas::gone_open))]
     pub(crate) fn raise_session(
         &mut self,
         memory: &mut Memory,
@@ -75,7 +75,7 @@ impl Component {
         match &mut self.role {
             Role::Log(_, server) => server.upgrade(memory, id, ram, caps),
             Role::Files(_, server) => server.upgrade(memory, id, ram, caps),
-            Role::Script(_) | Role::Gone => unreachable!(),
+            Role::Script(_) | Role::Init(_) | Role::Gone => unreachable!(),
         }
     }
 
@@ -88,12 +88,12 @@ impl Component {
         match &self.role {
             Role::Log(_, server) => server.buffer(id),
             Role::Files(_, server) => server.buffer(id),
-            Role::Script(_) | Role::Gone => unreachable!(),
+            Role::Script(_) | Role::Init(_) | Role::Gone => unreachable!(),
         }
     }
 
     /// Answers a request of a session, and tells what it did to what the session lends.
-    #[tactic(auto, using(crate::proofs::ServerLemmas::log_open, crate::proofs::ServerLemmas::files_open, crate::proofs::ServerLemmas::script_open, crate::proofs::ServerLemmas::gone_open))]
+    #[tactic(auto, using(crate::proofs::ServerLemmas::log_open, crate::proofs::ServerLemmas::files_open, crate::proofs::ServerLemmas::script_open, crate::proofs::ServerLemmas::init_open, crate::proofs::ServerLemmas::gone_open))]
     pub(crate) fn serve_session(
         &mut self,
         memory: &mut Memory,
@@ -115,12 +115,12 @@ impl Component {
         match &mut self.role {
             Role::Log(_, server) => server.serve(memory, id, request, reply),
             Role::Files(_, server) => server.serve(memory, id, request, reply),
-            Role::Script(_) | Role::Gone => unreachable!(),
+            Role::Script(_) | Role::Init(_) | Role::Gone => unreachable!(),
         }
     }
 
     /// Closes a session: its client's limits are raised by those of its account.
-    #[tactic(auto, using(crate::proofs::ServerLemmas::log_open, crate::proofs::ServerLemmas::files_open, crate::proofs::ServerLemmas::script_open, crate::proofs::ServerLemmas::gone_open))]
+    #[tactic(auto, using(crate::proofs::ServerLemmas::log_open, crate::proofs::ServerLemmas::files_open, crate::proofs::ServerLemmas::script_open, crate::proofs::ServerLemmas::init_open, crate::proofs::ServerLemmas::gone_open))]
     pub(crate) fn close_session(&mut self, memory: &mut Memory, id: SessionId)
         requires { Serves memory.old self.old id.0 }
         ensures closes { AtRow (rows_of memory.old self.old) id.0 (λ row.
@@ -131,7 +131,7 @@ impl Component {
         match &mut self.role {
             Role::Log(_, server) => server.close(memory, id),
             Role::Files(_, server) => server.close(memory, id),
-            Role::Script(_) | Role::Gone => unreachable!(),
+            Role::Script(_) | Role::Init(_) | Role::Gone => unreachable!(),
         }
     }
 }

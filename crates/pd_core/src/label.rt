@@ -1,16 +1,16 @@
 //! The name of a component, and the label of a session.
 ghost use Rattle.std.specs.Prelude.{◌≡◌, ◌≤◌, length};
-ghost use Rattle.own_model.specs.Session.{label_with};
+ghost use Rattle.own_model.specs.Routes.{label_with};
 
 use arrayvec::ArrayVec;
 use server_frame::LONGEST_LABEL;
 
-/// The most bytes of a component's name.
-pub(crate) const LONGEST_NAME: usize = 32;
+/// The most bytes of a component's name: four names of 32 bytes, parted by ` -> `.
+pub(crate) const LONGEST_NAME: usize = 140;
 
 /// A component's name.
 pub(crate) fn name_of(name: &[u8]) -> ArrayVec<u8, LONGEST_NAME>
-    requires { length name.now ≤ 32 }
+    requires { length name.now ≤ 140 }
     ensures { result.items ≡ name.now }
 {
     let mut copy = ArrayVec::<u8, LONGEST_NAME>::new();
@@ -20,7 +20,7 @@ pub(crate) fn name_of(name: &[u8]) -> ArrayVec<u8, LONGEST_NAME>
 
 /// The label of a session: its client's name, an arrow and what that gave, or the name alone.
 pub(crate) fn label_of(name: &[u8], given: &[u8]) -> ArrayVec<u8, LONGEST_LABEL>
-    requires name { length name.now ≤ 32 }
+    requires name { length name.now ≤ 140 }
     requires given { length given.now ≤ 64 }
     ensures label { result.items ≡ label_with name.now given.now }
     ensures len { length result.items ≤ LONGEST_LABEL }

@@ -12,7 +12,7 @@ use server_frame::Reply;
 use std::boxed::BoxedSlice;
 use std::marker::Model;
 
-/// The machine's memory with its components. Contracts see the entries of the start list, what init keeps, and each
+/// The machine's memory with its components. Contracts see the entries of the start list, what inits keep, and each
 /// component's own state.
 #[derive(Drop)]
 pub struct Core<R: Router + Drop> {
@@ -36,10 +36,10 @@ impl<R: Router + Drop> Model for Core<R> {
     ghost use Rattle.std.specs.Box.{boxed_slice_items};
 
     ghost view = { λ core.
-        world_of (R.rules core.routes) core.memory (boxed_slice_items core.components) };
+        world_of (R.places core.routes) core.memory (boxed_slice_items core.components) };
 
     ghost invariant = { λ core. IsCore core.memory (boxed_slice_items core.components)
-        × Agrees (R.rules core.routes) (R.leads core.routes) (boxed_slice_items core.components) };
+        × Agrees (R.places core.routes) (R.leads core.routes) core.memory (boxed_slice_items core.components) };
 }
 
 impl<R: Router + Drop> Core<R> {
@@ -49,7 +49,6 @@ impl<R: Router + Drop> Core<R> {
     ghost use Rattle.own_model.specs.StartList.{StartList};
     ghost use Rattle.own_model.specs.World.{outcome_at, with_state, IsBalanced, IsBalancedFor};
     ghost use Rattle.pd_core.specs.Call.{model_call, IsWellFormed};
-    ghost use Rattle.dataspace_core.specs.Room.{HasRoom};
     ghost use Rattle.pd_core.specs.Fresh.{started_world, AreFresh};
     ghost use Rattle.pd_core.specs.SessionCalls.{Agrees};
 
@@ -58,9 +57,8 @@ impl<R: Router + Drop> Core<R> {
     /// accounts of sessions. The router leads where the components' routes do.
     pub fn from_parts(memory: Memory, components: Vec<Component>, routes: R) -> Core<R>
         requires fresh { AreFresh memory components.items }
-        requires room { HasRoom memory }
-        requires leads { Agrees (R.rules routes) (R.leads routes) components.items }
-        ensures started { result ≡ started_world (R.rules routes) memory components.items }
+        requires leads { Agrees (R.places routes) (R.leads routes) memory components.items }
+        ensures started { result ≡ started_world (R.places routes) memory components.items }
     {
         Core {
             memory,
@@ -108,9 +106,9 @@ fn carry_out<R: Router>(
     reply: &mut Reply,
 )
     requires at { IsCoreAt caller memory.old components.old }
-    requires routes { Agrees (R.rules routes.now) (R.leads routes.now) components.old }
+    requires routes { Agrees (R.places routes.now) (R.leads routes.now) memory.old components.old }
     requires call { IsWellFormed call }
-    ensures { Goes (R.rules routes.now) (model_call call.entry) caller reply.new
+    ensures { Goes (R.places routes.now) (model_call call.entry) caller reply.new
         memory.old components.old memory.new components.new }
 {
     match call {

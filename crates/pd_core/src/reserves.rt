@@ -1,6 +1,6 @@
 //! The calls of a reserve: it is told, and limits move between it and its script's account.
 ghost use Rattle.own_model.specs.Call.Call.{Reserve as ModelledReserve, Request as ModelledRequest, Yield as ModelledYield};
-ghost use Rattle.pd_core.specs.Core.{Rules, IsCoreAt};
+ghost use Rattle.pd_core.specs.Core.{Places, IsCoreAt};
 ghost use Rattle.pd_core.specs.SessionCalls.{GoesWith};
 
 use crate::answer::Answer;
@@ -16,7 +16,7 @@ pub(crate) fn reserve(
     caller: usize,
 ) -> Result<Answer, Refusal>
     requires { IsCoreAt caller memory.now components.now }
-    ensures { (rules : Rules) → GoesWith rules ModelledReserve caller result
+    ensures { (places : Places) → GoesWith places ModelledReserve caller result
         memory.now components.now memory.now components.now }
 {
     let component = &components[caller];
@@ -35,7 +35,7 @@ pub(crate) fn request(
     text: &[u8],
 ) -> Result<Answer, Refusal>
     requires { IsCoreAt caller memory.old components.now }
-    ensures { (rules : Rules) → GoesWith rules (ModelledRequest text.now) caller result
+    ensures { (places : Places) → GoesWith places (ModelledRequest text.now) caller result
         memory.old components.now memory.new components.now }
 {
     let component = &components[caller];
@@ -57,7 +57,7 @@ pub(crate) fn give(
     text: &[u8],
 ) -> Result<Answer, Refusal>
     requires { IsCoreAt caller memory.old components.now }
-    ensures { (rules : Rules) → GoesWith rules (ModelledYield text.now) caller result
+    ensures { (places : Places) → GoesWith places (ModelledYield text.now) caller result
         memory.old components.now memory.new components.now }
 {
     let component = &components[caller];

@@ -1,7 +1,7 @@
 //! The calls of sessions in the core: each finds the component that makes it and the one that serves it.
 ghost use Rattle.own_model.specs.Call.Call.{Open as ModelledOpen, Upgrade as ModelledUpgrade};
 ghost use Rattle.own_model.specs.Call.Call.{CallSession as ModelledCallSession, Close as ModelledClose};
-ghost use Rattle.pd_core.specs.Core.{Rules, IsCoreAt};
+ghost use Rattle.pd_core.specs.Core.{Places, IsCoreAt};
 ghost use Rattle.pd_core.specs.SessionCalls.{Agrees, Goes, GoesWith};
 
 use crate::answer::{Answer, refuse};
@@ -22,7 +22,7 @@ pub(crate) fn close(
     selector: u64,
 ) -> Result<Answer, Refusal>
     requires { IsCoreAt caller memory.old components.old }
-    ensures { (rules : Rules) → GoesWith rules (ModelledClose selector) caller result
+    ensures { (places : Places) → GoesWith places (ModelledClose selector) caller result
         memory.old components.old memory.new components.new }
 {
     let (entry, session) = components[caller].take_session(selector)?;
@@ -45,7 +45,7 @@ pub(crate) fn upgrade(
     text: &[u8],
 ) -> Result<Answer, Refusal>
     requires { IsCoreAt caller memory.old components.old }
-    ensures { (rules : Rules) → GoesWith rules (ModelledUpgrade selector text.now) caller result
+    ensures { (places : Places) → GoesWith places (ModelledUpgrade selector text.now) caller result
         memory.old components.old memory.new components.new }
 {
     let (entry, session) = components[caller].session(selector)?;
@@ -66,8 +66,8 @@ pub(crate) fn call(
     reply: &mut Reply,
 )
     requires { IsCoreAt caller memory.old components.old }
-    ensures { (rules : Rules) →
-        Goes rules (ModelledCallSession selector request.now) caller reply.new
+    ensures { (places : Places) →
+        Goes places (ModelledCallSession selector request.now) caller reply.new
         memory.old components.old memory.new components.new }
 {
     let (entry, session) = match components[caller].session(selector) {
@@ -97,8 +97,8 @@ pub(crate) fn open<R: Router>(
     text: &[u8],
 ) -> Result<Answer, Refusal>
     requires at { IsCoreAt caller memory.old components.old }
-    requires routes { Agrees (R.rules routes.now) (R.leads routes.now) components.old }
-    ensures { GoesWith (R.rules routes.now) (ModelledOpen service.now text.now) caller result
+    requires routes { Agrees (R.places routes.now) (R.leads routes.now) memory.old components.old }
+    ensures { GoesWith (R.places routes.now) (ModelledOpen service.now text.now) caller result
         memory.old components.old memory.new components.new }
 {
     let client = &components[caller];

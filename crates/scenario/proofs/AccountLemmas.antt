@@ -7,12 +7,12 @@ use Rattle.std.proofs.lemmas.Grind.{flat_map-append}
 use Rattle.std.proofs.lemmas.List.{length-map, take_all, take-append-drop}
 use Rattle.std.proofs.lemmas.List.Concat.{flat_map-cons}
 use Rattle.std.proofs.lemmas.Option.{none-some}
-use Rattle.std.proofs.lemmas.Slice.Zip.{get_or-zip, firsts-zip}
+use Rattle.std.proofs.lemmas.List.FromFn.{get_or-enumerate_from, length-enumerate_from}
 use Rattle.std.specs.Cmp.{ranked}
 use Rattle.std.specs.FinMap.{get, entries, entries_sorted, get-entries, is_sorted}
 use Rattle.std.specs.FinMap.Entries.{below_all}
 use Rattle.std.specs.Io.KnownBytes.{Appends}
-use Rattle.std.specs.List.{flat_map, zip}
+use Rattle.std.specs.List.{enumerate_from, flat_map}
 use Rattle.std.specs.Option.{option_map_or}
 use Rattle.own_model.proofs.EntryLemmas.{value_of, value_of_first, value_of_later}
 use Rattle.own_model.proofs.NatMapLemmas.{both_parts, is_less}
@@ -21,7 +21,6 @@ use Rattle.own_model.specs.Listed.{Listed, start_list_of, start_of}
 use Rattle.own_model.specs.OwnState.{OwnState}
 use Rattle.own_model.specs.StartList.{entries_of}
 use Rattle.own_model.specs.World.{World}
-use Rattle.own_model.specs.Transcript.{state_at, nothing}
 use Rattle.scenario.specs.Gathered.{Tells, TellsPart, TellsUnless}
 use Rattle.scenario.specs.Stops.{AppendsPart}
 use Rattle.scenario.proofs.GatheredLemmas.{Tells-more, Tells-front}
@@ -152,41 +151,34 @@ sessions_last name s i none =
 
 -- ---- components in their order
 
-module _ {X : Type 0} (missing : X) (f : X × OwnState → List ℕ) (es : List X) (ss : List OwnState) (same : length ss ≡ length es) where
-  -- there are as many
-  length_both : length (zip es ss) ≡ length es
-  length_both = sym (length-map (zip es ss) (λ (p : X × OwnState). p.0)) ∙ ap length (firsts-zip es ss same)
-
+module _ {X : Type 0} (missing : X) (f : ℕ × X → List ℕ) (es : List X) where
   -- one component more
-  pub component_more : (i : ℕ) → i < length es → flat_map f (take (i + 1) (zip es ss)) ≡ flat_map f (take i (zip es ss)) ++ f (get_or es i missing, state_at ss i)
+  pub component_more : (i : ℕ) → i < length es → flat_map f (take (i + 1) (enumerate_from 0 es)) ≡ flat_map f (take i (enumerate_from 0 es)) ++ f (i, get_or es i missing)
   component_more i within =
       let next : i + 1 ≡ suc i = omega arith in
-      let inside : i < length (zip es ss) = omega (arith, within, length_both) in
-      let beside : i < length ss = omega (arith, within, same) in
-      let here : X × OwnState = (get_or es i missing, state_at ss i) in
-      ap (λ n. flat_map f (take n (zip es ss))) next
-      ∙ ap (flat_map f) (take-suc (zip es ss) i (missing, nothing) inside ∙ ap (λ p. take i (zip es ss) ++ p ∷ []) (get_or-zip es ss i (missing, nothing) within beside))
-      ∙ flat_map-append f (take i (zip es ss)) (here ∷ [])
-      ∙ ap (λ l. flat_map f (take i (zip es ss)) ++ l) (flat_map-cons f here [] ∙ append-nil (f here))
+      let first : 0 + i ≡ i = omega arith in
+      let inside : i < length (enumerate_from 0 es) = omega (arith, within, length-enumerate_from 0 es) in
+      let here : ℕ × X = (i, get_or es i missing) in
+      ap (λ n. flat_map f (take n (enumerate_from 0 es))) next
+      ∙ ap (flat_map f) (take-suc (enumerate_from 0 es) i (0, missing) inside ∙ ap (λ e. take i (enumerate_from 0 es) ++ e ∷ []) (get_or-enumerate_from 0 es i (0, missing) within ∙ ap (λ (k : ℕ). (k, get_or es i missing)) first))
+      ∙ flat_map-append f (take i (enumerate_from 0 es)) (here ∷ [])
+      ∙ ap (λ l. flat_map f (take i (enumerate_from 0 es)) ++ l) (flat_map-cons f here [] ∙ append-nil (f here))
 
   -- the first, then one, and then the others
   pub component_cut : (i : ℕ) → i < length es →
-      flat_map f (zip es ss) ≡ (flat_map f (take i (zip es ss)) ++ f (get_or es i missing, state_at ss i)) ++ flat_map f (drop (i + 1) (zip es ss))
+      flat_map f (enumerate_from 0 es) ≡ (flat_map f (take i (enumerate_from 0 es)) ++ f (i, get_or es i missing)) ++ flat_map f (drop (i + 1) (enumerate_from 0 es))
   component_cut i within =
-      ap (flat_map f) (sym (take-append-drop (i + 1) (zip es ss)))
-      ∙ flat_map-append f (take (i + 1) (zip es ss)) (drop (i + 1) (zip es ss))
-      ∙ ap (λ l. l ++ flat_map f (drop (i + 1) (zip es ss))) (component_more i within)
+      ap (flat_map f) (sym (take-append-drop (i + 1) (enumerate_from 0 es)))
+      ∙ flat_map-append f (take (i + 1) (enumerate_from 0 es)) (drop (i + 1) (enumerate_from 0 es))
+      ∙ ap (λ l. l ++ flat_map f (drop (i + 1) (enumerate_from 0 es))) (component_more i within)
 
-  -- all of them
-  pub component_all : (n : ℕ) → length es ≤ n → flat_map f (take n (zip es ss)) ≡ flat_map f (zip es ss)
-  component_all n enough = ap (flat_map f) (take_all n (zip es ss) (omega (arith, enough, length_both)))
+  -- and all
+  pub component_all : (i : ℕ) → length es ≤ i → flat_map f (take i (enumerate_from 0 es)) ≡ flat_map f (enumerate_from 0 es)
+  component_all i past = ap (flat_map f) (take_all i (enumerate_from 0 es) (omega (arith, past, length-enumerate_from 0 es)))
 
 -- a world with a list's entries has as many, and as many states where these are as many
 pub entries_listed : (list : Listed) (world : World) → world.entries ≡ entries_of (start_list_of list) → length world.entries ≡ length list.entries
 entries_listed list world listed = ap length listed ∙ length-map (map (start_of list) list.entries) (λ start. start.entry) ∙ length-map list.entries (start_of list)
-
-pub states_listed : (list : Listed) (world : World) → world.entries ≡ entries_of (start_list_of list) → length world.states ≡ length world.entries → length world.states ≡ length list.entries
-states_listed list world listed same = same ∙ entries_listed list world listed
 
 -- a place of the world is one of the list
 pub entries_within : (list : Listed) (world : World) {place : ℕ} → world.entries ≡ entries_of (start_list_of list) → place < length world.entries → place < length list.entries

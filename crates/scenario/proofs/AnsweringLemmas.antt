@@ -9,7 +9,7 @@ use Rattle.std.specs.List.{position, flat_map, starts_with}
 use Rattle.std.specs.Option.{option_and_then, option_map}
 use Rattle.std.specs.Str.{bytes_eq}
 use Rattle.own_model.specs.Call.{Call, Spoken, form_of, spoken}
-use Rattle.own_model.specs.Text.{FirstWord, first_word, is_name}
+use Rattle.own_model.specs.Text.{FirstWord, first_word, is_path}
 use Rattle.trade_base.specs.declared.refusal.Refusal.TheVariants.{BadLine, UnknownComponent}
 use Rattle.own_model.specs.Reply.{reply_text, log_text}
 use Rattle.own_model.specs.SaidBy.{component_of, is_said_by, is_under, said_by}
@@ -145,7 +145,7 @@ module _ (name : List ℕ) where
   not_under : (line : List ℕ) → ((after : List ℕ) → line ≡ name ++ 32 ∷ after → ⊥) → is_under name (spoken line) ≡ false
   not_under line none = elim (is_under name (spoken line)) as (λ b. is_under name (spoken line) ≡ b → b ≡ false) [
     | true ↦ λ is.
-        let parts = under_word (is_name (first_word line).word) (first_word line).word (first_word line).rest is in
+        let parts = under_word (is_path (first_word line).word) (first_word line).word (first_word line).rest is in
         absurd (none parts.0 (word_before line parts.0 parts.1 ∙ ap (λ word. word ++ 32 ∷ parts.0) parts.2))
     | false ↦ λ is. refl
   ] refl
@@ -171,23 +171,27 @@ module _ (name : List ℕ) where
 module _ (world : World) (name : List ℕ) (call : Call) (entries : List Entry) (same : world.entries ≡ entries) where
   -- by whom it is heard
   hears_by : (found : Option ℕ) → position (λ entry. bytes_eq entry.name name) entries ≡ found →
-      hears world (record { name = name; call = call }) ≡ heard_call (record { name = name; call = call }) found
-  hears_by found finds = ap (heard_call (record { name = name; call = call })) (ap (λ es. component_of es name) same ∙ finds)
+      hears world (record { name = name; call = call }) ≡ heard_call entries (record { name = name; call = call }) found
+  hears_by found finds =
+      ap (λ es. heard_call es (record { name = name; call = call }) (component_of es name)) same
+      ∙ ap (heard_call entries (record { name = name; call = call })) finds
 
-  module _ (none : position (λ entry. bytes_eq entry.name name) entries ≡ None) where
-    -- of a name that the entries don't have it is refused
+  module _ (found : Option ℕ) (finds : position (λ entry. bytes_eq entry.name name) entries ≡ found)
+      (nobody : heard_call entries (record { name = name; call = call }) found ≡ Stranger name) where
+    -- where the name calls nobody it is refused
     pub answered_stranger : (answer : Answer) → IsRefusal name UnknownComponent answer → IsAnswer world (hears world (record { name = name; call = call })) answer
     answered_stranger answer is =
-        subst (λ w. IsAnswer world w answer) (sym (hears_by None none)) (record { name = is.named; reply = is.reply; lines = is.lines })
+        subst (λ w. IsAnswer world w answer) (sym (hears_by found finds ∙ nobody)) (record { name = is.named; reply = is.reply; lines = is.lines })
 
     -- and changes nothing
     pub left_by_stranger : world ≡ world_after_heard world (hears world (record { name = name; call = call }))
-    left_by_stranger = ap (world_after_heard world) (sym (hears_by None none))
+    left_by_stranger = ap (world_after_heard world) (sym (hears_by found finds ∙ nobody))
 
-  module _ (component : ℕ) (found : position (λ entry. bytes_eq entry.name name) entries ≡ Some component) where
+  module _ (component : ℕ) (found : position (λ entry. bytes_eq entry.name name) entries ≡ Some component)
+      (called : heard_call entries (record { name = name; call = call }) (Some component) ≡ Caller (record { component = component; call = call })) where
     -- a call changes the state of the component of its name
     pub left_by_call : with_state world component (outcome_at world component call).next ≡ world_after_heard world (hears world (record { name = name; call = call }))
-    left_by_call = ap (world_after_heard world) (sym (hears_by (Some component) found))
+    left_by_call = ap (world_after_heard world) (sym (hears_by (Some component) found ∙ called))
 
     -- and is answered with its reply, and the lines that it finishes
     pub answered_call : (answer : Answer) → answer.name.now ≡ (entry_at entries component).name
@@ -196,7 +200,7 @@ module _ (world : World) (name : List ℕ) (call : Call) (entries : List Entry) 
         → IsAnswer world (hears world (record { name = name; call = call })) answer
     answered_call answer names replies finishes =
         let e : entry_at entries component ≡ entry_at world.entries component = ap (λ es. entry_at es component) (sym same) in
-        subst (λ w. IsAnswer world w answer) (sym (hears_by (Some component) found))
+        subst (λ w. IsAnswer world w answer) (sym (hears_by (Some component) found ∙ called))
         (record { name = names ∙ ap (λ entry. entry.name) e; reply = replies; lines = finishes })
 
 -- what keeps a line from being said under a name

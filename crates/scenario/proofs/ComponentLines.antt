@@ -9,17 +9,16 @@ use Rattle.own_model.specs.Account.{Account}
 use Rattle.own_model.specs.AccountList.{account_line, component_lines, is_told, reserve_line}
 use Rattle.own_model.specs.Amounts.{Amounts}
 use Rattle.own_model.specs.Listed.{Listed, ListedEntry}
-use Rattle.own_model.specs.OwnState.{OwnState}
 use Rattle.scenario.specs.Accounts.{listed_at, unlisted}
 
--- the entry at a place of a list has the name that is told of it, and is given a reserve where that is told
+-- the entry at a place of a list has the path that is told of it, and is given a reserve where that is told
 module _ (list : Listed) (place : ℕ) (within : place < length list.entries) where
   found : slice_get list.entries place ≡ Some (listed_at list place)
   found = slice_get-get_or list.entries place unlisted within
 
-  pub listed_name : {name : List ℕ} → option_map (λ (e : ListedEntry). e.name) (slice_get list.entries place) ≡ Some name → name ≡ (listed_at list place).name
+  pub listed_name : {name : List ℕ} → option_map (λ (e : ListedEntry). e.path) (slice_get list.entries place) ≡ Some name → name ≡ (listed_at list place).path
   listed_name {name} told =
-      let same : Some name ≡ Some (listed_at list place).name = sym told ∙ ap (option_map (λ (e : ListedEntry). e.name)) found in
+      let same : Some name ≡ Some (listed_at list place).path = sym told ∙ ap (option_map (λ (e : ListedEntry). e.path)) found in
       cc
 
   pub listed_gives : {given : Bool} → option_map (λ (e : ListedEntry). is_some e.reserve) (slice_get list.entries place) ≡ Some given → given ≡ is_some (listed_at list place).reserve
@@ -42,27 +41,27 @@ told_if_any given ram caps some = grind (arith, nat_tests)
 untold_if_none : (given : Bool) (ram caps : ℕ) → given ≡ false × ram ≤ 0 × caps ≤ 0 → (given || nat_lt 0 ram || nat_lt 0 caps) ≡ false
 untold_if_none given ram caps none = grind (arith, nat_tests)
 
-module _ (entry : ListedEntry) (s : OwnState) where
+module _ (entry : ListedEntry) (own : Account) (kept : Amounts) where
   -- first the account's line
-  pub account_first : {name : List ℕ} {account : Account} → name ≡ entry.name → account ≡ s.account →
-      component_lines entry s ≡ account_line name account ++ (if is_told entry.reserve s.reserve then reserve_line entry.name s.reserve else [])
-  account_first name_is account_is = λ j. account_line (sym name_is j) (sym account_is j) ++ (if is_told entry.reserve s.reserve then reserve_line entry.name s.reserve else [])
+  pub account_first : {name : List ℕ} {account : Account} → name ≡ entry.path → account ≡ own →
+      component_lines entry own kept ≡ account_line name account ++ (if is_told entry.reserve kept then reserve_line entry.path kept else [])
+  account_first name_is account_is = λ j. account_line (sym name_is j) (sym account_is j) ++ (if is_told entry.reserve kept then reserve_line entry.path kept else [])
 
-  told_is : {given : Bool} {reserve : Amounts} → given ≡ is_some entry.reserve → reserve ≡ s.reserve → is_told entry.reserve s.reserve ≡ (given || nat_lt 0 reserve.ram || nat_lt 0 reserve.caps)
+  told_is : {given : Bool} {reserve : Amounts} → given ≡ is_some entry.reserve → reserve ≡ kept → is_told entry.reserve kept ≡ (given || nat_lt 0 reserve.ram || nat_lt 0 reserve.caps)
   told_is given_is reserve_is = λ j. sym given_is j || nat_lt 0 (sym reserve_is j).ram || nat_lt 0 (sym reserve_is j).caps
 
   -- then the reserve's
-  pub reserve_then : {name : List ℕ} {account : Account} {given : Bool} (reserve : Amounts) → name ≡ entry.name → account ≡ s.account → given ≡ is_some entry.reserve → reserve ≡ s.reserve →
-      IsTold given reserve → component_lines entry s ≡ account_line name account ++ reserve_line name reserve
+  pub reserve_then : {name : List ℕ} {account : Account} {given : Bool} (reserve : Amounts) → name ≡ entry.path → account ≡ own → given ≡ is_some entry.reserve → reserve ≡ kept →
+      IsTold given reserve → component_lines entry own kept ≡ account_line name account ++ reserve_line name reserve
   reserve_then {name} {account} {given} reserve name_is account_is given_is reserve_is some =
       account_first name_is account_is
-      ∙ ap (λ b. account_line name account ++ (if b then reserve_line entry.name s.reserve else [])) (told_is given_is reserve_is ∙ told_if_any given reserve.ram reserve.caps some)
+      ∙ ap (λ b. account_line name account ++ (if b then reserve_line entry.path kept else [])) (told_is given_is reserve_is ∙ told_if_any given reserve.ram reserve.caps some)
       ∙ (λ j. account_line name account ++ reserve_line (sym name_is j) (sym reserve_is j))
 
   -- or nothing
-  pub reserve_untold : {name : List ℕ} {account : Account} {given : Bool} (reserve : Amounts) → name ≡ entry.name → account ≡ s.account → given ≡ is_some entry.reserve → reserve ≡ s.reserve →
-      IsUntold given reserve → component_lines entry s ≡ account_line name account
+  pub reserve_untold : {name : List ℕ} {account : Account} {given : Bool} (reserve : Amounts) → name ≡ entry.path → account ≡ own → given ≡ is_some entry.reserve → reserve ≡ kept →
+      IsUntold given reserve → component_lines entry own kept ≡ account_line name account
   reserve_untold {name} {account} {given} reserve name_is account_is given_is reserve_is none =
       account_first name_is account_is
-      ∙ ap (λ b. account_line name account ++ (if b then reserve_line entry.name s.reserve else [])) (told_is given_is reserve_is ∙ untold_if_none given reserve.ram reserve.caps none)
+      ∙ ap (λ b. account_line name account ++ (if b then reserve_line entry.path kept else [])) (told_is given_is reserve_is ∙ untold_if_none given reserve.ram reserve.caps none)
       ∙ append-nil (account_line name account)

@@ -10,5 +10,6 @@ pub mod PassedLines
 pub mod ReachLemmas
 pub mod Serving
 pub mod Ending
+pub mod CallerLemmas
 pub mod AnsweringLemmas
 pub mod TaskLemmas

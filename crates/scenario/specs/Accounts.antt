@@ -9,7 +9,19 @@ use Rattle.own_model.specs.OwnState.{OwnState}
 
 -- a place that no list has is a script without anything
 abbrev pub unlisted : ListedEntry
-unlisted = record { name = []; binary = Script; ram = 0; caps = 0; provides = false; route = None; reserve = None }
+unlisted = record {
+  name = [];
+  path = [];
+  label = [];
+  home = 0;
+  binary = Script;
+  ram = 0;
+  caps = 0;
+  provides = false;
+  route = None;
+  reserve = None;
+  inner_route = [];
+}
 
 -- the entry of a list at a place
 abbrev pub listed_at : Listed → ℕ → ListedEntry

@@ -35,7 +35,7 @@ IsUnsaid (Some name) line = is_under name (spoken line) ≡ false
 
 -- what a call under a name is to a world
 abbrev pub hears : World → Spoken → Heard
-hears world says = heard_call says (component_of world.entries says.name)
+hears world says = heard_call world.entries says (component_of world.entries says.name)
 
 -- a run between two lines: the world, what is still to come, and what was told
 pub record Point : Type 0 where

@@ -1,12 +1,12 @@
 //! The account list: use and limits of every account, and the sums of all limits.
 ghost use Rattle.std.specs.Prelude.{◌≡◌, ◌<◌, ◌++◌, false, true, length, codes, Err, IfErr, OnErr, OnOk, is_err};
-ghost use Rattle.std.specs.List.{flat_map, zip};
+ghost use Rattle.std.specs.List.{enumerate_from, flat_map};
 ghost use Rattle.std.specs.Io.KnownBytes.{Appends};
 ghost use Rattle.own_model.specs.AccountList.{account_line, account_list_text, component_lines, reserve_line, session_line, session_lines, total_line};
 ghost use Rattle.own_model.specs.Listed.{start_list_of};
 ghost use Rattle.own_model.specs.StartList.{entries_of};
 ghost use Rattle.own_model.specs.Transcript.{state_at};
-ghost use Rattle.own_model.specs.World.{all_ram, all_caps};
+ghost use Rattle.own_model.specs.World.{account_at, all_ram, all_caps, machine_init};
 ghost use Rattle.pd_core.specs.Answer.{quotas_account, reserve_amounts};
 ghost use Rattle.scenario.specs.Accounts.{listed_at, selected_line};
 ghost use Rattle.scenario.specs.Gathered.{TellsUnless};
@@ -86,7 +86,7 @@ fn put_list<R: Router + Drop, K: Sink>(
     put_total(core, list, gathered, sink)
 }
 
-// Gathers init's line.
+// Gathers the line of the machine's init.
 fn put_init<R: Router + Drop, K: Sink>(
     core: &Core<R>,
     gathered: &mut Gather,
@@ -94,7 +94,7 @@ fn put_init<R: Router + Drop, K: Sink>(
 ) -> Result<(), DeviceFault>
     requires { K.has_failed sink.old ≡ false }
     ensures told { TellsUnless result (K.contents sink.old) gathered.old (K.contents sink.new) gathered.new
-        (account_line (codes "init") core.now.init) }
+        (account_line (codes "init") (machine_init core.now)) }
     ensures failing { K.has_failed sink.new ≡ is_err result }
 {
     put_account(b"init", core.init_account(), gathered, sink)
@@ -110,7 +110,8 @@ fn put_components<R: Router + Drop, K: Sink>(
     requires listed { core.now.entries ≡ entries_of (start_list_of list.now) }
     requires writes { K.has_failed sink.old ≡ false }
     ensures told { TellsUnless result (K.contents sink.old) gathered.old (K.contents sink.new) gathered.new
-        (flat_map (λ p. component_lines p.0 p.1) (zip list.now.entries core.now.states)) }
+        (flat_map (λ e. component_lines e.1 (account_at core.now e.0) (state_at core.now.states e.0).reserve)
+        (enumerate_from 0 list.now.entries)) }
     ensures failing { K.has_failed sink.new ≡ is_err result }
 {
     for component in 0..core.count() {
@@ -131,7 +132,8 @@ fn put_component<R: Router + Drop, K: Sink>(
     requires component { component < length core.now.entries }
     requires writes { K.has_failed sink.old ≡ false }
     ensures told { TellsUnless result (K.contents sink.old) gathered.old (K.contents sink.new) gathered.new
-        (component_lines (listed_at list.now component) (state_at core.now.states component)) }
+        (component_lines (listed_at list.now component) (account_at core.now component)
+        (state_at core.now.states component).reserve) }
     ensures failing { K.has_failed sink.new ≡ is_err result }
 {
     let name = list.name(component);
@@ -154,7 +156,8 @@ fn put_sessions<R: Router + Drop, K: Sink>(
     requires listed { core.now.entries ≡ entries_of (start_list_of list.now) }
     requires writes { K.has_failed sink.old ≡ false }
     ensures told { TellsUnless result (K.contents sink.old) gathered.old (K.contents sink.new) gathered.new
-        (flat_map (λ p. session_lines p.0.name p.1) (zip list.now.entries core.now.states)) }
+        (flat_map (λ e. session_lines e.1.path (state_at core.now.states e.0))
+        (enumerate_from 0 list.now.entries)) }
     ensures failing { K.has_failed sink.new ≡ is_err result }
 {
     for component in 0..core.count() {
@@ -175,7 +178,7 @@ fn put_sessions_of<R: Router + Drop, K: Sink>(
     requires component { component < length core.now.entries }
     requires writes { K.has_failed sink.old ≡ false }
     ensures told { TellsUnless result (K.contents sink.old) gathered.old (K.contents sink.new) gathered.new
-        (session_lines (listed_at list.now component).name (state_at core.now.states component)) }
+        (session_lines (listed_at list.now component).path (state_at core.now.states component)) }
     ensures failing { K.has_failed sink.new ≡ is_err result }
 {
     for selector in 0..=core.last_selector(component) {
@@ -197,7 +200,7 @@ fn put_selected<R: Router + Drop, K: Sink>(
     requires component { component < length core.now.entries }
     requires writes { K.has_failed sink.old ≡ false }
     ensures told { TellsUnless result (K.contents sink.old) gathered.old (K.contents sink.new) gathered.new
-        (selected_line (listed_at list.now component).name (state_at core.now.states component) selector) }
+        (selected_line (listed_at list.now component).path (state_at core.now.states component) selector) }
     ensures failing { K.has_failed sink.new ≡ is_err result }
 {
     match core.session_account(component, selector) {

@@ -2,6 +2,7 @@
 ghost use Rattle.std.specs.Prelude.{◌≡◌, ◌+◌, ◌*◌, ◌^◌, ◌<◌, ◌≤◌, length};
 ghost use Rattle.own_model.specs.Limits.{ram_limits, caps_limits};
 ghost use Rattle.own_model.specs.Transcript.{state_at};
+ghost use Rattle.own_model.specs.StartList.{init_at};
 ghost use Rattle.own_model.specs.World.{all_ram, all_caps};
 ghost use Rattle.pd_core.specs.Answer.{quotas_account, reserve_amounts};
 
@@ -59,7 +60,8 @@ impl Sums {
     }
 }
 
-/// The limits of all accounts of at most 32 components, of their reserves, of their open sessions and of init.
+/// The limits of all accounts of at most 32 components, inits among them, of their reserves, of their open sessions and of the
+/// machine's init.
 pub fn sum_all<R: Router + Drop>(core: &Core<R>) -> Sums
     requires few { length core.now.entries ≤ 32 }
     ensures ram { result.ram ≡ all_ram core.now }
@@ -75,8 +77,10 @@ pub fn sum_all<R: Router + Drop>(core: &Core<R>) -> Sums
 // The limits of a component's account, of its reserve and of its open sessions.
 fn sum_of<R: Router + Drop>(core: &Core<R>, component: usize) -> Sums
     requires { component < length core.now.entries }
-    ensures ram { result.ram ≡ ram_limits (state_at core.now.states component) }
-    ensures caps { result.caps ≡ caps_limits (state_at core.now.states component) }
+    ensures ram { result.ram ≡ (init_at core.now.inits (component + 1)).ram_limit
+        + ram_limits (state_at core.now.states component) }
+    ensures caps { result.caps ≡ (init_at core.now.inits (component + 1)).caps_limit
+        + caps_limits (state_at core.now.states component) }
     ensures ram_fits { result.ram < 2 ^ 80 }
     ensures caps_fits { result.caps < 2 ^ 80 }
 {

@@ -104,7 +104,7 @@ impl<'a> Run<'a> {
         }
     }
 
-    // Carries out a call under a name.
+    // Carries out a call under a name. An init makes none: no component has its name.
     #[inline(always)]
     fn answer_call<'b, R: Router + Drop>(
         &self,
@@ -125,6 +125,9 @@ impl<'a> Run<'a> {
         let Some(component) = self.list.find(name) else {
             return refused(name, Refusal::UnknownComponent);
         };
+        if self.list.is_init(component) {
+            return refused(name, Refusal::UnknownComponent);
+        }
         core.step(component, call, reply);
         Answer {
             lines: reply.lines(),

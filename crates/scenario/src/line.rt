@@ -8,10 +8,10 @@ ghost use Rattle.own_model.specs.Call.Call.{AttachAt, Peek, Poke, Open, Upgrade,
 ghost use Rattle.pd_core.specs.Call.{model_call, IsWellFormed};
 
 use pd_core::Call;
-use text_read::{read_address, read_hex, split_first_word, split_name};
+use text_read::{read_address, read_hex, split_first_word, split_name, split_path};
 use trade_base::{Refusal, read_number};
 
-/// The component's name and the call of a line, or `Refusal::BadLine` where the line isn't a call. The line's length
+/// The component's path and the call of a line, or `Refusal::BadLine` where the line isn't a call. The line's length
 /// isn't looked at.
 pub fn read_line(line: &[u8]) -> Result<(&[u8], Call<'_>), Refusal>
     ensures value { IfOk result (λ said.
@@ -20,7 +20,7 @@ pub fn read_line(line: &[u8]) -> Result<(&[u8], Call<'_>), Refusal>
     ensures refused { IfErr result (λ refusal. refusal ≡ BadLine) }
     ensures none { OnErr result (spoken line.now ≡ None) }
 {
-    let Some((name, Some(text))) = split_name(line) else {
+    let Some((name, Some(text))) = split_path(line) else {
         return Err(Refusal::BadLine);
     };
     match read_call(text) {
@@ -427,12 +427,33 @@ mod tests {
         assert!(rt; is_bad(b"alice alloc 18446744073709551616"));
         assert!(rt; is_bad(b"alice alloc 99999999999999999999999999999999999999990"));
         assert!(rt; is_bad(b"abcdefghijklmnopqrstuvwxyz0123456 quota"));
-        assert!(rt; is_bad(b"al/ice quota"));
         assert!(rt; is_bad(b"alice capalloc 1"));
         assert!(rt; is_bad(b"alice new"));
         assert!(rt; is_bad(b"alice new -1"));
         assert!(rt; is_bad(b"alice snew"));
         assert!(rt; is_bad(b"alice snew 0x10"));
+    }
+
+    #[test]
+    fn names_are_paths(rt: HostRuntime) {
+        for line in [
+            b"a quota".as_slice(),
+            b"a/b quota",
+            b"a/b/c/d quota",
+            b"abcdefghijklmnopqrstuvwxyz012345/x quota",
+        ] {
+            assert!(rt; read_line(line).is_ok());
+        }
+        for line in [
+            b"a/b/c/d/e quota".as_slice(),
+            b"a/ quota",
+            b"/a quota",
+            b"a//b quota",
+            b"/ quota",
+            b"x/abcdefghijklmnopqrstuvwxyz0123456 quota",
+        ] {
+            assert!(rt; is_bad(line));
+        }
     }
 
     #[test]

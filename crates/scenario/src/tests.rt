@@ -10,6 +10,7 @@ mod faults;
 mod files;
 mod heap;
 mod hostile;
+mod inits;
 mod lists;
 mod reserves;
 mod rounds;

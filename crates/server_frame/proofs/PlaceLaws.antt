@@ -1,5 +1,5 @@
 -- A server's table has a place for each session that can be paid for.
-use Rattle.std.proofs.Common.{◌≡◌, ◌≢◌, ℕ, ◌*◌, ◌≤◌, Some, is_some, refl, sym, ap, subst, ◌∙◌, arith}
+use Rattle.std.proofs.Common.{◌≡◌, ◌≢◌, ℕ, Bool, ◌*◌, ◌≤◌, Some, is_some, refl, sym, ap, subst, ◌∙◌, arith}
 use Rattle.std.proofs.lemmas.Option.{none-some, same_Some}
 use Rattle.std.specs.Prelude.{None, unwrap_or}
 use Rattle.std.specs.Option.{option_map}
@@ -21,7 +21,7 @@ use Rattle.server_frame.specs.Frame.{IsServer, IsNoSession}
 use Rattle.server_frame.specs.Laws.{HasClients, TableHasPlace, OpensAnAccount}
 use Rattle.server_frame.specs.declared.server.Session.{Session}
 
-module _ {T : Type 0} (kept : T → Share → Type 0) (sessions : Slab (Session T)) (store : Store) (regions : Regions) (server : IsServer kept sessions store regions) (clients : HasClients sessions store) (room : HasRoom store) where
+module _ {T : Type 0} (kept : T → Share → Type 0) (heads : ℕ → Bool) (sessions : Slab (Session T)) (store : Store) (regions : Regions) (server : IsServer kept sessions store regions) (clients : HasClients heads sessions) (room : HasRoom heads store) where
   -- the accounts of the sessions
   abbrev keys : NatMap ℕ
   keys = map_of (λ (s : Session T). s.account.0) sessions
@@ -76,8 +76,8 @@ module _ {T : Type 0} (kept : T → Share → Type 0) (sessions : Slab (Session 
 
 -- so there is one for another client
 pub table_has_place : {T : Type 0} (kept : T → Share → Type 0) → TableHasPlace kept
-table_has_place {T} kept sessions store regions client ram caps places server clients room no_session fits least enough =
-    let paid = sessions_paid kept sessions store regions server clients room client no_session in
+table_has_place {T} kept heads sessions store regions client ram caps places server clients room no_session fits least enough =
+    let paid = sessions_paid kept heads sessions store regions server clients room client no_session in
     let all = total-taken (λ (a : Account). a.caps_limit) (accounts_in store) client in
     let own = measured_or (λ (a : Account). a.caps_limit) (get (accounts_in store) client) (opened 0 0) refl in
     let counted = len-map_of (λ (s : Session T). s.account.0) sessions in

@@ -1,6 +1,6 @@
 -- Laws for callers, as statements: that the table of a server has a place for each session that can be paid for, what an
 -- open does to the room for accounts, and what a client's writes to what its session lends leave.
-use Rattle.std.specs.Prelude.{◌≡◌, ◌≢◌, ℕ, ◌+◌, ◌*◌, ◌<◌, ◌≤◌, List, length, Option, Some}
+use Rattle.std.specs.Prelude.{◌≡◌, ℕ, ◌+◌, ◌*◌, ◌<◌, ◌≤◌, Bool, false, List, length, Option, Some}
 use Rattle.std.specs.FinMap.{get}
 use Rattle.slab.specs.Slab.{Slab, slab_len}
 use Rattle.slab.specs.Slab as slab
@@ -8,21 +8,21 @@ use Rattle.own_model.specs.Account.{Fits}
 use Rattle.own_model.specs.NatMap.{NatMap}
 use Rattle.own_model.specs.Session.{session_account}
 use Rattle.region_map.specs.Regions.{Regions}
-use Rattle.dataspace_core.specs.Store.{Store, part, bytes_of, space_at, part_with_bytes, account_in, root_in, ram_limits_in, caps_limits_in, PartBecomes}
+use Rattle.dataspace_core.specs.Store.{Store, part, bytes_of, space_at, part_with_bytes, account_in, ram_limits_in, caps_limits_in, PartBecomes}
 use Rattle.dataspace_core.specs.Room.{HasRoom, OpensBelow}
 use Rattle.dataspace_core.specs.Share.{Share}
 use Rattle.server_frame.specs.Frame.{Row, sessions_of, AtSession, IsServer, IsNoSession, OpensSession}
 use Rattle.server_frame.specs.declared.server.Session.{Session}
 
--- no client is the root
-abbrev pub HasClients : {T : Type 0} → Slab (Session T) → Store → Type 0
-HasClients {T} sessions store = (id : ℕ) (session : Session T) → slab.get sessions id ≡ Some session → session.client.0 ≢ root_in store
+-- no client is a head: an account under which components are opened has no sessions of its own
+abbrev pub HasClients : {T : Type 0} → (ℕ → Bool) → Slab (Session T) → Type 0
+HasClients {T} heads sessions = (id : ℕ) (session : Session T) → slab.get sessions id ≡ Some session → heads session.client.0 ≡ false
 
 -- a table with a place for each two capabilities of the machine has one more for a client that covers two
 abbrev pub TableHasPlace : {T : Type 0} → (T → Share → Type 0) → Type 0
 TableHasPlace {T} kept =
-    (sessions : Slab (Session T)) (store : Store) (regions : Regions) (client ram caps places : ℕ) →
-    IsServer kept sessions store regions → HasClients sessions store → HasRoom store → IsNoSession sessions client →
+    (heads : ℕ → Bool) (sessions : Slab (Session T)) (store : Store) (regions : Regions) (client ram caps places : ℕ) →
+    IsServer kept sessions store regions → HasClients heads sessions → HasRoom heads store → IsNoSession sessions client →
     Fits (account_in store client) ram caps → 2 ≤ caps → caps_limits_in store ≤ places * 2 + 1 → slab_len sessions < places
 
 -- an open of a session opens an account below its client's

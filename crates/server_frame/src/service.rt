@@ -15,8 +15,8 @@ use region_map::RegionMap;
 use sliced_heap::SlicedHeap;
 use trade_base::{AccountId, DsId};
 
-/// The most bytes of a session's label.
-pub const LONGEST_LABEL: usize = 100;
+/// The most bytes of a session's label: four names of 32 bytes and 64 bytes that its client gave, parted by arrows of four.
+pub const LONGEST_LABEL: usize = 208;
 
 /// A service: what a server keeps for each session, and what it answers to a session's requests.
 ///

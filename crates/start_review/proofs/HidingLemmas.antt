@@ -1,13 +1,12 @@
 -- Hidden rules never decide.
-use Rattle.std.proofs.Common.{rules, ◌≡◌, ℕ, ◌-◌, Bool, true, false, ◌&&◌, ◌||◌, List, ◌++◌, length, take, drop, Option, Some, None, refl, sym, ap, ◌∙◌, nat_eq, arith}
+use Rattle.std.proofs.Common.{◌≡◌, ℕ, ◌-◌, Bool, true, false, ◌&&◌, ◌||◌, List, ◌++◌, length, take, drop, Option, Some, None, refl, sym, ap, ◌∙◌, nat_eq, arith}
 use Rattle.std.specs.List.{starts_with, ends_with}
 use Rattle.std.specs.Str.{bytes_eq}
 use Rattle.std.proofs.lemmas.Bool.Decides.{Decides-eqb, nat_tests}
 use Rattle.std.proofs.lemmas.Slice.Eq.{bytes_eq-Decides, starts_is, ends_is}
 use Rattle.std.proofs.lemmas.List.{append_assoc}
 use Rattle.own_model.specs.Routes.{as_asked}
-use Rattle.own_model.specs.Listed.{ListedRule, asks_for}
-use Rattle.start_review.specs.Hiding.{has, covers, covers_prefix, covers_suffix, covers_labels, hides, HiddenNeverDecide}
+use Rattle.start_review.specs.Hiding.{has, covers, HiddenNeverDecide}
 
 -- a text that begins as one that begins so
 starts_on : (label front asked : List ℕ) → starts_with nat_eq label front ≡ true → starts_with nat_eq front asked ≡ true → starts_with nat_eq label asked ≡ true

@@ -1,2 +1,9 @@
+mod FaultLemmas
 mod HidingLemmas
 mod LeftLemmas
+mod NestLemmas
+mod PlaceLemmas
+mod RuleLemmas
+mod StartsLemmas
+mod UnreadLemmas
+mod ValueLemmas

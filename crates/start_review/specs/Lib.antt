@@ -3,4 +3,8 @@ pub mod Hiding
 pub mod Left
 pub mod Near
 pub mod Places
+pub mod RuleFaults
+pub mod Steps
 pub mod Wishes
+pub mod Unread
+pub mod Values

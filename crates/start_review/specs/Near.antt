@@ -1,7 +1,8 @@
 -- Which word may have been meant by a misspelt one.
-use Rattle.std.specs.Prelude.{ℕ, ◌*◌, ◌==◌, ◌&&◌, Bool, List, find, length, nat_eq, nat_lt, Option}
+use Rattle.std.specs.Prelude.{ℕ, ◌*◌, ◌==◌, ◌&&◌, Bool, List, [], ◌∷◌, find, if◌then◌else◌, length, nat_eq, nat_lt, Option}
 use Rattle.std.specs.Option.{option_or}
 use Rattle.std.specs.Str.{chars}
+use Rattle.own_model.specs.Listed.{ListedEntry}
 use Rattle.strsim.specs.Edits.{levenshtein_row}
 
 -- how many characters are added, left out or replaced between two words
@@ -15,3 +16,8 @@ is_away count written meant = (edits meant written == count) && nat_lt (2 * coun
 -- the first word that is one edit away, or else the first that is two away
 abbrev pub nearest : List (List ℕ) → List ℕ → Option (List ℕ)
 nearest words written = option_or (find (is_away 1 written) words) (find (is_away 2 written) words)
+
+-- the names of the entries of an init's list
+abbrev pub names_in : ℕ → List ListedEntry → List (List ℕ)
+names_in init [] = []
+names_in init (entry ∷ entries) = if entry.home == init then entry.name ∷ names_in init entries else names_in init entries

@@ -1,27 +1,46 @@
 -- Where a fault is told to be.
-use Rattle.std.specs.Prelude.{◌≡◌, ℕ, List, codes, Option, Some, None, Result, Ok, Err}
-use Rattle.std.specs.Option.{option_and_then, option_copied, option_map}
+use Rattle.std.specs.Prelude.{◌≡◌, ℕ, List, [], codes, is_some, not, if◌then◌else◌, Option, Some, None, Result, Ok, Err}
+use Rattle.std.specs.List.{enumerate_from, find, slice_get}
+use Rattle.std.specs.Option.{option_and_then, option_copied, unwrap_or, IsSome}
+use Rattle.std.specs.Result.{result_ok}
+use Rattle.serde_json.specs.Data.{Data}
+use Rattle.serde_json.specs.Find.{get}
 use Rattle.init_core.specs.Boot.{quota_fault}
+use Rattle.init_core.specs.Members.{is_object, short_list}
 use Rattle.init_core.specs.Misread.{entry_at_fault}
-use Rattle.init_core.specs.StartText.{json_in, list_in}
+use Rattle.init_core.specs.Rules.{rule_of}
+use Rattle.init_core.specs.StartText.{list_in, list_of}
 use Rattle.init_core.specs.declared.fault.BootFault.{BootFault}
 use Rattle.init_core.specs.declared.fault.BootFault.TheVariants.{BadJson, BadConfig, DuplicateName, UnknownBinary, QuotaExceeded, NoMemory}
 use Rattle.init_core.specs.declared.fault.Field.{Field}
 use Rattle.init_core.specs.declared.fault.Field.TheVariants as field
 use Rattle.own_model.specs.Listed.{Listed}
+use Rattle.start_review.specs.Left.{first_lack}
+use Rattle.start_review.specs.RuleFaults.{rule_fault}
+use Rattle.start_review.specs.Steps.{rule_at}
+use Rattle.start_review.specs.Values.{Found, found_in}
 use Rattle.start_review.specs.declared.fault.Whereabouts.{Whereabouts}
 use Rattle.start_review.specs.declared.fault.Whereabouts.TheVariants as whereabouts
 use Rattle.start_review.specs.declared.flaw.Flaw.{Flaw}
+use Rattle.start_review.specs.declared.left.Lack.{Lack}
+use Rattle.start_review.specs.declared.part.Owner.{Owner}
+use Rattle.start_review.specs.declared.part.Owner.TheVariants as owner
 use Rattle.start_review.specs.declared.part.Part.{Part}
 use Rattle.start_review.specs.declared.part.Part.TheVariants as parts
+use Rattle.start_review.specs.declared.part.Step.{Step}
 
--- a member of the list or of its machine, or the entry at a place, or a member of it
-pub data Spot : Type 0 where
-  OfList : List ℕ → Spot
-  OfMachine : List ℕ → Spot
-  OfEntry : ℕ → Option (List ℕ) → Spot
+-- ---- where a fault of a value is
 
--- ---- where the engine's own fault is
+-- a part of a list, and the member of it, if it is one's
+pub record Spot : Type 0 where
+  pub part : Part
+  pub member : Option (List ℕ)
+
+abbrev pub member_in : Part → List ℕ → Spot
+member_in part member = record { part = part; member = Some member }
+
+abbrev pub whole : Part → Spot
+whole part = record { part = part; member = None }
 
 -- the member that has a bad value
 abbrev pub member_of : Field → List ℕ
@@ -38,47 +57,82 @@ member_of field.Provides = codes "provides"
 member_of field.Route = codes "route"
 member_of field.Reserve = codes "reserve"
 member_of field.ReserveCaps = codes "reserve-caps"
+member_of field.Config = codes "config"
+
+-- the first value of a list that is no rule, by its place, where it is a list of at most 32
+abbrev pub bad_rule : Option Data → Option (ℕ × Data)
+bad_rule d = option_and_then (λ rules. find (λ rule. not (is_some (rule_of rule.1))) (enumerate_from 0 rules)) (option_and_then short_list d)
+
+-- of a list of rules, which is a member of a part: that rule, or else the member
+abbrev pub rules_spot : Owner → List Step → Part → List ℕ → Option (ℕ × Data) → Spot
+rules_spot whose steps part member None = member_in part member
+rules_spot whose steps part member (Some rule) =
+    record { part = rule_at whose steps rule.0; member = unwrap_or (rule_fault rule.1) None }
 
 -- before the entries
-abbrev pub spot_before : Field → Spot
-spot_before field.Pages = OfMachine (codes "pages")
-spot_before field.Caps = OfMachine (codes "caps")
-spot_before other = OfList (member_of other)
+abbrev pub spot_before : Data → Field → Option Spot
+spot_before list field.Machine = Some (member_in parts.List (codes "machine"))
+spot_before list field.Pages = Some (member_in parts.Machine (codes "pages"))
+spot_before list field.Caps = Some (member_in parts.Machine (codes "caps"))
+spot_before list field.DefaultRoute =
+    Some (rules_spot owner.Default [] parts.List (codes "default-route") (bad_rule (get (codes "default-route") list)))
+spot_before list field.Start = Some (member_in parts.List (codes "start"))
+spot_before list other = None
 
--- of the entry at a place
-abbrev pub spot_in : ℕ → Field → Spot
-spot_in place field.Start = OfEntry place None
-spot_in place other = OfEntry place (Some (member_of other))
+-- of the default route of what an init starts
+abbrev pub inner_rules_spot : ℕ → List Step → Option Data → Spot
+inner_rules_spot number steps config =
+    rules_spot (owner.Inner number) steps (parts.Config number steps) (codes "default-route")
+    (bad_rule (option_and_then (get (codes "default-route")) config))
 
-abbrev pub spot_at : Option ℕ → Field → Spot
-spot_at None bad = spot_before bad
-spot_at (Some place) bad = spot_in place bad
+-- of an entry's own route
+abbrev pub own_rules_spot : ℕ → Found → Spot
+own_rules_spot number found =
+    rules_spot (owner.Entry number) found.steps (parts.Entry number found.steps) (codes "route")
+    (bad_rule (get (codes "route") found.value))
 
--- where a fault of a value is, of the entry at a place or before the entries
-abbrev pub spot_of : Option ℕ → BootFault → Option Spot
-spot_of entry (BadConfig bad) = Some (spot_at entry bad)
-spot_of entry (DuplicateName name) = Some (spot_at entry field.Name)
-spot_of entry (UnknownBinary name) = Some (spot_at entry field.Binary)
-spot_of entry BadJson = None
-spot_of entry (QuotaExceeded name) = None
-spot_of entry NoMemory = None
+-- an entry that is no object is a fault of `start`, and so is a list of what an init starts that is none
+abbrev pub start_spot : ℕ → Found → Spot
+start_spot number found =
+    if is_object found.value then member_in (parts.Config number found.steps) (codes "start")
+    else whole (parts.Entry number found.steps)
 
--- the entry whose fault is told of a text, if it is an entry's
-abbrev pub entry_at : List ℕ → Option ℕ
-entry_at text = option_and_then entry_at_fault (json_in text)
+-- of the entry of a number
+abbrev pub spot_in : ℕ → Field → Found → Option Spot
+spot_in number field.Size found = None
+spot_in number field.Machine found = None
+spot_in number field.Pages found = None
+spot_in number field.Start found = Some (start_spot number found)
+spot_in number field.DefaultRoute found = Some (inner_rules_spot number found.steps (get (codes "config") found.value))
+spot_in number field.Route found = Some (own_rules_spot number found)
+spot_in number other found = Some (member_in (parts.Entry number found.steps) (member_of other))
+
+-- of the engine's entry, or before the entries
+abbrev pub spot_at : Data → Option ℕ → Field → Option Spot
+spot_at list None bad = spot_before list bad
+spot_at list (Some number) bad = option_and_then (spot_in number bad) (slice_get (found_in list) number)
+
+-- the member that a fault of a value is of
+abbrev pub field_of : BootFault → Option Field
+field_of (BadConfig bad) = Some bad
+field_of (DuplicateName name) = Some field.Name
+field_of (UnknownBinary name) = Some field.Binary
+field_of BadJson = None
+field_of (QuotaExceeded path) = None
+field_of NoMemory = None
+
+-- where a fault of a value is
+abbrev pub spot_of : Data → BootFault → Option Spot
+spot_of list fault = option_and_then (spot_at list (entry_at_fault list)) (field_of fault)
+
+-- each has a place
+abbrev pub FaultsHavePlaces : Type 0
+FaultsHavePlaces = (list : Data) (fault : BootFault) → list_of list ≡ Err fault → IsSome (spot_of list fault)
 
 -- ---- where it is told to be
 
--- a fault of a rule is one of its list
-abbrev pub spot_told : Part → Option (List ℕ) → Option Spot
-spot_told parts.List member = option_map OfList member
-spot_told parts.Machine member = option_map OfMachine member
-spot_told (parts.Entry place name) member = Some (OfEntry place member)
-spot_told (parts.DefaultRule rule) member = Some (OfList (codes "default-route"))
-spot_told (parts.Rule place name rule) member = Some (OfEntry place (Some (codes "route")))
-
-abbrev pub spot_of_flaw : Flaw → Option Spot
-spot_of_flaw flaw = spot_told flaw.part (option_copied flaw.member)
+abbrev pub spot_of_flaw : Flaw → Spot
+spot_of_flaw flaw = record { part = flaw.part; member = option_copied flaw.member }
 
 -- ---- why a text is no start list, or doesn't boot
 
@@ -89,10 +143,14 @@ fault_in (Err fault) = Some fault
 abbrev pub fault_of : List ℕ → Option BootFault
 fault_of text = fault_in (list_in text)
 
--- a fault, of the entry at a place or before the entries, is told where it is
-abbrev pub IsPlaced : Option ℕ → BootFault → Whereabouts → Type 0
-IsPlaced entry fault (whereabouts.Text line column) = fault ≡ BadJson
-IsPlaced entry fault (whereabouts.List flaw) = spot_of_flaw flaw ≡ spot_of entry fault
-IsPlaced entry fault (whereabouts.Budget lack) = fault ≡ QuotaExceeded lack.name
-IsPlaced entry fault (whereabouts.Size size) = fault ≡ BadConfig field.Size
-IsPlaced entry fault whereabouts.Nowhere = Unit
+-- the first entry of a list that isn't covered, if it is read and there is one
+abbrev pub lack_in : Data → Option Lack
+lack_in list = option_and_then first_lack (result_ok (list_of list))
+
+-- a fault of what a text says, if it is JSON, is told where it is
+abbrev pub IsPlaced : Option Data → BootFault → Whereabouts → Type 0
+IsPlaced list fault (whereabouts.Text line column) = fault ≡ BadJson
+IsPlaced list fault (whereabouts.List flaw) = option_and_then (λ d. spot_of d fault) list ≡ Some (spot_of_flaw flaw)
+IsPlaced list fault (whereabouts.Budget lack) = (fault ≡ QuotaExceeded lack.path) × (option_and_then lack_in list ≡ Some lack)
+IsPlaced list fault (whereabouts.Size size) = fault ≡ BadConfig field.Size
+IsPlaced list fault whereabouts.Nowhere = fault ≡ NoMemory

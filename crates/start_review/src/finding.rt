@@ -1,9 +1,13 @@
 //! What a start list says that its writer can hardly have meant.
+ghost use Rattle.std.specs.Prelude.{◌≡◌, IfOk};
+
 use crate::asked::Asked;
 use crate::part::Part;
 use crate::quoted::Quoted;
 use init_core::Name;
+use std::alloc::{AllocError, Global};
 use std::fmt;
+use std::marker::Model;
 
 /// Something that a start list says, and where.
 #[derive(Debug, Drop)]
@@ -20,11 +24,64 @@ impl fmt::Display for Finding {
     }
 }
 
+/// The name of a member, as it stands in a text.
+#[derive(Debug, Drop)]
+pub struct Written {
+    text: String,
+}
+
+impl Model for Written {
+    ghost use Rattle.std.specs.Prelude.{List, ℕ, string_bytes};
+
+    ghost Value = { List ℕ };
+
+    ghost view = { λ written. string_bytes written.text };
+}
+
+impl Written {
+    /// Of a text.
+    pub(crate) fn copy_of(alloc: Global, text: &str) -> Result<Written, AllocError>
+        ensures { IfOk result (λ written. written ≡ text.now) }
+    {
+        Ok(Written {
+            text: String::from_str(alloc, text)?,
+        })
+    }
+
+    /// The name.
+    pub fn as_str(&self) -> &str
+        ensures { result.now ≡ self.now }
+    {
+        self.text.as_str()
+    }
+}
+
+/// The name of a member that is read.
+#[derive(Debug, Drop)]
+pub struct Known(pub(crate) &'static str);
+
+impl Model for Known {
+    ghost use Rattle.std.specs.Prelude.{List, ℕ};
+
+    ghost Value = { List ℕ };
+
+    ghost view = { λ known. known.0.now };
+}
+
+impl Known {
+    /// The name.
+    pub fn as_str(&self) -> &'static str
+        ensures { result.now ≡ self.now }
+    {
+        self.0
+    }
+}
+
 /// What is to be told of a part of a start list.
 #[derive(Debug, Drop)]
 pub enum Remark {
     /// Nothing reads a member; the nearest that is read, if one is near.
-    Unread(String, Option<&'static str>),
+    Unread(Written, Option<Known>),
     /// No entry has the name of a rule's child; the nearest name, if one is near.
     NoChild(Name, Option<Name>),
     /// A rule's child, which doesn't provide a service that the rule is asked for.
@@ -51,8 +108,8 @@ impl fmt::Display for Remark {
     fn fmt<W: fmt::Write>(&self, f: &mut fmt::Formatter<W>) -> fmt::Result {
         match self {
             Remark::Unread(member, near) => {
-                show_unread(f, member)?;
-                show_near(f, *near)
+                show_unread(f, member.as_str())?;
+                show_near(f, known_text(near))
             }
             Remark::NoChild(child, near) => {
                 write!(f, "child: no entry has the name \"{child}\"")?;
@@ -96,9 +153,9 @@ impl fmt::Display for Remark {
 }
 
 // That nothing reads a member.
-fn show_unread<W: fmt::Write>(f: &mut fmt::Formatter<W>, member: &String) -> fmt::Result {
+fn show_unread<W: fmt::Write>(f: &mut fmt::Formatter<W>, member: &str) -> fmt::Result {
     let member = Quoted {
-        text: member.as_str(),
+        text: member,
         in_graph: false,
     };
     write!(f, "{member}: nothing reads this member")
@@ -109,6 +166,14 @@ fn show_near<W: fmt::Write>(f: &mut fmt::Formatter<W>, near: Option<&str>) -> fm
     match near {
         Some(near) => write!(f, "; did you mean \"{near}\"?"),
         None => Ok(()),
+    }
+}
+
+// A member's, if there is one.
+fn known_text(known: &Option<Known>) -> Option<&str> {
+    match known {
+        Some(known) => Some(known.as_str()),
+        None => None,
     }
 }
 

@@ -1,16 +1,16 @@
-//! What a start list says that its writer can hardly have meant, in the order of its parts: the rules of the default route, and
-//! each entry with its own route.
-ghost use Rattle.std.specs.Prelude.{◌≡◌, ◌++◌, IfOk, OnOk, None, Some};
-ghost use Rattle.std.specs.List.{slice_get};
-ghost use Rattle.std.specs.Option.{option_map};
+//! What a start list says that its writer can hardly have meant, in the order of its parts: the rules of the machine's default
+//! route, and each entry with its own route and the default route of what it starts.
+ghost use Rattle.std.specs.Prelude.{◌≡◌, ◌<◌, ◌++◌, IfOk, OnOk, None, Some};
 ghost use Rattle.init_core.specs.Members.{name_in};
 ghost use Rattle.init_core.specs.View.{model_target};
-ghost use Rattle.start_review.specs.Findings.{entry_findings, findings_of, has_name, hidden, low_caps, low_ram, misled, no_child, pages_findings, part_pages, part_reserve, rule_findings, rule_part, rules_findings, stray_findings, strays, strays_if_provided, told, unreached, use_findings};
+ghost use Rattle.start_review.specs.Findings.{entry_findings, findings_of, has_name, hidden, low_caps, low_ram, misled, no_child, pages_findings, part_pages, part_reserve, route_findings, rule_findings, rules_findings, stray_findings, strays, strays_if_provided, told, unreached, use_findings};
+ghost use Rattle.start_review.specs.Steps.{part_of};
+ghost use Rattle.start_review.specs.declared.part.About.TheVariants as about;
 
 use crate::finding::{Finding, Remark};
 use crate::hiding::{decides_some, hidden_by};
 use crate::near::near_name;
-use crate::part::Part;
+use crate::part::{About, Owner};
 use crate::wishes::{before, is_led_to, is_provided, leads_somewhere};
 use init_core::{Binary, Entry, Name, Rule, StartList, Target, target_child};
 use std::alloc::{AllocError, Global};
@@ -21,13 +21,6 @@ const SESSION_RAM: u64 = 4096;
 /// The fewest capabilities that pay for a session.
 const SESSION_CAPS: u32 = 2;
 
-/// Whose list a rule is of: the default route, or the route of the entry at a place.
-#[derive(Clone, Copy)]
-enum Owner {
-    Default,
-    Entry(usize),
-}
-
 /// Tells all findings of a list.
 pub(crate) fn tell_findings(
     found: &mut Vec<Finding>,
@@ -36,61 +29,108 @@ pub(crate) fn tell_findings(
 ) -> Result<(), AllocError>
     ensures { OnOk result (found.new.items ≡ found.old.items ++ findings_of list.now) }
 {
-    tell_rules(found, alloc, list, Owner::Default, list.default_route())?;
+    tell_rules(found, alloc, list, 0, Owner::Default, list.default_route())?;
     let entries = list.entries();
-    for (place, entry) in entries.iter().enumerate() {
-        tell_entry(found, alloc, list, place, entry)?;
+    let count = list.count();
+    prove!(count <= 32);
+    for (number, entry) in entries.iter().enumerate() {
+        tell_entry(found, alloc, list, number, entry)?;
     }
     Ok(())
 }
 
-// Tells those of an entry and its own route.
+// Tells those of an entry, of its own route, and of the default route of what it starts.
 fn tell_entry(
     found: &mut Vec<Finding>,
     alloc: Global,
     list: &StartList,
-    place: usize,
+    number: usize,
     entry: &Entry,
 ) -> Result<(), AllocError>
+    requires { number < 32 }
     ensures { OnOk result
-        (found.new.items ≡ found.old.items ++ entry_findings list.now (place, entry.now)) }
+        (found.new.items ≡ found.old.items ++ entry_findings list.now (number, entry.now)) }
 {
-    let part = Part::Entry(place, Some(entry.to_name()));
-    tell_pages(found, &part, entry)?;
-    tell_use(found, list, &part, place, entry)?;
+    tell_pages(found, alloc, list, number, entry)?;
+    tell_use(found, alloc, list, number, entry)?;
+    tell_route(found, alloc, list, number, entry)?;
+    tell_rules(
+        found,
+        alloc,
+        list,
+        number + 1,
+        Owner::Inner(number),
+        entry.inner_route(),
+    )
+}
+
+// Tells those of an entry's own route, if it has one.
+fn tell_route(
+    found: &mut Vec<Finding>,
+    alloc: Global,
+    list: &StartList,
+    number: usize,
+    entry: &Entry,
+) -> Result<(), AllocError>
+    ensures { OnOk result (found.new.items
+        ≡ found.old.items ++ route_findings list.now (number, entry.now) entry.now.route) }
+{
     match entry.route() {
-        Some(rules) => tell_rules(found, alloc, list, Owner::Entry(place), rules),
+        Some(rules) => tell_rules(
+            found,
+            alloc,
+            list,
+            entry.home(),
+            Owner::Entry(number),
+            rules,
+        ),
         None => Ok(()),
     }
 }
 
 // Tells whether an entry's RAM, or its reserve's, isn't whole pages.
-fn tell_pages(found: &mut Vec<Finding>, part: &Part, entry: &Entry) -> Result<(), AllocError>
-    ensures { OnOk result
-        (found.new.items ≡ found.old.items ++ pages_findings part.now entry.now) }
+fn tell_pages(
+    found: &mut Vec<Finding>,
+    alloc: Global,
+    list: &StartList,
+    number: usize,
+    entry: &Entry,
+) -> Result<(), AllocError>
+    ensures { OnOk result (found.new.items ≡ found.old.items
+        ++ pages_findings (part_of list.now.entries (about.Entry number)) entry.now) }
 {
-    tell(found, part, part_pages(entry))?;
-    tell(found, part, part_reserve(entry))
+    let about = About::Entry(number);
+    tell(found, alloc, list, about, part_pages(entry))?;
+    tell(found, alloc, list, about, part_reserve(entry))
 }
 
 // Tells of a script's means, or whether a server is reached.
 fn tell_use(
     found: &mut Vec<Finding>,
+    alloc: Global,
     list: &StartList,
-    part: &Part,
-    place: usize,
+    number: usize,
     entry: &Entry,
 ) -> Result<(), AllocError>
-    ensures { OnOk result (found.new.items
-        ≡ found.old.items ++ use_findings list.now part.now (place, entry.now) entry.now.binary) }
+    ensures { OnOk result (found.new.items ≡ found.old.items
+        ++ use_findings list.now (part_of list.now.entries (about.Entry number))
+        (number, entry.now) entry.now.binary) }
 {
+    let about = About::Entry(number);
     match entry.binary() {
         Binary::Script => {
-            tell(found, part, low_ram(list, place, entry))?;
-            tell(found, part, low_caps(list, place, entry))
+            tell(found, alloc, list, about, low_ram(list, entry))?;
+            tell(found, alloc, list, about, low_caps(list, entry))
         }
-        Binary::Log => tell(found, part, unreached(list, b"LOG", place)),
-        Binary::Files => tell(found, part, unreached(list, b"File_system", place)),
+        Binary::Log => tell(found, alloc, list, about, unreached(list, b"LOG", number)),
+        Binary::Files => tell(
+            found,
+            alloc,
+            list,
+            about,
+            unreached(list, b"File_system", number),
+        ),
+        Binary::Init => Ok(()),
     }
 }
 
@@ -118,11 +158,11 @@ fn part_reserve(entry: &Entry) -> Option<Remark>
 }
 
 // Whether a client that has a route to a server has too little RAM for a session, in its account and its reserve together.
-fn low_ram(list: &StartList, place: usize, entry: &Entry) -> Option<Remark>
-    ensures { result ≡ low_ram list.now (place, entry.now) }
+fn low_ram(list: &StartList, entry: &Entry) -> Option<Remark>
+    ensures { result ≡ low_ram list.now entry.now }
 {
     let kept = entry.reserve_at_start().ram.0;
-    if leads_somewhere(list, place) && entry.ram().saturating_add(kept) < SESSION_RAM {
+    if leads_somewhere(list, entry) && entry.ram().saturating_add(kept) < SESSION_RAM {
         Some(Remark::LowRam(entry.ram(), kept))
     } else {
         None
@@ -130,79 +170,64 @@ fn low_ram(list: &StartList, place: usize, entry: &Entry) -> Option<Remark>
 }
 
 // The same of capabilities.
-fn low_caps(list: &StartList, place: usize, entry: &Entry) -> Option<Remark>
-    ensures { result ≡ low_caps list.now (place, entry.now) }
+fn low_caps(list: &StartList, entry: &Entry) -> Option<Remark>
+    ensures { result ≡ low_caps list.now entry.now }
 {
     let kept = entry.reserve_at_start().caps.0;
-    if leads_somewhere(list, place) && entry.caps().saturating_add(kept) < SESSION_CAPS {
+    if leads_somewhere(list, entry) && entry.caps().saturating_add(kept) < SESSION_CAPS {
         Some(Remark::LowCaps(entry.caps(), kept))
     } else {
         None
     }
 }
 
-// Whether no script's route leads to the server of a service at a place.
-fn unreached(list: &StartList, service: &[u8], place: usize) -> Option<Remark>
-    ensures { result ≡ unreached list.now service.now place }
+// Whether no script's route leads to the server of a service.
+fn unreached(list: &StartList, service: &[u8], number: usize) -> Option<Remark>
+    ensures { result ≡ unreached list.now service.now number }
 {
-    if is_led_to(list, service, place) {
+    if is_led_to(list, service, number) {
         None
     } else {
         Some(Remark::Unreached)
     }
 }
 
-// Tells those of a list of rules.
+// Tells those of an owner's list of rules, which is one of an init's list.
 fn tell_rules(
     found: &mut Vec<Finding>,
     alloc: Global,
     list: &StartList,
+    init: usize,
     owner: Owner,
     rules: &[Rule],
 ) -> Result<(), AllocError>
     ensures { OnOk result
-        (found.new.items ≡ found.old.items ++ rules_findings list.now owner rules.now) }
+        (found.new.items ≡ found.old.items ++ rules_findings list.now init owner rules.now) }
 {
     for (place, rule) in rules.iter().enumerate() {
-        let part = rule_part(list, owner, place);
-        tell_rule(found, alloc, list, &part, before(rules, place), rule)?;
+        let about = About::Rule(owner, place);
+        tell_rule(found, alloc, list, init, about, before(rules, place), rule)?;
     }
     Ok(())
 }
 
-// The rule at a place of an owner's list.
-fn rule_part(list: &StartList, owner: Owner, place: usize) -> Part
-    ensures { result ≡ rule_part list.now owner place }
-{
-    match owner {
-        Owner::Default => Part::DefaultRule(place),
-        Owner::Entry(entry) => Part::Rule(entry, name_at(list, entry), place),
-    }
-}
-
-// The name of the entry at a place.
-fn name_at(list: &StartList, place: usize) -> Option<Name>
-    ensures { result ≡ option_map (λ entry. entry.name) (slice_get list.now.entries place) }
-{
-    Some(list.entries().get(place)?.to_name())
-}
-
-// Tells those of a rule, which is this part, after those before it.
+// Tells those of a rule after those before it.
 fn tell_rule(
     found: &mut Vec<Finding>,
     alloc: Global,
     list: &StartList,
-    part: &Part,
+    init: usize,
+    about: About,
     earlier: &[Rule],
     rule: &Rule,
 ) -> Result<(), AllocError>
-    ensures { OnOk result (found.new.items
-        ≡ found.old.items ++ rule_findings list.now.entries part.now earlier.now rule.now) }
+    ensures { OnOk result (found.new.items ≡ found.old.items ++ rule_findings list.now.entries init
+        (part_of list.now.entries about) earlier.now rule.now) }
 {
-    tell(found, part, hidden(earlier, rule))?;
-    match no_child(alloc, list, rule.target())? {
-        Some(remark) => tell(found, part, Some(remark)),
-        None => tell_strays(found, list, part, earlier, rule),
+    tell(found, alloc, list, about, hidden(earlier, rule))?;
+    match no_child(alloc, list, init, rule.target())? {
+        Some(remark) => tell(found, alloc, list, about, Some(remark)),
+        None => tell_strays(found, alloc, list, init, about, earlier, rule),
     }
 }
 
@@ -216,101 +241,124 @@ fn hidden(earlier: &[Rule], rule: &Rule) -> Option<Remark>
     }
 }
 
-// Whether no entry has the name of a target's child.
-fn no_child(alloc: Global, list: &StartList, target: &Target) -> Result<Option<Remark>, AllocError>
+// Whether no entry of an init's list has the name of a target's child.
+fn no_child(
+    alloc: Global,
+    list: &StartList,
+    init: usize,
+    target: &Target,
+) -> Result<Option<Remark>, AllocError>
     ensures { IfOk result
-        (λ remark. remark ≡ no_child list.now.entries (model_target target.now)) }
+        (λ remark. remark ≡ no_child list.now.entries init (model_target target.now)) }
 {
     match target {
-        Target::Child(name) => if has_name(list.entries(), name.as_bytes()) {
+        Target::Child(name) => if has_name(list.entries(), init, name.as_bytes()) {
             Ok(None)
         } else {
-            let near = near_name(alloc, list.entries(), name.as_str())?;
+            let near = near_name(alloc, list.entries(), init, name.as_str())?;
             Ok(Some(Remark::NoChild(name.copy(), near)))
         },
         Target::AnyChild | Target::Parent => Ok(None),
     }
 }
 
-// Whether some entry has a name.
-fn has_name(entries: &[Entry], name: &[u8]) -> bool
-    ensures { result ≡ has_name entries.now name.now }
+// Whether some entry of an init's list has a name.
+fn has_name(entries: &[Entry], init: usize, name: &[u8]) -> bool
+    ensures { result ≡ has_name entries.now init name.now }
 {
-    entries.iter().any(|entry| entry.name() == name)
+    entries
+        .iter()
+        .any(|entry| entry.home() == init && entry.name() == name)
 }
 
 // Tells for which services a rule leads to no child.
 fn tell_strays(
     found: &mut Vec<Finding>,
+    alloc: Global,
     list: &StartList,
-    part: &Part,
+    init: usize,
+    about: About,
     earlier: &[Rule],
     rule: &Rule,
 ) -> Result<(), AllocError>
-    ensures { OnOk result (found.new.items ≡ found.old.items
-        ++ stray_findings list.now.entries part.now earlier.now rule.now rule.now.service) }
+    ensures { OnOk result (found.new.items ≡ found.old.items ++ stray_findings list.now.entries init
+        (part_of list.now.entries about) earlier.now rule.now rule.now.service) }
 {
     match rule.service() {
-        Some(service) => tell(found, part, strays(list, earlier, rule, service)),
-        None => tell_all_strays(found, list, part, earlier, rule),
+        Some(service) => {
+            let remark = strays(list, init, earlier, rule, service);
+            tell(found, alloc, list, about, remark)
+        }
+        None => tell_all_strays(found, alloc, list, init, about, earlier, rule),
     }
 }
 
 // Tells for which of the services that there are a rule of any service leads to no child.
 fn tell_all_strays(
     found: &mut Vec<Finding>,
+    alloc: Global,
     list: &StartList,
-    part: &Part,
+    init: usize,
+    about: About,
     earlier: &[Rule],
     rule: &Rule,
 ) -> Result<(), AllocError>
-    ensures { OnOk result (found.new.items ≡ found.old.items
-        ++ stray_findings list.now.entries part.now earlier.now rule.now None) }
+    ensures { OnOk result (found.new.items ≡ found.old.items ++ stray_findings list.now.entries init
+        (part_of list.now.entries about) earlier.now rule.now None) }
 {
-    tell_stray(found, list, part, earlier, rule, "LOG")?;
-    tell_stray(found, list, part, earlier, rule, "File_system")
+    let logs = strays_if_provided(list, init, earlier, rule, "LOG");
+    tell(found, alloc, list, about, logs)?;
+    let files = strays_if_provided(list, init, earlier, rule, "File_system");
+    tell(found, alloc, list, about, files)
 }
 
-// Tells whether a rule of any service leads to no child for a service that some entry provides.
-fn tell_stray(
-    found: &mut Vec<Finding>,
+// Whether a rule of any service leads to no child for a service that some entry of its list provides.
+fn strays_if_provided(
     list: &StartList,
-    part: &Part,
+    init: usize,
     earlier: &[Rule],
     rule: &Rule,
     service: &str,
-) -> Result<(), AllocError>
+) -> Option<Remark>
     requires { name_in service.now ≡ Some service.now }
-    ensures { OnOk result (found.new.items ≡ found.old.items
-        ++ told part.now (strays_if_provided list.now.entries earlier.now rule.now service.now)) }
+    ensures { result
+        ≡ strays_if_provided list.now.entries init earlier.now rule.now service.now }
 {
     match Name::read(service) {
-        Some(name) if is_provided(list, service.as_bytes()) => {
-            tell(found, part, strays(list, earlier, rule, &name))
+        Some(name) if is_provided(list, init, service.as_bytes()) => {
+            strays(list, init, earlier, rule, &name)
         }
-        _ => Ok(()),
+        _ => None,
     }
 }
 
 // Whether a rule decides some wishes for a service, and leads them to no child.
-fn strays(list: &StartList, earlier: &[Rule], rule: &Rule, service: &Name) -> Option<Remark>
-    ensures { result ≡ strays list.now.entries earlier.now rule.now service.now }
+fn strays(
+    list: &StartList,
+    init: usize,
+    earlier: &[Rule],
+    rule: &Rule,
+    service: &Name,
+) -> Option<Remark>
+    ensures { result ≡ strays list.now.entries init earlier.now rule.now service.now }
 {
     let asked = service.as_bytes();
-    if decides_some(earlier, rule, asked) && target_child(list, rule.target(), asked).is_none() {
-        misled(list, rule.target(), service)
+    if decides_some(earlier, rule, asked)
+        && target_child(list, init, rule.target(), asked).is_none()
+    {
+        misled(list, init, rule.target(), service)
     } else {
         None
     }
 }
 
-// Why a target that leads to no child for a service doesn't, unless it is to lead out of this init.
-fn misled(list: &StartList, target: &Target, service: &Name) -> Option<Remark>
-    ensures { result ≡ misled list.now.entries (model_target target.now) service.now }
+// Why a target that leads to no child for a service doesn't, unless it is to lead out of the init.
+fn misled(list: &StartList, init: usize, target: &Target, service: &Name) -> Option<Remark>
+    ensures { result ≡ misled list.now.entries init (model_target target.now) service.now }
 {
     match target {
         Target::Child(child) => Some(Remark::NotProvided(child.copy(), service.copy())),
-        Target::AnyChild => if is_provided(list, service.as_bytes()) {
+        Target::AnyChild => if is_provided(list, init, service.as_bytes()) {
             Some(Remark::SeveralProviders(service.copy()))
         } else {
             Some(Remark::NoProvider(service.copy()))
@@ -320,14 +368,19 @@ fn misled(list: &StartList, target: &Target, service: &Name) -> Option<Remark>
 }
 
 // Tells something of a part, if there is something.
-fn tell(found: &mut Vec<Finding>, part: &Part, remark: Option<Remark>) -> Result<(), AllocError>
-    ensures { OnOk result (found.new.items ≡ found.old.items ++ told part.now remark) }
+fn tell(
+    found: &mut Vec<Finding>,
+    alloc: Global,
+    list: &StartList,
+    about: About,
+    remark: Option<Remark>,
+) -> Result<(), AllocError>
+    ensures { OnOk result
+        (found.new.items ≡ found.old.items ++ told (part_of list.now.entries about) remark) }
 {
     if let Some(remark) = remark {
-        found.push(Finding {
-            part: part.copy(),
-            remark,
-        })?;
+        let part = about.part(alloc, list)?;
+        found.push(Finding { part, remark })?;
     }
     Ok(())
 }

@@ -1,17 +1,20 @@
 //! Where in a start list a fault is, what is there, and what is expected.
-ghost use Rattle.std.specs.Prelude.{◌≡◌, IfErr, IfOk, IfSome, Some, codes};
-ghost use Rattle.std.specs.Option.{option_copied};
+ghost use Rattle.std.specs.Prelude.{◌≡◌, IfErr, IfOk, None, Some, codes};
+ghost use Rattle.std.specs.Option.{option_and_then, option_copied, option_map, unwrap_or};
+ghost use Rattle.serde_json.specs.Find.{get};
 ghost use Rattle.serde_json.specs.View.{view};
 ghost use Rattle.init_core.specs.Misread.{entry_at_fault};
 ghost use Rattle.init_core.specs.declared.fault.BootFault.TheVariants.{NoMemory};
-ghost use Rattle.start_review.specs.Places.{spot_before, spot_in, spot_of, spot_of_flaw};
-ghost use Rattle.start_review.specs.Places.Spot.{OfEntry, OfMachine};
+ghost use Rattle.start_review.specs.Places.{FaultsHavePlaces, bad_rule, field_of, inner_rules_spot, member_in, own_rules_spot, rules_spot, spot_at, spot_before, spot_in, spot_of, spot_of_flaw, start_spot, whole};
+ghost use Rattle.start_review.specs.RuleFaults.{rule_fault};
+ghost use Rattle.start_review.specs.Values.{seen};
 
-use crate::part::Part;
-use crate::unread::item;
-use init_core::{BootFault, Field, Name, entry_at_fault};
+use crate::bad_rule::{bad_rule, rule_flaw};
+use crate::part::{Owner, Part, Steps, rule_at};
+use crate::values::{Found, find_entries, member, runs};
+use init_core::{BootFault, Field, entry_at_fault};
 use serde_json::Value;
-use std::alloc::Global;
+use std::alloc::{AllocError, Global};
 use std::fmt;
 
 /// What a value is.
@@ -73,6 +76,10 @@ pub enum Expected {
     Rules,
     /// A list of entries.
     Entries,
+    /// A list of an init's entries.
+    InnerEntries,
+    /// No init so deep.
+    NoInit,
     /// A name.
     Name,
     /// A name that no earlier entry has.
@@ -104,9 +111,11 @@ impl fmt::Display for Expected {
             Expected::MachineSize => "a whole number from 16 to 4096",
             Expected::Rules => "a list of at most 32 rules",
             Expected::Entries => "a list of at most 32 entries",
+            Expected::InnerEntries => "a list of entries, at most 32 with those of all other lists",
+            Expected::NoInit => "none, since inits nest at most 3 deep",
             Expected::Name => "a name as text: 1 to 32 letters, digits, `_`, `-` and `.`",
             Expected::NewName => "a name that no earlier entry has",
-            Expected::Binary => "`script`, `log` or `files`",
+            Expected::Binary => "`script`, `log`, `files` or `init`",
             Expected::Amount => "an amount as text",
             Expected::Caps => "a whole number from 0 to 4294967295",
             Expected::NoReserve => "none, since only a script has a reserve",
@@ -152,154 +161,243 @@ impl Flaw {
         value: &Value,
         fault: &BootFault,
     ) -> Result<Option<Flaw>, BootFault>
-        ensures spot { IfOk result (λ told. IfSome told (λ flaw.
-            spot_of_flaw flaw ≡ spot_of (entry_at_fault (view value.now)) fault.now)) }
+        ensures spot { IfOk result
+            (λ flaw. option_map spot_of_flaw flaw ≡ spot_of (view value.now) fault.now) }
         ensures memory { IfErr result (λ want. want ≡ NoMemory) }
     {
-        let entry = entry_at_fault(alloc, value)?;
-        Ok(match (fault, entry) {
-            (BootFault::BadConfig(field), None) => flaw_of_list(value, *field),
-            (BootFault::BadConfig(field), Some(place)) => flaw_of_entry(value, *field, place),
-            (BootFault::DuplicateName(_), Some(place)) => {
-                in_entry(value, place, "name", Expected::NewName)
-            }
-            (BootFault::UnknownBinary(_), Some(place)) => {
-                in_entry(value, place, "binary", Expected::Binary)
-            }
-            _ => None,
-        })
+        let number = entry_at_fault(alloc, value)?;
+        let Some(field) = field_of(fault) else {
+            return Ok(None);
+        };
+        match number {
+            None => Ok(flaw_of_list(alloc, value, field)?),
+            Some(number) => Ok(flaw_of_entry(alloc, value, number, field, is_taken(fault))?),
+        }
+    }
+}
+
+/// Each fault that the engine tells of a value has a place.
+#[tactic(auto, using(crate::proofs::PlaceLemmas::faults_have_places))]
+pub fn faults_have_places()
+    ensures { FaultsHavePlaces }
+{}
+
+// The member that a fault of a value is of.
+fn field_of(fault: &BootFault) -> Option<Field>
+    ensures { result ≡ field_of fault.now }
+{
+    match fault {
+        BootFault::BadConfig(field) => Some(*field),
+        BootFault::DuplicateName(_) => Some(Field::Name),
+        BootFault::UnknownBinary(_) => Some(Field::Binary),
+        BootFault::BadJson | BootFault::QuotaExceeded(_) | BootFault::NoMemory => None,
+    }
+}
+
+// Whether a fault is that an earlier entry has the name.
+fn is_taken(fault: &BootFault) -> bool {
+    match fault {
+        BootFault::DuplicateName(_) => true,
+        _ => false,
     }
 }
 
 // The flaw of a bad value before the entries.
-fn flaw_of_list(value: &Value, field: Field) -> Option<Flaw>
-    ensures { IfSome result (λ flaw. spot_of_flaw flaw ≡ Some (spot_before field)) }
+fn flaw_of_list(alloc: Global, value: &Value, field: Field) -> Result<Option<Flaw>, AllocError>
+    ensures { IfOk result
+        (λ flaw. option_map spot_of_flaw flaw ≡ spot_before (view value.now) field) }
 {
-    match field {
-        Field::Machine => Some(at(Part::List, value, "machine", Expected::Object)),
-        Field::Pages => in_machine(value, "pages"),
-        Field::Caps => in_machine(value, "caps"),
-        Field::DefaultRoute => match bad_rule(value.get("default-route")) {
-            Some((rule, bad)) => Some(flaw_of_rule(Part::DefaultRule(rule), bad)),
-            None => Some(at(Part::List, value, "default-route", Expected::Rules)),
-        },
-        Field::Start => Some(at(Part::List, value, "start", Expected::Entries)),
+    Ok(match field {
+        Field::Machine => Some(at(Part::List, Some(value), "machine", Expected::Object)),
+        Field::Pages => Some(in_machine(value, "pages")),
+        Field::Caps => Some(in_machine(value, "caps")),
+        Field::DefaultRoute => Some(in_rules(
+            alloc,
+            Owner::Default,
+            &Steps::none(alloc),
+            Part::List,
+            Some(value),
+            "default-route",
+        )?),
+        Field::Start => Some(at(Part::List, Some(value), "start", Expected::Entries)),
         _ => None,
-    }
+    })
 }
 
 // The flaw of the machine's member.
-fn in_machine(value: &Value, member: &'static str) -> Option<Flaw>
-    ensures { IfSome result (λ flaw. spot_of_flaw flaw ≡ Some (OfMachine member.now)) }
+fn in_machine(value: &Value, member: &'static str) -> Flaw
+    ensures { spot_of_flaw result ≡ member_in Part.Machine member.now }
 {
-    let machine = value.get("machine")?;
-    Some(at(Part::Machine, machine, member, Expected::MachineSize))
+    let machine = value.get("machine");
+    at(Part::Machine, machine, member, Expected::MachineSize)
 }
 
-// The flaw of a bad value of an entry.
-fn flaw_of_entry(value: &Value, field: Field, place: usize) -> Option<Flaw>
-    ensures { IfSome result (λ flaw. spot_of_flaw flaw ≡ Some (spot_in place field)) }
+// The flaw of a list of rules, which is a member of a part: of its first value that is no rule, or of the list itself.
+fn in_rules(
+    alloc: Global,
+    owner: Owner,
+    steps: &Steps,
+    part: Part,
+    object: Option<&Value>,
+    key: &'static str,
+) -> Result<Flaw, AllocError>
+    ensures { IfOk result (λ flaw. spot_of_flaw flaw
+        ≡ rules_spot owner steps.now part key.now
+        (bad_rule (option_and_then (get key.now) (option_map (λ value. view value.now) object.entry)))) }
 {
-    match field {
-        Field::Start => {
-            let found = item(value.get("start"), place);
-            Some(Flaw {
-                part: Part::Entry(place, None),
-                member: None,
-                sort: Sort::of(found),
-                expected: Expected::Object,
-            })
-        }
-        Field::Name => in_entry(value, place, "name", Expected::Name),
-        Field::Binary => in_entry(value, place, "binary", Expected::Binary),
-        Field::Quantum => in_entry(value, place, "quantum", Expected::Amount),
-        Field::Caps => in_entry(value, place, "caps", Expected::Caps),
-        Field::Provides => in_entry(value, place, "provides", Expected::Provides),
-        Field::Route => in_route(value, place),
-        Field::Reserve => in_reserve(value, place, "reserve", Expected::Amount),
-        Field::ReserveCaps => in_reserve(value, place, "reserve-caps", Expected::Caps),
-        _ => None,
+    match bad_rule(member(object, key)) {
+        Some((rule, bad)) => Ok(flaw_of_rule(rule_at(alloc, owner, steps, rule)?, bad)),
+        None => Ok(at(part, object, key, Expected::Rules)),
     }
 }
 
-// The flaw of an entry's own route, or of its first value that is no rule.
-fn in_route(value: &Value, place: usize) -> Option<Flaw>
-    ensures { IfSome result (λ flaw. spot_of_flaw flaw ≡ Some (OfEntry place (Some (codes "route")))) }
+// The flaw of a bad value of the entry of a number, which is its name where that is taken.
+fn flaw_of_entry(
+    alloc: Global,
+    value: &Value,
+    number: usize,
+    field: Field,
+    taken: bool,
+) -> Result<Option<Flaw>, AllocError>
+    ensures { IfOk result (λ flaw. option_map spot_of_flaw flaw
+        ≡ spot_at (view value.now) (Some number) field) }
 {
-    let found = item(value.get("start"), place)?;
-    match bad_rule(found.get("route")) {
-        Some((rule, bad)) => Some(flaw_of_rule(Part::Rule(place, name_of(found), rule), bad)),
-        None => in_entry(value, place, "route", Expected::Rules),
+    let entries = find_entries(alloc, value)?;
+    match entries.get(number) {
+        Some(found) => flaw_in(alloc, found, number, field, taken),
+        None => Ok(None),
     }
 }
 
-// The flaw of a member of the entry at a place.
-fn in_entry(value: &Value, place: usize, member: &'static str, expected: Expected) -> Option<Flaw>
-    ensures { IfSome result
-        (λ flaw. spot_of_flaw flaw ≡ Some (OfEntry place (Some member.now))) }
+// The same of an entry that was found.
+fn flaw_in(
+    alloc: Global,
+    found: &Found<'_>,
+    number: usize,
+    field: Field,
+    taken: bool,
+) -> Result<Option<Flaw>, AllocError>
+    ensures { IfOk result
+        (λ flaw. option_map spot_of_flaw flaw ≡ spot_in number field (seen found.now)) }
 {
-    let found = item(value.get("start"), place)?;
-    Some(at(Part::Entry(place, name_of(found)), found, member, expected))
+    let value = found.value;
+    let steps = found.steps.copy(alloc)?;
+    let (member, expected) = match field {
+        Field::Size | Field::Machine | Field::Pages => return Ok(None),
+        Field::Start => return Ok(Some(flaw_of_start(value, number, steps))),
+        Field::DefaultRoute => return Ok(Some(in_inner_route(alloc, value, number, &steps)?)),
+        Field::Route => return Ok(Some(in_route(alloc, value, number, &steps)?)),
+        Field::Name => (
+            "name",
+            if taken {
+                Expected::NewName
+            } else {
+                Expected::Name
+            },
+        ),
+        Field::Binary => ("binary", Expected::Binary),
+        Field::Quantum => ("quantum", Expected::Amount),
+        Field::Caps => ("caps", Expected::Caps),
+        Field::Provides => ("provides", Expected::Provides),
+        Field::Reserve => ("reserve", if_script(value, Expected::Amount)),
+        Field::ReserveCaps => ("reserve-caps", if_script(value, Expected::Caps)),
+        Field::Config => ("config", config_expected(value)),
+    };
+    Ok(Some(at(Part::Entry(number, steps), Some(value), member, expected)))
 }
 
-// The same of a member of its reserve, which has no value where the entry isn't a script's.
-fn in_reserve(value: &Value, place: usize, member: &'static str, expected: Expected) -> Option<Flaw>
-    ensures { IfSome result
-        (λ flaw. spot_of_flaw flaw ≡ Some (OfEntry place (Some member.now))) }
+// The flaw of an entry that is no object, or of what an init starts.
+fn flaw_of_start(value: &Value, number: usize, steps: Steps) -> Flaw
+    ensures { spot_of_flaw result
+        ≡ start_spot number (record { steps = steps; value = view value.now }) }
 {
-    if runs_script(item(value.get("start"), place)?) {
-        in_entry(value, place, member, expected)
+    if value.is_object() {
+        at(
+            Part::Config(number, steps),
+            value.get("config"),
+            "start",
+            Expected::InnerEntries,
+        )
     } else {
-        in_entry(value, place, member, Expected::NoReserve)
+        whole(Part::Entry(number, steps), value, Expected::Object)
     }
 }
 
-// Whether an entry is a script's: without the member it runs what has its name.
-fn runs_script(entry: &Value) -> bool {
-    match entry.get("binary").or(entry.get("name")) {
-        Some(binary) => binary.as_str() == Some("script"),
-        None => false,
+// The flaw of an entry's own route.
+fn in_route(alloc: Global, value: &Value, number: usize, steps: &Steps) -> Result<Flaw, AllocError>
+    ensures { IfOk result (λ flaw. spot_of_flaw flaw
+        ≡ own_rules_spot number (record { steps = steps.now; value = view value.now })) }
+{
+    let part = Part::Entry(number, steps.copy(alloc)?);
+    in_rules(
+        alloc,
+        Owner::Entry(number),
+        steps,
+        part,
+        Some(value),
+        "route",
+    )
+}
+
+// The flaw of the default route of what an init starts.
+fn in_inner_route(
+    alloc: Global,
+    value: &Value,
+    number: usize,
+    steps: &Steps,
+) -> Result<Flaw, AllocError>
+    ensures { IfOk result (λ flaw. spot_of_flaw flaw
+        ≡ inner_rules_spot number steps.now (get (codes "config") (view value.now))) }
+{
+    let part = Part::Config(number, steps.copy(alloc)?);
+    let config = value.get("config");
+    in_rules(
+        alloc,
+        Owner::Inner(number),
+        steps,
+        part,
+        config,
+        "default-route",
+    )
+}
+
+// What is expected of a member that only a script's entry has.
+fn if_script(entry: &Value, expected: Expected) -> Expected {
+    if runs(entry, "script") {
+        expected
+    } else {
+        Expected::NoReserve
     }
 }
 
-// The flaw of a member of an object.
-fn at(part: Part, object: &Value, member: &'static str, expected: Expected) -> Flaw
+// What is expected of an init's `config`: where it is an object, the init nests too deep.
+fn config_expected(entry: &Value) -> Expected {
+    match entry.get("config") {
+        Some(config) if config.is_object() => Expected::NoInit,
+        _ => Expected::Object,
+    }
+}
+
+// The flaw of a member of an object, which may be missing.
+fn at(part: Part, object: Option<&Value>, key: &'static str, expected: Expected) -> Flaw
     ensures part { result.part ≡ part }
-    ensures member { option_copied result.member ≡ Some member.now }
+    ensures member { option_copied result.member ≡ Some key.now }
 {
     Flaw {
         part,
-        member: Some(member),
-        sort: Sort::of(object.get(member)),
+        member: Some(key),
+        sort: Sort::of(member(object, key)),
         expected,
     }
 }
 
-// The name of an entry, where it has one.
-fn name_of(entry: &Value) -> Option<Name> {
-    Name::read(entry.get("name")?.as_str()?)
-}
-
-// The first value of a short list that is no rule, with its place.
-fn bad_rule(list: Option<&Value>) -> Option<(usize, &Value)> {
-    let rules = list?.as_array()?;
-    if rules.len() > 32 {
-        return None;
-    }
-    for (place, rule) in rules.as_slice().iter().enumerate() {
-        if rule_flaw(rule).is_some() {
-            return Some((place, rule));
-        }
-    }
-    None
-}
-
 // The flaw of a value that is no rule.
 fn flaw_of_rule(part: Part, rule: &Value) -> Flaw
-    ensures { result.part ≡ part }
+    ensures part { result.part ≡ part }
+    ensures member { option_copied result.member ≡ unwrap_or (rule_fault (view rule.now)) None }
 {
     match rule_flaw(rule) {
-        Some((Some(member), expected)) => at(part, rule, member, expected),
+        Some((Some(member), expected)) => at(part, Some(rule), member, expected),
         Some((None, expected)) => whole(part, rule, expected),
         None => whole(part, rule, Expected::Object),
     }
@@ -307,68 +405,13 @@ fn flaw_of_rule(part: Part, rule: &Value) -> Flaw
 
 // The flaw of a whole value.
 fn whole(part: Part, value: &Value, expected: Expected) -> Flaw
-    ensures { result.part ≡ part }
+    ensures part { result.part ≡ part }
+    ensures member { option_copied result.member ≡ None }
 {
     Flaw {
         part,
         member: None,
         sort: Sort::of(Some(value)),
         expected,
-    }
-}
-
-// The first member for which a value is no rule, or none for the whole, and what is expected; nothing where it is a rule.
-fn rule_flaw(rule: &Value) -> Option<(Option<&'static str>, Expected)> {
-    if !rule.is_object() {
-        return Some((None, Expected::Object));
-    }
-    service_flaw(rule)
-        .or(text_flaw(rule, "label"))
-        .or(text_flaw(rule, "label_prefix"))
-        .or(text_flaw(rule, "label_suffix"))
-        .or(target_flaw(rule))
-}
-
-// The same of the service.
-fn service_flaw(rule: &Value) -> Option<(Option<&'static str>, Expected)> {
-    match (rule.get("service"), rule.get("any-service")) {
-        (Some(service), None) => name_flaw(service, "service"),
-        (None, Some(any)) => true_flaw(any, "any-service"),
-        _ => Some((None, Expected::OneService)),
-    }
-}
-
-// The same of the target.
-fn target_flaw(rule: &Value) -> Option<(Option<&'static str>, Expected)> {
-    match (rule.get("child"), rule.get("any-child"), rule.get("parent")) {
-        (Some(child), None, None) => name_flaw(child, "child"),
-        (None, Some(any), None) => true_flaw(any, "any-child"),
-        (None, None, Some(parent)) => true_flaw(parent, "parent"),
-        _ => Some((None, Expected::OneTarget)),
-    }
-}
-
-// The same of a member that is to be a name.
-fn name_flaw(value: &Value, member: &'static str) -> Option<(Option<&'static str>, Expected)> {
-    match value.as_str() {
-        Some(text) if Name::read(text).is_some() => None,
-        _ => Some((Some(member), Expected::Name)),
-    }
-}
-
-// The same of a member that is to be `true`.
-fn true_flaw(value: &Value, member: &'static str) -> Option<(Option<&'static str>, Expected)> {
-    if value.as_bool() == Some(true) {
-        None
-    } else {
-        Some((Some(member), Expected::True))
-    }
-}
-
-// The same of a member that is to be a text where it is there.
-fn text_flaw(rule: &Value, member: &'static str) -> Option<(Option<&'static str>, Expected)> {
-    match rule.get(member) {
-        Some(value) if !value.is_string() => Some((Some(member), Expected::Text)),
-        _ => None,
     }
 }

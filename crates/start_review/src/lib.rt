@@ -3,12 +3,14 @@
 #![tactic(auto)]
 
 mod asked;
+mod bad_rule;
 mod fault;
 mod finding;
 mod findings;
 mod flaw;
 mod graph;
 mod hiding;
+mod leads;
 mod left;
 mod members;
 mod near;
@@ -19,14 +21,16 @@ mod review;
 mod tests;
 mod tree;
 mod unread;
+mod values;
 mod wishes;
 
+pub use bad_rule::faults_of_rules_are_the_engines;
 pub use fault::{Fault, Whereabouts};
-pub use finding::{Finding, Remark};
-pub use flaw::{Expected, Flaw, Sort};
+pub use finding::{Finding, Known, Remark, Written};
+pub use flaw::{Expected, Flaw, Sort, faults_have_places};
 pub use graph::Graph;
 pub use hiding::hidden_rules_never_decide;
 pub use left::Lack;
-pub use part::Part;
+pub use part::{Part, Step, Steps};
 pub use review::Review;
 pub use tree::Tree;

@@ -1,41 +1,42 @@
 //! Which word may have been meant by a misspelt one.
 ghost use Rattle.std.specs.Prelude.{◌≡◌, ◌≤◌, IfOk, find, map};
 ghost use Rattle.std.specs.Option.{option_copied};
-ghost use Rattle.start_review.specs.Near.{is_away, nearest};
+ghost use Rattle.start_review.specs.Near.{is_away, names_in, nearest};
 
 use init_core::{Entry, Name};
 use std::alloc::{AllocError, Global};
 use strsim::levenshtein;
 
-/// The entry's name that may be meant by one that no entry has, if one is near.
+/// The name of an entry of an init's list that may be meant by one that none has, if one is near.
 pub(crate) fn near_name(
     alloc: Global,
     entries: &[Entry],
+    init: usize,
     written: &str,
 ) -> Result<Option<Name>, AllocError>
-    ensures { IfOk result
-        (λ near. near ≡ nearest (map (λ entry. entry.name) entries.now) written.now) }
+    ensures { IfOk result (λ near. near ≡ nearest (names_in init entries.now) written.now) }
 {
-    match name_away(alloc, entries, 1, written)? {
+    match name_away(alloc, entries, init, 1, written)? {
         Some(name) => Ok(Some(name)),
-        None => name_away(alloc, entries, 2, written),
+        None => name_away(alloc, entries, init, 2, written),
     }
 }
 
-// The first entry's name that is so many edits away.
+// The first such name that is so many edits away.
 fn name_away(
     alloc: Global,
     entries: &[Entry],
+    init: usize,
     count: usize,
     written: &str,
 ) -> Result<Option<Name>, AllocError>
     requires { count ≤ 2 }
-    ensures { IfOk result (λ name. name
-        ≡ find (is_away count written.now) (map (λ entry. entry.name) entries.now)) }
+    ensures { IfOk result
+        (λ name. name ≡ find (is_away count written.now) (names_in init entries.now)) }
 {
     for entry in entries {
         let name = entry.to_name();
-        if is_away(alloc, count, written, name.as_str())? {
+        if entry.home() == init && is_away(alloc, count, written, name.as_str())? {
             return Ok(Some(name));
         }
     }

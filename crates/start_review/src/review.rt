@@ -1,12 +1,13 @@
 //! A start list with the value that it was read of.
-ghost use Rattle.std.specs.Prelude.{◌≡◌, ◌≢◌, IfErr, IfOk, None, Ok, Some};
+ghost use Rattle.std.specs.Prelude.{◌≡◌, ◌≢◌, ◌++◌, Err, IfErr, IfOk, None, Ok, Some};
+ghost use Rattle.std.specs.Option.{option_map};
 ghost use Rattle.serde_json.specs.View.{view};
 ghost use Rattle.init_core.specs.Boot.{quota_fault};
-ghost use Rattle.init_core.specs.StartText.{json_in, list_in};
+ghost use Rattle.init_core.specs.StartText.{json_in, list_in, list_of};
 ghost use Rattle.init_core.specs.declared.fault.BootFault.TheVariants.{BadJson, NoMemory};
-ghost use Rattle.init_core.specs.Misread.{entry_at_fault};
-ghost use Rattle.start_review.specs.Findings.{IsTold};
-ghost use Rattle.start_review.specs.Places.{IsPlaced, entry_at, fault_of};
+ghost use Rattle.start_review.specs.Findings.{findings_of};
+ghost use Rattle.start_review.specs.Places.{IsPlaced, fault_of};
+ghost use Rattle.start_review.specs.Unread.{unread_of};
 
 use crate::fault::{Fault, Whereabouts};
 use crate::finding::Finding;
@@ -39,8 +40,9 @@ impl Review {
         ensures fault { IfErr result
             (λ fault. fault.fault ≢ NoMemory → fault_of text.now ≡ Some fault.fault) }
         ensures place { IfErr result (λ fault. fault.fault ≢ NoMemory
-            → IsPlaced (entry_at text.now) fault.fault fault.place) }
-        ensures told { IfOk result (λ review. IsTold review.list review.findings.items) }
+            → IsPlaced (json_in text.now) fault.fault fault.place) }
+        ensures told { IfOk result (λ review. Some review.findings.items
+            ≡ option_map (λ value. unread_of value ++ findings_of review.list) (json_in text.now)) }
     {
         if text.len() > LONGEST_TEXT {
             return Err(Fault {
@@ -53,13 +55,13 @@ impl Review {
             Ok(list) => list,
             Err(fault) => return Err(placed(alloc, &value, fault)),
         };
-        if let Some(lack) = first_lack(&list) {
+        if let Some(lack) = first_lack(alloc, &list)? {
             return Err(Fault {
-                fault: BootFault::QuotaExceeded(lack.name.copy()),
+                fault: BootFault::QuotaExceeded(lack.path.copy()),
                 place: Whereabouts::Budget(lack),
             });
         }
-        let mut findings = unread(alloc, &list, &value)?;
+        let mut findings = unread(alloc, &value)?;
         tell_findings(&mut findings, alloc, &list)?;
         Ok(Review { list, findings })
     }
@@ -96,7 +98,7 @@ fn read_json(alloc: Global, text: &[u8]) -> Result<Value, Fault>
     ensures refused { IfErr result (λ fault. fault.fault ≢ NoMemory → fault.fault ≡ BadJson) }
     ensures none { IfErr result (λ fault. fault.fault ≢ NoMemory → json_in text.now ≡ None) }
     ensures place { IfErr result (λ fault. fault.fault ≢ NoMemory
-        → IsPlaced (entry_at text.now) fault.fault fault.place) }
+        → IsPlaced (json_in text.now) fault.fault fault.place) }
 {
     match Value::from_slice(alloc, text) {
         Ok(value) => Ok(value),
@@ -116,9 +118,10 @@ fn read_json(alloc: Global, text: &[u8]) -> Result<Value, Fault>
 
 // A fault of a value with its place.
 fn placed(alloc: Global, value: &Value, fault: BootFault) -> Fault
+    requires { fault ≢ NoMemory → list_of (view value.now) ≡ Err fault }
     ensures fault { result.fault ≢ NoMemory → result.fault ≡ fault }
     ensures place { result.fault ≢ NoMemory
-        → IsPlaced (entry_at_fault (view value.now)) result.fault result.place }
+        → IsPlaced (Some (view value.now)) result.fault result.place }
 {
     match Flaw::of(alloc, value, &fault) {
         Ok(Some(flaw)) => Fault {

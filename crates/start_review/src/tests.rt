@@ -1,5 +1,6 @@
 //! What is told of start lists.
 mod faults;
+mod inits;
 mod remarks;
 mod trees;
 

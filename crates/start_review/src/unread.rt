@@ -1,76 +1,104 @@
 //! The members of a start list's objects that nothing reads.
-ghost use Rattle.std.specs.Prelude.{IfOk, OnOk};
-ghost use Rattle.std.specs.List.{All};
-ghost use Rattle.start_review.specs.Findings.{IsUnread};
+ghost use Rattle.std.specs.Prelude.{◌≡◌, ◌++◌, [], IfOk, OnOk};
+ghost use Rattle.std.specs.Option.{option_and_then, option_map};
+ghost use Rattle.serde_json.specs.Find.{as_object};
+ghost use Rattle.serde_json.specs.View.{members_view, view};
+ghost use Rattle.start_review.specs.Findings.{told};
+ghost use Rattle.start_review.specs.Unread.{unread_in, unread_in_config, unread_in_entry, unread_in_rules, unread_of};
+ghost use Rattle.start_review.specs.Values.{seen};
 
 use crate::finding::{Finding, Remark};
-use crate::members::{Table, is_comment};
-use crate::near::near_word;
-use crate::part::Part;
-use init_core::{Entry, Rule, StartList};
-use serde_json::Value;
+use crate::members::Table;
+use crate::part::{Owner, Part, Steps, rule_at};
+use crate::values::{Found, elements, find_entries, member, runs};
+use serde_json::{Map, Value};
 use std::alloc::{AllocError, Global};
 
 /// The members that nothing reads of the value that a list was read of, in the order of its parts.
-pub(crate) fn unread(
-    alloc: Global,
-    list: &StartList,
-    value: &Value,
-) -> Result<Vec<Finding>, AllocError>
-    ensures { IfOk result (λ found. All IsUnread found.items) }
+pub(crate) fn unread(alloc: Global, list: &Value) -> Result<Vec<Finding>, AllocError>
+    ensures { IfOk result (λ found. found.items ≡ unread_of (view list.now)) }
 {
     let mut found = Vec::new(alloc);
-    tell_members(&mut found, alloc, Table::List, &Part::List, Some(value))?;
-    tell_members(
+    tell_members(&mut found, alloc, Table::List, &Part::List, Some(list))?;
+    let machine = list.get("machine");
+    tell_members(&mut found, alloc, Table::Machine, &Part::Machine, machine)?;
+    let rules = list.get("default-route");
+    tell_rules(
         &mut found,
         alloc,
-        Table::Machine,
-        &Part::Machine,
-        value.get("machine"),
+        Owner::Default,
+        &Steps::none(alloc),
+        rules,
     )?;
-    let values = value.get("default-route");
-    for place in 0..list.default_route().len() {
-        let part = Part::DefaultRule(place);
-        tell_members(&mut found, alloc, Table::Rule, &part, item(values, place))?;
-    }
-    for (place, entry) in list.entries().iter().enumerate() {
-        tell_entry(
-            &mut found,
-            alloc,
-            place,
-            entry,
-            item(value.get("start"), place),
-        )?;
+    let entries = find_entries(alloc, list)?;
+    for (number, entry) in entries.iter().enumerate() {
+        tell_entry(&mut found, alloc, number, entry)?;
     }
     Ok(found)
 }
 
-// Tells those of an entry and its own route.
+// Tells those of an entry, of its own route, and of what it starts if it is an init.
 fn tell_entry(
     found: &mut Vec<Finding>,
     alloc: Global,
-    place: usize,
-    entry: &Entry,
-    value: Option<&Value>,
+    number: usize,
+    entry: &Found<'_>,
 ) -> Result<(), AllocError>
-    ensures { OnOk result (All IsUnread found.old.items → All IsUnread found.new.items) }
+    ensures { OnOk result
+        (found.new.items ≡ found.old.items ++ unread_in_entry (number, seen entry.now)) }
 {
-    let part = Part::Entry(place, Some(entry.to_name()));
-    tell_members(found, alloc, Table::Entry, &part, value)?;
-    let values = member(value, "route");
-    for rule in 0..rule_count(entry) {
-        let part = Part::Rule(place, Some(entry.to_name()), rule);
-        tell_members(found, alloc, Table::Rule, &part, item(values, rule))?;
+    let is_init = runs(entry.value, "init");
+    let table = if is_init { Table::Init } else { Table::Entry };
+    let part = Part::Entry(number, entry.steps.copy(alloc)?);
+    tell_members(found, alloc, table, &part, Some(entry.value))?;
+    let rules = entry.value.get("route");
+    tell_rules(found, alloc, Owner::Entry(number), &entry.steps, rules)?;
+    if is_init {
+        tell_config(
+            found,
+            alloc,
+            number,
+            &entry.steps,
+            entry.value.get("config"),
+        )
+    } else {
+        Ok(())
     }
-    Ok(())
 }
 
-// How many rules an entry's own route has.
-fn rule_count(entry: &Entry) -> usize {
-    match entry.route() {
-        Some(rules) => rules.len(),
-        None => 0,
+// Tells those of what an init starts, but for its entries.
+fn tell_config(
+    found: &mut Vec<Finding>,
+    alloc: Global,
+    number: usize,
+    steps: &Steps,
+    config: Option<&Value>,
+) -> Result<(), AllocError>
+    ensures { OnOk result (found.new.items ≡ found.old.items
+        ++ unread_in_config number steps.now (option_map (λ value. view value.now) config.entry)) }
+{
+    let part = Part::Config(number, steps.copy(alloc)?);
+    tell_members(found, alloc, Table::Config, &part, config)?;
+    let rules = member(config, "default-route");
+    tell_rules(found, alloc, Owner::Inner(number), steps, rules)
+}
+
+// Tells those of an owner's rules, to whose entry these steps lead.
+fn tell_rules(
+    found: &mut Vec<Finding>,
+    alloc: Global,
+    owner: Owner,
+    steps: &Steps,
+    rules: Option<&Value>,
+) -> Result<(), AllocError>
+    ensures { OnOk result (found.new.items ≡ found.old.items
+        ++ unread_in_rules owner steps.now (option_map (λ value. view value.now) rules.entry)) }
+{
+    for (place, rule) in elements(rules).iter().enumerate() {
+        let part = rule_at(alloc, owner, steps, place)?;
+        tell_members(found, alloc, Table::Rule, &part, Some(rule))?;
     }
+    Ok(())
 }
 
 // Tells the members of an object that nothing reads.
@@ -81,33 +109,41 @@ fn tell_members(
     part: &Part,
     value: Option<&Value>,
 ) -> Result<(), AllocError>
-    ensures { OnOk result (All IsUnread found.old.items → All IsUnread found.new.items) }
+    ensures { OnOk result (found.new.items ≡ found.old.items
+        ++ unread_in table part.now (option_map (λ value. view value.now) value.entry)) }
 {
-    let Some(value) = value else {
-        return Ok(());
-    };
-    let Some(members) = value.as_object() else {
+    let Some(members) = object_of(value) else {
         return Ok(());
     };
     for key in members.keys() {
-        let member = key.as_str();
-        if !is_comment(member) && !table.reads(member) {
-            let near = near_word(alloc, table.members(), member)?;
-            found.push(Finding {
-                part: part.copy(),
-                remark: Remark::Unread(String::from_str(alloc, member)?, near),
-            })?;
-        }
+        let remark = table.unread(alloc, key.as_str())?;
+        tell(found, alloc, part, remark)?;
     }
     Ok(())
 }
 
-// A member of a value that may be missing.
-fn member<'v>(value: Option<&'v Value>, key: &str) -> Option<&'v Value> {
-    value?.get(key)
+// The object that a value is, if it is one.
+fn object_of(value: Option<&Value>) -> Option<&Map<String, Value>>
+    ensures { option_map (λ members. members_view members.now.entries) result
+        ≡ option_and_then as_object (option_map (λ value. view value.now) value.entry) }
+{
+    value?.as_object()
 }
 
-/// The element of a value at a place.
-pub(crate) fn item(value: Option<&Value>, place: usize) -> Option<&Value> {
-    value?.as_array()?.as_slice().get(place)
+// Tells something of a part, if there is something.
+fn tell(
+    found: &mut Vec<Finding>,
+    alloc: Global,
+    part: &Part,
+    remark: Option<Remark>,
+) -> Result<(), AllocError>
+    ensures { OnOk result (found.new.items ≡ found.old.items ++ told part.now remark) }
+{
+    if let Some(remark) = remark {
+        found.push(Finding {
+            part: part.copy(alloc)?,
+            remark,
+        })?;
+    }
+    Ok(())
 }

@@ -1,20 +1,26 @@
 //! Where the wishes of scripts lead.
 ghost use Rattle.std.specs.Prelude.{◌≡◌, take};
-ghost use Rattle.own_model.specs.Listed.{rules_for};
-ghost use Rattle.init_core.specs.View.{model_binary};
-ghost use Rattle.start_review.specs.Wishes.{is_led_to, is_provided, is_script, lead_somewhere, lead_to, leads_somewhere, led_to, reaches};
+ghost use Rattle.std.specs.Option.{option_copied};
+ghost use Rattle.own_model.specs.Listed.{init_entry, rules_for};
+ghost use Rattle.init_core.specs.View.{model_binary, model_target};
+ghost use Rattle.start_review.specs.Wishes.{is_led_to, is_parent, is_provided, is_script, is_sought, lead_inside, lead_outward, leads_outward, leads_somewhere, leads_to, leads_within, led_to, reaches};
 
 use crate::hiding::decides_some;
-use init_core::{Binary, Entry, Rule, StartList, target_child};
+use init_core::{Binary, Entry, Rule, StartList, Target, target_child};
 
 /// The services that there are.
 pub(crate) const SERVICES: [&str; 2] = ["LOG", "File_system"];
 
-/// Whether some entry provides a service.
-pub(crate) fn is_provided(list: &StartList, service: &[u8]) -> bool
-    ensures { result ≡ is_provided list.now.entries service.now }
+/// How many lists a wish leads through at most.
+pub(crate) const MOST_LISTS: usize = 4;
+
+/// Whether some entry of an init's list provides a service.
+pub(crate) fn is_provided(list: &StartList, init: usize, service: &[u8]) -> bool
+    ensures { result ≡ is_provided list.now.entries init service.now }
 {
-    list.entries().iter().any(|entry| entry.offers(service))
+    list.entries()
+        .iter()
+        .any(|entry| entry.offers(init, service))
 }
 
 /// The rules before a place.
@@ -24,59 +30,161 @@ pub(crate) fn before(rules: &[Rule], place: usize) -> &[Rule]
     &rules[..place.min(rules.len())]
 }
 
-/// The component that a rule leads to for a service, if it leads to one.
-pub(crate) fn provider<'a>(list: &'a StartList, rule: &Rule, service: &str) -> Option<&'a Entry> {
-    list.entries()
-        .get(target_child(list, rule.target(), service.as_bytes())?)
+/// The component of an init's list that a rule leads to for a service, if it leads to one.
+pub(crate) fn provider<'a>(
+    list: &'a StartList,
+    init: usize,
+    rule: &Rule,
+    service: &str,
+) -> Option<&'a Entry> {
+    list.entries().get(target_child(list, init, rule.target(), service.as_bytes())?)
 }
 
-// The child that a rule, at its place in a list, leads some wishes for a service to.
+// The child of an init's that a rule, at its place in a list, leads some wishes for a service to.
 fn led_to(
     list: &StartList,
+    init: usize,
     rules: &[Rule],
     service: &[u8],
     place: usize,
     rule: &Rule,
 ) -> Option<usize>
-    ensures { result ≡ led_to list.now.entries rules.now service.now (place, rule.now) }
+    ensures { result ≡ led_to list.now.entries init rules.now service.now (place, rule.now) }
 {
     if decides_some(before(rules, place), rule, service) {
-        target_child(list, rule.target(), service)
+        target_child(list, init, rule.target(), service)
     } else {
         None
     }
 }
 
-/// Whether some wish for a service that is led by these rules leads to the component at a place.
-pub(crate) fn lead_to(list: &StartList, rules: &[Rule], service: &[u8], child: usize) -> bool
-    ensures { result ≡ lead_to list.now.entries rules.now service.now child }
+// Whether a child is the one that is looked for, or there is one where any is.
+fn is_sought(sought: Option<usize>, led: Option<usize>) -> bool
+    ensures { result ≡ is_sought sought led }
+{
+    match (sought, led) {
+        (_, None) => false,
+        (None, Some(_)) => true,
+        (Some(child), Some(led)) => led == child,
+    }
+}
+
+// Whether these rules lead some wish for a service to a child that is looked for.
+fn lead_inside(
+    list: &StartList,
+    init: usize,
+    rules: &[Rule],
+    service: &[u8],
+    sought: Option<usize>,
+) -> bool
+    ensures { result ≡ lead_inside list.now.entries init rules.now service.now sought }
 {
     for (place, rule) in rules.iter().enumerate() {
-        if led_to(list, rules, service, place, rule) == Some(child) {
+        if is_sought(sought, led_to(list, init, rules, service, place, rule)) {
             return true;
         }
     }
     false
 }
 
-/// Whether a script's wish leads to the component at a place, which offers a service.
+/// Whether a target leads out of its init.
+pub(crate) fn is_parent(target: &Target) -> bool
+    ensures { result ≡ is_parent (model_target target.now) }
+{
+    match target {
+        Target::Child(_) | Target::AnyChild => false,
+        Target::Parent => true,
+    }
+}
+
+// Whether a rule, at its place in a list, leads some wishes for a service outward.
+fn leads_outward(rules: &[Rule], service: &[u8], place: usize, rule: &Rule) -> bool
+    ensures { result ≡ leads_outward rules.now service.now (place, rule.now) }
+{
+    decides_some(before(rules, place), rule, service) && is_parent(rule.target())
+}
+
+// Whether these rules lead some wish for a service outward.
+fn lead_outward(rules: &[Rule], service: &[u8]) -> bool
+    ensures { result ≡ lead_outward rules.now service.now }
+{
+    for (place, rule) in rules.iter().enumerate() {
+        if leads_outward(rules, service, place, rule) {
+            return true;
+        }
+    }
+    false
+}
+
+/// The entry of the init of a number; the machine's has none.
+pub(crate) fn init_entry(list: &StartList, init: usize) -> Option<&Entry>
+    ensures { option_copied result ≡ init_entry list.now init }
+{
+    if init == 0 {
+        None
+    } else {
+        list.entries().get(init - 1)
+    }
+}
+
+/// The rules for an entry: its own route, or else the default route of its list.
+pub(crate) fn rules_of<'a>(list: &'a StartList, entry: &'a Entry) -> &'a [Rule]
+    ensures { result.now ≡ rules_for list.now entry.now }
+{
+    match entry.route() {
+        Some(rules) => rules,
+        None => list.default_of(entry.home()),
+    }
+}
+
+// Whether some wish of an entry for a service leads to a child that is looked for, through so many lists at most: by its rules, or
+// by those of its init where these lead some outward, whatever the label is there.
+fn leads_within(
+    list: &StartList,
+    lists: usize,
+    service: &[u8],
+    sought: Option<usize>,
+    entry: &Entry,
+) -> bool
+    ensures { result ≡ leads_within lists list.now service.now sought entry.now }
+{
+    if lists == 0 {
+        return false;
+    }
+    let rules = rules_of(list, entry);
+    if lead_inside(list, entry.home(), rules, service, sought) {
+        return true;
+    }
+    if !lead_outward(rules, service) {
+        return false;
+    }
+    match init_entry(list, entry.home()) {
+        Some(init) => leads_within(list, lists - 1, service, sought, init),
+        None => false,
+    }
+}
+
+/// The same through all lists around it.
+fn leads_to(list: &StartList, service: &[u8], sought: Option<usize>, entry: &Entry) -> bool
+    ensures { result ≡ leads_to list.now service.now sought entry.now }
+{
+    leads_within(list, MOST_LISTS, service, sought, entry)
+}
+
+/// Whether a script's wish for a service leads to the component of a number.
 pub(crate) fn is_led_to(list: &StartList, service: &[u8], child: usize) -> bool
     ensures { result ≡ is_led_to list.now service.now child }
 {
-    let entries = list.entries();
-    for (client, entry) in entries.iter().enumerate() {
-        if reaches(list, service, child, client, entry) {
-            return true;
-        }
-    }
-    false
+    list.entries()
+        .iter()
+        .any(|entry| reaches(list, service, child, entry))
 }
 
-// Whether an entry at its place is a script's, and a wish of it leads to the component at a place.
-fn reaches(list: &StartList, service: &[u8], child: usize, client: usize, entry: &Entry) -> bool
-    ensures { result ≡ reaches list.now service.now child (client, entry.now) }
+// Whether an entry is a script's, and a wish of it leads to the component of a number.
+fn reaches(list: &StartList, service: &[u8], child: usize, entry: &Entry) -> bool
+    ensures { result ≡ reaches list.now service.now child entry.now }
 {
-    is_script(entry.binary()) && lead_to(list, rules_of(list, client), service, child)
+    is_script(entry.binary()) && leads_to(list, service, Some(child), entry)
 }
 
 /// Whether a binary is the scripts'.
@@ -85,37 +193,13 @@ pub(crate) fn is_script(binary: Binary) -> bool
 {
     match binary {
         Binary::Script => true,
-        Binary::Log | Binary::Files => false,
-    }
-}
-
-/// The rules for a client: none past the list.
-pub(crate) fn rules_of(list: &StartList, client: usize) -> &[Rule]
-    ensures { result.now ≡ rules_for list.now client }
-{
-    if client < list.count() {
-        list.rules_for(client)
-    } else {
-        &[]
+        Binary::Log | Binary::Files | Binary::Init => false,
     }
 }
 
 /// Whether some wish of a client leads to a server.
-pub(crate) fn leads_somewhere(list: &StartList, client: usize) -> bool
-    ensures { result ≡ leads_somewhere list.now client }
+pub(crate) fn leads_somewhere(list: &StartList, client: &Entry) -> bool
+    ensures { result ≡ leads_somewhere list.now client.now }
 {
-    let rules = rules_of(list, client);
-    lead_somewhere(list, rules, b"LOG") || lead_somewhere(list, rules, b"File_system")
-}
-
-// Whether some wish for a service that is led by these rules leads to a server.
-fn lead_somewhere(list: &StartList, rules: &[Rule], service: &[u8]) -> bool
-    ensures { result ≡ lead_somewhere list.now.entries rules.now service.now }
-{
-    for (place, rule) in rules.iter().enumerate() {
-        if led_to(list, rules, service, place, rule).is_some() {
-            return true;
-        }
-    }
-    false
+    leads_to(list, b"LOG", None, client) || leads_to(list, b"File_system", None, client)
 }

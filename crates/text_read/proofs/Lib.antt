@@ -5,3 +5,4 @@ pub mod HexLemmas
 pub mod PairLemmas
 pub mod KindLemmas
 pub mod NameLemmas
+pub mod PathLemmas

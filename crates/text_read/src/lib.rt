@@ -15,4 +15,7 @@ pub use byte_kinds::{is_key_byte, is_name_byte, is_quotable};
 pub use bytes::{find_byte, find_either};
 pub use hex_pairs::{decode_hex, decode_hex_from, encode_hex};
 pub use hex_text::read_hex;
-pub use words::{LONGEST_NAME, has_name_bytes, is_name, split_first_word, split_name};
+pub use words::{
+    LONGEST_NAME, MOST_NAMES, has_name_bytes, is_name, is_path, split_first_word, split_name,
+    split_path,
+};

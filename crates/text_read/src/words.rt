@@ -1,8 +1,8 @@
 //! Words, parted by single spaces, and names.
-ghost use Rattle.std.specs.Prelude.{◌≡◌, IfSome, is_some, position, not};
+ghost use Rattle.std.specs.Prelude.{◌≡◌, ◌==◌, IfSome, is_some, length, position, not};
 ghost use Rattle.std.specs.Option.{option_copied};
-ghost use Rattle.std.specs.List.{list_all};
-ghost use Rattle.own_model.specs.Text.{first_word, is_name_byte, is_name};
+ghost use Rattle.std.specs.List.{list_all, slice_split};
+ghost use Rattle.own_model.specs.Text.{first_word, is_name_byte, is_name, is_path};
 ghost use Rattle.text_read.specs.Names.{name_len};
 
 use crate::byte_kinds::is_name_byte;
@@ -10,6 +10,9 @@ use crate::bytes::find_byte;
 
 /// The most bytes of a name, of a component or of a file.
 pub const LONGEST_NAME: usize = 32;
+
+/// The most names of a path.
+pub const MOST_NAMES: usize = 4;
 
 /// A text up to its first space, and what stands after that space, if there is one.
 #[inline]
@@ -41,6 +44,56 @@ pub fn split_name(text: &[u8]) -> Option<(&[u8], Option<&[u8]>)>
         Some(b' ') => Some((&text[..end], Some(&text[end + 1..]))),
         Some(_) => None,
     }
+}
+
+/// The same where the first word is a path: 1 to 4 names, parted by `/`. A path of one name is read in one pass.
+#[inline]
+#[tactic(auto, using(crate::proofs::PathLemmas::paths))]
+pub fn split_path(text: &[u8]) -> Option<(&[u8], Option<&[u8]>)>
+    ensures word { IfSome result (λ parts. parts.0.now ≡ (first_word text.now).word) }
+    ensures rest { IfSome result (λ parts. option_copied parts.1 ≡ (first_word text.now).rest) }
+    ensures path { is_some result ≡ is_path (first_word text.now).word }
+{
+    match split_name(text) {
+        Some(parts) => Some(parts),
+        None => split_names(text),
+    }
+}
+
+/// The same of any path.
+#[inline(never)]
+fn split_names(text: &[u8]) -> Option<(&[u8], Option<&[u8]>)>
+    ensures word { IfSome result (λ parts. parts.0.now ≡ (first_word text.now).word) }
+    ensures rest { IfSome result (λ parts. option_copied parts.1 ≡ (first_word text.now).rest) }
+    ensures path { is_some result ≡ is_path (first_word text.now).word }
+{
+    let (word, rest) = split_first_word(text);
+    if is_path(word) {
+        Some((word, rest))
+    } else {
+        None
+    }
+}
+
+/// Whether a word is a path: 1 to 4 names, parted by `/`.
+pub fn is_path(word: &[u8]) -> bool
+    ensures { result ≡ is_path word.now }
+{
+    part_count(word) <= MOST_NAMES && are_names(word)
+}
+
+/// How many parts a word has between its `/`.
+fn part_count(word: &[u8]) -> usize
+    ensures { result ≡ length (slice_split (λ b. b == 47) word.now) }
+{
+    word.split(|byte| *byte == b'/').count()
+}
+
+/// Whether each of them is a name.
+fn are_names(word: &[u8]) -> bool
+    ensures { result ≡ list_all is_name (slice_split (λ b. b == 47) word.now) }
+{
+    word.split(|byte| *byte == b'/').all(|name| is_name(name))
 }
 
 /// How many bytes at the front may stand in a name. It stands alone, so that its loop has registers of its own.

@@ -1,2 +1,12 @@
 pub mod Devices
+pub mod Said
 pub mod Ending
+pub mod Played
+pub mod Plays
+pub mod Watching
+pub mod Writes
+pub mod Tracing
+pub mod Alone
+pub mod Peaks
+pub mod Kept
+pub mod PeakList

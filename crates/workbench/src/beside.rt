@@ -1,33 +1,51 @@
 //! What one component is told in the whole run, and in a run of its own lines alone.
-ghost use Rattle.std.specs.Prelude.{◌≡◌, false, is_err, OnOk};
+ghost use Rattle.std.specs.Prelude.{◌≡◌, ◌≢◌, ◌≤◌, ◌∷◌, ◌++◌, [], ℕ, List, codes, decimal, length, false, true, is_err, IfOk, IfErr, IfNone, OnErr, None, Some};
 ghost use Rattle.own_model.specs.Listed.{start_list_of};
 ghost use Rattle.own_model.specs.StartList.{entries_of};
+ghost use Rattle.init_core.specs.declared.fault.BootFault.TheVariants.{NoMemory};
+ghost use Rattle.scenario.specs.Answer.{answer_text};
+ghost use Rattle.scenario.specs.Gathered.{TellsUnless};
+ghost use Rattle.scenario.specs.Program.{boot_fault};
+ghost use Rattle.workbench.specs.Alone.{AreAlike, SeesAlone, alone_behind, alone_sum, alone_tells, alone_told};
+ghost use Rattle.workbench.specs.Played.{calls_answered, told_of_lines};
+ghost use Rattle.workbench.specs.Writes.{Closes, IsPlayed, IsPlayedFrom, IsWrittenBy};
 
 use crate::ending::{Ending, PlayFault};
 use crate::machine::Play;
 use crate::notes::Notes;
 use crate::playing::play as play_lines;
-use crate::text::put_number;
+use crate::text::{add, add_number, put_number, put_three};
 use crate::watch::{Heard, Watch};
+use arrayvec::ArrayVec;
 use init_core::{BootFault, StartList, boot};
 use pd_core::{Core, Reply, Router};
-use scenario::{Answer, DeviceFault, Gather, Run, Sink, Source};
+use scenario::{Answer, DeviceFault, Gather, MAX_LINES, Run, Sink, Source};
 use std::alloc::Global;
+
+/// Room for a number with the words behind it.
+const LONGEST_NUMBER: usize = 40;
 
 /// A second machine, on which the lines of one name alone are answered.
 #[derive(Drop)]
 pub(crate) struct SecondMachine<'a, Q: Router + Drop> {
-    run: Run<'a>,
+    list: &'a StartList,
+    name: &'a [u8],
     core: Core<Q>,
     reply: Reply,
     /// How many lines of the name there were.
     lines: u64,
     /// The first line of the scenario that was answered otherwise, if there is one.
     difference: Option<u64>,
-    ghost listed: { core.entries ≡ entries_of (start_list_of run.list.now) },
+    ghost listed: { core.entries ≡ entries_of (start_list_of list.now) },
 }
 
 impl<Q: Router + Drop> Watch for SecondMachine<'_, Q> {
+    ghost tells = { λ second. alone_tells second.name.now };
+
+    ghost holds = { λ second. second.name.now };
+
+    ghost sees = { λ second _. SeesAlone second.name.now second.core second.lines second.difference };
+
     fn tell<R: Router + Drop, K: Sink>(
         &mut self,
         _core: &Core<R>,
@@ -36,15 +54,37 @@ impl<Q: Router + Drop> Watch for SecondMachine<'_, Q> {
         gathered: &mut Gather,
         writer: &mut K,
     ) -> Result<(), PlayFault> {
-        let Some(alone) = self.run.answer(&mut self.core, heard.line, &mut self.reply) else {
+        let run = Run {
+            list: self.list,
+            only: Some(self.name),
+        };
+        let Some(alone) = run.answer(&mut self.core, heard.line, &mut self.reply) else {
             return Ok(());
         };
+        let alike = are_same(&alone, &heard.answer);
         self.lines = self.lines.saturating_add(1);
-        if alone != heard.answer && self.difference.is_none() {
-            self.difference = Some(heard.number);
-        }
+        self.difference = first_difference(self.difference, alike, heard.number);
         put_both(heard, &alone, gathered, writer)?;
         Ok(())
+    }
+}
+
+// Whether two answers are the same.
+fn are_same(one: &Answer<'_>, other: &Answer<'_>) -> bool
+    ensures { one.now.lines.now ≡ other.now.lines.now → one.now.name.now ≡ other.now.name.now →
+        one.now.reply.now ≡ other.now.reply.now → result ≡ true }
+{
+    one.lines == other.lines && one.name == other.name && one.reply == other.reply
+}
+
+// The first line that was answered otherwise, once one more was answered alike or not.
+fn first_difference(difference: Option<u64>, alike: bool, number: u64) -> Option<u64>
+    ensures { alike ≡ true → result ≡ difference }
+{
+    if alike || difference.is_some() {
+        difference
+    } else {
+        Some(number)
     }
 }
 
@@ -56,14 +96,33 @@ fn put_both<K: Sink>(
     writer: &mut K,
 ) -> Result<(), DeviceFault>
     requires { K.has_failed writer.old ≡ false }
+    ensures told { TellsUnless result (K.contents writer.old) gathered.old (K.contents writer.new) gathered.new
+        ((decimal heard.now.number ++ codes ": " ++ heard.now.line.now ++ 10 ∷ [])
+        ++ (codes "  whole: " ++ answer_text (Some heard.now.answer))
+        ++ (codes "  alone: " ++ answer_text (Some alone.now))) }
     ensures failing { K.has_failed writer.new ≡ is_err result }
 {
-    put_number(heard.number, gathered, writer)?;
-    gathered.put(writer, b": ")?;
-    gathered.put(writer, heard.line)?;
-    gathered.put(writer, b"\n")?;
+    put_heard(heard.number, heard.line, gathered, writer)?;
     put_side(b"  whole: ", &heard.answer, gathered, writer)?;
     put_side(b"  alone: ", alone, gathered, writer)
+}
+
+// Gathers a line behind its number.
+fn put_heard<K: Sink>(
+    number: u64,
+    line: &[u8],
+    gathered: &mut Gather,
+    writer: &mut K,
+) -> Result<(), DeviceFault>
+    requires { K.has_failed writer.old ≡ false }
+    ensures told { TellsUnless result (K.contents writer.old) gathered.old (K.contents writer.new) gathered.new
+        (decimal number ++ codes ": " ++ line.now ++ 10 ∷ []) }
+    ensures failing { K.has_failed writer.new ≡ is_err result }
+{
+    let mut front: ArrayVec<u8, LONGEST_NUMBER> = ArrayVec::new();
+    add_number(&mut front, number);
+    add(&mut front, b": ");
+    put_three(front.as_slice(), line, b"\n", gathered, writer)
 }
 
 // Gathers an answer behind the name of its side.
@@ -74,15 +133,20 @@ fn put_side<K: Sink>(
     writer: &mut K,
 ) -> Result<(), DeviceFault>
     requires { K.has_failed writer.old ≡ false }
+    ensures told { TellsUnless result (K.contents writer.old) gathered.old (K.contents writer.new) gathered.new
+        (side.now ++ answer_text (Some answer.now)) }
     ensures failing { K.has_failed writer.new ≡ is_err result }
 {
     gathered.put(writer, side)?;
     gathered.put_answer(writer, answer.lines, answer.name, answer.reply)
 }
 
-/// Plays a scenario, and writes each line of one name with what it is answered in the whole run and in a run of the name's lines
-/// alone; and last how many these are, and that they are the same. They always are: each component's answers are those of its
-/// own run. Complaints are written as they come.
+/// Plays a scenario on a machine, and the lines of one name alone on a second machine beside it. It writes of each of those
+/// lines its number, the line, and its answer in the whole run and the one alone; and last how many these are, and that they
+/// are the same. They always are: each component's answers are those of its own run. Complaints are written as they come.
+///
+/// At a fault a part of it is written, from the front. Where no machine is booted, no device is touched.
+#[tactic(auto, using(scenario::proofs::TaskLemmas::tasks))]
 pub fn alone<S: Source, K: Sink, E: Sink>(
     alloc: Global,
     play: Play<'_>,
@@ -90,7 +154,16 @@ pub fn alone<S: Source, K: Sink, E: Sink>(
     reader: &mut S,
     writer: &mut K,
     complaints: &mut E,
-) -> Result<Ending, BootFault> {
+) -> Result<Ending, BootFault>
+    ensures played { IfOk result (λ ending. IsPlayed play.entry.machine.now
+        (alone_told name.now) (alone_behind name.now) ending
+        (S.remaining reader.old) (K.contents writer.old) (K.contents writer.new)) }
+    ensures alike { AreAlike name.now }
+    ensures few { IfOk result (λ ending. ending.lines ≤ MAX_LINES) }
+    ensures unbooted { IfErr result (λ fault. fault ≢ NoMemory → boot_fault play.entry.machine.now ≡ Some fault) }
+    ensures untouched { OnErr result
+        ((reader.new ≡ reader.old) × (writer.new ≡ writer.old) × (complaints.new ≡ complaints.old)) }
+{
     let list = StartList::read(alloc, play.machine)?;
     let mut core = boot(alloc, &list)?;
     let mut notes = Notes::new(alloc, play.scenario)?;
@@ -98,34 +171,78 @@ pub fn alone<S: Source, K: Sink, E: Sink>(
         list: &list,
         only: None,
     };
+    let second = boot(alloc, &list)?;
+    let reply = Reply::boot(alloc)?;
+    Ok(play_beside(
+        &run, &mut core, second, reply, name, &mut notes, reader, writer, complaints,
+    ))
+}
+
+// The same on two machines that have booted.
+fn play_beside<R: Router + Drop, Q: Router + Drop, S: Source, K: Sink, E: Sink>(
+    run: &Run<'_>,
+    core: &mut Core<R>,
+    second: Core<Q>,
+    reply: Reply,
+    name: &[u8],
+    notes: &mut Notes<'_>,
+    reader: &mut S,
+    writer: &mut K,
+    complaints: &mut E,
+) -> Ending
+    requires listed { core.old.entries ≡ entries_of (start_list_of run.now.list.now) }
+    requires all { run.now.only ≡ None }
+    requires ahead { notes.old.buffers.ahead ≡ [] }
+    requires gathered { notes.old.buffers.gathered ≡ [] }
+    requires same { second ≡ core.old }
+    ensures played { IsPlayedFrom
+        (λ lines. told_of_lines (alone_tells name.now core.old) None [] 1 lines)
+        (λ lines. alone_sum name.now (length (calls_answered (Some name.now) lines)))
+        result (S.remaining reader.old) (K.contents writer.old) (K.contents writer.new) }
+    ensures few { result.lines ≤ MAX_LINES }
+{
     let mut watch = SecondMachine {
-        run: Run {
-            list: &list,
-            only: Some(name),
-        },
-        core: boot(alloc, &list)?,
-        reply: Reply::boot(alloc)?,
+        list: run.list,
+        name,
+        core: second,
+        reply,
         lines: 0,
         difference: None,
     };
-    let mut ending = play_lines(
-        &run, &mut core, &mut notes, &mut watch, reader, writer, complaints,
-    );
-    if ending.fault.is_none() {
-        if let Err(fault) = write_sum(name, watch.lines, watch.difference, writer) {
-            ending.fault = Some(fault);
-        }
+    let ending = play_lines(run, core, notes, &mut watch, reader, writer, complaints);
+    close_with_sum(ending, name, watch.lines, watch.difference, writer)
+}
+
+// Writes behind a play that came to its end how many lines there were, and whether the answers are the same.
+fn close_with_sum<K: Sink>(
+    ending: Ending,
+    name: &[u8],
+    lines: u64,
+    difference: Option<u64>,
+    writer: &mut K,
+) -> Ending
+    ensures { IfNone ending.fault (difference ≡ None) →
+        Closes ending result (K.contents writer.old) (K.contents writer.new) (alone_sum name.now lines) }
+{
+    if ending.fault.is_some() {
+        return ending;
     }
-    Ok(ending)
+    match write_sum(name, lines, difference, writer) {
+        Ok(()) => ending,
+        Err(fault) => ending.stopped_by(fault),
+    }
 }
 
 // Writes how many lines there were, and whether the answers are the same.
+#[tactic(auto, using(scenario::proofs::TaskLemmas::told_in_part))]
 fn write_sum<K: Sink>(
     name: &[u8],
     lines: u64,
     difference: Option<u64>,
     writer: &mut K,
-) -> Result<(), PlayFault> {
+) -> Result<(), PlayFault>
+    ensures { difference ≡ None → IsWrittenBy result (K.contents writer.old) (K.contents writer.new) (alone_sum name.now lines) }
+{
     if writer.failed() {
         return Err(PlayFault::WriteFault);
     }
@@ -144,15 +261,29 @@ fn put_sum<K: Sink>(
     writer: &mut K,
 ) -> Result<(), DeviceFault>
     requires { K.has_failed writer.old ≡ false }
+    ensures told { difference ≡ None → TellsUnless result (K.contents writer.old) gathered.old
+        (K.contents writer.new) gathered.new (alone_sum name.now lines) }
     ensures failing { K.has_failed writer.new ≡ is_err result }
 {
-    put_number(lines, gathered, writer)?;
-    gathered.put(writer, b" lines of ")?;
-    gathered.put(writer, name)?;
+    let mut count: ArrayVec<u8, LONGEST_NUMBER> = ArrayVec::new();
+    add_number(&mut count, lines);
+    add(&mut count, b" lines of ");
     match difference {
-        None => gathered.put(writer, b": the same alone as in the whole run\n"),
+        None => put_three(
+            count.as_slice(),
+            name,
+            b": the same alone as in the whole run\n",
+            gathered,
+            writer,
+        ),
         Some(line) => {
-            gathered.put(writer, b": alone it is otherwise from line ")?;
+            put_three(
+                count.as_slice(),
+                name,
+                b": alone it is otherwise from line ",
+                gathered,
+                writer,
+            )?;
             put_number(line, gathered, writer)?;
             gathered.put(writer, b" on\n")
         }

@@ -73,11 +73,26 @@ pub struct Ending {
 }
 
 impl Ending {
+    ghost use Rattle.std.specs.Prelude.{◌≡◌, Some};
+
     /// A play that stopped before its first line.
-    pub(crate) fn before_all(fault: PlayFault) -> Ending {
+    pub(crate) fn before_all(fault: PlayFault) -> Ending
+        ensures { result ≡ record { lines = 0; complaints = 0; fault = Some fault } }
+    {
         Ending {
             lines: 0,
             complaints: 0,
+            fault: Some(fault),
+        }
+    }
+
+    /// The same play, stopped by a fault once it had come to its end.
+    pub(crate) fn stopped_by(self, fault: PlayFault) -> Ending
+        ensures { result ≡ record self { fault = Some fault } }
+    {
+        Ending {
+            lines: self.lines,
+            complaints: self.complaints,
             fault: Some(fault),
         }
     }

@@ -15,6 +15,13 @@ pub(crate) struct Notes<'a> {
     pub number: u64,
     /// What was read and not yet passed, and what was told and not yet written.
     pub buffers: Buffers,
+    /// What a line is read and judged with.
+    pub desk: Desk<'a>,
+}
+
+/// What a line is read and judged with.
+#[derive(Drop)]
+pub(crate) struct Desk<'a> {
     /// Room for the engine's line.
     pub room: Line,
     /// Room for a reply.
@@ -32,9 +39,11 @@ impl<'a> Notes<'a> {
         Ok(Notes {
             number: 0,
             buffers: Buffers::new(),
-            room: Line::new(),
-            reply: Reply::boot(alloc)?,
-            critic: Critic::new(alloc, scenario),
+            desk: Desk {
+                room: Line::new(),
+                reply: Reply::boot(alloc)?,
+                critic: Critic::new(alloc, scenario),
+            },
         })
     }
 }

@@ -1,15 +1,24 @@
 //! The peaks of accounts: the most that was in use after any line.
-ghost use Rattle.std.specs.Prelude.{◌≡◌, ◌<◌, ◌≤◌, length, max, false, OnOk};
+ghost use Rattle.std.specs.Prelude.{◌≡◌, ◌<◌, ◌≤◌, ◌==◌, ◌&&◌, ℕ, [], length, if◌then◌else◌, None, IfOk, IfSome, OnOk};
+ghost use Rattle.std.specs.Option.{option_map, option_or};
 ghost use Rattle.own_model.specs.Listed.{start_list_of};
+ghost use Rattle.own_model.specs.Routes.{label_with};
+ghost use Rattle.own_model.specs.Session.{Session as Opened, given};
 ghost use Rattle.own_model.specs.StartList.{entries_of};
+ghost use Rattle.own_model.specs.World.{account_at, machine_init};
+ghost use Rattle.pd_core.specs.Answer.{quotas_account};
+ghost use Rattle.workbench.specs.Kept.{begun_by, begun_with, found, grown, in_use, is_kept_at, noted_in, noted_more, peak_at, peaked, raised_in};
+ghost use Rattle.workbench.specs.Peaks.{session_at};
 
 use crate::ending::PlayFault;
+use crate::text::{call_in, caller_of};
 use crate::watch::{Heard, Watch};
 use init_core::{StartList, route};
 use pd_core::{Call, Core, Quotas, Router};
-use scenario::{Gather, Sink, read_line};
+use scenario::{Gather, Sink};
 use session_proto::SessionArgs;
 use std::alloc::{AllocError, Global};
+use std::mem;
 use trade_base::{Caps, Ram};
 
 /// The most of an account that was in use after any line.
@@ -21,20 +30,23 @@ pub(crate) struct Peak {
 
 impl Peak {
     /// The peak of an account of which so much is in use from the start.
-    pub(crate) fn of(account: Quotas) -> Peak {
+    pub(crate) fn of(account: Quotas) -> Peak
+        ensures { peaked result ≡ in_use (quotas_account account) }
+    {
         Peak {
             ram: account.ram_used,
             caps: account.caps_used,
         }
     }
 
-    /// Takes what is in use now into account.
-    pub(crate) fn raise(&mut self, account: Quotas)
-        ensures ram { self.new.ram.0 ≡ max self.old.ram.0 account.ram_used.0 }
-        ensures caps { self.new.caps.0 ≡ max self.old.caps.0 account.caps_used.0 }
+    /// The peak once so much is in use.
+    pub(crate) fn raised(self, account: Quotas) -> Peak
+        ensures { peaked result ≡ grown (peaked self) (quotas_account account) }
     {
-        self.ram = Ram(self.ram.0.max(account.ram_used.0));
-        self.caps = Caps(self.caps.0.max(account.caps_used.0));
+        Peak {
+            ram: Ram(self.ram.0.max(account.ram_used.0)),
+            caps: Caps(self.caps.0.max(account.caps_used.0)),
+        }
     }
 }
 
@@ -43,9 +55,34 @@ impl Peak {
 pub(crate) struct Session {
     pub component: usize,
     pub selector: u64,
-    pub server: usize,
+    /// Where the route of the call that opened it leads.
+    pub server: Option<usize>,
     pub label: Vec<u8>,
     pub peak: Peak,
+}
+
+impl Session {
+    /// The session once so much of its account is in use.
+    fn raised(self, account: Quotas) -> Session
+        ensures noted { noted_in result ≡ noted_more (noted_in self) (quotas_account account) }
+        ensures component { result.component ≡ self.component }
+        ensures selector { result.selector ≡ self.selector }
+    {
+        Session {
+            component: self.component,
+            selector: self.selector,
+            server: self.server,
+            label: self.label,
+            peak: self.peak.raised(account),
+        }
+    }
+
+    // Whether it is that of a selector of a component.
+    fn is_at(&self, component: usize, selector: u64) -> bool
+        ensures { result ≡ is_kept_at component selector self.now }
+    {
+        self.component == component && self.selector == selector
+    }
 }
 
 /// The peaks of all accounts after the lines so far.
@@ -60,10 +97,13 @@ pub(crate) struct Peaks {
 
 impl Peaks {
     /// The peaks before the first line.
-    pub(crate) fn new<R: Router + Drop>(
-        alloc: Global,
-        core: &Core<R>,
-    ) -> Result<Peaks, AllocError> {
+    pub(crate) fn new<R: Router + Drop>(alloc: Global, core: &Core<R>) -> Result<Peaks, AllocError>
+        ensures init { IfOk result (λ peaks. peaked peaks.init ≡ in_use (machine_init core.now)) }
+        ensures count { IfOk result (λ peaks. length peaks.components.items ≡ length core.now.entries) }
+        ensures components { IfOk result (λ peaks. (place : ℕ) → place < length core.now.entries →
+            peak_at peaks.components.items place ≡ in_use (account_at core.now place)) }
+        ensures sessions { IfOk result (λ peaks. peaks.sessions.items ≡ []) }
+    {
         let mut components = Vec::new(alloc);
         for component in 0..core.count() {
             components.push(Peak::of(core.account(component)))?;
@@ -76,105 +116,145 @@ impl Peaks {
         })
     }
 
-    // Takes what the accounts of init and the components have in use now into account.
-    fn raise_accounts<R: Router + Drop>(&mut self, core: &Core<R>) {
-        self.init.raise(core.init_account());
-        for (component, peak) in self.components.iter_mut().enumerate() {
-            if component < core.count() {
-                peak.raise(core.account(component));
-            }
+    /// The peak of the component at a place, or nothing past the last.
+    pub(crate) fn component(&self, place: usize) -> Peak
+        ensures { peaked result ≡ peak_at self.now.components.items place }
+    {
+        match self.components.get(place) {
+            Some(peak) => *peak,
+            None => Peak {
+                ram: Ram(0),
+                caps: Caps(0),
+            },
         }
     }
 
-    // Takes what the accounts of sessions have in use now into account, and forgets the sessions that are no more.
-    fn raise_sessions<R: Router + Drop>(&mut self, core: &Core<R>) {
-        let mut place = 0;
-        for _ in 0..self.sessions.len() {
-            if place < self.sessions.len() {
-                let session = &mut self.sessions[place];
-                match account_of(core, session.component, session.selector) {
-                    Some(account) => {
-                        session.peak.raise(account);
-                        place += 1;
-                    }
-                    None => {
-                        let _ = self.sessions.remove(place);
-                    }
-                }
-            }
-        }
-    }
-
-    // Keeps the session that a call has just opened.
-    fn keep_new<R: Router + Drop>(
-        &mut self,
-        core: &Core<R>,
-        list: &StartList,
-        component: usize,
-        service: &[u8],
-        args: &[u8],
-    ) -> Result<(), PlayFault>
-        requires component { component < length core.now.entries }
-        requires listed { core.now.entries ≡ entries_of (start_list_of list.now) }
+    /// The session under a selector of a component, if it is kept.
+    pub(crate) fn session(&self, component: usize, selector: u64) -> Option<&Session>
+        ensures noted { option_map (λ session. noted_in session.now) result
+            ≡ found self.now.sessions.items component selector }
+        ensures component { IfSome result (λ session. session.now.component ≡ component) }
+        ensures selector { IfSome result (λ session. session.now.selector ≡ selector) }
     {
-        let Ok(args) = SessionArgs::read(args) else {
-            return Ok(());
-        };
-        let Some(server) = route(list, component, service, args.label()) else {
-            return Ok(());
-        };
-        let Some((selector, account)) = self.first_unknown(core, component) else {
-            return Ok(());
-        };
-        self.sessions.push(Session {
-            component,
-            selector,
-            server,
-            label: label_of(self.alloc, list.name(component), args.label())?,
-            peak: Peak::of(account),
-        })?;
-        Ok(())
-    }
-
-    // The first selector of a component that names a session which isn't kept yet, with its account.
-    fn first_unknown<R: Router + Drop>(
-        &self,
-        core: &Core<R>,
-        component: usize,
-    ) -> Option<(u64, Quotas)>
-        requires component { component < length core.now.entries }
-    {
-        for selector in 0..=core.last_selector(component) {
-            if !self.keeps(component, selector) {
-                if let Some(account) = core.session_account(component, selector) {
-                    return Some((selector, account));
-                }
+        for session in &self.sessions {
+            if session.is_at(component, selector) {
+                return Some(session);
             }
         }
         None
     }
 
-    // Whether the session under a selector of a component is kept.
-    fn keeps(&self, component: usize, selector: u64) -> bool {
-        self.session(component, selector).is_some()
-    }
-
-    /// The peak of the component at a place, which has this account now.
-    pub(crate) fn component(&self, place: usize, account: Quotas) -> Peak {
-        match self.components.get(place) {
-            Some(peak) => *peak,
-            None => Peak::of(account),
+    // Takes what the accounts of init and the components have in use now into account.
+    fn raise_accounts<R: Router + Drop>(&mut self, core: &Core<R>)
+        ensures init { peaked self.new.init ≡ grown (peaked self.old.init) (machine_init core.now) }
+        ensures count { length self.new.components.items ≡ length self.old.components.items }
+        ensures components { (place : ℕ) → place < length core.now.entries → place < length self.old.components.items →
+            peak_at self.new.components.items place
+            ≡ grown (peak_at self.old.components.items place) (account_at core.now place) }
+        ensures sessions { self.new.sessions.items ≡ self.old.sessions.items }
+    {
+        self.init = self.init.raised(core.init_account());
+        for component in 0..core.count() {
+            if component < self.components.len() {
+                let peak = self.components[component].raised(core.account(component));
+                self.components[component] = peak;
+            }
         }
     }
 
-    /// The session under a selector of a component, if it is kept.
-    pub(crate) fn session(&self, component: usize, selector: u64) -> Option<&Session> {
-        self.sessions.iter().find(|session| session.component == component
-            && session.selector == selector)
+    // Takes what the accounts of sessions have in use now into account, and forgets the sessions that are no more.
+    fn raise_sessions<R: Router + Drop>(&mut self, core: &Core<R>) -> Result<(), AllocError>
+        ensures init { self.new.init ≡ self.old.init }
+        ensures components { self.new.components.items ≡ self.old.components.items }
+        ensures sessions { OnOk result ((component selector : ℕ) → component < length core.now.entries →
+            found self.new.sessions.items component selector
+            ≡ raised_in (session_at component selector core.now) (found self.old.sessions.items component selector)) }
+    {
+        let mut open = Vec::new(self.alloc);
+        for session in mem::replace(&mut self.sessions, Vec::new(self.alloc)) {
+            if let Some(account) = account_of(core, session.component, session.selector) {
+                open.push(session.raised(account))?;
+            }
+        }
+        self.sessions = open;
+        Ok(())
+    }
+
+    // Keeps the sessions that the call of a line has just opened.
+    fn keep_opened<R: Router + Drop>(
+        &mut self,
+        core: &Core<R>,
+        list: &StartList,
+        line: &[u8],
+    ) -> Result<(), AllocError>
+        requires listed { core.now.entries ≡ entries_of (start_list_of list.now) }
+        ensures init { self.new.init ≡ self.old.init }
+        ensures components { self.new.components.items ≡ self.old.components.items }
+        ensures sessions { OnOk result ((component selector : ℕ) → component < length core.now.entries →
+            found self.new.sessions.items component selector
+            ≡ option_or (found self.old.sessions.items component selector)
+            (begun_by list.now core.now line.now component selector)) }
+    {
+        let Some((name, call)) = call_in(line) else {
+            return Ok(());
+        };
+        let Call::Open { service, args } = call else {
+            return Ok(());
+        };
+        let Some(component) = caller_of(list, name) else {
+            return Ok(());
+        };
+        for selector in 0..=core.last_selector(component) {
+            if self.session(component, selector).is_none() {
+                self.keep_new(core, list, component, selector, service, args)?;
+            }
+        }
+        Ok(())
+    }
+
+    // Keeps the session under a selector, if there is one, which a component has opened so.
+    fn keep_new<R: Router + Drop>(
+        &mut self,
+        core: &Core<R>,
+        list: &StartList,
+        component: usize,
+        selector: u64,
+        service: &[u8],
+        args: &[u8],
+    ) -> Result<(), AllocError>
+        requires component { component < length core.now.entries }
+        requires listed { core.now.entries ≡ entries_of (start_list_of list.now) }
+        ensures init { self.new.init ≡ self.old.init }
+        ensures components { self.new.components.items ≡ self.old.components.items }
+        ensures sessions { OnOk result ((c q : ℕ) →
+            found self.new.sessions.items c q
+            ≡ option_or (found self.old.sessions.items c q)
+            (if c == component && q == selector
+            then begun_with list.now core.now service.now args.now component selector else None)) }
+    {
+        let Some(account) = core.session_account(component, selector) else {
+            return Ok(());
+        };
+        let given = label_given(args);
+        self.sessions.push(Session {
+            component,
+            selector,
+            server: route(list, component, service, given),
+            label: label_of(self.alloc, list.label(component), given)?,
+            peak: Peak::of(account),
+        })?;
+        Ok(())
     }
 }
 
 impl Watch for Peaks {
+    ghost use Rattle.std.specs.Prelude.{[]};
+    ghost use Rattle.workbench.specs.Kept.{SeesPeaks, peaked};
+
+    ghost tells = { λ _ _ _ _ _. [] };
+
+    ghost sees = { λ peaks. SeesPeaks (peaked peaks.init) peaks.components.items peaks.sessions.items };
+
     fn tell<R: Router + Drop, K: Sink>(
         &mut self,
         core: &Core<R>,
@@ -184,18 +264,17 @@ impl Watch for Peaks {
         _writer: &mut K,
     ) -> Result<(), PlayFault> {
         self.raise_accounts(core);
-        self.raise_sessions(core);
-        if let Ok((name, Call::Open { service, args })) = read_line(heard.line) {
-            if let Some(component) = list.find(name) {
-                self.keep_new(core, list, component, service, args)?;
-            }
-        }
+        self.raise_sessions(core)?;
+        self.keep_opened(core, list, heard.line)?;
         Ok(())
     }
 }
 
 // The account of the session under a selector of the component at a place, if there is one.
-fn account_of<R: Router + Drop>(core: &Core<R>, component: usize, selector: u64) -> Option<Quotas> {
+fn account_of<R: Router + Drop>(core: &Core<R>, component: usize, selector: u64) -> Option<Quotas>
+    ensures { component < length core.now.entries → option_map quotas_account result
+        ≡ option_map (λ (session : Opened). session.account) (session_at component selector core.now) }
+{
     if component < core.count() {
         core.session_account(component, selector)
     } else {
@@ -203,10 +282,23 @@ fn account_of<R: Router + Drop>(core: &Core<R>, component: usize, selector: u64)
     }
 }
 
-// The label of a session: its client's name, an arrow and what that gave, or the name alone.
-fn label_of(alloc: Global, name: &[u8], given: &[u8]) -> Result<Vec<u8>, AllocError> {
+// The label that a client gives with the arguments of a session: none where they are no arguments.
+fn label_given(args: &[u8]) -> &[u8]
+    ensures label { result.now ≡ (given args.now).label }
+    ensures short { length result.now ≤ 64 }
+{
+    match SessionArgs::read(args) {
+        Ok(args) => args.label(),
+        Err(_) => b"",
+    }
+}
+
+// The label of a session: its client's, an arrow and what that gave, or the client's alone.
+fn label_of(alloc: Global, client: &[u8], given: &[u8]) -> Result<Vec<u8>, AllocError>
+    ensures { IfOk result (λ label. label.items ≡ label_with client.now given.now) }
+{
     let mut label = Vec::new(alloc);
-    label.extend_from_slice(name)?;
+    label.extend_from_slice(client)?;
     if !given.is_empty() {
         label.extend_from_slice(b" -> ")?;
         label.extend_from_slice(given)?;

@@ -1,17 +1,33 @@
 //! A row of a table of comma-separated values.
-ghost use Rattle.std.specs.Prelude.{◌≡◌, IfOk};
+ghost use Rattle.std.specs.Prelude.{◌≡◌, ◌∷◌, ◌++◌, [], IfOk, decimal};
+ghost use Rattle.std.specs.Option.{option_map};
+ghost use Rattle.csv.specs.Writing.{default_writer, row_text};
+ghost use Rattle.pd_core.specs.Answer.{quotas_account};
+ghost use Rattle.workbench.specs.Tracing.{cells_of};
 
 use crate::ending::PlayFault;
 use csv::{ByteRecord, Error, IntoInnerError, Writer, WriterBuilder};
 use itoa::Buffer;
 use pd_core::Quotas;
 use std::alloc::Global;
+use std::marker::Model;
 
 /// Cells from left to right.
 #[derive(Drop)]
 pub(crate) struct Row {
     alloc: Global,
     cells: ByteRecord,
+}
+
+impl Model for Row {
+    ghost use Rattle.std.specs.Prelude.{◌≡◌, ℕ, List, []};
+    ghost use Rattle.csv.specs.Records.{fields_of, partial_of};
+
+    ghost Value = { List (List ℕ) };
+
+    ghost view = { λ row. fields_of row.cells };
+
+    ghost invariant = { λ row. partial_of row.cells ≡ [] };
 }
 
 impl From<Error> for PlayFault {
@@ -28,45 +44,49 @@ impl From<IntoInnerError<Writer<Vec<u8>>>> for PlayFault {
 
 impl Row {
     /// No cells yet.
-    pub(crate) fn new(alloc: Global) -> Row {
+    pub(crate) fn new(alloc: Global) -> Row
+        ensures { result ≡ [] }
+    {
         Row {
             alloc,
             cells: ByteRecord::new(alloc),
         }
     }
 
-    /// A cell with a text.
-    pub(crate) fn text(&mut self, text: &[u8]) -> Result<(), PlayFault> {
+    /// A cell more with a text.
+    pub(crate) fn text(mut self, text: &[u8]) -> Result<Row, PlayFault>
+        ensures { IfOk result (λ row. row ≡ self ++ text.now ∷ []) }
+    {
         self.cells.push_field(text)?;
-        Ok(())
+        Ok(self)
     }
 
-    /// A cell with a number.
-    pub(crate) fn number(&mut self, number: u64) -> Result<(), PlayFault> {
+    /// A cell more with a number.
+    pub(crate) fn number(self, number: u64) -> Result<Row, PlayFault>
+        ensures { IfOk result (λ row. row ≡ self ++ decimal number ∷ []) }
+    {
         let mut digits = Buffer::new();
         self.text(digits.format(number).as_bytes())
     }
 
-    /// Four cells with an account's use and limit of RAM and of capabilities, or empty ones.
-    pub(crate) fn account(&mut self, account: Option<Quotas>) -> Result<(), PlayFault> {
+    /// Four cells more with an account's use and limit of RAM and of capabilities, or empty ones.
+    pub(crate) fn account(self, account: Option<Quotas>) -> Result<Row, PlayFault>
+        ensures { IfOk result (λ row. row ≡ self ++ cells_of (option_map quotas_account account)) }
+    {
         match account {
-            Some(account) => {
-                self.number(account.ram_used.0)?;
-                self.number(account.ram_limit.0)?;
-                self.number(u64::from(account.caps_used.0))?;
-                self.number(u64::from(account.caps_limit.0))
-            }
-            None => {
-                self.text(b"")?;
-                self.text(b"")?;
-                self.text(b"")?;
-                self.text(b"")
-            }
+            Some(account) => self
+                .number(account.ram_used.0)?
+                .number(account.ram_limit.0)?
+                .number(u64::from(account.caps_used.0))?
+                .number(u64::from(account.caps_limit.0)),
+            None => self.text(b"")?.text(b"")?.text(b"")?.text(b""),
         }
     }
 
     /// The row as a line.
-    pub(crate) fn line(&self) -> Result<Vec<u8>, PlayFault> {
+    pub(crate) fn line(&self) -> Result<Vec<u8>, PlayFault>
+        ensures { IfOk result (λ line. line.items ≡ row_text default_writer self.now) }
+    {
         let mut table = WriterBuilder::new().from_writer(Vec::new(self.alloc));
         table.write_byte_record(&self.cells)?;
         Ok(table.into_inner()?)

@@ -1,6 +1,7 @@
 //! Scenarios in the friendly form, played on the built-in machine.
 mod complaints;
 mod devices;
+mod inits;
 mod views;
 
 use crate::{Ending, Play, PlayFault, exit_status, run};

@@ -1,17 +1,26 @@
 //! The trace of a scenario: a row of figures for each call.
-ghost use Rattle.std.specs.Prelude.{◌≡◌, ◌<◌, length, false, OnOk};
+ghost use Rattle.std.specs.Prelude.{◌≡◌, ◌≢◌, ◌+◌, ◌<◌, ◌≤◌, ◌∷◌, ◌++◌, [], ⊤, length, decimal, false, IfOk, IfErr, IfSome, OnErr, IfNone, None, Some, drop};
 ghost use Rattle.own_model.specs.Listed.{start_list_of};
 ghost use Rattle.own_model.specs.StartList.{entries_of};
+ghost use Rattle.own_model.specs.Transcript.{heard, heard_spoken, state_at};
+ghost use Rattle.init_core.specs.declared.fault.BootFault.TheVariants.{NoMemory};
+ghost use Rattle.pd_core.specs.Call.{model_call};
+ghost use Rattle.scenario.specs.Gathered.{TellsUnless};
+ghost use Rattle.scenario.specs.Program.{boot_fault};
+ghost use Rattle.workbench.specs.Played.{told_of_lines};
+ghost use Rattle.workbench.specs.Tracing.{call_text, caller_cells, figures, session_cells, session_of, stranger_cells, trace_header, trace_tells, trace_told};
+ghost use Rattle.workbench.specs.Writes.{IsPlayed, IsPlayedFrom, nothing_told};
 
 use crate::ending::{Ending, PlayFault};
 use crate::machine::Play;
 use crate::notes::Notes;
 use crate::playing::play as play_lines;
 use crate::row::Row;
+use crate::text::{call_in, caller_of};
 use crate::watch::{Heard, Watch};
 use init_core::{BootFault, StartList, boot};
 use pd_core::{Call, Core, Router};
-use scenario::{Gather, Run, Sink, Source, read_line};
+use scenario::{Gather, MAX_LINES, Run, Sink, Source};
 use std::alloc::Global;
 
 /// The names of the columns.
@@ -25,6 +34,10 @@ pub(crate) struct Tracer {
 }
 
 impl Watch for Tracer {
+    ghost tells = { λ _. trace_tells };
+
+    ghost sees = { λ _ _ _ _. ⊤ };
+
     fn tell<R: Router + Drop, K: Sink>(
         &mut self,
         core: &Core<R>,
@@ -44,82 +57,110 @@ fn row_of<R: Router + Drop>(
     alloc: Global,
     core: &Core<R>,
     list: &StartList,
-    heard: &Heard<'_>,
+    told: &Heard<'_>,
 ) -> Result<Row, PlayFault>
     requires listed { core.now.entries ≡ entries_of (start_list_of list.now) }
+    ensures { IfOk result (λ row. row
+        ≡ decimal told.now.number ∷ told.now.answer.name.now ∷ call_text told.now.line.now
+        ∷ told.now.answer.reply.now ∷ figures core.now (heard core.now.entries told.now.line.now)) }
 {
-    let mut row = Row::new(alloc);
-    row.number(heard.number)?;
-    row.text(heard.answer.name)?;
-    row.text(call_text(heard.line))?;
-    row.text(heard.answer.reply)?;
-    match list.find(heard.answer.name) {
-        Some(component) => {
-            row.account(Some(core.account(component)))?;
-            put_session(core, component, session_of(heard.line), &mut row)?;
+    let row = Row::new(alloc).number(told.number)?.text(told.answer.name)?;
+    match call_in(told.line) {
+        Some((name, call)) => {
+            let row = row
+                .text(text_behind(name, told.line))?
+                .text(told.answer.reply)?;
+            match caller_of(list, name) {
+                Some(component) => put_caller(row, core, component, call),
+                None => put_stranger(row),
+            }
         }
-        None => {
-            row.account(None)?;
-            row.text(b"")?;
-            row.account(None)?;
-        }
+        None => put_stranger(row.text(told.line)?.text(told.answer.reply)?),
     }
-    Ok(row)
+}
+
+// What stands in a line behind a name and a space.
+fn text_behind<'a>(name: &[u8], line: &'a [u8]) -> &'a [u8]
+    ensures { result.now ≡ drop (length name.now + 1) line.now }
+{
+    &line[line.len().min(name.len().saturating_add(1))..]
+}
+
+// Empty cells, of who isn't there.
+fn put_stranger(row: Row) -> Result<Row, PlayFault>
+    ensures { IfOk result (λ all. all ≡ row ++ stranger_cells) }
+{
+    row.account(None)?.text(b"")?.account(None)
+}
+
+// The cells of the component at a place, and of the session that its call names.
+fn put_caller<R: Router + Drop>(
+    row: Row,
+    core: &Core<R>,
+    component: usize,
+    call: Call<'_>,
+) -> Result<Row, PlayFault>
+    requires component { component < length core.now.entries }
+    ensures { IfOk result (λ all. all
+        ≡ row ++ caller_cells core.now component (model_call call.entry)) }
+{
+    let account = core.account(component);
+    let row = row.account(Some(account))?;
+    put_session(row, core, component, session_of(call))
 }
 
 // The cells of the session that a selector of a component names, or empty ones.
 fn put_session<R: Router + Drop>(
+    row: Row,
     core: &Core<R>,
     component: usize,
     selector: Option<u64>,
-    row: &mut Row,
-) -> Result<(), PlayFault>
+) -> Result<Row, PlayFault>
     requires component { component < length core.now.entries }
+    ensures { IfOk result (λ all. all ≡ row ++ session_cells (state_at core.now.states component) selector) }
 {
     let Some(selector) = selector else {
-        row.text(b"")?;
-        return row.account(None);
+        return row.text(b"")?.account(None);
     };
     match core.session_account(component, selector) {
-        Some(account) => {
-            row.number(selector)?;
-            row.account(Some(account))
-        }
-        None => {
-            row.text(b"")?;
-            row.account(None)
-        }
+        Some(account) => row.number(selector)?.account(Some(account)),
+        None => row.text(b"")?.account(None),
     }
 }
 
-// The selector of the session that a line's call names, if it names one.
-fn session_of(line: &[u8]) -> Option<u64> {
-    match read_line(line) {
-        Ok((_, Call::Upgrade { selector, .. }))
-        | Ok((_, Call::CallSession { selector, .. }))
-        | Ok((_, Call::Close(selector))) => Some(selector),
+// The selector of the session that a call names, if it names one.
+fn session_of(call: Call<'_>) -> Option<u64>
+    ensures { result ≡ session_of (model_call call.entry) }
+{
+    match call {
+        Call::Upgrade { selector, .. }
+        | Call::CallSession { selector, .. }
+        | Call::Close(selector) => Some(selector),
         _ => None,
-    }
-}
-
-// What stands behind the name and its space, or the whole line where it is no call.
-fn call_text(line: &[u8]) -> &[u8] {
-    match read_line(line) {
-        Ok((name, _)) => &line[line.len().min(name.len().saturating_add(1))..],
-        Err(_) => line,
     }
 }
 
 /// Plays a scenario, and writes as comma-separated values the names of the columns and a row for each call that is answered:
 /// its line, the component, the call, the reply, and use and limit of RAM and of capabilities after it, of the component and of
 /// the session that the call names. Complaints are written as they come.
+///
+/// The figures are those of the own state that the call leaves its caller. At a fault a part of the rows is written, from the
+/// front. Where no machine is booted, no device is touched.
+#[tactic(auto, using(scenario::proofs::TaskLemmas::tasks))]
 pub fn trace<S: Source, K: Sink, E: Sink>(
     alloc: Global,
     play: Play<'_>,
     reader: &mut S,
     writer: &mut K,
     complaints: &mut E,
-) -> Result<Ending, BootFault> {
+) -> Result<Ending, BootFault>
+    ensures played { IfOk result (λ ending. IsPlayed play.entry.machine.now trace_told nothing_told ending
+        (S.remaining reader.old) (K.contents writer.old) (K.contents writer.new)) }
+    ensures few { IfOk result (λ ending. ending.lines ≤ MAX_LINES) }
+    ensures unbooted { IfErr result (λ fault. fault ≢ NoMemory → boot_fault play.entry.machine.now ≡ Some fault) }
+    ensures untouched { OnErr result
+        ((reader.new ≡ reader.old) × (writer.new ≡ writer.old) × (complaints.new ≡ complaints.old)) }
+{
     let list = StartList::read(alloc, play.machine)?;
     let mut core = boot(alloc, &list)?;
     let mut notes = Notes::new(alloc, play.scenario)?;
@@ -128,16 +169,41 @@ pub fn trace<S: Source, K: Sink, E: Sink>(
         only: None,
     };
     let mut watch = Tracer { alloc };
-    if let Err(fault) = put_header(&mut notes, writer) {
-        return Ok(Ending::before_all(fault));
-    }
-    Ok(play_lines(
+    Ok(trace_on(
         &run, &mut core, &mut notes, &mut watch, reader, writer, complaints,
     ))
 }
 
+// The same on a machine that has booted.
+fn trace_on<R: Router + Drop, S: Source, K: Sink, E: Sink>(
+    run: &Run<'_>,
+    core: &mut Core<R>,
+    notes: &mut Notes<'_>,
+    watch: &mut Tracer,
+    reader: &mut S,
+    writer: &mut K,
+    complaints: &mut E,
+) -> Ending
+    requires listed { core.old.entries ≡ entries_of (start_list_of run.now.list.now) }
+    requires all { run.now.only ≡ None }
+    requires ahead { notes.old.buffers.ahead ≡ [] }
+    requires gathered { notes.old.buffers.gathered ≡ [] }
+    ensures played { IsPlayedFrom (λ lines. trace_header ++ told_of_lines (trace_tells core.old) None [] 1 lines) (λ _. [])
+        result (S.remaining reader.old) (K.contents writer.old) (K.contents writer.new) }
+    ensures few { result.lines ≤ MAX_LINES }
+{
+    match put_header(notes, writer) {
+        Ok(()) => play_lines(run, core, notes, watch, reader, writer, complaints),
+        Err(fault) => Ending::before_all(fault),
+    }
+}
+
 // Gathers the names of the columns.
-fn put_header<K: Sink>(notes: &mut Notes<'_>, writer: &mut K) -> Result<(), PlayFault> {
+fn put_header<K: Sink>(notes: &mut Notes<'_>, writer: &mut K) -> Result<(), PlayFault>
+    ensures ahead { notes.new.buffers.ahead ≡ notes.old.buffers.ahead }
+    ensures told { TellsUnless result (K.contents writer.old) notes.old.buffers.gathered
+        (K.contents writer.new) notes.new.buffers.gathered trace_header }
+{
     if writer.failed() {
         return Err(PlayFault::WriteFault);
     }

@@ -1,7 +1,10 @@
 //! Who is told of each call that is answered.
-ghost use Rattle.std.specs.Prelude.{◌≡◌, false, OnOk};
-ghost use Rattle.own_model.specs.Listed.{start_list_of};
+ghost use Rattle.std.specs.Prelude.{◌≡◌, ◌∷◌, ◌++◌, ℕ, List, [], false, OnOk};
+ghost use Rattle.own_model.specs.Listed.{Listed, start_list_of};
 ghost use Rattle.own_model.specs.StartList.{entries_of};
+ghost use Rattle.own_model.specs.World.{World};
+ghost use Rattle.scenario.specs.Gathered.{TellsUnless};
+ghost use Rattle.workbench.specs.Watching.{IsToldOf};
 
 use crate::ending::PlayFault;
 use init_core::StartList;
@@ -21,6 +24,16 @@ pub(crate) struct Heard<'a> {
 
 /// Makes something of each answer.
 pub(crate) trait Watch {
+    // What is told of a call: by the world at the start, the calls that were answered before it, the number of its line, and
+    // the engine's line.
+    ghost tells: { Self → World → List (List ℕ) → ℕ → List ℕ → List ℕ };
+
+    // What it was made with, and keeps.
+    ghost holds: { Self → List ℕ } = { λ _. [] };
+
+    // On the machine of this list, from this world on, these calls are all that was seen.
+    ghost sees: { Self → Listed → World → List (List ℕ) → Type 0 };
+
     /// Takes an answer in, with the core after it, and gathers what is told of it.
     fn tell<R: Router + Drop, K: Sink>(
         &mut self,
@@ -32,5 +45,14 @@ pub(crate) trait Watch {
     ) -> Result<(), PlayFault>
         requires listed { core.now.entries ≡ entries_of (start_list_of list.now) }
         requires writes { K.has_failed writer.old ≡ false }
+        ensures told { (start : World) (earlier : List (List ℕ)) → sees self.old list.now start earlier →
+            IsToldOf start earlier heard.now.line.now core.now heard.now.answer →
+            TellsUnless result (K.contents writer.old) gathered.old (K.contents writer.new) gathered.new
+            (tells self.old start earlier heard.now.number heard.now.line.now) }
+        ensures seen { (start : World) (earlier : List (List ℕ)) → sees self.old list.now start earlier →
+            IsToldOf start earlier heard.now.line.now core.now heard.now.answer →
+            OnOk result (sees self.new list.now start (earlier ++ heard.now.line.now ∷ [])) }
+        ensures same { tells self.new ≡ tells self.old }
+        ensures held { holds self.new ≡ holds self.old }
         ensures works { OnOk result (K.has_failed writer.new ≡ false) };
 }

@@ -3,7 +3,7 @@ ghost use Rattle.std.specs.Prelude.{◌≤◌};
 
 use crate::FileService;
 use dataspace_core::Memory;
-use server_frame::{Reply, Server};
+use server_frame::{LONGEST_LABEL, Reply, Server};
 use std::alloc::Global;
 use std::marker::Model;
 use std::process::Abort;
@@ -75,7 +75,7 @@ impl Machine {
         ram: u64,
         caps: u32,
     ) -> Result<SessionId, Refusal> {
-        assert!(rt; label.len() <= 100 && self.sessions < SESSIONS);
+        assert!(rt; label.len() <= LONGEST_LABEL && self.sessions < SESSIONS);
         let id = self
             .server
             .open(&mut self.memory, self.client, label, Ram(ram), Caps(caps))?;

@@ -31,6 +31,16 @@ const BY_DEFAULT: &str = r#"{"machine":{"pages":64,"caps":64},
   {"name":"alice","binary":"script","quantum":"64K","caps":16},
   {"name":"files2","binary":"files","quantum":"16K","caps":8,"provides":["File_system"]}]}"#;
 
+/// The same with an init that starts the script, and asks for it outward.
+const BELOW_AN_INIT: &str = r#"{"machine":{"pages":64,"caps":64},
+ "default-route":[{"service":"File_system","label":"alice","child":"files2"}],
+ "start":[
+  {"name":"files","quantum":"16K","caps":8,"provides":["File_system"]},
+  {"name":"sub","binary":"init","quantum":"80K","caps":20,"config":{
+   "default-route":[{"any-service":true,"parent":true}],
+   "start":[{"name":"alice","binary":"script","quantum":"64K","caps":16,"reserve":"4K"}]}},
+  {"name":"files2","binary":"files","quantum":"16K","caps":8,"provides":["File_system"]}]}"#;
+
 /// What a try made, if there was memory for it.
 fn made<T>(rt: &impl Abort, tried: Result<T, BootFault>) -> Option<T> {
     match tried {
@@ -98,6 +108,11 @@ fn want_of_memory_beside_a_route_to_any_child(rt: HostRuntime) {
 #[test]
 fn want_of_memory_beside_the_default_route(rt: HostRuntime) {
     check(&rt, rt.alloc(), BY_DEFAULT, 1, None);
+}
+
+#[test]
+fn want_of_memory_below_an_init(rt: HostRuntime) {
+    check(&rt, rt.alloc(), BELOW_AN_INIT, 2, Some(3));
 }
 
 #[test]

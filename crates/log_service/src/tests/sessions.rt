@@ -1,6 +1,7 @@
 //! Sessions of the log service on a memory: what they take of their client, and what comes back.
 
 use super::machine::{Amounts, Machine};
+use server_frame::LONGEST_LABEL;
 use std::alloc::AllocError;
 use std::process::Abort;
 use trade_base::{Caps, Ram, Refusal, SessionId};
@@ -125,4 +126,42 @@ fn lines_are_of_their_sessions(rt: HostRuntime) {
     assert!(rt; machine.tells(&rt, again, b"WRITE 0a", b"OK 1", b"[alice] \n"));
     assert!(rt; machine.tells(&rt, bob, b"WRITE 0a", b"OK 1", b"[bob] b\n"));
     assert!(rt; machine.tells(&rt, again, b"STAT", b"ERR BAD_REQUEST", b""));
+}
+
+// The bytes of a finished line as it is printed.
+fn add_printed(lines: &mut Vec<u8>, label: &[u8], text: &[u8]) -> Result<(), AllocError> {
+    lines.extend_from_slice(b"[")?;
+    lines.extend_from_slice(label)?;
+    lines.extend_from_slice(b"] ")?;
+    lines.extend_from_slice(text)?;
+    lines.extend_from_slice(b"\n")
+}
+
+#[test]
+fn longest_label_stands_before_the_most_lines(rt: HostRuntime) -> Result<(), AllocError> {
+    let mut machine = Machine::boot(&rt, rt.alloc(), 16);
+    let label = [b'l'; LONGEST_LABEL];
+    let id = opened(&mut machine, &rt, &label, 4096, 2);
+    // One byte less than a line has at most stands before the newlines.
+    let text = [b'a'; 199];
+    let mut request = Vec::new(rt.alloc());
+    request.extend_from_slice(b"WRITE ")?;
+    for _ in 0..199 {
+        request.extend_from_slice(b"61")?;
+    }
+    assert!(rt; machine.tells(&rt, id, &request, b"OK 199", b""));
+    request.truncate(6);
+    let mut lines = Vec::new(rt.alloc());
+    add_printed(&mut lines, &label, &text)?;
+    request.extend_from_slice(b"0a")?;
+    for _ in 1..4093 {
+        request.extend_from_slice(b"0a")?;
+        add_printed(&mut lines, &label, b"")?;
+    }
+    assert_eq!(rt; lines.len(), 4093 * (208 + 4) + 199);
+    assert!(rt; machine.tells(&rt, id, &request, b"OK 4093", &lines));
+    // A request of one byte more is too long.
+    request.extend_from_slice(b"0a")?;
+    assert!(rt; machine.tells(&rt, id, &request, b"ERR BAD_REQUEST", b""));
+    Ok(())
 }

@@ -9,7 +9,7 @@ use super::*;
 use crate::run_only;
 
 // What a run of one name's lines alone tells, and how it ended.
-fn told_alone(
+pub(super) fn told_alone(
     alloc: Global,
     machine: &str,
     name: &[u8],
@@ -71,7 +71,7 @@ fn told_among(
 }
 
 // Each name is told alone what it is told among the others.
-fn compare<R: Abort + AllocGlobal>(
+pub(super) fn compare<R: Abort + AllocGlobal>(
     rt: &R,
     machine: &str,
     names: &[&str],

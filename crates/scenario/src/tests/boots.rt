@@ -25,7 +25,7 @@ fn changed(alloc: Global, old: &str, new: &str) -> Result<String, AllocError> {
 }
 
 // What a check of a text tells.
-fn told(alloc: Global, text: &[u8]) -> Result<String, AllocError> {
+pub(super) fn told(alloc: Global, text: &[u8]) -> Result<String, AllocError> {
     match run_bytes(alloc, text, Task::Check, b"alice quota\n") {
         Ok(written) if written.as_slice() == b"ok\n".as_slice() => String::from_str(alloc, "ok"),
         Ok(_) => String::from_str(alloc, "another text than ok"),

@@ -13,7 +13,7 @@ pub(super) const RESERVED: &str = r#"{"machine":{"pages":64,"caps":64},
   {"name":"bob","binary":"script","quantum":"64K","caps":16}]}"#;
 
 // Calls, each by its caller's name, are answered so, and the account list behind them is this.
-fn check<R: Abort + AllocGlobal>(
+pub(super) fn check<R: Abort + AllocGlobal>(
     rt: &R,
     machine: &str,
     calls: &[(&str, &str)],

@@ -1,5 +1,6 @@
 //! Faults with their places.
 use super::{ALICE, ANY, LOG, MACHINE, told, told_of};
+use crate::Review;
 use std::alloc::{AllocError, Global};
 use std::test::Fail;
 
@@ -38,11 +39,11 @@ fn bad_values_of_an_entry_have_its_place(rt: HostRuntime) -> Result<(), Fail> {
         ),
         (
             "\"name\":\"gina\"",
-            "Unknown_binary gina: start[6] \"gina\": binary: missing, expected `script`, `log` or `files`",
+            "Unknown_binary gina: start[6] \"gina\": binary: missing, expected `script`, `log`, `files` or `init`",
         ),
         (
             "\"name\":\"gina\",\"binary\":[\"script\"]",
-            "Bad_config binary: start[6] \"gina\": binary: a list of 1, expected `script`, `log` or `files`",
+            "Bad_config binary: start[6] \"gina\": binary: a list of 1, expected `script`, `log`, `files` or `init`",
         ),
         (
             "\"name\":\"gina\",\"binary\":\"script\",\"quantum\":\"8K\",\"caps\":2,\"route\":{}",
@@ -135,6 +136,29 @@ fn bad_json_has_a_line_and_a_column(rt: HostRuntime) -> Result<(), Fail> {
     assert_eq!(rt;
         told(rt.alloc(), "{\"machine\":\n {\"pages\": 64,,\n")?.as_str(),
         "Bad_json: line 2, column 15"
+    );
+    Ok(())
+}
+
+/// What so many spaces come to.
+fn blank(alloc: Global, size: usize) -> Result<String, AllocError> {
+    let spaces = vec![in alloc; b' '; size]?;
+    match Review::read(alloc, spaces.as_slice()) {
+        Ok(_) => String::from_str(alloc, "a start list"),
+        Err(fault) => format!(in alloc; "{fault}"),
+    }
+}
+
+#[test]
+fn texts_that_are_too_long_are_told_with_their_size(rt: HostRuntime) -> Result<(), Fail> {
+    assert_eq!(rt;
+        blank(rt.alloc(), 65_537)?.as_str(),
+        "Bad_config size: 65537 bytes, expected at most 65536"
+    );
+    assert!(rt;
+        blank(rt.alloc(), 65_536)?
+            .as_str()
+            .starts_with("Bad_json: line 1, column ")
     );
     Ok(())
 }

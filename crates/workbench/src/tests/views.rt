@@ -1,6 +1,6 @@
 //! The account list, traces, peaks, and one component alone.
 use super::{Outcome, built_in, came_of, ran};
-use crate::{accounts, alone, trace};
+use crate::{Play, accounts, alone, trace};
 use scenario::Output;
 use std::alloc::Global;
 use std::test::Fail;
@@ -11,36 +11,29 @@ const SCENARIO: &[u8] = b"# one\nalice open LOG ram_quota=4K, cap_quota=2, label
     alice call 1 WRITE \"a, \\\"b\\\"\\n\"\nbob quot => Bad_line\nalice close 2\n";
 
 // The trace of a scenario.
-fn traced(alloc: Global, scenario: &[u8]) -> Outcome {
+pub(super) fn traced(alloc: Global, play: Play<'_>, scenario: &[u8]) -> Outcome {
     let mut reader = scenario;
     let mut writer = Output::new(Vec::new(alloc));
     let mut complaints = Output::new(Vec::new(alloc));
-    let ended = trace(alloc, built_in(), &mut reader, &mut writer, &mut complaints);
+    let ended = trace(alloc, play, &mut reader, &mut writer, &mut complaints);
     came_of(ended, writer, complaints)
 }
 
 // The account list with peaks of a scenario.
-fn listed(alloc: Global, scenario: &[u8]) -> Outcome {
+pub(super) fn listed(alloc: Global, play: Play<'_>, scenario: &[u8]) -> Outcome {
     let mut reader = scenario;
     let mut writer = Output::new(Vec::new(alloc));
     let mut complaints = Output::new(Vec::new(alloc));
-    let ended = accounts(alloc, built_in(), &mut reader, &mut writer, &mut complaints);
+    let ended = accounts(alloc, play, &mut reader, &mut writer, &mut complaints);
     came_of(ended, writer, complaints)
 }
 
 // What a name is told in a scenario and alone.
-fn compared(alloc: Global, name: &[u8], scenario: &[u8]) -> Outcome {
+pub(super) fn compared(alloc: Global, play: Play<'_>, name: &[u8], scenario: &[u8]) -> Outcome {
     let mut reader = scenario;
     let mut writer = Output::new(Vec::new(alloc));
     let mut complaints = Output::new(Vec::new(alloc));
-    let ended = alone(
-        alloc,
-        built_in(),
-        name,
-        &mut reader,
-        &mut writer,
-        &mut complaints,
-    );
+    let ended = alone(alloc, play, name, &mut reader, &mut writer, &mut complaints);
     came_of(ended, writer, complaints)
 }
 
@@ -61,6 +54,7 @@ fn the_account_list_stands_behind_the_transcript(rt: HostRuntime) -> Result<(), 
 fn reserves_stand_behind_their_accounts(rt: HostRuntime) -> Result<(), Fail> {
     let outcome = listed(
         rt.alloc(),
+        built_in(),
         b"alice yield ram_quota=4K, cap_quota=2\nalice  request cap_quota=1 => ok\nbob yield cap_quota=1\n\
           bob request cap_quota=1\n",
     );
@@ -78,7 +72,7 @@ fn reserves_stand_behind_their_accounts(rt: HostRuntime) -> Result<(), Fail> {
 
 #[test]
 fn a_row_for_each_call(rt: HostRuntime) -> Result<(), Fail> {
-    let outcome = traced(rt.alloc(), SCENARIO);
+    let outcome = traced(rt.alloc(), built_in(), SCENARIO);
     assert_eq!(rt;
         outcome.written.as_slice(),
         b"line,component,call,reply,ram_used,ram_limit,caps_used,caps_limit,session,\
@@ -100,7 +94,7 @@ fn a_row_for_each_call(rt: HostRuntime) -> Result<(), Fail> {
 
 #[test]
 fn accounts_tell_their_peaks(rt: HostRuntime) -> Result<(), Fail> {
-    let outcome = listed(rt.alloc(), SCENARIO);
+    let outcome = listed(rt.alloc(), built_in(), SCENARIO);
     assert_eq!(rt;
         outcome.written.as_slice(),
         b"account init ram 0/98304 caps 0/16 peak ram 0 caps 0\n\
@@ -119,6 +113,7 @@ fn accounts_tell_their_peaks(rt: HostRuntime) -> Result<(), Fail> {
 fn a_session_that_is_closed_leaves_no_peak(rt: HostRuntime) -> Result<(), Fail> {
     let outcome = listed(
         rt.alloc(),
+        built_in(),
         b"alice open File_system ram_quota=32K, cap_quota=6\nalice call 1 CREATE f\n\
           alice close 1\nbob open LOG ram_quota=4K, cap_quota=2\n\
           alice open LOG ram_quota=4K, cap_quota=2\n",
@@ -137,6 +132,7 @@ fn a_session_that_is_closed_leaves_no_peak(rt: HostRuntime) -> Result<(), Fail> 
 fn alone_a_name_is_told_the_same(rt: HostRuntime) -> Result<(), Fail> {
     let outcome = compared(
         rt.alloc(),
+        built_in(),
         b"bob",
         b"alice alloc 4K\nbob alloc 4K => cap 1\nbob open LOG ram_quota=4K, cap_quota=2\n\
           alice alloc 4K\nbob call 2 WRITE \"x\\n\"\nbob quot\n",

@@ -1,28 +1,35 @@
 -- Before the first entry nothing has started, and after the last it is the list's machine.
-use Rattle.std.proofs.Common.{◌≡◌, length, sym, ◌∙◌, ap, subst, arith}
+use Rattle.std.proofs.Common.{◌≡◌, ◌∷◌, ◌++◌, [], List, length, sym, ◌∙◌, ap, subst, arith}
+use Rattle.trade_base.specs.declared.id.AccountId.{AccountId}
 use Rattle.own_model.specs.Listed.{Listed, route_of, start_list_of}
 use Rattle.own_model.specs.World.{IsBalancedFor}
 use Rattle.own_model.proofs.StartLemmas.{start_balanced_for}
 use Rattle.pd_core.specs.Fresh.{started_world}
 use Rattle.pd_core.specs.SessionCalls.{Agrees}
-use Rattle.init_core.specs.Boot.{rules_at}
-use Rattle.init_core.proofs.BootedLemmas.{nothing_yet, boots, booted, agrees}
+use Rattle.init_core.specs.Boot.{places_at}
+use Rattle.init_core.proofs.BootedLemmas.{nothing_yet, boots, booted, agrees, all_fresh}
 use Rattle.init_core.proofs.startup.boot.Goals as goal
 
 pub loop-place-init : goal.loop-place-init
 loop-place-init c =
-    nothing_yet c.pages.result c.caps.result _ c.pages.ensures.value c.caps.ensures.value c.in_ok-memory.ensures.fresh
-    (omega (arith, c.in_ok-memory.ensures.places, c.count.ensures.value, c.sessions_of.ensures.half)) c.new-components.ensures.items
+    let first = c.in_ok-push.ensures.items ∙ ap (λ (keys : List AccountId). keys ++ c.root.result ∷ []) c.new-accounts.ensures.items in
+    nothing_yet c.root.result c.pages.result c.caps.result _ c.pages.ensures.value c.caps.ensures.value c.in_ok-memory.ensures.fresh
+    (omega (arith, c.in_ok-memory.ensures.places, c.count.ensures.value, c.sessions_of.ensures.half)) c.new-components.ensures.items c.root.ensures.key first
+
+pub from_parts-requires-clause-fresh : goal.from_parts-requires-clause-fresh
+from_parts-requires-clause-fresh c =
+    let all : c.loop-place.place ≡ length c.args.list.now.entries = omega (arith, c.loop-place.auto.place-end, c.loop-place-test.false, c.count-place-end.ensures.value) in
+    all_fresh c.loop-place.invariant all
 
 pub from_parts-requires-clause-leads : goal.from_parts-requires-clause-leads
 from_parts-requires-clause-leads c =
     let all : c.loop-place.place ≡ length c.args.list.now.entries = omega (arith, c.loop-place.auto.place-end, c.loop-place-test.false, c.count-place-end.ensures.value) in
-    subst (λ (list : Listed). Agrees (rules_at list) (route_of list) c.loop-place.components.items) (sym c.new.ensures) (agrees c.loop-place.invariant all)
+    subst (λ (list : Listed). Agrees (places_at list) (route_of list) c.loop-place.memory c.loop-place.components.items) (sym c.new.ensures) (agrees c.loop-place.invariant all)
 
 pub returns-clause-started : goal.returns-clause-started
 returns-clause-started c =
     let all : c.loop-place.place ≡ length c.args.list.now.entries = omega (arith, c.loop-place.auto.place-end, c.loop-place-test.false, c.count-place-end.ensures.value) in
-    c.from_parts.ensures.started ∙ ap (λ (list : Listed). started_world (rules_at list) c.loop-place.memory c.loop-place.components.items) c.new.ensures
+    c.from_parts.ensures.started ∙ ap (λ (list : Listed). started_world (places_at list) c.loop-place.memory c.loop-place.components.items) c.new.ensures
     ∙ booted c.loop-place.invariant all
 
 pub returns-clause-covered : goal.returns-clause-covered

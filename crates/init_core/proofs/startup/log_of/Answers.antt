@@ -1,9 +1,10 @@
 -- A log server is what its entry says, without sessions.
-use Rattle.std.proofs.Common.{[], length, subst, sym, ◌∙◌, ap, arith}
+use Rattle.std.proofs.Common.{length, subst, sym, ◌∙◌, ap, arith}
 use Rattle.std.specs.Prelude.{IfSome}
 use Rattle.own_model.specs.Listed.{kind_of, service_of}
 use Rattle.own_model.specs.StartList.{Entry}
 use Rattle.pd_core.specs.Fresh.{AreEmpty}
+use Rattle.init_core.specs.Boot.{nowhere}
 use Rattle.init_core.proofs.StartLemmas.{server_empty}
 use Rattle.init_core.proofs.startup.log_of.Goals as goal
 
@@ -11,8 +12,8 @@ pub returns-clause-made : goal.returns-clause-made
 returns-clause-made c =
     let booted = c.in_ok-server.ensures in
     record {
-      entry_is = λ rules. c.log.ensures.entry rules ∙ (λ j. record { name = c.name.ensures.name j; kind = kind_of (sym c.requires j); routes = rules });
-      short = omega (arith, ap (λ (e : Entry). length e.name) (c.log.ensures.entry []), c.name.ensures.short);
+      entry_is = λ place. c.log.ensures.entry place ∙ (λ j. record { name = place.name; label = c.label.ensures.label j; kind = kind_of (sym c.requires j); home = place.home; routes = place.routes });
+      short = omega (arith, ap (λ (e : Entry). length e.label) (c.log.ensures.entry nowhere), c.label.ensures.short);
       account_is = c.log.ensures.account;
       reserve_is = c.log.ensures.reserve;
       service = c.log.ensures.service ∙ ap service_of (sym c.requires);

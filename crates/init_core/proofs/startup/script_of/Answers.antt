@@ -1,16 +1,17 @@
 -- A script is what its entry says, with tables that have just booted.
-use Rattle.std.proofs.Common.{[], length, subst, sym, ◌∙◌, ap, arith}
+use Rattle.std.proofs.Common.{length, subst, sym, ◌∙◌, ap, arith}
 use Rattle.std.specs.Prelude.{IfSome}
 use Rattle.own_model.specs.Listed.{kind_of, service_of}
 use Rattle.own_model.specs.StartList.{Entry}
 use Rattle.pd_core.specs.Fresh.{AreEmpty}
+use Rattle.init_core.specs.Boot.{nowhere}
 use Rattle.init_core.proofs.StartLemmas.{script_empty}
 use Rattle.init_core.proofs.startup.script_of.Goals as goal
 
 pub returns-clause-made : goal.returns-clause-made
 returns-clause-made c = record {
-  entry_is = λ rules. c.script.ensures.entry rules ∙ (λ j. record { name = c.name.ensures.name j; kind = kind_of (sym c.requires j); routes = rules });
-  short = omega (arith, ap (λ (e : Entry). length e.name) (c.script.ensures.entry []), c.name.ensures.short);
+  entry_is = λ place. c.script.ensures.entry place ∙ (λ j. record { name = place.name; label = c.label.ensures.label j; kind = kind_of (sym c.requires j); home = place.home; routes = place.routes });
+  short = omega (arith, ap (λ (e : Entry). length e.label) (c.script.ensures.entry nowhere), c.label.ensures.short);
   account_is = c.script.ensures.account;
   reserve_is = c.script.ensures.reserve;
   service = c.script.ensures.service ∙ ap service_of (sym c.requires);

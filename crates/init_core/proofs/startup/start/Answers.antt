@@ -1,14 +1,15 @@
 -- One more entry has started, or isn't covered.
 use Rattle.std.proofs.Common.{◌≡◌, ◌≢◌, ◌+◌, List, get_or, subst, sym, ap, ◌∙◌, IfErr, Option, Some, Result, Ok, Err}
 use Rattle.std.specs.Prelude.{IsErrAnd}
+use Rattle.trade_base.specs.declared.id.AccountId.{AccountId}
 use Rattle.own_model.specs.Amounts.{Amounts}
 use Rattle.own_model.specs.Listed.{ListedEntry, reserve_by}
 use Rattle.pd_core.specs.declared.component.Component.{Component}
 use Rattle.init_core.specs.Boot.{HasStarted}
 use Rattle.init_core.specs.declared.fault.BootFault.{BootFault}
 use Rattle.init_core.specs.declared.fault.BootFault.TheVariants.{NoMemory}
-use Rattle.init_core.proofs.StartLemmas.{opens_beside}
-use Rattle.init_core.proofs.BootLemmas.{uncovered_account, uncovered_reserve, server_started, script_started}
+use Rattle.init_core.proofs.InitLemmas.{init_open}
+use Rattle.init_core.proofs.BootLemmas.{init_next, init_still_open, uncovered_account, uncovered_reserve, alone_started, script_started}
 use Rattle.init_core.proofs.startup.start.Goals as goal
 
 -- a fault that is passed on is the list's
@@ -17,32 +18,48 @@ passed_on : {X : Type 0} (fault : Option BootFault) (told : BootFault) (r : Resu
 passed_on fault told (Ok x) is found = tt
 passed_on fault told (Err y) is found = λ other. found ∙ ap Some (sym is)
 
+pub open_for-requires-clause-init : goal.open_for-requires-clause-init
+open_for-requires-clause-init c =
+    let entry = c.index-entries-place.result in
+    let is = subst (λ (xs : List ListedEntry). entry ≡ get_or xs c.args.place entry) c.entries.ensures c.index-entries-place.is in
+    let init = init_next c.requires.so_far c.requires.place is c.home.result c.index-init.result.now c.home.ensures.home c.home.ensures.value c.index-init.ensures in
+    init_open c.requires.so_far.parts entry.home c.index-init.result.now.0 init
+
 pub returns-in_err-account-clause-fault : goal.returns-in_err-account-clause-fault
 returns-in_err-account-clause-fault c =
     let entry = c.index-entries-place.result in
     let is = subst (λ (xs : List ListedEntry). entry ≡ get_or xs c.args.place entry) c.entries.ensures c.index-entries-place.is in
+    let init = init_next c.requires.so_far c.requires.place is c.home.result c.index-init.result.now c.home.ensures.home c.home.ensures.value c.index-init.ensures in
     passed_on _ _ c.from_residual.result c.from_residual.ensures.1
-    (uncovered_account c.requires.so_far c.requires.place is _ _ c.ram.ensures c.caps.ensures (sym c.in_err-account.ensures.covered) ∙ ap Some (sym c.in_err-account.ensures.fault))
+    (uncovered_account c.index-init.result.now.0 c.requires.so_far c.requires.place is init _ _ c.ram.ensures c.caps.ensures (sym c.in_err-account.ensures.covered) ∙ ap Some (sym c.in_err-account.ensures.fault))
 
 pub open_for-requires-in-Script-clause-init : goal.open_for-requires-in-Script-clause-init
-open_for-requires-in-Script-clause-init c = (opens_beside c.in_ok-account.ensures.opened).init c.requires.so_far.fresh.init
+open_for-requires-in-Script-clause-init c =
+    let entry = c.index-entries-place.result in
+    let is = subst (λ (xs : List ListedEntry). entry ≡ get_or xs c.args.place entry) c.entries.ensures c.index-entries-place.is in
+    let init = init_next c.requires.so_far c.requires.place is c.home.result c.index-init.result.now c.home.ensures.home c.home.ensures.value c.index-init.ensures in
+    init_still_open c.index-init.result.now.0 c.requires.so_far c.requires.place is init c.in_ok-account.ensures.opened
 
 pub returns-in_err-reserve-in-Script-clause-fault : goal.returns-in_err-reserve-in-Script-clause-fault
 returns-in_err-reserve-in-Script-clause-fault c =
     let entry = c.index-entries-place.result in
     let is = subst (λ (xs : List ListedEntry). entry ≡ get_or xs c.args.place entry) c.entries.ensures c.index-entries-place.is in
+    let init = init_next c.requires.so_far c.requires.place is c.home.result c.index-init.result.now c.home.ensures.home c.home.ensures.value c.index-init.ensures in
     let kept = c.reserve_at_start-kept.ensures in
     passed_on _ _ c.from_residual-in_err-reserve-in-Script.result c.from_residual-in_err-reserve-in-Script.ensures.1
-    (uncovered_reserve c.requires.so_far c.requires.place is _ _ _ _ c.ram.ensures c.caps.ensures (ap (λ (a : Amounts). a.ram) kept) (ap (λ (a : Amounts). a.caps) kept)
+    (uncovered_reserve c.index-init.result.now.0 c.requires.so_far c.requires.place is init _ _ _ _ c.ram.ensures c.caps.ensures (ap (λ (a : Amounts). a.ram) kept) (ap (λ (a : Amounts). a.caps) kept)
     c.in_ok-account.ensures.opened (sym c.in_err-reserve-in-Script.ensures.covered) ∙ ap Some (sym c.in_err-reserve-in-Script.ensures.fault))
 
 pub returns-in_ok-push-in-Script-clause-started : goal.returns-in_ok-push-in-Script-clause-started
 returns-in_ok-push-in-Script-clause-started c =
     let entry = c.index-entries-place.result in
     let is = subst (λ (xs : List ListedEntry). entry ≡ get_or xs c.args.place entry) c.entries.ensures c.index-entries-place.is in
+    let init = init_next c.requires.so_far c.requires.place is c.home.result c.index-init.result.now c.home.ensures.home c.home.ensures.value c.index-init.ensures in
     let kept = c.reserve_at_start-kept.ensures in
-    subst (λ (items : List Component). HasStarted c.args.list.now c.open_for-in-Script.new.memory items (c.args.place + 1)) (sym {A = List Component} c.in_ok-push-in-Script.ensures.items)
-    (script_started c.requires.so_far c.requires.place is c.in_ok-script_of-in-Script.field-0 c.ram.ensures c.caps.ensures (ap (λ (a : Amounts). a.ram) kept) (ap (λ (a : Amounts). a.caps) kept)
+    subst (λ (p : List Component × List AccountId). HasStarted c.args.list.now c.open_for-in-Script.new.memory p.0 p.1 (c.args.place + 1))
+    (λ j. (sym {A = List Component} c.in_ok-push-in-Script.ensures.items j, sym {A = List AccountId} c.in_ok-push.ensures.items j))
+    (script_started c.index-init.result.now.0 c.requires.so_far c.requires.place is init c.in_ok-account.account c.in_ok-script_of-in-Script.field-0 c.ram.ensures c.caps.ensures
+    (ap (λ (a : Amounts). a.ram) kept) (ap (λ (a : Amounts). a.caps) kept)
     (sym c.in_ok-account.ensures.covered) c.in_ok-account.ensures.opened (sym c.in_ok-reserve-in-Script.ensures.covered) c.in_ok-reserve-in-Script.ensures.opened
     c.in_ok-script_of-in-Script.ensures.made)
 
@@ -50,16 +67,31 @@ pub returns-in_ok-push-in-Log-clause-started : goal.returns-in_ok-push-in-Log-cl
 returns-in_ok-push-in-Log-clause-started c =
     let entry = c.index-entries-place.result in
     let is = subst (λ (xs : List ListedEntry). entry ≡ get_or xs c.args.place entry) c.entries.ensures c.index-entries-place.is in
+    let init = init_next c.requires.so_far c.requires.place is c.home.result c.index-init.result.now c.home.ensures.home c.home.ensures.value c.index-init.ensures in
     let none = ap (λ b. reserve_by b entry.reserve) (sym c.in-Log.ensures) in
-    subst (λ (items : List Component). HasStarted c.args.list.now c.open_for.new.memory items (c.args.place + 1)) (sym {A = List Component} c.in_ok-push-in-Log.ensures.items)
-    (server_started c.requires.so_far c.requires.place is c.in_ok-log_of-in-Log.field-0 c.ram.ensures c.caps.ensures none
+    subst (λ (p : List Component × List AccountId). HasStarted c.args.list.now c.open_for.new.memory p.0 p.1 (c.args.place + 1))
+    (λ j. (sym {A = List Component} c.in_ok-push-in-Log.ensures.items j, sym {A = List AccountId} c.in_ok-push.ensures.items j))
+    (alone_started c.index-init.result.now.0 c.requires.so_far c.requires.place is init c.in_ok-account.account c.in_ok-log_of-in-Log.field-0 c.ram.ensures c.caps.ensures none
     (sym c.in_ok-account.ensures.covered) c.in_ok-account.ensures.opened c.in_ok-log_of-in-Log.ensures.made)
 
 pub returns-in_ok-push-in-Files-clause-started : goal.returns-in_ok-push-in-Files-clause-started
 returns-in_ok-push-in-Files-clause-started c =
     let entry = c.index-entries-place.result in
     let is = subst (λ (xs : List ListedEntry). entry ≡ get_or xs c.args.place entry) c.entries.ensures c.index-entries-place.is in
+    let init = init_next c.requires.so_far c.requires.place is c.home.result c.index-init.result.now c.home.ensures.home c.home.ensures.value c.index-init.ensures in
     let none = ap (λ b. reserve_by b entry.reserve) (sym c.in-Files.ensures) in
-    subst (λ (items : List Component). HasStarted c.args.list.now c.open_for.new.memory items (c.args.place + 1)) (sym {A = List Component} c.in_ok-push-in-Files.ensures.items)
-    (server_started c.requires.so_far c.requires.place is c.in_ok-files_of-in-Files.field-0 c.ram.ensures c.caps.ensures none
+    subst (λ (p : List Component × List AccountId). HasStarted c.args.list.now c.open_for.new.memory p.0 p.1 (c.args.place + 1))
+    (λ j. (sym {A = List Component} c.in_ok-push-in-Files.ensures.items j, sym {A = List AccountId} c.in_ok-push.ensures.items j))
+    (alone_started c.index-init.result.now.0 c.requires.so_far c.requires.place is init c.in_ok-account.account c.in_ok-files_of-in-Files.field-0 c.ram.ensures c.caps.ensures none
     (sym c.in_ok-account.ensures.covered) c.in_ok-account.ensures.opened c.in_ok-files_of-in-Files.ensures.made)
+
+pub returns-in_ok-push-in-Init-clause-started : goal.returns-in_ok-push-in-Init-clause-started
+returns-in_ok-push-in-Init-clause-started c =
+    let entry = c.index-entries-place.result in
+    let is = subst (λ (xs : List ListedEntry). entry ≡ get_or xs c.args.place entry) c.entries.ensures c.index-entries-place.is in
+    let init = init_next c.requires.so_far c.requires.place is c.home.result c.index-init.result.now c.home.ensures.home c.home.ensures.value c.index-init.ensures in
+    let none = ap (λ b. reserve_by b entry.reserve) (sym c.in-Init.ensures) in
+    subst (λ (p : List Component × List AccountId). HasStarted c.args.list.now c.open_for.new.memory p.0 p.1 (c.args.place + 1))
+    (λ j. (sym {A = List Component} c.in_ok-push-in-Init.ensures.items j, sym {A = List AccountId} c.in_ok-push.ensures.items j))
+    (alone_started c.index-init.result.now.0 c.requires.so_far c.requires.place is init c.in_ok-account.account c.init_of.result c.ram.ensures c.caps.ensures none
+    (sym c.in_ok-account.ensures.covered) c.in_ok-account.ensures.opened (c.init_of.ensures c.args.list.now))

@@ -16,10 +16,10 @@ reserve-requires c =
     subst (λ r. IfSome (reserve_in r) (IsOpenIn c.args.memory.now)) (role_read c.args.components.now c.args.place at.result c.requires.caller at.is) (reserve_open c.requires.core c.args.place)
 
 pub returns : goal.returns
-returns c = λ rules.
+returns c = λ places.
     let memory = c.args.memory.now in
     let components = c.args.components.now in
     let sessions = sessions_in memory (roles_of components) in
     let at = c.index-components-place in
     c.reserve.ensures sessions ∙ ap (λ (d : Component). (own sessions memory d).reserve) at.is
-    ∙ sym (reserve_at_place rules memory components c.args.place at.result c.requires.caller)
+    ∙ sym (reserve_at_place places memory components c.args.place at.result c.requires.caller)

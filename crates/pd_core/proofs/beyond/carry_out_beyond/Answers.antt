@@ -10,19 +10,19 @@ use Rattle.pd_core.proofs.beyond.carry_out_beyond.Goals.{in-Open, in-Upgrade, in
 use Rattle.pd_core.proofs.beyond.carry_out_beyond.Goals as goal
 
 pub returns-in-CallSession : goal.returns-in-CallSession
-returns-in-CallSession g c = goes_as (ap model_call c.in-CallSession.is) refl (c.call.ensures (g.R.Router.rules c.args.routes.now))
+returns-in-CallSession g c = goes_as (ap model_call c.in-CallSession.is) refl (c.call.ensures (g.R.Router.places c.args.routes.now))
 
 pub returns : goal.returns
 returns g c =
-    let rules = g.R.Router.rules c.args.routes.now in
+    let places = g.R.Router.places c.args.routes.now in
     let told : (answered : Result Answer Refusal) → c.match-call.outcome ≡ answered → c.tell.new.reply ≡ told_alone (reply_text (reply_of answered))
     = λ answered is. c.tell.ensures ∙ ap (λ o. told_alone (reply_text (reply_of o))) is in
     elim c.match-call.branch [
       | in-Open w ↦ rw (w.memory-is, w.components-is) (goes_as (ap model_call w.in-Open.is) (told _ w.outcome-is) w.open-outcome.ensures)
-      | in-Upgrade w ↦ rw (w.memory-is, w.components-is) (goes_as (ap model_call w.in-Upgrade.is) (told _ w.outcome-is) (w.upgrade-outcome.ensures rules))
-      | in-Close w ↦ rw (w.memory-is, w.components-is) (goes_as (ap model_call w.in-Close.is) (told _ w.outcome-is) (w.close-outcome.ensures rules))
-      | in-Reserve w ↦ rw (w.memory-is, w.components-is) (goes_as (ap model_call w.in-Reserve.is) (told _ w.outcome-is) (w.reserve-outcome.ensures rules))
-      | in-Request w ↦ rw (w.memory-is, w.components-is) (goes_as (ap model_call w.in-Request.is) (told _ w.outcome-is) (w.request-outcome.ensures rules))
-      | in-Yield w ↦ rw (w.memory-is, w.components-is) (goes_as (ap model_call w.in-Yield.is) (told _ w.outcome-is) (w.give-outcome.ensures rules))
-      | in-Exit w ↦ rw (w.memory-is, w.components-is) (goes_as (ap model_call w.in-Exit.is) (told _ w.outcome-is) (w.exit-outcome.ensures rules))
+      | in-Upgrade w ↦ rw (w.memory-is, w.components-is) (goes_as (ap model_call w.in-Upgrade.is) (told _ w.outcome-is) (w.upgrade-outcome.ensures places))
+      | in-Close w ↦ rw (w.memory-is, w.components-is) (goes_as (ap model_call w.in-Close.is) (told _ w.outcome-is) (w.close-outcome.ensures places))
+      | in-Reserve w ↦ rw (w.memory-is, w.components-is) (goes_as (ap model_call w.in-Reserve.is) (told _ w.outcome-is) (w.reserve-outcome.ensures places))
+      | in-Request w ↦ rw (w.memory-is, w.components-is) (goes_as (ap model_call w.in-Request.is) (told _ w.outcome-is) (w.request-outcome.ensures places))
+      | in-Yield w ↦ rw (w.memory-is, w.components-is) (goes_as (ap model_call w.in-Yield.is) (told _ w.outcome-is) (w.give-outcome.ensures places))
+      | in-Exit w ↦ rw (w.memory-is, w.components-is) (goes_as (ap model_call w.in-Exit.is) (told _ w.outcome-is) (w.exit-outcome.ensures places c.requires.routes.homes))
     ]

@@ -8,10 +8,10 @@ use Rattle.pd_core.proofs.WorldLemmas.{role_at}
 use Rattle.pd_core.proofs.exiting.exit.Goals as goal
 
 pub returns-in_err-places : goal.returns-in_err-places
-returns-in_err-places c = λ rules.
+returns-in_err-places c = λ places at_home.
     let refusal = c.in_err-places.field-0.0 in
     passed_on refusal c.from_residual.result c.from_residual.ensures.1
-    (exit_refused_goes rules c.args.components.now c.index-components-caller.result c.requires.core c.requires.caller refusal c.in_err-places.ensures.told)
+    (exit_refused_goes places c.args.components.now c.index-components-caller.result c.requires.core c.requires.caller refusal c.in_err-places.ensures.told)
 
 pub end-requires : goal.end-requires
 end-requires c =

@@ -30,9 +30,9 @@ returns-in_default g c =
     let d = c.index-components-caller.result in
     let step = c.step.new in
     let done = c.step.ensures in
-    let rules = g.R.Router.rules c.args.routes.now in
+    let places = g.R.Router.places c.args.routes.now in
     let call = model_call c.args.call in
     let roles = roles_of components in
     let ready = subst (λ r. HasSessions (sessions_in memory roles) (caps_in r)) (role_at components i d c.requires.at.caller) (names_open c.requires.at.core i) in
     let on : is_exit call ≡ false = (let is_not = c.in_default.not-Exit in grind (arith, common_steps, is_not)) in
-    plain_goes memory components i d c.requires.at.caller c.requires.at.core step.memory step.self done.keeps done.stays rules call step.reply on (done.outcome (rules i) (sessions_in memory roles) ready)
+    plain_goes memory components i d c.requires.at.caller c.requires.at.core step.memory step.self done.keeps done.stays places call step.reply on (done.outcome (places i) (sessions_in memory roles) ready)

@@ -1,5 +1,5 @@
 -- A refused call changes nothing; else limits move.
-use Rattle.std.proofs.Common.{◌≡◌, [], Some, subst, refl, sym, ap, ◌∙◌}
+use Rattle.std.proofs.Common.{◌≡◌, Some, subst, refl, sym, ap, ◌∙◌}
 use Rattle.std.specs.Prelude.{IsErrAnd}
 use Rattle.trade_base.specs.declared.refusal.Refusal.TheVariants.{BadArgs, NotAScript}
 use Rattle.own_model.specs.Call.Call.{Request}
@@ -9,35 +9,36 @@ use Rattle.pd_core.specs.SessionCalls.{Goes}
 use Rattle.std.specs.Option.{option_or}
 use Rattle.pd_core.specs.Exit.{refusal_of}
 use Rattle.pd_core.specs.declared.component.Component.{Component}
+use Rattle.pd_core.proofs.PlainLemmas.{unlisted}
 use Rattle.pd_core.proofs.ReserveCallLemmas.{from_reserve, request_unread, request_short, request_goes}
 use Rattle.pd_core.proofs.SessionRefusedLemmas.{no_script_goes, passed_on, arguments_are}
 use Rattle.pd_core.proofs.reserves.request.Goals as goal
 
 pub returns-in_default : goal.returns-in_default
-returns-in_default c = λ rules.
-    no_script_goes rules c.args.components.now c.index-components-caller.result c.requires.core c.requires.caller (Request c.args.text.now) c.refusal.result
+returns-in_default c = λ places.
+    no_script_goes places c.args.components.now c.index-components-caller.result c.requires.core c.requires.caller (Request c.args.text.now) c.refusal.result
     (λ script is. c.in_default.not-Script script (ap (λ (d : Component). d.role) c.index-components-caller.is ∙ is))
     (c.refusal.ensures ∙ ap (λ (d : Component). option_or (refusal_of d.role) (Some NotAScript)) c.index-components-caller.is)
 
 pub returns-in_err-more : goal.returns-in_err-more
-returns-in_err-more c = λ rules.
+returns-in_err-more c = λ places.
     passed_on BadArgs c.from_residual.result (subst (λ e. IsErrAnd c.from_residual.result (λ y. y ≡ e)) c.in_err-more.ensures.refused c.from_residual.ensures.1)
-    (request_unread rules c.args.components.now c.index-components-caller.result c.requires.core c.requires.caller c.in-Script.script (ap (λ (d : Component). d.role) (sym c.index-components-caller.is) ∙ c.in-Script.is) c.args.text.now c.in_err-more.ensures.none)
+    (request_unread places c.args.components.now c.index-components-caller.result c.requires.core c.requires.caller c.in-Script.script (ap (λ (d : Component). d.role) (sym c.index-components-caller.is) ∙ c.in-Script.is) c.args.text.now c.in_err-more.ensures.none)
 
 pub shift-requires : goal.shift-requires
-shift-requires c = from_reserve (λ _. []) c.args.components.now c.index-components-caller.result c.requires.core c.requires.caller c.in-Script.script (ap (λ (d : Component). d.role) (sym c.index-components-caller.is) ∙ c.in-Script.is)
+shift-requires c = from_reserve (λ _. unlisted) c.args.components.now c.index-components-caller.result c.requires.core c.requires.caller c.in-Script.script (ap (λ (d : Component). d.role) (sym c.index-components-caller.is) ∙ c.in-Script.is)
 
 pub returns-in_err-shift : goal.returns-in_err-shift
-returns-in_err-shift c = λ rules.
+returns-in_err-shift c = λ places.
     let reads = arguments_are c.args.text.now c.ram.result.0 c.caps.result.0 c.in_ok-more.more.label c.in_ok-more.ensures.value c.ram.ensures c.caps.ensures refl in
     let refusal = c.in_err-shift.field-0.0 in
-    subst (λ m. Goes rules (Request c.args.text.now) c.args.caller (told_alone (reply_text (reply_of c.from_residual-in_err-shift.result))) c.args.memory.now c.args.components.now m c.args.components.now) (sym c.in_err-shift.ensures.err)
+    subst (λ m. Goes places (Request c.args.text.now) c.args.caller (told_alone (reply_text (reply_of c.from_residual-in_err-shift.result))) c.args.memory.now c.args.components.now m c.args.components.now) (sym c.in_err-shift.ensures.err)
     (passed_on refusal c.from_residual-in_err-shift.result c.from_residual-in_err-shift.ensures.1
-    (request_short rules c.args.components.now c.index-components-caller.result c.requires.core c.requires.caller c.in-Script.script (ap (λ (d : Component). d.role) (sym c.index-components-caller.is) ∙ c.in-Script.is) c.args.text.now reads refusal c.in_err-shift.ensures.refusal))
+    (request_short places c.args.components.now c.index-components-caller.result c.requires.core c.requires.caller c.in-Script.script (ap (λ (d : Component). d.role) (sym c.index-components-caller.is) ∙ c.in-Script.is) c.args.text.now reads refusal c.in_err-shift.ensures.refusal))
 
 pub returns : goal.returns
-returns c = λ rules.
+returns c = λ places.
     let reads = arguments_are c.args.text.now c.ram.result.0 c.caps.result.0 c.in_ok-more.more.label c.in_ok-more.ensures.value c.ram.ensures c.caps.ensures refl in
     let done = c.in_ok-shift.ensures in
-    request_goes rules c.args.components.now c.index-components-caller.result c.requires.core c.requires.caller c.in-Script.script (ap (λ (d : Component). d.role) (sym c.index-components-caller.is) ∙ c.in-Script.is) c.args.text.now reads c.shift.ensures.ram_moved c.shift.ensures.caps_moved
+    request_goes places c.args.components.now c.index-components-caller.result c.requires.core c.requires.caller c.in-Script.script (ap (λ (d : Component). d.role) (sym c.index-components-caller.is) ∙ c.in-Script.is) c.args.text.now reads c.shift.ensures.ram_moved c.shift.ensures.caps_moved
     done.refusal done.part

@@ -1,7 +1,8 @@
 -- A refused call changes nothing; else a session serves.
-use Rattle.std.proofs.Common.{[], rules, get_or, refl, sym, subst, ◌∙◌}
+use Rattle.std.proofs.Common.{rules, get_or, refl, sym, subst, ◌∙◌}
 use Rattle.own_model.specs.Call.Call.{CallSession}
 use Rattle.pd_core.specs.SessionCalls.{Goes}
+use Rattle.pd_core.proofs.PlainLemmas.{unlisted}
 use Rattle.pd_core.proofs.SessionRefusedLemmas.{call_asks, unnamed_goes}
 use Rattle.pd_core.proofs.SessionWorldLemmas.{its as named_role, Names, named_two, named_cap, host_within, host_serves}
 use Rattle.pd_core.proofs.ServedSessionLemmas.{nothing_goes, has_left, has_room, made_goes, given_named, given_goes}
@@ -9,10 +10,10 @@ use Rattle.pd_core.proofs.WorldLemmas.{role_at}
 use Rattle.pd_core.proofs.session_calls.call.Goals as goal
 
 pub returns-in-Err : goal.returns-in-Err
-returns-in-Err c = λ rules.
+returns-in-Err c = λ places.
     let components = c.args.components.now in
-    subst (λ told. Goes rules (CallSession c.args.selector c.args.request.now) c.args.caller told c.args.memory.now components c.args.memory.now components) (sym c.refuse.ensures)
-    (unnamed_goes rules components c.index-components-caller.result c.requires.core c.requires.caller (CallSession c.args.selector c.args.request.now) c.args.selector (call_asks c.args.selector c.args.request.now)
+    subst (λ told. Goes places (CallSession c.args.selector c.args.request.now) c.args.caller told c.args.memory.now components c.args.memory.now components) (sym c.refuse.ensures)
+    (unnamed_goes places components c.index-components-caller.result c.requires.core c.requires.caller (CallSession c.args.selector c.args.request.now) c.args.selector (call_asks c.args.selector c.args.request.now)
     c.in-Err.refusal c.session.ensures.named c.in-Err.is)
 
 pub bounds-components-entry : goal.bounds-components-entry
@@ -35,7 +36,7 @@ serve_session-requires-clause-serves c =
     host_serves components two c.index-components-caller.result (get_or components c.in-Ok.named.0 e) (role_at components c.in-Ok.named.0 e (host_within components c.in-Ok.named.0 two.serving)) c.args.selector c.in-Ok.named.1 (named_cap names)
 
 pub returns-in-Nothing : goal.returns-in-Nothing
-returns-in-Nothing c = λ rules.
+returns-in-Nothing c = λ places.
     let components = c.args.components.now in
     let names : Names c.args.memory.now components c.args.caller c.index-components-caller.result c.args.selector c.in-Ok.named
     = record { core = c.requires.core; here = c.requires.caller; is = sym c.session.ensures.named ∙ c.in-Ok.is } in
@@ -43,7 +44,7 @@ returns-in-Nothing c = λ rules.
     let e = c.index-components-entry.result in
     let done = c.serve_session in
     nothing_goes components two c.index-components-caller.result (get_or components c.in-Ok.named.0 e) (role_at components c.in-Ok.named.0 e (host_within components c.in-Ok.named.0 two.serving)) c.args.selector c.in-Ok.named.1
-    (named_cap names) done.new.memory done.new.self done.ensures.stays c.args.request.now done.result done.ensures.serves e refl rules c.in-Nothing.is done.new.reply done.ensures.text done.ensures.lines
+    (named_cap names) done.new.memory done.new.self done.ensures.stays c.args.request.now done.result done.ensures.serves e refl places c.in-Nothing.is done.new.reply done.ensures.text done.ensures.lines
 
 -- a buffer that it makes comes under a selector
 pub keep_buffer-kept-requires : goal.keep_buffer-kept-requires
@@ -56,7 +57,7 @@ keep_buffer-kept-requires c =
     let done = c.serve_session in
     record {
       room = has_left components two c.index-components-caller.result (get_or components c.in-Ok.named.0 e) (role_at components c.in-Ok.named.0 e (host_within components c.in-Ok.named.0 two.serving)) c.args.selector c.in-Ok.named.1
-          (named_cap names) done.new.memory done.new.self done.ensures.stays c.args.request.now done.result done.ensures.serves e refl (λ _. []) c.requires.caller (named_role names).1 c.index-components-caller-in-Buffer.result c.in-Buffer.space c.in-Buffer.is;
+          (named_cap names) done.new.memory done.new.self done.ensures.stays c.args.request.now done.result done.ensures.serves e refl (λ _. unlisted) c.requires.caller (named_role names).1 c.index-components-caller-in-Buffer.result c.in-Buffer.space c.in-Buffer.is;
     }
 
 pub add_number-requires : goal.add_number-requires
@@ -68,10 +69,10 @@ add_number-requires c =
     let e = c.index-components-entry.result in
     let done = c.serve_session in
     has_room components two c.index-components-caller.result (get_or components c.in-Ok.named.0 e) (role_at components c.in-Ok.named.0 e (host_within components c.in-Ok.named.0 two.serving)) c.args.selector c.in-Ok.named.1
-    (named_cap names) done.new.memory done.new.self done.ensures.stays c.args.request.now done.result done.ensures.serves e refl (λ _. []) c.requires.caller (named_role names).1 c.index-components-caller-in-Buffer.result c.in-Buffer.space c.in-Buffer.is done.new.reply done.ensures.text
+    (named_cap names) done.new.memory done.new.self done.ensures.stays c.args.request.now done.result done.ensures.serves e refl (λ _. unlisted) c.requires.caller (named_role names).1 c.index-components-caller-in-Buffer.result c.in-Buffer.space c.in-Buffer.is done.new.reply done.ensures.text
 
 pub returns-in-Buffer : goal.returns-in-Buffer
-returns-in-Buffer c = λ rules.
+returns-in-Buffer c = λ places.
     let components = c.args.components.now in
     let names : Names c.args.memory.now components c.args.caller c.index-components-caller.result c.args.selector c.in-Ok.named
     = record { core = c.requires.core; here = c.requires.caller; is = sym c.session.ensures.named ∙ c.in-Ok.is } in
@@ -80,7 +81,7 @@ returns-in-Buffer c = λ rules.
     let done = c.serve_session in
     let kept = c.keep_buffer-kept in
     made_goes components two c.index-components-caller.result (get_or components c.in-Ok.named.0 e) (role_at components c.in-Ok.named.0 e (host_within components c.in-Ok.named.0 two.serving)) c.args.selector c.in-Ok.named.1
-    (named_cap names) done.new.memory done.new.self done.ensures.stays c.args.request.now done.result done.ensures.serves e refl rules c.requires.caller (named_role names).1 c.index-components-caller-in-Buffer.result c.in-Buffer.space c.in-Buffer.is
+    (named_cap names) done.new.memory done.new.self done.ensures.stays c.args.request.now done.result done.ensures.serves e refl places c.requires.caller (named_role names).1 c.index-components-caller-in-Buffer.result c.in-Buffer.space c.in-Buffer.is
     _ refl kept.result kept.new.self kept.ensures.least kept.ensures.kept done.new.reply c.add_number.new.self done.ensures.text done.ensures.lines c.add_number.ensures.added
 
 -- one that it gives back goes, with its regions
@@ -94,11 +95,11 @@ drop_buffer-requires c =
     let done = c.serve_session in
     record {
       lent = given_named components two c.index-components-caller.result (get_or components c.in-Ok.named.0 e) (role_at components c.in-Ok.named.0 e (host_within components c.in-Ok.named.0 two.serving)) c.args.selector c.in-Ok.named.1
-          (named_cap names) done.new.memory done.new.self done.ensures.stays c.args.request.now done.result done.ensures.serves e refl (λ _. []) c.requires.caller (named_role names).1 c.index-components-caller-in-Gone.result c.in-Gone.space c.in-Gone.is;
+          (named_cap names) done.new.memory done.new.self done.ensures.stays c.args.request.now done.result done.ensures.serves e refl (λ _. unlisted) c.requires.caller (named_role names).1 c.index-components-caller-in-Gone.result c.in-Gone.space c.in-Gone.is;
     }
 
 pub returns-in-Gone : goal.returns-in-Gone
-returns-in-Gone c = λ rules.
+returns-in-Gone c = λ places.
     let components = c.args.components.now in
     let names : Names c.args.memory.now components c.args.caller c.index-components-caller.result c.args.selector c.in-Ok.named
     = record { core = c.requires.core; here = c.requires.caller; is = sym c.session.ensures.named ∙ c.in-Ok.is } in
@@ -106,5 +107,5 @@ returns-in-Gone c = λ rules.
     let e = c.index-components-entry.result in
     let done = c.serve_session in
     given_goes components two c.index-components-caller.result (get_or components c.in-Ok.named.0 e) (role_at components c.in-Ok.named.0 e (host_within components c.in-Ok.named.0 two.serving)) c.args.selector c.in-Ok.named.1
-    (named_cap names) done.new.memory done.new.self done.ensures.stays c.args.request.now done.result done.ensures.serves e refl rules c.requires.caller (named_role names).1 c.index-components-caller-in-Gone.result c.in-Gone.space c.in-Gone.is
+    (named_cap names) done.new.memory done.new.self done.ensures.stays c.args.request.now done.result done.ensures.serves e refl places c.requires.caller (named_role names).1 c.index-components-caller-in-Gone.result c.in-Gone.space c.in-Gone.is
     c.drop_buffer.new.self c.drop_buffer.ensures done.new.reply done.ensures.text done.ensures.lines

@@ -2,7 +2,7 @@
 use Rattle.std.proofs.Common.{rules, arith, length, get_or, Err, ap, refl, sym, ◌∙◌}
 use Rattle.trade_base.specs.declared.refusal.Refusal.TheVariants.{ServiceDenied}
 use Rattle.own_model.specs.Call.Call.{Open}
-use Rattle.own_model.specs.Session.{label_with}
+use Rattle.own_model.specs.Routes.{label_with}
 use Rattle.pd_core.proofs.RouterLemmas.{denied_wish}
 use Rattle.pd_core.proofs.SessionRefusedLemmas.{no_script_goes, unasked_goes, unread_wish, passed_on, unchanged, arguments_are}
 use Rattle.pd_core.proofs.SessionWorldLemmas.{host_within}
@@ -11,27 +11,27 @@ use Rattle.pd_core.proofs.session_calls.open.Goals as goal
 
 pub returns-in_default : goal.returns-in_default
 returns-in_default g c =
-    no_script_goes (g.R.Router.rules c.args.routes.now) c.args.components.now c.index-components-caller.result c.requires.at.core c.requires.at.caller (Open c.args.service.now c.args.text.now) c.refusal.result c.in_default.not-Script c.refusal.ensures
+    no_script_goes (g.R.Router.places c.args.routes.now) c.args.components.now c.index-components-caller.result c.requires.at.core c.requires.at.caller (Open c.args.service.now c.args.text.now) c.refusal.result c.in_default.not-Script c.refusal.ensures
 
 pub returns-in_err-args : goal.returns-in_err-args
 returns-in_err-args g c =
     let d = c.index-components-caller.result in
-    let rules = g.R.Router.rules c.args.routes.now in
+    let places = g.R.Router.places c.args.routes.now in
     passed_on c.in_err-args.field-0.0 c.from_residual.result c.from_residual.ensures.1
-    (unasked_goes rules c.args.components.now d c.requires.at.core c.requires.at.caller c.in-Script.script c.args.service.now c.args.text.now c.in_err-args.field-0.0 c.in-Script.is
-    (unread_wish (get_or c.args.components.now c.args.caller d).name.items (rules c.args.caller) c.args.service.now c.args.text.now c.in_err-args.ensures.none ∙ ap Err (sym c.in_err-args.ensures.refused)))
+    (unasked_goes places c.args.components.now d c.requires.at.core c.requires.at.caller c.in-Script.script c.args.service.now c.args.text.now c.in_err-args.field-0.0 c.in-Script.is
+    (unread_wish (get_or c.args.components.now c.args.caller d).name.items (places c.args.caller).routes c.args.service.now c.args.text.now c.in_err-args.ensures.none ∙ ap Err (sym c.in_err-args.ensures.refused)))
 
 pub returns-in_default-provider : goal.returns-in_default-provider
 returns-in_default-provider g c =
     let d = c.index-components-caller.result in
-    let rules = g.R.Router.rules c.args.routes.now in
-    unasked_goes rules c.args.components.now d c.requires.at.core c.requires.at.caller c.in-Script.script c.args.service.now c.args.text.now ServiceDenied c.in-Script.is
-    (denied_wish rules (g.R.Router.leads c.args.routes.now) c.args.components.now c.args.caller c.args.service.now c.label.result.now c.requires.routes c.requires.at.caller
+    let places = g.R.Router.places c.args.routes.now in
+    unasked_goes places c.args.components.now d c.requires.at.core c.requires.at.caller c.in-Script.script c.args.service.now c.args.text.now ServiceDenied c.in-Script.is
+    (denied_wish places (g.R.Router.leads c.args.routes.now) c.args.memory.now c.args.components.now c.args.caller c.args.service.now c.label.result.now c.requires.routes c.requires.at.caller
     (get_or c.args.components.now c.args.caller d).name.items c.args.text.now c.in_ok-args.args c.in_ok-args.ensures.value c.label.ensures (sym c.provider.ensures ∙ c.in_default-provider.is))
 
 pub bounds-components-entry : goal.bounds-components-entry
 bounds-components-entry g c =
-    let is_led : IsLed (g.R.Router.rules c.args.routes.now) (g.R.Router.leads c.args.routes.now) c.args.memory.now c.args.components.now c.args.caller c.in-Some.entry c.index-components-caller.result c.in-Script.script
+    let is_led : IsLed (g.R.Router.places c.args.routes.now) (g.R.Router.leads c.args.routes.now) c.args.memory.now c.args.components.now c.args.caller c.in-Some.entry c.index-components-caller.result c.in-Script.script
     c.args.service.now c.args.text.now (record { ram = c.in_ok-args.args.ram; caps = c.in_ok-args.args.caps; label = c.label.result.now }) = record {
       core = c.requires.at.core;
       here = c.requires.at.caller;
@@ -48,7 +48,7 @@ offset_bounds-components-entry g c =
 
 pub open_session-requires : goal.open_session-requires
 open_session-requires g c =
-    let is_led : IsLed (g.R.Router.rules c.args.routes.now) (g.R.Router.leads c.args.routes.now) c.args.memory.now c.args.components.now c.args.caller c.in-Some.entry c.index-components-caller.result c.in-Script.script
+    let is_led : IsLed (g.R.Router.places c.args.routes.now) (g.R.Router.leads c.args.routes.now) c.args.memory.now c.args.components.now c.args.caller c.in-Some.entry c.index-components-caller.result c.in-Script.script
     c.args.service.now c.args.text.now (record { ram = c.ram.result.0; caps = c.caps.result.0; label = c.label.result.now }) = record {
       core = c.requires.at.core;
       here = c.requires.at.caller;
@@ -61,7 +61,7 @@ open_session-requires g c =
 
 pub returns-in_err-session : goal.returns-in_err-session
 returns-in_err-session g c =
-    let is_led : IsLed (g.R.Router.rules c.args.routes.now) (g.R.Router.leads c.args.routes.now) c.args.memory.now c.args.components.now c.args.caller c.in-Some.entry c.index-components-caller.result c.in-Script.script
+    let is_led : IsLed (g.R.Router.places c.args.routes.now) (g.R.Router.leads c.args.routes.now) c.args.memory.now c.args.components.now c.args.caller c.in-Some.entry c.index-components-caller.result c.in-Script.script
     c.args.service.now c.args.text.now (record { ram = c.ram.result.0; caps = c.caps.result.0; label = c.label.result.now }) = record {
       core = c.requires.at.core;
       here = c.requires.at.caller;
@@ -76,7 +76,7 @@ returns-in_err-session g c =
 
 pub keep_session-requires : goal.keep_session-requires
 keep_session-requires g c =
-    let is_led : IsLed (g.R.Router.rules c.args.routes.now) (g.R.Router.leads c.args.routes.now) c.args.memory.now c.args.components.now c.args.caller c.in-Some.entry c.index-components-caller.result c.in-Script.script
+    let is_led : IsLed (g.R.Router.places c.args.routes.now) (g.R.Router.leads c.args.routes.now) c.args.memory.now c.args.components.now c.args.caller c.in-Some.entry c.index-components-caller.result c.in-Script.script
     c.args.service.now c.args.text.now (record { ram = c.ram.result.0; caps = c.caps.result.0; label = c.label.result.now }) = record {
       core = c.requires.at.core;
       here = c.requires.at.caller;
@@ -94,7 +94,7 @@ keep_session-requires g c =
 
 pub returns : goal.returns
 returns g c =
-    let is_led : IsLed (g.R.Router.rules c.args.routes.now) (g.R.Router.leads c.args.routes.now) c.args.memory.now c.args.components.now c.args.caller c.in-Some.entry c.index-components-caller.result c.in-Script.script
+    let is_led : IsLed (g.R.Router.places c.args.routes.now) (g.R.Router.leads c.args.routes.now) c.args.memory.now c.args.components.now c.args.caller c.in-Some.entry c.index-components-caller.result c.in-Script.script
     c.args.service.now c.args.text.now (record { ram = c.ram.result.0; caps = c.caps.result.0; label = c.label.result.now }) = record {
       core = c.requires.at.core;
       here = c.requires.at.caller;

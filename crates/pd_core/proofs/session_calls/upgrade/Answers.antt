@@ -9,13 +9,13 @@ use Rattle.pd_core.proofs.WorldLemmas.{role_at}
 use Rattle.pd_core.proofs.session_calls.upgrade.Goals as goal
 
 pub returns-in_err-entry : goal.returns-in_err-entry
-returns-in_err-entry c = λ rules.
+returns-in_err-entry c = λ places.
     passed_on c.in_err-entry.field-0.0 c.from_residual.result c.from_residual.ensures.1
-    (unnamed_goes rules c.args.components.now c.index-components-caller.result c.requires.core c.requires.caller (Upgrade c.args.selector c.args.text.now) c.args.selector (upgrade_asks c.args.selector c.args.text.now)
+    (unnamed_goes places c.args.components.now c.index-components-caller.result c.requires.core c.requires.caller (Upgrade c.args.selector c.args.text.now) c.args.selector (upgrade_asks c.args.selector c.args.text.now)
     c.in_err-entry.field-0.0 c.session.ensures.named c.in_err-entry.was)
 
 pub returns-in_err-more : goal.returns-in_err-more
-returns-in_err-more c = λ rules.
+returns-in_err-more c = λ places.
     let components = c.args.components.now in
     let names : Names c.args.memory.now components c.args.caller c.index-components-caller.result c.args.selector (c.in_ok-entry.entry, c.in_ok-entry.session)
     = record { core = c.requires.core; here = c.requires.caller; is = sym c.session.ensures.named ∙ c.in_ok-entry.was } in
@@ -24,7 +24,7 @@ returns-in_err-more c = λ rules.
     let host = get_or components c.in_ok-entry.entry d in
     let host_is = role_at components c.in_ok-entry.entry d (host_within components c.in_ok-entry.entry two.serving) in
     passed_on BadArgs c.from_residual-in_err-more.result (subst (λ e. IsErrAnd c.from_residual-in_err-more.result (λ y. y ≡ e)) c.in_err-more.ensures.refused c.from_residual-in_err-more.ensures.1)
-    (unread_goes components two d host host_is c.args.selector c.in_ok-entry.session (named_cap names) rules c.args.text.now c.in_err-more.ensures.none)
+    (unread_goes components two d host host_is c.args.selector c.in_ok-entry.session (named_cap names) places c.args.text.now c.in_err-more.ensures.none)
 
 pub bounds-components-entry : goal.bounds-components-entry
 bounds-components-entry c =
@@ -51,7 +51,7 @@ raise_session-requires c =
     host_serves components two d host host_is c.args.selector c.in_ok-entry.session (named_cap names)
 
 pub returns-in_err-raise_session : goal.returns-in_err-raise_session
-returns-in_err-raise_session c = λ rules.
+returns-in_err-raise_session c = λ places.
     let components = c.args.components.now in
     let names : Names c.args.memory.now components c.args.caller c.index-components-caller.result c.args.selector (c.in_ok-entry.entry, c.in_ok-entry.session)
     = record { core = c.requires.core; here = c.requires.caller; is = sym c.session.ensures.named ∙ c.in_ok-entry.was } in
@@ -64,10 +64,10 @@ returns-in_err-raise_session c = λ rules.
     let refusal = c.in_err-raise_session.field-0.0 in
     unchanged c.in_ok-entry.entry e c.in_err-raise_session.ensures.memory_err c.raise_session.ensures.same
     (passed_on refusal c.from_residual-in_err-raise_session.result c.from_residual-in_err-raise_session.ensures.1
-    (short_goes components two d host host_is c.args.selector c.in_ok-entry.session (named_cap names) rules c.args.text.now refusal reads c.in_err-raise_session.ensures.refusal))
+    (short_goes components two d host host_is c.args.selector c.in_ok-entry.session (named_cap names) places c.args.text.now refusal reads c.in_err-raise_session.ensures.refusal))
 
 pub returns : goal.returns
-returns c = λ rules.
+returns c = λ places.
     let components = c.args.components.now in
     let names : Names c.args.memory.now components c.args.caller c.index-components-caller.result c.args.selector (c.in_ok-entry.entry, c.in_ok-entry.session)
     = record { core = c.requires.core; here = c.requires.caller; is = sym c.session.ensures.named ∙ c.in_ok-entry.was } in
@@ -79,5 +79,5 @@ returns c = λ rules.
     let reads = arguments_are c.args.text.now c.ram.result.0 c.caps.result.0 c.in_ok-more.more.label c.in_ok-more.ensures.value c.ram.ensures c.caps.ensures refl in
     let done = c.raise_session in
     let raised = c.in_ok-raise_session.ensures in
-    upgrade_goes components two d host host_is c.args.selector c.in_ok-entry.session (named_cap names) done.new.memory done.new.self done.ensures.stays rules e refl c.args.text.now reads
+    upgrade_goes components two d host host_is c.args.selector c.in_ok-entry.session (named_cap names) done.new.memory done.new.self done.ensures.stays places e refl c.args.text.now reads
     raised.refusal raised.raises raised.sessions

@@ -11,6 +11,6 @@ use Rattle.scenario.proofs.account_list.put_sessions_of.Given as goal
 abbrev pub invariant-loop-selector : goal.invariant-loop-selector
 invariant-loop-selector g l = record {
   told : Tells (g.K.Sink.contents l.fn.sink) l.fn.gathered (g.K.Sink.contents l.sink) l.gathered
-      (told_from (object_line (listed_at l.list l.component).name) (λ k. get (state_at l.core.states l.component).selectors k) 0 l.selector);
+      (told_from (object_line (listed_at l.list l.component).path) (λ k. get (state_at l.core.states l.component).selectors k) 0 l.selector);
   works : g.K.Sink.has_failed l.sink ≡ false;
 }

@@ -1,12 +1,18 @@
-use Rattle.std.proofs.Common.{◌≡◌, ◌∙◌, ap, List, ◌++◌, append_assoc, OnOk, Result, Ok, Err}
+use Rattle.std.proofs.Common.{◌++◌, ap, ◌∙◌}
+use Rattle.std.proofs.lemmas.List.{append_assoc}
+use Rattle.std.proofs.lemmas.Result.{on_ok_weaker}
+use Rattle.own_model.specs.Listed.{log_service}
+use Rattle.start_review.specs.Findings.{strays_if_provided, told}
+use Rattle.start_review.specs.Steps.{part_of}
 use Rattle.start_review.proofs.findings.tell_all_strays.Goals as goal
 
--- what one call told and then another
-then_told : {X T E : Type 0} (r : Result T E) (before between after first second : List X)
-    → OnOk r (after ≡ between ++ second) → between ≡ before ++ first → OnOk r (after ≡ before ++ (first ++ second))
-then_told (Ok v) before between after first second then was =
-    then ∙ ap (λ xs. xs ++ second) was ∙ append_assoc before first second
-then_told (Err e) before between after first second then was = then
-
 pub returns : goal.returns
-returns c = then_told c.tell_stray-2.result _ _ _ _ _ c.tell_stray-2.ensures c.in_ok-tell_stray.ensures
+returns c =
+    let part = part_of c.args.list.now.entries c.args.about in
+    on_ok_weaker c.tell-2.result
+    (λ told_files. told_files
+    ∙ ap (λ found. found ++ told part c.strays_if_provided-files.result) c.in_ok-tell.ensures
+    ∙ append_assoc c.args.found.now.items (told part c.strays_if_provided-logs.result) (told part c.strays_if_provided-files.result)
+    ∙ ap (λ logs. c.args.found.now.items ++ (told part logs ++ told part c.strays_if_provided-files.result)) c.strays_if_provided-logs.ensures
+    ∙ ap (λ files. c.args.found.now.items ++ (told part (strays_if_provided c.args.list.now.entries c.args.init c.args.earlier.now c.args.rule.now log_service) ++ told part files)) c.strays_if_provided-files.ensures)
+    c.tell-2.ensures

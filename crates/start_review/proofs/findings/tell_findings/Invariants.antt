@@ -4,7 +4,7 @@ use Rattle.start_review.specs.Findings.{entry_findings}
 use Rattle.start_review.proofs.findings.tell_findings.Given as goal
 
 -- what is told so far and what is to be told of the other entries
-abbrev pub invariant-loop-place : goal.invariant-loop-place
-invariant-loop-place l =
-    l.found.items ++ flat_map (entry_findings l.list) (enumerate_from l.place (drop l.place l.entries))
+abbrev pub invariant-loop-number : goal.invariant-loop-number
+invariant-loop-number l =
+    l.found.items ++ flat_map (entry_findings l.list) (enumerate_from l.number (drop l.number l.entries))
     ≡ l.initial.found.items ++ flat_map (entry_findings l.list) (enumerate_from 0 l.entries)

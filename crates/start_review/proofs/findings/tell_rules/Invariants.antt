@@ -5,5 +5,5 @@ use Rattle.start_review.proofs.findings.tell_rules.Given as goal
 
 abbrev pub invariant-loop-place : goal.invariant-loop-place
 invariant-loop-place l =
-    l.found.items ++ flat_map (findings_at l.list l.owner l.rules) (enumerate_from l.place (drop l.place l.rules))
-    ≡ l.initial.found.items ++ rules_findings l.list l.owner l.rules
+    l.found.items ++ flat_map (findings_at l.list l.init l.owner l.rules) (enumerate_from l.place (drop l.place l.rules))
+    ≡ l.initial.found.items ++ rules_findings l.list l.init l.owner l.rules

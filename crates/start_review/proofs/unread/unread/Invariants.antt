@@ -1,9 +1,11 @@
-use Rattle.std.specs.List.{All}
-use Rattle.start_review.specs.Findings.{IsUnread}
+use Rattle.std.proofs.Common.{◌≡◌, ◌++◌, drop, map}
+use Rattle.std.specs.List.{enumerate_from, flat_map}
+use Rattle.start_review.specs.Unread.{unread_in_entry}
+use Rattle.start_review.specs.Values.{seen}
 use Rattle.start_review.proofs.unread.unread.Given as goal
 
-abbrev pub invariant-loop-place : goal.invariant-loop-place
-invariant-loop-place l = All IsUnread l.found.items
-
-abbrev pub invariant-loop-place-2 : goal.invariant-loop-place-2
-invariant-loop-place-2 l = All IsUnread l.found.items
+-- what is told so far and what is to be told of the other entries
+abbrev pub invariant-loop-number : goal.invariant-loop-number
+invariant-loop-number l =
+    l.found.items ++ flat_map unread_in_entry (enumerate_from l.number (drop l.number (map seen l.entry-items)))
+    ≡ l.initial.found.items ++ flat_map unread_in_entry (enumerate_from 0 (map seen l.entry-items))

@@ -2,7 +2,7 @@
 use Rattle.std.proofs.Common.{refl, subst, ◌∙◌}
 use Rattle.dataspace_core.proofs.PartLaws.{open_in_part}
 use Rattle.pd_core.specs.Component.{IsSoundRole}
-use Rattle.pd_core.specs.declared.component.Role.TheVariants.{Script as AScript, Log as ALog, Files as AFiles}
+use Rattle.pd_core.specs.declared.component.Role.TheVariants.{Script as AScript, Log as ALog, Files as AFiles, Init as AnInit}
 use Rattle.pd_core.proofs.QuotaLemmas.{account_of_known}
 use Rattle.pd_core.proofs.component.Component.quotas.Goals as goal
 
@@ -26,3 +26,7 @@ returns-in-Log c = λ sessions.
 pub returns-in-Files : goal.returns-in-Files
 returns-in-Files c = λ sessions.
     c.quotas_of-in-Files.ensures ∙ account_of_known sessions c.args.memory.now c.args.self.now.role (AFiles c.in-Files.account c.in-Files.field-1) c.in-Files.account.0 c.in-Files.is refl
+
+pub returns-in-Init : goal.returns-in-Init
+returns-in-Init c = λ sessions.
+    c.quotas_of-in-Init.ensures ∙ account_of_known sessions c.args.memory.now c.args.self.now.role (AnInit c.in-Init.account) c.in-Init.account.0 c.in-Init.is refl

@@ -2,11 +2,9 @@
 use Rattle.std.proofs.Common.{subst, sym, ◌∙◌, ap}
 use Rattle.std.specs.Prelude.{IfSome}
 use Rattle.own_model.specs.Account.{Account}
-use Rattle.own_model.specs.Amounts.{Amounts}
 use Rattle.dataspace_core.specs.Store.{IsOpenIn}
 use Rattle.dataspace_core.proofs.PartLaws.{account_of-part}
 use Rattle.pd_core.specs.Component.{reserve_in, own_in}
-use Rattle.pd_core.specs.declared.component.Role.{Role}
 use Rattle.pd_core.proofs.QuotaLemmas.{none_in_reserve}
 use Rattle.pd_core.proofs.component.Component.reserve.Goals as goal
 

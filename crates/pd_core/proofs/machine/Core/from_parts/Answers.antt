@@ -7,8 +7,8 @@ use Rattle.pd_core.proofs.machine.Core.from_parts.Goals as goal
 
 pub invariant_of-result : goal.invariant_of-result
 invariant_of-result g c =
-    subst (λ items. IsCore c.args.memory items × Agrees (g.R.Router.rules c.args.routes) (g.R.Router.leads c.args.routes) items) (sym c.into_boxed_slice.ensures.items)
-    (fresh_core c.args.memory c.args.components.items c.requires.fresh c.requires.room, c.requires.leads)
+    subst (λ items. IsCore c.args.memory items × Agrees (g.R.Router.places c.args.routes) (g.R.Router.leads c.args.routes) c.args.memory items) (sym c.into_boxed_slice.ensures.items)
+    (fresh_core c.args.memory c.args.components.items c.requires.fresh, c.requires.leads)
 
 pub returns : goal.returns
-returns g c = record { started = ap (world_of (g.R.Router.rules c.args.routes) c.args.memory) c.into_boxed_slice.ensures.items ∙ fresh_world c.args.memory c.args.components.items c.requires.fresh (g.R.Router.rules c.args.routes) }
+returns g c = record { started = ap (world_of (g.R.Router.places c.args.routes) c.args.memory) c.into_boxed_slice.ensures.items ∙ fresh_world c.args.memory c.args.components.items c.requires.fresh (g.R.Router.places c.args.routes) }

@@ -10,7 +10,7 @@ use Rattle.pd_core.proofs.machine.Core.last_selector.Goals as goal
 
 pub bounds-components-component : goal.bounds-components-component
 bounds-components-component g c =
-    let routed = g.R.Router.rules c.self.inside.routes in
+    let routed = g.R.Router.places c.self.inside.routes in
     let memory = c.self.inside.memory in
     place_within routed memory c.as_slice-components.result.now c.args.self.now c.args.component (ap (world_of routed memory) c.as_slice-components.ensures.value ∙ c.self.view_is) c.requires
 
@@ -20,7 +20,7 @@ offset_bounds-components-component g c =
 
 pub returns-clause-none : goal.returns-clause-none
 returns-clause-none g c = λ q past.
-    let routed = g.R.Router.rules c.self.inside.routes in
+    let routed = g.R.Router.places c.self.inside.routes in
     let memory = c.self.inside.memory in
     let components = c.as_slice-components.result.now in
     let i = c.args.component in

@@ -7,10 +7,10 @@ use Rattle.pd_core.proofs.WorldLemmas.{core_at}
 use Rattle.pd_core.proofs.machine.Core.reserve.Goals as goal
 
 pub component_reserve-requires : goal.component_reserve-requires
-component_reserve-requires g c = core_at (g.R.Router.rules c.self.inside.routes) c.self.inside.memory _ _ c.args.self.now c.args.component c.as_slice.ensures.value c.self.invariant.0 c.self.view_is c.requires
+component_reserve-requires g c = core_at (g.R.Router.places c.self.inside.routes) c.self.inside.memory _ _ c.args.self.now c.args.component c.as_slice.ensures.value c.self.invariant.0 c.self.view_is c.requires
 
 pub returns : goal.returns
 returns g c =
-    let rules = g.R.Router.rules c.self.inside.routes in
-    c.component_reserve.ensures rules
-    ∙ ap (λ (w : World). (state_at w.states c.args.component).reserve) (ap (world_of rules c.self.inside.memory) c.as_slice.ensures.value ∙ c.self.view_is)
+    let places = g.R.Router.places c.self.inside.routes in
+    c.component_reserve.ensures places
+    ∙ ap (λ (w : World). (state_at w.states c.args.component).reserve) (ap (world_of places c.self.inside.memory) c.as_slice.ensures.value ∙ c.self.view_is)

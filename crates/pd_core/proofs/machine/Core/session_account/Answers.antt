@@ -11,11 +11,11 @@ use Rattle.pd_core.proofs.WorldLemmas.{core_at}
 use Rattle.pd_core.proofs.machine.Core.session_account.Goals as goal
 
 pub session_quotas-requires : goal.session_quotas-requires
-session_quotas-requires g c = core_at (g.R.Router.rules c.self.inside.routes) c.self.inside.memory _ _ c.args.self.now c.args.component c.as_slice.ensures.value c.self.invariant.0 c.self.view_is c.requires
+session_quotas-requires g c = core_at (g.R.Router.places c.self.inside.routes) c.self.inside.memory _ _ c.args.self.now c.args.component c.as_slice.ensures.value c.self.invariant.0 c.self.view_is c.requires
 
 pub returns : goal.returns
 returns g c =
-    let rules = g.R.Router.rules c.self.inside.routes in
-    c.session_quotas.ensures rules
+    let places = g.R.Router.places c.self.inside.routes in
+    c.session_quotas.ensures places
     ∙ ap (λ (w : World). option_map (λ (s : AnOpenSession). s.account) (session_named (get (state_at w.states c.args.component).selectors c.args.selector)))
-    (ap (world_of rules c.self.inside.memory) c.as_slice.ensures.value ∙ c.self.view_is)
+    (ap (world_of places c.self.inside.memory) c.as_slice.ensures.value ∙ c.self.view_is)

@@ -20,29 +20,29 @@ written v lent after is many = with_items_is v after (many ∙ ap length is ∙ 
 
 pub carry_out-requires-clause-at : goal.carry_out-requires-clause-at
 carry_out-requires-clause-at g c =
-    core_at (g.R.Router.rules c.self.inside.routes) c.self.inside.memory _ _ c.args.self.now c.args.component c.as_mut_slice.ensures.value c.self.invariant.0 c.self.view_is c.requires.component
+    core_at (g.R.Router.places c.self.inside.routes) c.self.inside.memory _ _ c.args.self.now c.args.component c.as_mut_slice.ensures.value c.self.invariant.0 c.self.view_is c.requires.component
 
 pub invariant_of-self : goal.invariant_of-self
 invariant_of-self g c =
     let lent = c.as_mut_slice in
     let done = c.carry_out in
-    let rules = g.R.Router.rules c.self.inside.routes in
+    let places = g.R.Router.places c.self.inside.routes in
     let leads = g.R.Router.leads c.self.inside.routes in
-    subst (λ items. IsCore done.new.memory items × Agrees rules leads items)
+    subst (λ items. IsCore done.new.memory items × Agrees places leads done.new.memory items)
     (sym (written c.self.inside.components.items lent.result.now done.new.components lent.ensures.value (same_many done.ensures.answers)))
-    (done.ensures.core, done.ensures.leads rules leads (subst (Agrees rules leads) (sym lent.ensures.value) c.self.invariant.1))
+    (done.ensures.core, done.ensures.leads places leads (subst (Agrees places leads c.self.inside.memory) (sym lent.ensures.value) c.self.invariant.1))
 
 pub returns-clause-answered : goal.returns-clause-answered
 returns-clause-answered g c =
-    let rules = g.R.Router.rules c.self.inside.routes in
+    let places = g.R.Router.places c.self.inside.routes in
     c.carry_out.ensures.answers.answered
-    ∙ ap (λ w. reply_text (outcome_at w c.args.component (model_call c.args.call)).reply) (ap (world_of rules c.self.inside.memory) c.as_mut_slice.ensures.value ∙ c.self.view_is)
+    ∙ ap (λ w. reply_text (outcome_at w c.args.component (model_call c.args.call)).reply) (ap (world_of places c.self.inside.memory) c.as_mut_slice.ensures.value ∙ c.self.view_is)
 
 pub returns-clause-lines : goal.returns-clause-lines
 returns-clause-lines g c =
-    let rules = g.R.Router.rules c.self.inside.routes in
+    let places = g.R.Router.places c.self.inside.routes in
     c.carry_out.ensures.answers.lines
-    ∙ ap (λ w. flat_map log_text (outcome_at w c.args.component (model_call c.args.call)).lines) (ap (world_of rules c.self.inside.memory) c.as_mut_slice.ensures.value ∙ c.self.view_is)
+    ∙ ap (λ w. flat_map log_text (outcome_at w c.args.component (model_call c.args.call)).lines) (ap (world_of places c.self.inside.memory) c.as_mut_slice.ensures.value ∙ c.self.view_is)
 
 pub returns-clause-stepped : goal.returns-clause-stepped
 returns-clause-stepped g c =
@@ -50,10 +50,10 @@ returns-clause-stepped g c =
     let done = c.carry_out in
     let i = c.args.component in
     let call = model_call c.args.call in
-    let rules = g.R.Router.rules c.self.inside.routes in
-    ap (world_of rules done.new.memory) (written c.self.inside.components.items lent.result.now done.new.components lent.ensures.value (same_many done.ensures.answers))
+    let places = g.R.Router.places c.self.inside.routes in
+    ap (world_of places done.new.memory) (written c.self.inside.components.items lent.result.now done.new.components lent.ensures.value (same_many done.ensures.answers))
     ∙ done.ensures.answers.stepped
-    ∙ ap (λ w. with_state w i (outcome_at w i call).next) (ap (world_of rules c.self.inside.memory) lent.ensures.value ∙ c.self.view_is)
+    ∙ ap (λ w. with_state w i (outcome_at w i call).next) (ap (world_of places c.self.inside.memory) lent.ensures.value ∙ c.self.view_is)
 
 pub returns-clause-balance : goal.returns-clause-balance
 returns-clause-balance g c = λ pages caps balanced.

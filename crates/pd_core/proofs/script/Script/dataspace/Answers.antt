@@ -1,5 +1,5 @@
 -- A dataspace that a selector names has its pages, be it the script's own or one that a session lends.
-use Rattle.std.proofs.Common.{ap, sym, ◌∙◌, ◌/◌, Some}
+use Rattle.std.proofs.Common.{ap, sym, ◌∙◌, Some}
 use Rattle.std.specs.Prelude.{Ok}
 use Rattle.dataspace_core.specs.Store.{part}
 use Rattle.dataspace_core.proofs.PartLaws.{paid_in_part}

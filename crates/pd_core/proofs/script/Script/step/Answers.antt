@@ -4,7 +4,7 @@ use Rattle.trade_base.specs.declared.refusal.Refusal.{Refusal}
 use Rattle.own_model.specs.Call.{Call}
 use Rattle.own_model.specs.Call.Call.{Quota as ModelledQuota}
 use Rattle.own_model.specs.OwnStep.{script_step, Outcome}
-use Rattle.own_model.specs.Reply.{Reply, reply_text}
+use Rattle.own_model.specs.Reply.{reply_text}
 use Rattle.own_model.specs.Reply.Reply.{Quotas}
 use Rattle.dataspace_core.specs.Store.{Store, part, account_in}
 use Rattle.server_frame.specs.Told.{Told as Written}

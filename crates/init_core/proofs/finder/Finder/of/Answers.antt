@@ -1,0 +1,28 @@
+-- A place stays the first of its kind until one before it comes.
+use Rattle.std.proofs.Common.{◌≡◌, ◌+◌, ◌<◌, ◌≤◌, length, slice_index_or, slice_set, ap, subst, refl, sym, ◌∙◌, arith, length-set}
+use Rattle.std.proofs.lemmas.Option.{slice_get_read, slice_get_within}
+use Rattle.init_core.specs.Finder.{kind_of}
+use Rattle.init_core.proofs.FinderLemmas.{AreFirstOf, first_next}
+use Rattle.init_core.proofs.finder.Finder.of.Goals as goal
+
+pub loop-place-preserved : goal.loop-place-preserved
+loop-place-preserved c =
+    let entries = c.args.entries.now in
+    let firsts = c.loop-place.firsts in
+    let place = c.loop-place.place in
+    let least = c.min.result in
+    let entry = c.index-entries-place.result in
+    let here = slice_get_read entries (length entries) place entry refl c.loop-place-test.true c.index-entries-place.is in
+    let kind : c.kind_of-kind.result ≡ kind_of entry.path = c.kind_of-kind.ensures.value ∙ ap kind_of c.path.ensures.path in
+    let within : kind_of entry.path < length firsts = omega (arith, kind, c.kind_of-kind.ensures.small, c.loop-place.invariant.kinds) in
+    let kept : least ≤ slice_index_or firsts (kind_of entry.path) 0
+    = subst (λ k. least ≤ slice_index_or firsts k 0) kind (omega (arith, c.min.ensures)) in
+    record {
+      kinds = omega (arith, c.loop-place.invariant.kinds, length-set firsts c.kind_of-kind.result least);
+      first = subst (λ k. AreFirstOf (slice_set firsts k least) entries (place + 1)) (sym kind)
+          (first_next firsts entries place entry least here within kept (omega (arith, c.min.ensures)) c.loop-place.invariant.first);
+    }
+
+pub returns : goal.returns
+returns c =
+    λ place entry at. c.loop-place.invariant.first place entry (omega (arith, c.loop-place-test.false, slice_get_within _ place entry at)) at

@@ -1,0 +1,24 @@
+-- From which places on paths are looked for.
+use Rattle.std.specs.Prelude.{◌≡◌, ℕ, ◌+◌, ◌-◌, ◌*◌, ◌/◌, ◌%◌, ◌≤◌, List, length, get_or, nat_lt, if◌then◌else◌, Some}
+use Rattle.std.specs.List.{slice_get}
+use Rattle.own_model.specs.Listed.{ListedEntry}
+
+-- four bytes from a place on, as one number
+abbrev pub four_at : List ℕ → ℕ → ℕ
+four_at path n = get_or path n 0 + get_or path (n + 1) 0 * 256 + get_or path (n + 2) 0 * 65536 + get_or path (n + 3) 0 * 16777216
+
+-- what stands at the front, in the middle and at the end of a path, as one number: that is all of a path of at most 12 bytes
+abbrev pub parts_of : List ℕ → ℕ
+parts_of path =
+    if nat_lt (length path) 4
+    then get_or path 0 0 + get_or path (length path / 2) 0 * 3 + get_or path (length path - 1) 0 * 5
+    else four_at path 0 + four_at path ((length path - 3) / 2) * 3 + four_at path (length path - 4) * 5
+
+-- the kind of a path: few others of a list have the same
+abbrev pub kind_of : List ℕ → ℕ
+kind_of path = parts_of path * 165902235 / 16777216 % 1024
+
+-- of each kind of path none stands before this place
+abbrev pub AreFirst : List ℕ → List ListedEntry → Type 0
+AreFirst firsts entries = (place : ℕ) (entry : ListedEntry) → slice_get entries place ≡ Some entry →
+    get_or firsts (kind_of entry.path) 0 ≤ place

@@ -1,0 +1,13 @@
+pub mod PlayedLemmas
+pub mod PlayLemmas
+pub mod LineLemmas
+pub mod WriteLemmas
+pub mod ViewLemmas
+pub mod AloneLemmas
+pub mod OpenLemmas
+pub mod PeakLemmas
+pub mod NotedLemmas
+pub mod KeptLemmas
+pub mod CallerLemmas
+pub mod ListLemmas
+pub mod RowLemmas

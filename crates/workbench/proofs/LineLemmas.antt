@@ -1,0 +1,61 @@
+-- A line that is played: it says a call, which is answered and told, or nothing changes.
+use Rattle.std.proofs.Common.{◌≡◌, ℕ, ◌≤◌, List, [], ◌++◌, length, Option, Result, Ok, Err, OnOk, sym, ◌∙◌, ap}
+use Rattle.own_model.specs.SaidBy.{said_by}
+use Rattle.own_model.specs.Transcript.{longest_line}
+use Rattle.own_model.specs.World.{World}
+use Rattle.friendly_lines.specs.Friendly.{Said, said_of}
+use Rattle.friendly_lines.specs.declared.fault.Fault.{Fault}
+use Rattle.scenario.specs.Answered.{after_all}
+use Rattle.scenario.specs.Gathered.{Tells, TellsUnless}
+use Rattle.scenario.proofs.GatheredLemmas.{Tells-none}
+use Rattle.scenario.proofs.Serving.{left_none, said_none}
+use Rattle.workbench.specs.Played.{call_in, call_of, told_of_calls}
+use Rattle.workbench.specs.Watching.{Watches}
+use Rattle.workbench.proofs.PlayLemmas.{watches_none}
+use Rattle.workbench.proofs.PlayedLemmas.{call_of-short}
+
+-- what a line says by what was read of it
+pub call_of-said : (line : List ℕ) (said : Result Said Fault) → length line ≤ longest_line → said ≡ said_of line → call_of line ≡ call_in said
+call_of-said line said short is = call_of-short line short ∙ ap call_in (sym is)
+
+-- what a watch has seen where it watches
+pub sees_on : {T E : Type 0} (r : Result T E) (seen : World → List (List ℕ) → Type 0) (start world : World) (calls : List (List ℕ)) → OnOk r (Watches seen start calls world) → OnOk r (seen start calls)
+sees_on (Ok x) seen start world calls watches = watches.sees
+sees_on (Err fault) seen start world calls watches = tt
+
+-- what was told is told, whatever a complaint becomes
+pub judged_told : {T E : Type 0} {w w' : Option (List ℕ)} {g g' text : List ℕ} (judged : Result T E) → Tells w g w' g' text → TellsUnless judged w g w' g' text
+judged_told (Ok complained) told = told
+judged_told {g' = g'} (Err fault) told = (g', told)
+
+pub on_ok : {T E : Type 0} {P : Type 0} (judged : Result T E) → P → OnOk judged P
+on_ok (Ok complained) p = p
+on_ok (Err fault) p = tt
+
+module _ (only : Option (List ℕ)) (line : List ℕ) (calls : List (List ℕ)) (says : call_of line ≡ calls) where
+  -- what a line's calls do the line does
+  pub left_said : (world left : World) → left ≡ after_all only world calls → left ≡ after_all only world (call_of line)
+  left_said world left is = is ∙ ap (after_all only world) (sym says)
+
+  pub told_said : {T E : Type 0} (judged : Result T E) (tells : List (List ℕ) → ℕ → List ℕ → List ℕ) (earlier : List (List ℕ)) (number : ℕ) (w w' : Option (List ℕ)) (g g' : List ℕ) →
+      TellsUnless judged w g w' g' (told_of_calls tells earlier number (said_by only calls)) → TellsUnless judged w g w' g' (told_of_calls tells earlier number (said_by only (call_of line)))
+  told_said judged tells earlier number w w' g g' told = rw says told
+
+  pub seen_said : {T E : Type 0} (judged : Result T E) (seen : World → List (List ℕ) → Type 0) (start left : World) (earlier : List (List ℕ)) →
+      OnOk judged (Watches seen start (earlier ++ said_by only calls) left) → OnOk judged (Watches seen start (earlier ++ said_by only (call_of line)) left)
+  seen_said judged seen start left earlier sees = rw says sees
+
+-- a line that says no call changes nothing
+module _ (only : Option (List ℕ)) (line : List ℕ) (silent : call_of line ≡ []) where
+  pub left_silent : (world : World) → world ≡ after_all only world (call_of line)
+  left_silent world = left_said only line [] silent world world (sym (left_none only world))
+
+  pub told_silent : {T E : Type 0} (judged : Result T E) (tells : List (List ℕ) → ℕ → List ℕ → List ℕ) (earlier : List (List ℕ)) (number : ℕ) (w : Option (List ℕ)) (g : List ℕ) →
+      TellsUnless judged w g w g (told_of_calls tells earlier number (said_by only (call_of line)))
+  told_silent judged tells earlier number w g =
+      told_said only line [] silent judged tells earlier number w w g g (rw (said_none only) (judged_told judged (Tells-none w g)))
+
+  pub seen_silent : {T E : Type 0} (judged : Result T E) {seen : World → List (List ℕ) → Type 0} {start world : World} {earlier : List (List ℕ)} →
+      Watches seen start earlier world → OnOk judged (Watches seen start (earlier ++ said_by only (call_of line)) world)
+  seen_silent judged watches =
+      on_ok judged (watches_none (said_by only (call_of line)) (ap (said_by only) silent ∙ said_none only) watches)

@@ -1,0 +1,22 @@
+-- A write that fails in one part of the line loses the parts after it.
+use Rattle.std.proofs.Common.{subst}
+use Rattle.scenario.specs.Gathered.{Tells}
+use Rattle.scenario.proofs.GatheredLemmas.{Tells-more, Tells-front, told_err, told_more}
+use Rattle.workbench.proofs.account_list.put_origin.Goals as goal
+
+pub returns-in_err-put_server-clause-told : goal.returns-in_err-put_server-clause-told
+returns-in_err-put_server-clause-told g c = told_err _ _ _ c.from_residual.ensures.1 (_, Tells-front _ (Tells-front _ (c.in_err-put_server.ensures.told.1)))
+
+pub returns-in_err-put-clause-told : goal.returns-in_err-put-clause-told
+returns-in_err-put-clause-told g c =
+    told_err _ _ _ c.from_residual-in_err-put.ensures.1 (
+      _,
+      Tells-front _ (Tells-more c.in_ok-put_server.ensures.told
+          (subst (Tells (g.K.Sink.contents c.put_server.new.writer) c.put_server.new.gathered (g.K.Sink.contents c.put.new.sink) c.in_err-put.ensures.told.0) c.as_slice.ensures.value c.in_err-put.ensures.told.1)),
+    )
+
+pub returns-clause-told : goal.returns-clause-told
+returns-clause-told g c =
+    told_more _ _ _ _
+    (Tells-more c.in_ok-put_server.ensures.told (subst (Tells (g.K.Sink.contents c.put_server.new.writer) c.put_server.new.gathered (g.K.Sink.contents c.put.new.sink) c.put.new.self) c.as_slice.ensures.value c.in_ok-put.ensures.told))
+    c.put-2.ensures.told

@@ -1,0 +1,16 @@
+-- Who is told of each call that is answered.
+use Rattle.std.specs.Prelude.{◌≡◌, ℕ, List, [], ◌∷◌, ◌++◌}
+use Rattle.own_model.specs.Transcript.{heard}
+use Rattle.own_model.specs.World.{World, world_running}
+use Rattle.scenario.specs.Answer.{IsAnswer}
+use Rattle.scenario.specs.declared.answering.Answer.{Answer}
+
+-- after earlier calls from a start a call was answered so, and left this world
+pub record IsToldOf (start : World) (earlier : List (List ℕ)) (call : List ℕ) (left : World) (answer : Answer) : Type 0 where
+  pub leaves : left ≡ world_running start (earlier ++ call ∷ [])
+  pub answers : IsAnswer (world_running start earlier) (heard start.entries call) answer
+
+-- earlier calls from a start led to this world, and they are those that were seen
+pub record Watches (seen : World → List (List ℕ) → Type 0) (start : World) (earlier : List (List ℕ)) (world : World) : Type 0 where
+  pub leads : world ≡ world_running start earlier
+  pub sees : seen start earlier

@@ -1,0 +1,70 @@
+-- What a command writes of a scenario: what is told of the lines that were played, and what stands behind them.
+use Rattle.std.specs.Prelude.{◌≡◌, ◌⊎◌, ℕ, Bool, List, [], ◌++◌, length, Option, Some, None, IfSome, IfNone, Result, Ok, Err}
+use Rattle.std.specs.Io.KnownBytes.{Appends}
+use Rattle.own_model.specs.Listed.{Listed}
+use Rattle.own_model.specs.Transcript.{told_after}
+use Rattle.own_model.specs.World.{World}
+use Rattle.scenario.specs.Answered.{after_all}
+use Rattle.scenario.specs.Program.{IsMachine, accounts_for, world_of}
+use Rattle.scenario.specs.Stops.{AppendsPart}
+use Rattle.workbench.specs.Played.{calls_answered, calls_said}
+use Rattle.workbench.specs.Plays.{AreAll, AreFirst}
+use Rattle.workbench.specs.declared.ending.Ending.{Ending}
+use Rattle.workbench.specs.declared.ending.PlayFault.{PlayFault}
+
+-- all is written of what is told of all lines, and behind it what stands there; at a fault a part of what is told of these
+-- lines, or of both where they are all
+abbrev pub WritesBoth : Option PlayFault → Option (List ℕ) → List (List ℕ) → Option (List ℕ) → Option (List ℕ) →
+    List ℕ → List ℕ → Type 0
+WritesBoth None input lines old new told behind = IfSome input (AreAll lines) × Appends old new (told ++ behind)
+WritesBoth (Some fault) input lines old new told behind =
+    AppendsPart old new told ⊎ (IfSome input (AreAll lines) × AppendsPart old new (told ++ behind))
+
+-- a scenario was played, from its first line on, and this was written: what is told of its lines, and what stands behind them
+pub record IsPlayedFrom (told behind : List (List ℕ) → List ℕ) (ending : Ending) (input written now_written : Option (List ℕ)) : Type 0 where
+  pub lines : List (List ℕ)
+  pub first : IfSome input (AreFirst lines)
+  pub counted : IfNone ending.fault (ending.lines ≡ length lines)
+  pub writes : WritesBoth ending.fault input lines written now_written (told lines) (behind lines)
+
+-- the same on the machine of a text
+pub record IsPlayed (text : List ℕ) (told behind : Listed → List (List ℕ) → List ℕ) (ending : Ending)
+    (input written now_written : Option (List ℕ)) : Type 0 where
+  pub listed : Listed
+  pub machine : IsMachine text listed
+  pub played : IsPlayedFrom (told listed) (behind listed) ending input written now_written
+
+-- behind a play that came to its end this is written, or at a fault a part of it; behind another nothing
+abbrev pub WritesAfter : Option PlayFault → Option PlayFault → Option (List ℕ) → Option (List ℕ) → List ℕ → Type 0
+WritesAfter None None old new behind = Appends old new behind
+WritesAfter None (Some fault) old new behind = AppendsPart old new behind
+WritesAfter (Some fault) ended old new behind = (ended ≡ Some fault) × (new ≡ old)
+
+pub record Closes (played ended : Ending) (old new : Option (List ℕ)) (behind : List ℕ) : Type 0 where
+  pub lines : ended.lines ≡ played.lines
+  pub writes : WritesAfter played.fault ended.fault old new behind
+
+-- all of a text is written, or at a fault a part of it
+abbrev pub IsWrittenBy : {T : Type 0} → Result T PlayFault → Option (List ℕ) → Option (List ℕ) → List ℕ → Type 0
+IsWrittenBy (Ok done) old new text = Appends old new text
+IsWrittenBy (Err fault) old new text = AppendsPart old new text
+
+-- nothing stands there
+abbrev pub nothing_told : Listed → List (List ℕ) → List ℕ
+nothing_told listed lines = []
+
+-- ---- the run
+
+-- the transcript of the calls that lines say, of all or of those of a name alone
+abbrev pub transcript_of : Option (List ℕ) → World → List (List ℕ) → List ℕ
+transcript_of only world lines = told_after world.entries world.states [] (calls_answered only lines)
+
+abbrev pub run_told : Option (List ℕ) → Listed → List (List ℕ) → List ℕ
+run_told only listed lines = transcript_of only (world_of listed) lines
+
+-- the account list after them, where it is asked for
+abbrev pub list_behind : Bool → Option (List ℕ) → Listed → World → List (List ℕ) → List ℕ
+list_behind accounts only listed world lines = accounts_for accounts listed (after_all only world (calls_said lines))
+
+abbrev pub run_behind : Bool → Option (List ℕ) → Listed → List (List ℕ) → List ℕ
+run_behind accounts only listed lines = list_behind accounts only listed (world_of listed) lines
