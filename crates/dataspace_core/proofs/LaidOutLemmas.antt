@@ -13,8 +13,8 @@ use Rattle.slab.specs.Slab.{Slab, Updates}
 use Rattle.slab.specs.Slab as slab
 use Rattle.own_model.specs.OwnState.{zeros}
 use Rattle.own_model.proofs.NatMapLemmas.{same, get-insert_same, get-insert_other, get-remove_same, get-remove_other}
-use Rattle.slab_map.specs.SlabMap.{map_of}
-use Rattle.slab_map.proofs.SlabMap.{get-map_of}
+use Rattle.quota_core.specs.SlabMap.{map_of}
+use Rattle.quota_core.proofs.SlabMap.{get-map_of}
 use Rattle.dataspace_core.specs.Layout.{page_in, run_bytes, IsOutside, IsRun, IsNewRun, IsGiven, IsClosed, IsWritten, IsLaidOut, HasMovedDown, NoneLiesBehind, moved_down, space_of}
 use Rattle.dataspace_core.specs.declared.dataspace.Dataspace.{Dataspace}
 use Rattle.dataspace_core.specs.declared.runs.Run.{Run}

@@ -22,7 +22,7 @@ use Rattle.own_model.proofs.StepLemmas.{covers}
 use Rattle.own_model.proofs.NatMapLemmas.{apart_from_free}
 use Rattle.quota_core.specs.Books.{Books, IsOpen, account_at, fresh_books, with_account, with_child, with_moved, without_account, parent_at, AreRelated, KeepsLimits, ram_limits, caps_limits}
 use Rattle.quota_core.proofs.BooksLaws.{account_there}
-use Rattle.slab_map.proofs.SlabMap.{map_of-empty, get-map_of_at, get-map_of_none, ContainsKey-map_of, len-map_of}
+use Rattle.quota_core.proofs.SlabMap.{map_of-empty, get-map_of_at, get-map_of_none, ContainsKey-map_of, len-map_of}
 use Rattle.dataspace_core.specs.Store.{Store, Space, fresh_store, room_in, Exists, space_at, with_space, without_space, with_bytes_at, OpensPart, RaisesPart, ClosesPart}
 use Rattle.dataspace_core.specs.Layout.{IsNewRun, IsGiven, IsClosed, IsWritten, IsRun, HasMovedDown, NoneLiesBehind, run_bytes, space_of, store_of}
 use Rattle.dataspace_core.specs.Paid.{IsPaid, IsSound, size_of}

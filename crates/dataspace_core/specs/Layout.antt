@@ -6,7 +6,7 @@ use Rattle.page_pool.specs.Pages.{free_count, is_taken, page_bytes, zero_page}
 use Rattle.page_pool.specs.declared.pool.PageNo.{PageNo}
 use Rattle.slab.specs.Slab.{Slab, get}
 use Rattle.quota_core.specs.Books.{Books}
-use Rattle.slab_map.specs.SlabMap.{map_of}
+use Rattle.quota_core.specs.SlabMap.{map_of}
 use Rattle.dataspace_core.specs.Store.{Space, Store}
 use Rattle.dataspace_core.specs.declared.dataspace.Dataspace.{Dataspace}
 use Rattle.dataspace_core.specs.declared.runs.Run.{Run}

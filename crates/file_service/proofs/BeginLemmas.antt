@@ -23,12 +23,12 @@ use Rattle.heap_core.specs.Heap.{payer_of as heap_payer, heap_in, HasNoBlocks, I
 use Rattle.sliced_heap.specs.declared.heap.SlicedHeap.{SlicedHeap}
 use Rattle.sliced_heap.specs.Heap.{payer_of, share_at}
 use Rattle.sliced_heap.specs.Sliced.{sliced_tag, is_sliced_tag, sliced_of, block_regions, payload_of}
-use Rattle.heap_window.proofs.ShareLemmas.{get-sliced_regions, in_numbered}
+use Rattle.sliced_heap.proofs.ShareLemmas.{get-sliced_regions, in_numbered}
 use Rattle.dataspace_core.proofs.ShareLaws.{in_share}
 use Rattle.server_frame.specs.Session.{IsSessionHeap, HasBlocksAlone, holding_of}
 use Rattle.file_service.specs.Furnished.{IsShare, KeepsNodes, IsFurnished, is_lent_tag, lent_regions}
 use Rattle.file_service.proofs.LentLemmas.{lent_number}
-use Rattle.heap_window.proofs.BesideLemmas.{map_of}
+use Rattle.sliced_heap.proofs.BesideLemmas.{map_of}
 use Rattle.file_service.proofs.FurnishedLemmas.{laid_back}
 
 -- a session's share of a map is one that a map can have

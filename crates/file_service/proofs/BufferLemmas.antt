@@ -24,10 +24,10 @@ use Rattle.dataspace_core.proofs.PokedLaws.{poked_there, poked_length}
 use Rattle.dataspace_core.proofs.WindowLaws as window
 use Rattle.dataspace_core.proofs.WindowLaws.{new_in_part, own_account}
 use Rattle.heap_core.specs.declared.heap.Heap.{Heap}
-use Rattle.heap_window.specs.Window.{large_tag, MapsMemory}
-use Rattle.heap_window.proofs.BesideLemmas.{gap_is_free, gap_is_place, maps_memory}
-use Rattle.heap_window.proofs.ShareLemmas.{IsShownAs, shown_block, numbered-insert, numbered-remove}
-use Rattle.heap_window.proofs.WindowLemmas.{IsPut, is_put, blocks_in_place, blocks_attached, blocks_detached}
+use Rattle.sliced_heap.specs.Window.{large_tag, MapsMemory}
+use Rattle.sliced_heap.proofs.BesideLemmas.{gap_is_free, gap_is_place, maps_memory}
+use Rattle.sliced_heap.proofs.ShareLemmas.{IsShownAs, shown_block, numbered-insert, numbered-remove}
+use Rattle.sliced_heap.proofs.WindowLemmas.{IsPut, is_put, blocks_in_place, blocks_attached, blocks_detached}
 use Rattle.sliced_heap.specs.declared.heap.SlicedHeap.{SlicedHeap}
 use Rattle.sliced_heap.specs.Heap.{payer_of, share_at}
 use Rattle.sliced_heap.specs.Laws.{HeapStays}

@@ -24,7 +24,7 @@ use Rattle.dataspace_core.proofs.ShareLaws.{get-tags_of, in_share}
 use Rattle.heap_core.specs.declared.heap.Heap.{Heap}
 use Rattle.heap_core.specs.Heap.{large_tag}
 use Rattle.heap_core.specs.Laws.{block_region}
-use Rattle.heap_window.proofs.ShareLemmas.{told_region, shown_block, kept_tag}
+use Rattle.sliced_heap.proofs.ShareLemmas.{told_region, shown_block, kept_tag}
 use Rattle.sliced_heap.specs.declared.heap.SlicedHeap.{SlicedHeap}
 use Rattle.sliced_heap.specs.Heap.{payer_of, share_at, blocks_at, IsNoBlock, IsSound as IsSoundSliced, KeepsOthers, TakesBlock, GivesBlock, HoldsRange}
 use Rattle.sliced_heap.specs.Laws.{Pokes}
@@ -33,10 +33,10 @@ use Rattle.sliced_heap.proofs.BlockLemmas.{payload_at, is_of}
 use Rattle.sliced_heap.proofs.HeapLaws.{payload_poked}
 use Rattle.file_service.specs.Furnished.{IsFurnished, KeepsLent}
 use Rattle.file_service.proofs.LentLemmas.{lent_in, lent_stays, lent_attached, lent_detached}
-use Rattle.heap_window.specs.Window.{low_region}
-use Rattle.heap_window.proofs.BesideLemmas.{gap_is_free, lie_with, lie_without}
+use Rattle.sliced_heap.specs.Window.{low_region}
+use Rattle.sliced_heap.proofs.BesideLemmas.{gap_is_free, lie_with, lie_without}
 use Rattle.file_service.proofs.FurnishedLemmas.{ChangesContents}
-use Rattle.heap_window.proofs.WindowLemmas.{IsPut, is_put}
+use Rattle.sliced_heap.proofs.WindowLemmas.{IsPut, is_put}
 
 -- ---- chunks of an account on a map that several accounts use
 

@@ -25,11 +25,11 @@ use Rattle.file_service.specs.Furnished.{IsFurnished, KeepsSession, lent_regions
 use Rattle.file_service.proofs.LentLemmas.{lent_places, lent_elsewhere}
 use Rattle.file_service.proofs.FurnishedLemmas.{ChangesNodes, nodes_are, nodes_kept}
 use Rattle.dataspace_core.proofs.PartLaws.{account_by}
-use Rattle.heap_window.specs.Window.{IsNoHeapBlock}
-use Rattle.heap_window.proofs.WindowLemmas.{block_is, shown_block_at}
+use Rattle.sliced_heap.specs.Window.{IsNoHeapBlock}
+use Rattle.sliced_heap.proofs.WindowLemmas.{block_is, shown_block_at}
 use Rattle.heap_core.proofs.BesideLemmas.{no_chunk}
 use Rattle.dataspace_core.proofs.ShareLaws.{each_shown}
-use Rattle.heap_window.proofs.ShareLemmas.{shown_large}
+use Rattle.sliced_heap.proofs.ShareLemmas.{shown_large}
 
 -- what passes for a sliced block's number is that number
 sliced_number : (o : Option ℕ) → is_sliced_tag o ≡ true → o ≡ Some sliced_tag

@@ -5,7 +5,7 @@ use Rattle.trade_base.proofs.BytesLemmas.{length-slice_range}
 use Rattle.region_map.specs.Regions.{Regions}
 use Rattle.dataspace_core.specs.Store.{Store, part, space_at, part_with_bytes, PartBecomes}
 use Rattle.heap_core.specs.declared.heap.Heap.{Heap}
-use Rattle.heap_window.proofs.ShareLemmas.{shown_block}
+use Rattle.sliced_heap.proofs.ShareLemmas.{shown_block}
 use Rattle.sliced_heap.specs.declared.heap.SlicedHeap.{SlicedHeap}
 use Rattle.sliced_heap.specs.Heap.{payer_of}
 use Rattle.sliced_heap.specs.Sliced.{sliced_of}

@@ -27,7 +27,7 @@ use Rattle.sliced_heap.specs.Heap.{payer_of, share_at, HoldsRange}
 use Rattle.sliced_heap.specs.Sliced.{sliced_of}
 use Rattle.sliced_heap.proofs.BlockLemmas.{is_of, is_whole}
 use Rattle.sliced_heap.proofs.HeapLaws.{payload_read}
-use Rattle.heap_window.proofs.ShareLemmas.{shown_block}
+use Rattle.sliced_heap.proofs.ShareLemmas.{shown_block}
 use Rattle.server_frame.specs.Session.{holding_of}
 use Rattle.file_service.specs.Calls.{HasBytes, payload_in, content_written}
 use Rattle.file_service.specs.Found.{FindsContent, IsThere}

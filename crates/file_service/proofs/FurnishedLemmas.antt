@@ -20,12 +20,12 @@ use Rattle.sliced_heap.specs.Heap.{payer_of, share_at, blocks_at, IsSound as IsS
 use Rattle.sliced_heap.specs.Laws.{HeapStays}
 use Rattle.sliced_heap.specs.Sliced.{sliced_of, block_regions}
 use Rattle.sliced_heap.proofs.HeapLaws.{heap_stays_among}
-use Rattle.heap_window.proofs.ShareLemmas.{shown_block}
+use Rattle.sliced_heap.proofs.ShareLemmas.{shown_block}
 use Rattle.server_frame.specs.Session.{holding, holding_of}
 use Rattle.file_service.specs.Furnished.{IsFurnished, KeepsLent, StaysFurnished, KeepsSession, lent_regions, stock}
 use Rattle.file_service.proofs.LentLemmas.{shown_lent}
-use Rattle.heap_window.proofs.BesideLemmas.{map_of, maps_memory}
-use Rattle.heap_window.specs.Window.{IsNoHeapBlock}
+use Rattle.sliced_heap.proofs.BesideLemmas.{map_of, maps_memory}
+use Rattle.sliced_heap.specs.Window.{IsNoHeapBlock}
 
 -- ---- an account's limits and use are nothing to a heap
 

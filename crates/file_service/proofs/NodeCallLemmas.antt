@@ -19,7 +19,7 @@ use Rattle.heap_core.proofs.BesideLemmas.{rest_in_place, count_in_place, rest_at
 use Rattle.heap_core.specs.declared.heap.Heap.{Heap}
 use Rattle.heap_core.specs.Calls.{KeepsSpaces, AddsSpace, Attaches}
 use Rattle.heap_core.specs.Heap.{payer_of as heap_payer, heap_in, heap_at, shape_in, large_tag, IsSound as IsSoundHeap}
-use Rattle.heap_window.proofs.BesideLemmas.{gap_is_free}
+use Rattle.sliced_heap.proofs.BesideLemmas.{gap_is_free}
 use Rattle.file_service.proofs.FurnishedLemmas.{ChangesNodes}
 use Rattle.file_service.proofs.LentLemmas.{lent_places, lent_attached}
 

@@ -22,14 +22,14 @@ use Rattle.heap_core.specs.Heap.{payer_of as heap_payer, chunk_at, heap_in, heap
 use Rattle.heap_core.specs.Lookup.{LiesOutside}
 use Rattle.heap_core.proofs.FoundLemmas.{blocks_at}
 use Rattle.heap_core.proofs.LookupLemmas.{no_payload, outside_free}
-use Rattle.heap_window.proofs.ShareLemmas.{large_there}
+use Rattle.sliced_heap.proofs.ShareLemmas.{large_there}
 use Rattle.dataspace_core.proofs.ShareLaws.{in_share}
 use Rattle.heap_core.proofs.StandLemmas.{chunk_blocks, chunk_total, count_blocks}
 use Rattle.heap_core.proofs.TakenLemmas.{in_other}
 use Rattle.sliced_heap.specs.declared.heap.SlicedHeap.{SlicedHeap}
 use Rattle.server_frame.specs.Session.{holding_of}
 use Rattle.file_service.specs.Furnished.{IsFurnished}
-use Rattle.heap_window.proofs.BesideLemmas.{gap_is_free}
+use Rattle.sliced_heap.proofs.BesideLemmas.{gap_is_free}
 use Rattle.file_service.proofs.FurnishedLemmas.{nodes_are}
 use Rattle.file_service.proofs.NodeCallLemmas.{shape_is}
 use Rattle.file_service.proofs.NodePlaceLemmas.{start_is}

@@ -28,8 +28,8 @@ use Rattle.heap_core.proofs.RangeLemmas.{payload_poked}
 use Rattle.dataspace_core.proofs.ShareLaws.{in_share}
 use Rattle.file_service.proofs.FurnishedLemmas.{ChangesNodes}
 use Rattle.file_service.proofs.LentLemmas.{lent_places}
-use Rattle.heap_window.proofs.WindowLemmas.{IsPut, is_put, blocks_in_place}
-use Rattle.heap_window.proofs.ShareLemmas.{kept_tag, shown_large}
+use Rattle.sliced_heap.proofs.WindowLemmas.{IsPut, is_put, blocks_in_place}
+use Rattle.sliced_heap.proofs.ShareLemmas.{kept_tag, shown_large}
 
 -- bytes, each by its place, are bytes
 pub small_bytes : (bytes : List ℕ) → ((i : ℕ) → get_or bytes i 0 < 256) → are_bytes bytes ≡ true

@@ -9,7 +9,7 @@ use Rattle.region_map.specs.Regions.{Regions}
 use Rattle.dataspace_core.specs.Store.{Store, Exists, space_at}
 use Rattle.dataspace_core.proofs.PartLaws.{paid_in_part}
 use Rattle.heap_core.specs.declared.heap.Heap.{Heap}
-use Rattle.heap_window.proofs.ShareLemmas.{shown_block}
+use Rattle.sliced_heap.proofs.ShareLemmas.{shown_block}
 use Rattle.sliced_heap.specs.declared.heap.SlicedHeap.{SlicedHeap}
 use Rattle.sliced_heap.specs.Heap.{payer_of, share_at}
 use Rattle.sliced_heap.specs.Sliced.{sliced_tag}

@@ -17,8 +17,8 @@ use Rattle.region_map.specs.Regions.{of_no_heap}
 use Rattle.dataspace_core.specs.Share.{Share}
 use Rattle.heap_core.specs.Heap.{heap_in}
 use Rattle.heap_core.proofs.StayLemmas.{laid_same, value_same}
-use Rattle.heap_window.specs.Window.{block_region}
-use Rattle.heap_window.proofs.ShareLemmas.{in_numbered, told_region}
+use Rattle.sliced_heap.specs.Window.{block_region}
+use Rattle.sliced_heap.proofs.ShareLemmas.{in_numbered, told_region}
 use Rattle.sliced_heap.specs.Heap.{IsNoBlock}
 use Rattle.sliced_heap.specs.Sliced.{sliced_of, sliced_tag, is_sliced_tag, block_regions, payload_of}
 use Rattle.server_frame.specs.Lent.{LendsAside, AllLendAside, share_with}

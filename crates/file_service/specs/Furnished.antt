@@ -9,7 +9,7 @@ use Rattle.own_model.specs.Region.{Region}
 use Rattle.region_map.specs.Regions.{Regions, of_no_heap}
 use Rattle.dataspace_core.specs.Share.{Share}
 use Rattle.dataspace_core.specs.Store.{Store, part, account_in}
-use Rattle.heap_window.specs.Window.{share_at, numbered}
+use Rattle.sliced_heap.specs.Window.{share_at, numbered}
 use Rattle.heap_core.specs.declared.heap.Heap.{Heap}
 use Rattle.heap_core.specs.Heap.{payer_of as heap_payer, heap_in, IsLaid, IsSound as IsSoundHeap}
 use Rattle.sliced_heap.specs.declared.heap.SlicedHeap.{SlicedHeap}

@@ -30,7 +30,7 @@ use session_proto::FileError;
 use sliced_heap::SlicedHeap;
 use std::marker::Brand;
 use std::sync::ledger::Blank;
-use text_read::is_name;
+use text_codec::is_name;
 use trade_base::Refusal;
 
 impl FileSession {

@@ -25,7 +25,7 @@ use region_map::RegionMap;
 use server_frame::{Effect, Reply, Service};
 use session_proto::{FileError, FileReply, FileRequest, Shares};
 use sliced_heap::SlicedHeap;
-use text_read::decode_hex;
+use text_codec::decode_hex;
 use trade_base::{AccountId, DsId};
 
 /// The most bytes that a request writes.

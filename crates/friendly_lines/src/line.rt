@@ -8,7 +8,7 @@ ghost use Rattle.friendly_lines.specs.Written.{added};
 
 use crate::words::next_word;
 use std::marker::Model;
-use text_read::encode_hex;
+use text_codec::encode_hex;
 
 /// The longest line that the engine reads as a call, in bytes.
 const LONGEST: usize = 8192;

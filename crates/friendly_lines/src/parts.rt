@@ -16,7 +16,7 @@ use crate::quotes::{inside_quotes, is_quote};
 use crate::signs::{fault_of, put_text};
 use crate::words::{behind, next_word, skip_blanks};
 use itoa::Buffer;
-use text_read::split_first_word;
+use text_codec::split_first_word;
 use trade_base::{read_amount, read_number};
 
 /// What follows the first words of a call.

@@ -10,10 +10,10 @@ use Rattle.region_map.specs.Regions.{Regions, heap_attached, heap_detached}
 use Rattle.dataspace_core.specs.Store.{Store, Part, part}
 use Rattle.dataspace_core.proofs.ShareLaws.{in_share, some_alike}
 use Rattle.dataspace_core.proofs.WindowLaws.{in_none, unshown_free}
-use Rattle.heap_window.specs.Window.{share_at, IsMapOf, IsNoHeapBlock, block_regions, large_tag, large_regions}
-use Rattle.heap_window.proofs.BesideLemmas.{gap_is_free}
-use Rattle.heap_window.proofs.ShareLemmas.{IsShownAs, kept_tag, shown_large}
-use Rattle.heap_window.proofs.WindowLemmas.{ShowAlike, blocks_in_place, blocks_attached, blocks_detached}
+use Rattle.sliced_heap.specs.Window.{share_at, IsMapOf, IsNoHeapBlock, block_regions, large_tag, large_regions}
+use Rattle.sliced_heap.proofs.BesideLemmas.{gap_is_free}
+use Rattle.sliced_heap.proofs.ShareLemmas.{IsShownAs, kept_tag, shown_large}
+use Rattle.sliced_heap.proofs.WindowLemmas.{ShowAlike, blocks_in_place, blocks_attached, blocks_detached}
 use Rattle.heap_core.specs.declared.heap.Heap.{Heap}
 use Rattle.heap_core.specs.Calls.{KeepsSpaces, AddsSpace}
 use Rattle.heap_core.specs.Heap.{IsSound, keys_in, chunk_at, payer_of}

@@ -26,7 +26,7 @@ use Rattle.heap_core.specs.Heap.{IsLaid, heap_in, large_regions, large_tag, paye
 use Rattle.heap_core.specs.Laws.{block_region, BlocksAreRegions}
 use Rattle.heap_core.proofs.PayloadLemmas.{no_chunk}
 use Rattle.heap_core.proofs.StandLemmas.{count_blocks, chunk_total}
-use Rattle.heap_window.proofs.ShareLemmas.{block_here, told_region, large_among, large_block}
+use Rattle.sliced_heap.proofs.ShareLemmas.{block_here, told_region, large_among, large_block}
 
 -- ---- the ranges of chunks
 

@@ -21,7 +21,7 @@ use Rattle.heap_core.specs.Calls.{KeepsSpaces}
 use Rattle.heap_core.specs.Words.{Around, is_among, are_bytes, around, bytes_in_store, words_of}
 use Rattle.heap_core.proofs.AroundLemmas.{among_found, bytes_of-part, words_of-part, part_lengths, part_others, account_kept, around_becomes}
 use Rattle.heap_core.proofs.ChunkLemmas.{key_is, in_chunks, chunk_paid, are_sound}
-use Rattle.heap_window.proofs.ShareLemmas.{large_there, large_kept}
+use Rattle.sliced_heap.proofs.ShareLemmas.{large_there, large_kept}
 use Rattle.heap_core.proofs.WordsLemmas.{AreChunks, chunks_sound, sound_chunks, each_bytes, length_keys}
 
 module _ (heap : Heap) (fit : BestFit) (old new : Store) (regions : Regions) (sound : IsSound heap old regions) (kept : around (keys_in heap) new ≡ around (keys_in heap) old) where

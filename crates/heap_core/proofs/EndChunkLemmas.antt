@@ -21,7 +21,7 @@ use Rattle.heap_core.specs.End.{EndsChunks, HasChunk, bytes_from}
 use Rattle.heap_core.specs.Calls.{GivesAll, KeepsElsewhere}
 use Rattle.heap_core.specs.declared.words.Chunk.{Chunk}
 use Rattle.heap_core.specs.Words.{is_among}
-use Rattle.heap_window.proofs.ShareLemmas.{get-large}
+use Rattle.sliced_heap.proofs.ShareLemmas.{get-large}
 use Rattle.dataspace_core.proofs.ShareLaws.{in_tags}
 use Rattle.heap_core.proofs.StandLemmas.{blocks, chunk_total, count_blocks}
 use Rattle.own_model.specs.BestFit.{chunk_of}

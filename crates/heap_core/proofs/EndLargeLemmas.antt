@@ -18,7 +18,7 @@ use Rattle.heap_core.specs.declared.heap.Heap.{Heap}
 use Rattle.heap_core.specs.Calls.{GivesAll, GivesLarge, IsNoBlock, Keeps, KeepsElsewhere}
 use Rattle.heap_core.specs.End.{EndsChunks, EndsLarge}
 use Rattle.heap_core.specs.Heap.{HasNoBlocks, IsSound, heap_at, heap_in, large_regions, large_tag, payer_of, share_at, times_in}
-use Rattle.heap_window.proofs.ShareLemmas.{large_kept}
+use Rattle.sliced_heap.proofs.ShareLemmas.{large_kept}
 use Rattle.dataspace_core.proofs.ShareLaws.{in_tags}
 use Rattle.own_model.proofs.AccountLemmas.{credit_twice}
 use Rattle.heap_core.proofs.EndChunkLemmas.{keeps_then, elsewhere_gone, elsewhere_then}

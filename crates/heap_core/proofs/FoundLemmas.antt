@@ -26,7 +26,7 @@ use Rattle.dataspace_core.specs.Share.{Share}
 use Rattle.heap_core.specs.declared.words.Chunk.{Chunk}
 use Rattle.heap_core.specs.declared.heap.Heap.{Heap}
 use Rattle.heap_core.specs.Heap.{IsSound, bytes_shown, chunk_at, heap_in, large_regions, payer_of, payloads_of, share_at}
-use Rattle.heap_window.proofs.ShareLemmas.{large_kept, large_there}
+use Rattle.sliced_heap.proofs.ShareLemmas.{large_kept, large_there}
 use Rattle.heap_core.proofs.PayloadLemmas.{entries_of, no_chunk, payloads-at, payloads-none, told, value_of-payloads}
 use Rattle.dataspace_core.proofs.ShareLaws.{in_share}
 use Rattle.heap_core.proofs.StandLemmas.{blocks, chunk_blocks, chunk_total, count_blocks, no_blocks, not_in_chunk}

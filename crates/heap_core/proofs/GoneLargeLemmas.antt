@@ -28,7 +28,7 @@ use Rattle.heap_core.specs.Lookup.{LiesInLarge}
 use Rattle.heap_core.proofs.FoundLemmas.{chunk_large, large_outside}
 use Rattle.dataspace_core.proofs.GoneLaws.{gone_charge, gone_count, gone_open, gone_others, gone_paid, gone_share, gone_shares, gone_window, in_map, once_shown}
 use Rattle.heap_core.proofs.PayloadLemmas.{payloads-none, entries_of}
-use Rattle.heap_window.proofs.ShareLemmas.{large_there, numbered-remove}
+use Rattle.sliced_heap.proofs.ShareLemmas.{large_there, numbered-remove}
 use Rattle.dataspace_core.proofs.ShareLaws.{in_share}
 use Rattle.heap_core.proofs.StandLemmas.{blocks, no_blocks, not_in_chunk, SameChunks, words_kept, stands_kept, payloads_kept}
 

@@ -48,7 +48,7 @@ use Rattle.heap_core.proofs.FrameLemmas.{entries_same}
 use Rattle.heap_core.proofs.HoleLemmas.{AreTold, are_told}
 use Rattle.heap_core.proofs.PayloadLemmas.{no_chunk, payloads-hole, payloads-same}
 use Rattle.heap_core.proofs.RoomLemmas.{len_alike}
-use Rattle.heap_window.proofs.ShareLemmas.{large_there, numbered-insert_other}
+use Rattle.sliced_heap.proofs.ShareLemmas.{large_there, numbered-insert_other}
 use Rattle.heap_core.proofs.StandLemmas.{payloads_alike}
 use Rattle.heap_core.proofs.TakeLargeLemmas.{gap_place}
 use Rattle.heap_core.proofs.WordsLemmas.{AreChunks, all_bytes, chunks_sound, sound_chunks, each_bytes, length_keys}

@@ -20,7 +20,7 @@ use Rattle.dataspace_core.specs.Share.{Share}
 use Rattle.heap_core.specs.declared.heap.Heap.{Heap}
 use Rattle.heap_core.specs.Heap.{large_tag, is_large_tag, large_regions, bytes_shown, heap_in, IsLaid, StandsLarge, chunk_at, payloads_of, times_in}
 use Rattle.heap_core.proofs.PayloadLemmas.{payloads-none, entries_of}
-use Rattle.heap_window.proofs.ShareLemmas.{large_there, numbered-insert, numbered_free}
+use Rattle.sliced_heap.proofs.ShareLemmas.{large_there, numbered-insert, numbered_free}
 use Rattle.heap_core.proofs.StandLemmas.{blocks, no_blocks, not_in_chunk, SameChunks, words_kept, stands_kept, payloads_kept}
 
 -- what keeps the parts of a heap where a region comes or goes that is no chunk's

@@ -29,7 +29,7 @@ use Rattle.heap_core.specs.Heap.{IsSound, chunk_at, heap_in, large_regions, paye
 use Rattle.heap_core.specs.Lookup.{LiesInChunk, LiesInLarge, LiesOutside}
 use Rattle.heap_core.proofs.FoundLemmas.{IsLarge, IsSmall, blocks_at, bytes_at, large_outside, large_payload, no_large_at, one_chunk, one_large, payload_from, small_there, used_inside}
 use Rattle.heap_core.proofs.MemoryLemmas.{whole_slice}
-use Rattle.heap_window.proofs.ShareLemmas.{large_there}
+use Rattle.sliced_heap.proofs.ShareLemmas.{large_there}
 use Rattle.heap_core.proofs.StandLemmas.{chunk_blocks, chunk_bytes}
 
 module _ (heap : Heap) (store : Store) (regions : Regions) (sound : IsSound heap store regions) where

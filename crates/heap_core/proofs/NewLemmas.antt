@@ -15,7 +15,7 @@ use Rattle.dataspace_core.specs.Share.{Share}
 use Rattle.heap_core.specs.declared.heap.Heap.{Heap}
 use Rattle.heap_core.specs.Heap.{large_tag, large_regions, HasNoBlocks, IsLaid, heap_in, words_in, payloads_of, bytes_shown}
 use Rattle.heap_core.proofs.BlockLemmas.{length-heap_of}
-use Rattle.heap_window.proofs.ShareLemmas.{large_there, large_kept}
+use Rattle.sliced_heap.proofs.ShareLemmas.{large_there, large_kept}
 
 -- a share without a heap's regions has no large block
 pub no_large : (share : Share) → HasNoBlocks share → (q : ℕ) → get (large_regions share) q ≡ None

@@ -41,7 +41,7 @@ use Rattle.heap_core.proofs.ChunkLemmas.{key_is, words_are}
 use Rattle.heap_core.proofs.HeapLaws.{poke_sound, poke_value}
 use Rattle.heap_core.proofs.PayloadLemmas.{told, value_of-payloads}
 use Rattle.heap_core.proofs.PokedLemmas.{put_part}
-use Rattle.heap_window.proofs.ShareLemmas.{large_there, told_region, large_region}
+use Rattle.sliced_heap.proofs.ShareLemmas.{large_there, told_region, large_region}
 use Rattle.heap_core.proofs.StandLemmas.{chunk_blocks, chunk_bytes, chunk_total}
 use Rattle.heap_core.proofs.StayLemmas.{laid_stays, small, value_then}
 use Rattle.heap_core.proofs.WordsLemmas.{length_keys}

@@ -18,7 +18,7 @@ use Rattle.dataspace_core.proofs.ShareLaws.{get-tags_of, in_share}
 use Rattle.heap_core.specs.declared.heap.Heap.{Heap}
 use Rattle.heap_core.specs.Heap.{IsSound, chunk_at, large_tag, is_large_tag, payer_of, share_at, times_in, large_regions}
 use Rattle.heap_core.specs.Lookup.{LiesInChunk, LiesInLarge, LiesOutside}
-use Rattle.heap_window.proofs.ShareLemmas.{large_kept, get-large, large_there}
+use Rattle.sliced_heap.proofs.ShareLemmas.{large_kept, get-large, large_there}
 
 -- a region that doesn't hold an address ends before it, or starts behind it
 not_held : (address s : ℕ) (r : Region) → holds address 1 (s, r) ≡ false → (address < s) ⊎ (s + r.pages * 4096 ≤ address)

@@ -17,7 +17,7 @@ use Rattle.heap_core.specs.Lookup.{LiesInChunk, LiesInLarge}
 use Rattle.heap_core.proofs.FoundLemmas.{IsLarge, IsSmall, blocks_at, payload_from, used_inside}
 use Rattle.heap_core.proofs.FrameLemmas.{used_even}
 use Rattle.heap_core.proofs.LookupLemmas.{large_held, large_length, outside_free, range_held, small_length}
-use Rattle.heap_window.proofs.ShareLemmas.{large_there}
+use Rattle.sliced_heap.proofs.ShareLemmas.{large_there}
 use Rattle.dataspace_core.proofs.ShareLaws.{in_share}
 use Rattle.heap_core.proofs.SiteLemmas.{none_found, only}
 use Rattle.heap_core.proofs.StandLemmas.{chunk_blocks}

@@ -18,7 +18,7 @@ use Rattle.dataspace_core.proofs.WindowLaws.{length_some}
 use Rattle.heap_core.specs.declared.heap.Heap.{Heap}
 use Rattle.heap_core.specs.Heap.{IsLaid, StandsLarge, chunk_at, large_tag, large_regions, bytes_shown, heap_in, payloads_of, words_in}
 use Rattle.heap_core.specs.Laws.{block_region, EmptyMapsHaveNoBlocks, HeapsStay, HeapsStayBeside}
-use Rattle.heap_window.proofs.ShareLemmas.{IsBlockRegion, told_region, block_here, large_among, large_block, large_region}
+use Rattle.sliced_heap.proofs.ShareLemmas.{IsBlockRegion, told_region, block_here, large_among, large_block, large_region}
 use Rattle.dataspace_core.proofs.ShareLaws.{in_share}
 use Rattle.heap_core.proofs.StandLemmas.{SameChunks, words_kept, stands_kept, payloads_kept}
 

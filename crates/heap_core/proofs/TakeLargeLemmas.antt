@@ -22,7 +22,7 @@ use Rattle.heap_core.specs.Heap.{payer_of, share_at, large_tag, large_regions, c
 use Rattle.heap_core.specs.Calls.{TakesLarge, Keeps}
 use Rattle.heap_core.proofs.LargeLemmas.{large_laid, large_value}
 use Rattle.heap_core.proofs.RoomLemmas.{few_large}
-use Rattle.heap_window.proofs.ShareLemmas.{large_there}
+use Rattle.sliced_heap.proofs.ShareLemmas.{large_there}
 
 -- two ranges of pages that don't overlap
 pub parted_ranges : (a p b q : ℕ) → overlap a p b q ≡ false → 1 ≤ q → (b < a) ⊎ (a + p * 4096 ≤ b)

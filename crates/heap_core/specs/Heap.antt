@@ -12,7 +12,7 @@ use Rattle.avl_alloc.specs.Layout.{heap_of, sizes_of}
 use Rattle.region_map.specs.Regions.{Regions}
 use Rattle.dataspace_core.specs.Store.{Store, Part, bytes_of, IsOpenIn}
 use Rattle.dataspace_core.specs.Share.{Share, share, IsWindowOf}
-pub use Rattle.heap_window.specs.Window.{share_at, large_tag, is_large_tag, large_regions}
+pub use Rattle.sliced_heap.specs.Window.{share_at, large_tag, is_large_tag, large_regions}
 use Rattle.heap_core.specs.declared.words.Chunk.{Chunk}
 use Rattle.heap_core.specs.declared.heap.Heap.{Heap}
 use Rattle.heap_core.specs.Words.{keys_of, are_bytes, word_in}

@@ -9,7 +9,7 @@ use Rattle.own_model.specs.Region.{Region}
 use Rattle.region_map.specs.Regions.{Regions}
 use Rattle.dataspace_core.specs.Store.{Store, part, IsOpenIn, PartBecomes, part_with_bytes, ram_limits_in}
 use Rattle.dataspace_core.specs.Share.{KeepsShares}
-pub use Rattle.heap_window.specs.Window.{IsMapOf, block_region}
+pub use Rattle.sliced_heap.specs.Window.{IsMapOf, block_region}
 use Rattle.heap_core.specs.declared.heap.Heap.{Heap}
 use Rattle.heap_core.specs.Calls.{HoldsRange}
 use Rattle.heap_core.specs.Heap.{HasNoBlocks, IsSound, heap_at, payer_of, share_at}

@@ -7,7 +7,7 @@ ghost use Rattle.init_core.specs.Members.{name_in};
 use arrayvec::ArrayString;
 use std::fmt;
 use std::marker::Model;
-use text_read::{LONGEST_NAME, is_name};
+use text_codec::{LONGEST_NAME, is_name};
 
 /// The most bytes of a path: four names of 32 bytes, parted by `/`.
 const LONGEST_PATH: usize = 131;

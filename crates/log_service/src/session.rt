@@ -8,7 +8,7 @@ ghost use Rattle.log_service.specs.Session.{Writes};
 use arrayvec::ArrayVec;
 use server_frame::{LONGEST_LABEL, MOST_LINES, Reply};
 use std::marker::Model;
-use text_read::{decode_hex_from, find_byte};
+use text_codec::{decode_hex_from, find_byte};
 
 /// A line of so many bytes is finished.
 const LONGEST_LINE: usize = 200;

@@ -9,7 +9,7 @@ use clap::Error;
 use lists::{check, tree};
 use plays::{Task, play};
 use std::process::ExitCode;
-use workbench_line::{Command, needs_command, words_given};
+use workbench_options::{Command, needs_command, words_given};
 
 fn main(rt: HostRuntime) -> ExitCode {
     let words = match words_given(&rt) {

@@ -24,14 +24,14 @@ use Rattle.heap_core.specs.Laws.{HeapStays}
 use Rattle.sliced_heap.specs.declared.heap.SlicedHeap.{SlicedHeap}
 use Rattle.sliced_heap.specs.Heap.{payer_of, share_at, IsSound as IsSoundSliced, KeepsOthers, GivesAll}
 use Rattle.sliced_heap.specs.Sliced.{block_regions}
-use Rattle.heap_window.proofs.ShareLemmas.{shown_block}
+use Rattle.sliced_heap.proofs.ShareLemmas.{shown_block}
 use Rattle.pd_core.specs.declared.script.Script.{Script}
 use Rattle.pd_core.specs.Own.{own_of, own_at, own_heap_at, part_at, sliced_at}
 use Rattle.pd_core.specs.Component.{IsOwnReserve}
 use Rattle.pd_core.specs.Exit.{ClosesBoth}
 use Rattle.pd_core.specs.Release.{IsCleared}
 use Rattle.pd_core.specs.Sound.{IsSoundScript, OthersStay, Keeps}
-use Rattle.heap_window.proofs.BesideLemmas.{standing, none_standing, sliced_standing, elsewhere_standing}
+use Rattle.sliced_heap.proofs.BesideLemmas.{standing, none_standing, sliced_standing, elsewhere_standing}
 use Rattle.pd_core.proofs.OwnLemmas.{all_sessions, selects}
 use Rattle.pd_core.proofs.SlicedLemmas.{LeavesHeap, heap_beside, parts_stay}
 

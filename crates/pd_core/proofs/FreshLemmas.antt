@@ -23,7 +23,7 @@ use Rattle.own_model.proofs.NatMapLemmas.{same, get-empty, some_of, none_in_empt
 use Rattle.own_model.proofs.SoundLemmas.{start_sound}
 use Rattle.own_model.proofs.UseLemmas.{start_uses}
 use Rattle.own_model.proofs.Totals.{total-empty, total_at_le}
-use Rattle.slab_map.proofs.SlabMap.{map_of-empty}
+use Rattle.quota_core.proofs.SlabMap.{map_of-empty}
 use Rattle.trade_base.specs.declared.id.AccountId.{AccountId}
 use Rattle.own_model.specs.Session.{Labelled}
 use Rattle.region_map.specs.Regions.{Regions}

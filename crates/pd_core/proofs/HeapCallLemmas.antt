@@ -18,17 +18,17 @@ use Rattle.sliced_heap.specs.Heap.{share_at, blocks_at}
 use Rattle.sliced_heap.specs.Laws.{HeapStays}
 use Rattle.sliced_heap.specs.Sliced.{sliced_tag, block_regions}
 use Rattle.sliced_heap.proofs.HeapLaws.{heap_stays_among}
-use Rattle.heap_window.proofs.ShareLemmas.{shown_block}
+use Rattle.sliced_heap.proofs.ShareLemmas.{shown_block}
 use Rattle.heap_core.specs.declared.heap.Heap.{Heap}
 use Rattle.heap_core.specs.Heap.{payer_of as heap_payer, heap_at, IsSound as IsSoundHeap}
 use Rattle.pd_core.specs.Own.{Sessions, own_of, own_at, lent_in}
 use Rattle.pd_core.specs.Sound.{IsScript, IsSoundScript, rpc_weight}
 use Rattle.pd_core.specs.declared.script.Script.{Script}
-use Rattle.heap_window.proofs.BesideLemmas.{maps_memory}
+use Rattle.sliced_heap.proofs.BesideLemmas.{maps_memory}
 use Rattle.pd_core.specs.Does.{Does}
 use Rattle.pd_core.proofs.SlicedLemmas.{ChangesHeaps, finishes_heaps}
-use Rattle.heap_window.proofs.WindowLemmas.{IsTagged, IsOfEither, of_either}
-use Rattle.heap_window.specs.Window.{IsNoHeapBlock}
+use Rattle.sliced_heap.proofs.WindowLemmas.{IsTagged, IsOfEither, of_either}
+use Rattle.sliced_heap.specs.Window.{IsNoHeapBlock}
 
 -- ---- a script in parts
 

@@ -18,7 +18,7 @@ use Rattle.sliced_heap.specs.Heap.{share_at}
 use Rattle.heap_core.specs.declared.heap.Heap.{Heap}
 use Rattle.heap_core.specs.Calls.{KeepsSpaces, AddsSpace, Attaches}
 use Rattle.heap_core.specs.Heap.{payer_of as heap_payer, large_tag, large_regions, IsSound as IsSoundHeap}
-use Rattle.heap_window.proofs.WindowLemmas.{IsTagged, tagged, ShowAlike}
+use Rattle.sliced_heap.proofs.WindowLemmas.{IsTagged, tagged, ShowAlike}
 use Rattle.heap_core.proofs.BesideLemmas.{LeavesRest, rest_in_place, alike_in_place, count_in_place, rest_attached, fresh_attached, alike_attached, rest_detached, alike_detached}
 use Rattle.pd_core.proofs.HeapCallLemmas.{Owns, Alone}
 

@@ -31,14 +31,14 @@ use Rattle.heap_core.specs.Laws.{Pokes, block_region}
 use Rattle.heap_core.specs.Words.{are_bytes}
 use Rattle.dataspace_core.proofs.ShareLaws.{in_share}
 use Rattle.pd_core.specs.Own.{Sessions, selector_of, own_of}
-use Rattle.heap_window.proofs.ShareLemmas.{region_of_block}
+use Rattle.sliced_heap.proofs.ShareLemmas.{region_of_block}
 use Rattle.pd_core.proofs.BytesLemmas.{renamed_is}
 use Rattle.pd_core.proofs.HeapCallLemmas.{Owns, Ends, Alone, own_in}
 use Rattle.pd_core.proofs.OwnLemmas.{all_sessions}
 use Rattle.heap_core.proofs.RangeLemmas.{payload_poked, payload_read}
 use Rattle.heap_core.proofs.BlockRangeLemmas.{blocks_are_regions as heap_blocks_are_regions}
-use Rattle.heap_window.proofs.WindowLemmas.{IsPut, is_put, blocks_in_place, tagged}
-use Rattle.heap_window.proofs.ShareLemmas.{kept_tag, low_tag}
+use Rattle.sliced_heap.proofs.WindowLemmas.{IsPut, is_put, blocks_in_place, tagged}
+use Rattle.sliced_heap.proofs.ShareLemmas.{kept_tag, low_tag}
 
 module _ {store : Store} {space : Space} {regions : Regions} {heap : Heap} (o : Owns (heap_payer heap) store space regions heap) (ds offset address count : ℕ)
     (held : HoldsRange heap store regions ds offset address count) where

@@ -8,8 +8,8 @@ use Rattle.own_model.specs.Text.{bytes_of_hex, hex_digit_of}
 use Rattle.std.proofs.lemmas.Option.{same_Some}
 use Rattle.heap_core.specs.Words.{are_bytes}
 use Rattle.own_model.proofs.LogLemmas.{bytes_of_digits}
-use Rattle.text_read.proofs.AddressLemmas.{digit_below}
-use Rattle.text_read.proofs.HexLemmas.{parts}
+use Rattle.text_codec.proofs.AddressLemmas.{digit_below}
+use Rattle.text_codec.proofs.HexLemmas.{parts}
 use Rattle.pd_core.specs.Call.{bytes_in}
 
 -- the same of the bytes that text stands for

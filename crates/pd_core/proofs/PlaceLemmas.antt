@@ -30,7 +30,7 @@ use Rattle.sliced_heap.proofs.HeapLaws.{payload_poked, payload_read}
 use Rattle.pd_core.specs.Own.{Sessions, lent_in, object_of, own_at, own_of, part_at, own_heap_at, sliced_at, selector_of, IsFound, IsFoundInRegion, IsFoundInSliced, IsFoundInBlock}
 use Rattle.pd_core.specs.Sound.{buffer_at, IsSoundScript}
 use Rattle.pd_core.specs.declared.script.Script.{Script}
-use Rattle.heap_window.proofs.BesideLemmas.{map_of, sliced_no_block}
+use Rattle.sliced_heap.proofs.BesideLemmas.{map_of, sliced_no_block}
 use Rattle.pd_core.proofs.BytesLemmas.{renamed_is, selector, names, fits, peek_is, poke_is, put_over, poke_settles}
 use Rattle.pd_core.proofs.LentPokeLemmas.{lent_poked}
 use Rattle.pd_core.proofs.HeapCallLemmas.{own_in, parts, finishes_parts}
@@ -42,7 +42,7 @@ use Rattle.pd_core.proofs.SettleLemmas.{settled}
 use Rattle.pd_core.specs.Does.{Does, DoesPoke}
 use Rattle.pd_core.proofs.ScriptLemmas.{leaves_others, finishes, at_heap, block_there, is_region}
 use Rattle.pd_core.proofs.SlicedLemmas.{ChangesHeaps, no_block, finishes_heaps}
-use Rattle.heap_window.proofs.WindowLemmas.{IsPut, is_put}
+use Rattle.sliced_heap.proofs.WindowLemmas.{IsPut, is_put}
 
 -- a dataspace that selectors name is there, and they name its bytes
 record IsThere (sessions_name : Sessions → Option Object) (store : Store) (key : ℕ) : Type 0 where

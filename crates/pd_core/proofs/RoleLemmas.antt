@@ -14,8 +14,8 @@ use Rattle.own_model.specs.OwnState.Object.{OpenSession}
 use Rattle.own_model.proofs.NatMapLemmas.{same, picked_alike}
 use Rattle.cap_space.specs.declared.cap.Cap.{Cap}
 use Rattle.cap_space.specs.declared.cap.Cap.TheVariants.{Dataspace, RpcObject, Session, Buffer}
-use Rattle.slab_map.specs.SlabMap.{map_of}
-use Rattle.slab_map.proofs.SlabMap.{get-map_of, get-map_of_at}
+use Rattle.quota_core.specs.SlabMap.{map_of}
+use Rattle.quota_core.proofs.SlabMap.{get-map_of, get-map_of_at}
 use Rattle.region_map.specs.Regions.{Regions}
 use Rattle.dataspace_core.specs.Share.{Share}
 use Rattle.dataspace_core.specs.Store.{Store, Part, part, account_of, space_at, ram_limits_in, caps_limits_in}

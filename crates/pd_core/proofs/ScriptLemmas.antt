@@ -23,7 +23,7 @@ use Rattle.heap_core.specs.Laws.{block_region, IsMapOf, HeapStays as HeapStaysAs
 use Rattle.sliced_heap.specs.Heap.{payer_of as sliced_payer, share_at, blocks_at, MapsMemory}
 use Rattle.sliced_heap.specs.Sliced.{block_regions}
 use Rattle.sliced_heap.specs.Laws.{HeapStays}
-use Rattle.heap_window.proofs.ShareLemmas.{shown_block}
+use Rattle.sliced_heap.proofs.ShareLemmas.{shown_block}
 use Rattle.sliced_heap.proofs.HeapLaws.{map_stays_for_payer, heap_stays, heap_stays_elsewhere}
 use Rattle.pd_core.specs.declared.answer.Answer.{Answer}
 use Rattle.pd_core.specs.Answer.{reply_of}
@@ -31,8 +31,8 @@ use Rattle.pd_core.specs.Does.{Does, DoesBeside}
 use Rattle.pd_core.specs.Own.{Sessions, own_of, own_at, part_at, own_heap_at, sliced_at, lent_in}
 use Rattle.pd_core.specs.Sound.{IsScript, AreOthers, HasHeaps, IsSoundScript, SparesOthers}
 use Rattle.pd_core.specs.declared.script.Script.{Script}
-use Rattle.heap_window.proofs.BesideLemmas.{map_of, whole_share, whole_tags, stands_alike}
-use Rattle.heap_window.proofs.ShareLemmas.{region_of_block}
+use Rattle.sliced_heap.proofs.BesideLemmas.{map_of, whole_share, whole_tags, stands_alike}
+use Rattle.sliced_heap.proofs.ShareLemmas.{region_of_block}
 use Rattle.heap_core.proofs.StayLemmas as heap_laws
 use Rattle.pd_core.proofs.LentLemmas.{LendAlike, LendersStay, own_lent, script_lent, others_still, lent_still}
 use Rattle.pd_core.proofs.SettleLemmas.{Settles}

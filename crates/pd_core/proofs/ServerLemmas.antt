@@ -12,7 +12,7 @@ use Rattle.own_model.specs.Account.{Fits}
 use Rattle.own_model.specs.OwnHeap.{no_heap}
 use Rattle.own_model.specs.Session.{Labelled}
 use Rattle.own_model.proofs.NatMapLemmas.{get-empty}
-use Rattle.slab_map.proofs.SlabMap.{get-map_of, get-map_of_at, ContainsKey-map_of}
+use Rattle.quota_core.proofs.SlabMap.{get-map_of, get-map_of_at, ContainsKey-map_of}
 use Rattle.region_map.specs.Regions.{Regions}
 use Rattle.dataspace_core.specs.Room.{HasRoom}
 use Rattle.dataspace_core.specs.Share.{Share}

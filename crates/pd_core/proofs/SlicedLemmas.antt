@@ -36,12 +36,12 @@ use Rattle.heap_core.specs.Laws.{block_region, HeapStays}
 use Rattle.sliced_heap.specs.declared.heap.SlicedHeap.{SlicedHeap}
 use Rattle.sliced_heap.specs.Heap.{payer_of, share_at, blocks_at, IsSound as IsSoundSliced, KeepsOthers, TakesBlock, GivesBlock, IsNoBlock, free_refusal}
 use Rattle.sliced_heap.specs.Sliced.{sliced_tag, block_regions}
-use Rattle.heap_window.proofs.ShareLemmas.{shown_block}
+use Rattle.sliced_heap.proofs.ShareLemmas.{shown_block}
 use Rattle.sliced_heap.proofs.HeapLaws.{blocks_are_regions}
 use Rattle.pd_core.specs.Own.{Sessions, lent_in, own_at, own_of, part_at, own_heap_at, sliced_at}
 use Rattle.pd_core.specs.Sound.{rpc_weight, HasHeaps, IsSoundScript}
 use Rattle.pd_core.specs.declared.script.Script.{Script}
-use Rattle.heap_window.proofs.BesideLemmas.{map_of, standing, whole_standing, sliced_no_block, stands_beside_more, stands_beside_less, ranges_alike, gap_is_free, lie_with, lie_without}
+use Rattle.sliced_heap.proofs.BesideLemmas.{map_of, standing, whole_standing, sliced_no_block, stands_beside_more, stands_beside_less, ranges_alike, gap_is_free, lie_with, lie_without}
 use Rattle.heap_core.proofs.StayLemmas.{heap_stays}
 use Rattle.heap_core.proofs.BlockRangeLemmas.{blocks_are_regions as heap_blocks_are_regions}
 use Rattle.pd_core.proofs.LentLemmas.{LendAlike, LendersStay, own_lent, script_lent, others_still, lent_still}

@@ -10,7 +10,7 @@ use heap_core::Heap;
 use region_map::RegionMap;
 use server_frame::Reply;
 use sliced_heap::SlicedHeap;
-use text_read::decode_hex;
+use text_codec::decode_hex;
 use trade_base::{AccountId, DsId, Refusal};
 
 /// A script: the account that it is charged on, the account of its reserve, its capabilities, its regions, its heap and the heap

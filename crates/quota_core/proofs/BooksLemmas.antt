@@ -10,9 +10,9 @@ use Rattle.own_model.proofs.NatMapLemmas.{natmaps, same, insert_back, apart_from
 use Rattle.quota_core.specs.Books.{Books, IsOpen, account_at, fresh_books, with_account, HasNoChild, AreSound}
 use Rattle.quota_core.specs.Kept.{parents_of, books_of}
 use Rattle.quota_core.specs.declared.books.Entry.{Entry}
-use Rattle.slab_map.specs.SlabMap.{map_of}
+use Rattle.quota_core.specs.SlabMap.{map_of}
 use Rattle.quota_core.proofs.BooksLaws.{Leaves, leaves}
-use Rattle.slab_map.proofs.SlabMap.{get-map_of_at, get-map_of_none, map_of-empty, map_of-insert, map_of-remove, map_of-with_value, slab_len-with_value, ContainsKey-map_of}
+use Rattle.quota_core.proofs.SlabMap.{get-map_of_at, get-map_of_none, map_of-empty, map_of-insert, map_of-remove, map_of-with_value, slab_len-with_value, ContainsKey-map_of}
 
 -- books that agree in each part are equal
 same_books : {m n : NatMap Account} {p q : NatMap ℕ} {root key room left : ℕ} → m ≡ n → p ≡ q → root ≡ key → room ≡ left → ◌≡◌ {A = Books} (record { accounts = m; parents = p; root = root; room = room }) (record { accounts = n; parents = q; root = key; room = left })

@@ -1,2 +1,3 @@
 pub mod BooksLemmas
 pub mod BooksLaws
+pub mod SlabMap

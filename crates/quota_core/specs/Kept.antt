@@ -5,7 +5,7 @@ use Rattle.slab.specs.Slab.{Slab, slab_len}
 use Rattle.own_model.specs.Account.{Account}
 use Rattle.own_model.specs.NatMap.{NatMap}
 use Rattle.quota_core.specs.Books.{Books}
-use Rattle.slab_map.specs.SlabMap.{map_of}
+use Rattle.quota_core.specs.SlabMap.{map_of}
 use Rattle.quota_core.specs.declared.books.Entry.{Entry}
 
 -- the accounts of a slab of entries

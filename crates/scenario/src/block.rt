@@ -5,7 +5,7 @@ ghost use Rattle.scenario.specs.Lines.{is_newline, line_length, GrowsUnless};
 use crate::device::{DeviceFault, Source};
 use crate::gather::Gather;
 use std::marker::Model;
-use text_read::find_byte;
+use text_codec::find_byte;
 
 /// The longest line that is read as a call, in bytes and without its newline.
 pub const LONGEST_LINE: usize = 8192;

@@ -8,7 +8,7 @@ ghost use Rattle.own_model.specs.Call.Call.{AttachAt, Peek, Poke, Open, Upgrade,
 ghost use Rattle.pd_core.specs.Call.{model_call, IsWellFormed};
 
 use pd_core::Call;
-use text_read::{read_address, read_hex, split_first_word, split_name, split_path};
+use text_codec::{read_address, read_hex, split_first_word, split_name, split_path};
 use trade_base::{Refusal, read_number};
 
 /// The component's path and the call of a line, or `Refusal::BadLine` where the line isn't a call. The line's length

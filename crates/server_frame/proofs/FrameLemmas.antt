@@ -10,15 +10,15 @@ use Rattle.slab.specs.Slab as slab
 use Rattle.own_model.specs.Account.{Account}
 use Rattle.own_model.specs.Region.{Region}
 use Rattle.own_model.proofs.NatMapLemmas.{same, value_at, get-empty, get-picked, get-insert_same, get-insert_other, get-remove_same, get-remove_other}
-use Rattle.slab_map.specs.SlabMap.{map_of}
-use Rattle.slab_map.proofs.SlabMap.{get-map_of}
+use Rattle.quota_core.specs.SlabMap.{map_of}
+use Rattle.quota_core.proofs.SlabMap.{get-map_of}
 use Rattle.region_map.specs.Regions.{Regions}
 use Rattle.dataspace_core.specs.Store.{Store, Part, part, account_of, account_in, space_at, parents_in, IsOpenIn, IsLeafIn}
 use Rattle.dataspace_core.specs.Share.{Share, share_in, shown}
 use Rattle.dataspace_core.proofs.PartLaws.{account_of-part, open_in_part, part_open, part_of_payer, paid_in_part}
 use Rattle.sliced_heap.specs.Heap.{payer_of, share_at, MapsMemory}
 use Rattle.dataspace_core.proofs.ShareLaws.{in_share}
-use Rattle.heap_window.proofs.ShareLemmas.{share_has}
+use Rattle.sliced_heap.proofs.ShareLemmas.{share_has}
 use Rattle.server_frame.specs.Session.{holding}
 use Rattle.server_frame.specs.Frame.{row_of, Holds, IsSessions, IsServer}
 use Rattle.server_frame.specs.declared.server.Session.{Session}

@@ -18,7 +18,7 @@ use Rattle.dataspace_core.specs.Share.{Share, share_in}
 use Rattle.sliced_heap.specs.Sliced.{block_regions, payload_of, sliced_of}
 use Rattle.sliced_heap.specs.Heap.{payer_of, share_at, blocks_at, MapsMemory, IsSound, HasNoBlocks}
 use Rattle.sliced_heap.specs.declared.heap.SlicedHeap.{SlicedHeap}
-use Rattle.heap_window.proofs.ShareLemmas.{shown_block}
+use Rattle.sliced_heap.proofs.ShareLemmas.{shown_block}
 use Rattle.sliced_heap.proofs.LinkedLemmas.{alike_linked}
 use Rattle.server_frame.specs.Session.{holding, IsSessionHeap}
 

@@ -13,7 +13,7 @@ use Rattle.own_model.specs.Account.{Account}
 use Rattle.own_model.specs.NatMap.{NatMap}
 use Rattle.own_model.proofs.NatMapLemmas.{same, some_of}
 use Rattle.own_model.proofs.Totals.{len-insert_at}
-use Rattle.slab_map.proofs.SlabMap.{get-map_of}
+use Rattle.quota_core.proofs.SlabMap.{get-map_of}
 use Rattle.region_map.specs.Regions.{Regions}
 use Rattle.dataspace_core.specs.Store.{Store, Part, part, account_of, account_in, bytes_of, space_at, part_with_bytes, PartBecomes}
 use Rattle.dataspace_core.specs.Share.{Share, share_in}

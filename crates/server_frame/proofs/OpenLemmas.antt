@@ -9,7 +9,7 @@ use Rattle.own_model.specs.Account.{Account, opened}
 use Rattle.own_model.specs.NatMap.{NatMap}
 use Rattle.own_model.specs.Session.{session_account}
 use Rattle.own_model.proofs.NatMapLemmas.{apart_from_free, after_insert, get-insert_same, get-insert_other}
-use Rattle.slab_map.proofs.SlabMap.{get-map_of_none}
+use Rattle.quota_core.proofs.SlabMap.{get-map_of_none}
 use Rattle.region_map.specs.Regions.{Regions}
 use Rattle.dataspace_core.specs.Store.{Store, accounts_in, parents_in, IsOpenIn}
 use Rattle.dataspace_core.specs.Share.{Share}

@@ -11,8 +11,8 @@ use Rattle.own_model.specs.NatMap.{NatMap, total}
 use Rattle.own_model.proofs.NatMapLemmas.{get-remove_other, before_remove}
 use Rattle.own_model.proofs.Totals.{len-total, total_owed_le, total_times_le}
 use Rattle.own_model.proofs.KeySums.{measured_or, total-taken, owed_once}
-use Rattle.slab_map.specs.SlabMap.{map_of}
-use Rattle.slab_map.proofs.SlabMap.{get-map_of, len-map_of}
+use Rattle.quota_core.specs.SlabMap.{map_of}
+use Rattle.quota_core.proofs.SlabMap.{get-map_of, len-map_of}
 use Rattle.region_map.specs.Regions.{Regions}
 use Rattle.dataspace_core.specs.Store.{Store, account_in, accounts_in, IsOpenIn}
 use Rattle.dataspace_core.specs.Room.{HasRoom}

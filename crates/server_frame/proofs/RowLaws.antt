@@ -14,7 +14,7 @@ use Rattle.trade_base.specs.declared.id.AccountId.{AccountId}
 use Rattle.trade_base.specs.declared.refusal.Refusal.{Refusal}
 use Rattle.own_model.specs.Donation.{raised}
 use Rattle.own_model.specs.Session.{session_account}
-use Rattle.slab_map.proofs.SlabMap.{get-map_of, get-map_of_at, len-map_of}
+use Rattle.quota_core.proofs.SlabMap.{get-map_of, get-map_of_at, len-map_of}
 use Rattle.region_map.specs.Regions.{Regions}
 use Rattle.dataspace_core.specs.Store.{Store, Part, part, accounts_in, room_in, IsOpenIn, ClosesPart, RaisesPart}
 use Rattle.dataspace_core.specs.Share.{Share}

@@ -10,7 +10,7 @@ use Rattle.trade_base.specs.declared.refusal.Refusal.{Refusal}
 use Rattle.own_model.specs.Account.{Account}
 use Rattle.own_model.specs.Donation.{raised}
 use Rattle.own_model.specs.NatMap.{NatMap}
-use Rattle.slab_map.proofs.SlabMap.{get-map_of_at}
+use Rattle.quota_core.proofs.SlabMap.{get-map_of_at}
 use Rattle.region_map.specs.Regions.{Regions}
 use Rattle.dataspace_core.specs.Store.{Store, Part, account_of, account_in, IsOpenIn, with_moved_in, ram_limits_in, RaisesPart}
 use Rattle.dataspace_core.specs.Share.{Share}

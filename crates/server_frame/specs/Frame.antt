@@ -7,7 +7,7 @@ use Rattle.own_model.specs.Account.{Account}
 use Rattle.own_model.specs.NatMap.{NatMap}
 use Rattle.own_model.specs.Region.{Region}
 use Rattle.own_model.specs.Session.{session_account}
-use Rattle.slab_map.specs.SlabMap.{map_of}
+use Rattle.quota_core.specs.SlabMap.{map_of}
 use Rattle.region_map.specs.Regions.{Regions}
 use Rattle.dataspace_core.specs.Store.{Store, part, parted_part, space_at, accounts_in, account_in, root_in, room_in, parents_in, IsOpenIn, IsChildIn, IsLeafIn}
 use Rattle.dataspace_core.specs.Share.{Share}

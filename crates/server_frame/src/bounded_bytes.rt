@@ -6,7 +6,7 @@ use crate::digits::write_number;
 use std::alloc::Global;
 use std::boxed::BoxedSlice;
 use std::marker::Model;
-use text_read::encode_hex;
+use text_codec::encode_hex;
 use trade_base::NoMemory;
 
 /// The most digits of a number.

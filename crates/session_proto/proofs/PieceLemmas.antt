@@ -7,7 +7,7 @@ use Rattle.std.proofs.lemmas.List.Quantifiers.{position-Some}
 use Rattle.std.proofs.lemmas.List.{take_all, take_rest, drop_all, drop-drop, at_drop_more}
 use Rattle.std.proofs.lemmas.Bool.Decides.{nat_tests}
 use Rattle.own_model.specs.SessionArgs.{is_quote, pieces_of, onto_first}
-use Rattle.text_read.proofs.WordLemmas.{after, after-next}
+use Rattle.text_codec.proofs.WordLemmas.{after, after-next}
 use Rattle.session_proto.specs.Pieces.{is_cut, first_len, pieces_after}
 
 -- a byte in front, which is such a comma or isn't, where the rest is cut so

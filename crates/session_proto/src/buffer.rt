@@ -7,7 +7,7 @@ ghost use Rattle.own_model.specs.FileText.{of_file};
 ghost use Rattle.session_proto.specs.File.{model_request, request_of_move, HasHex};
 
 use crate::file::{FileRequest, file_word};
-use text_read::split_first_word;
+use text_codec::split_first_word;
 use trade_base::read_number;
 
 /// The request of the buffer of a form, with what stands after the form and a space as its arguments.

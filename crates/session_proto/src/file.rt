@@ -10,7 +10,7 @@ ghost use Rattle.session_proto.specs.File.{model_request, HasHex};
 use crate::buffer::buffer_request_from;
 use crate::hex_text::hex_or_nothing;
 use crate::log::LONGEST_REQUEST;
-use text_read::split_first_word;
+use text_codec::split_first_word;
 use trade_base::read_number;
 
 /// A request, of the files of a session or of its buffer. A file is named by one or more bytes without a space, and bytes are

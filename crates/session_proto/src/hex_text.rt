@@ -4,7 +4,7 @@ ghost use Rattle.std.specs.Option.{option_copied, option_map};
 ghost use Rattle.own_model.specs.Text.{bytes_of_hex, hex_bytes};
 ghost use Rattle.own_model.specs.LogText.{hex_or_nothing};
 
-use text_read::read_hex;
+use text_codec::read_hex;
 
 /// The hexadecimal digits of a text, or none where there is no text. It is `None` where a text isn't the digits of one
 /// or more bytes.

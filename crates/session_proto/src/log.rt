@@ -6,7 +6,7 @@ ghost use Rattle.session_proto.specs.LogReply.{log_reply_text};
 
 use crate::hex_text::hex_or_nothing;
 use server_frame::Reply;
-use text_read::split_first_word;
+use text_codec::split_first_word;
 
 /// The most bytes of a request.
 pub(crate) const LONGEST_REQUEST: usize = 8192;

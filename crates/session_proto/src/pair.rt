@@ -6,7 +6,7 @@ ghost use Rattle.own_model.specs.SessionArgs.{is_key, is_key_start, is_key_byte,
 ghost use Rattle.session_proto.specs.View.{model_value, model_pair};
 
 use crate::text::{split_at_equals, trim};
-use text_read::{has_name_bytes, is_key_byte, is_quotable};
+use text_codec::{has_name_bytes, is_key_byte, is_quotable};
 
 /// A key and its value.
 #[derive(Clone, Copy)]

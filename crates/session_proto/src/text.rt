@@ -5,7 +5,7 @@ ghost use Rattle.std.specs.List.{before_first, after_first, list_all};
 ghost use Rattle.own_model.specs.SessionArgs.{is_space, is_quote, is_equals, skip_spaces, trimmed, pieces_of};
 ghost use Rattle.session_proto.specs.Pieces.{is_cut, first_len, pieces_after};
 
-use text_read::{find_byte, find_either};
+use text_codec::{find_byte, find_either};
 
 /// Whether a text is spaces alone, or nothing.
 pub(crate) fn is_blank(text: &[u8]) -> bool

@@ -20,7 +20,7 @@ use Rattle.sliced_heap.specs.declared.heap.SlicedHeap.{SlicedHeap}
 use Rattle.sliced_heap.specs.Chain.{link_to, is_listed}
 use Rattle.sliced_heap.specs.Sliced.{sliced_tag, is_sliced_tag, block_regions, HasHeader, IsLinked, HeadersChange, PutFirst}
 use Rattle.sliced_heap.specs.Heap.{payer_of, share_at, blocks_at, MapsMemory, IsSound, KeepsOthers, CanEnter, Enters}
-use Rattle.heap_window.proofs.ShareLemmas.{shown_block, numbered_free, numbered-insert}
+use Rattle.sliced_heap.proofs.ShareLemmas.{shown_block, numbered_free, numbered-insert}
 use Rattle.sliced_heap.proofs.LinkedLemmas.{no_block_unlisted, first_is_listed, stands_header, put_linked, put_payloads}
 use Rattle.dataspace_core.proofs.WindowLaws.{in_no_other, shown_of_part, own_account, length_some}
 use Rattle.sliced_heap.proofs.HeapLaws.{map_stays_for_payer}

@@ -22,7 +22,7 @@ use Rattle.sliced_heap.specs.Heap.{payer_of, share_at, MapsMemory, IsSound, Keep
 use Rattle.sliced_heap.proofs.ChainLemmas.{ahead_apart, back_apart}
 use Rattle.sliced_heap.proofs.LinkedLemmas.{no_block_unlisted, stands_header, out_linked, out_payloads}
 use Rattle.sliced_heap.proofs.BlockLemmas.{IsWhole, is_whole, payload_there, whole_pages}
-use Rattle.heap_window.proofs.ShareLemmas.{shown_block, numbered-remove}
+use Rattle.sliced_heap.proofs.ShareLemmas.{shown_block, numbered-remove}
 use Rattle.dataspace_core.proofs.ShareLaws.{some_alike}
 use Rattle.dataspace_core.proofs.WindowLaws.{in_no_other, shown_after, account_after, own_account, length_some}
 

@@ -32,7 +32,7 @@ use Rattle.sliced_heap.specs.Laws.{KeepsHeapWindow, Pokes, PayloadsArePoked, Pay
 use Rattle.sliced_heap.proofs.LinkedLemmas.{still_linked, alike_linked, alike_payloads, payload_put}
 use Rattle.dataspace_core.proofs.PokedLaws.{poked_there, poked_other, poked_length}
 use Rattle.sliced_heap.proofs.HeaderLemmas.{poked_word}
-use Rattle.heap_window.proofs.ShareLemmas.{is_block, shown_block}
+use Rattle.sliced_heap.proofs.ShareLemmas.{is_block, shown_block}
 use Rattle.dataspace_core.proofs.WindowLaws.{in_part, in_no_other, shown_of_part, shown_after, account_after, own_account}
 
 -- ---- the map

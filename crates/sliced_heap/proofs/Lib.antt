@@ -9,3 +9,6 @@ pub mod GiveLemmas
 pub mod HeapLaws
 pub mod EndLemmas
 pub mod TestLemmas
+pub mod ShareLemmas
+pub mod WindowLemmas
+pub mod BesideLemmas

@@ -15,7 +15,7 @@ use Rattle.sliced_heap.specs.declared.heap.SlicedHeap.{SlicedHeap}
 use Rattle.sliced_heap.specs.Sliced.{sliced_tag, block_regions}
 use Rattle.sliced_heap.specs.Heap.{payer_of, share_at, IsSound, MapsMemory, HoldsAddress, NoneHolds}
 use Rattle.sliced_heap.proofs.BlockLemmas.{is_whole}
-use Rattle.heap_window.proofs.ShareLemmas.{is_block, shown_block}
+use Rattle.sliced_heap.proofs.ShareLemmas.{is_block, shown_block}
 
 -- ---- the block that the map finds
 

@@ -12,7 +12,7 @@ use Rattle.own_model.specs.Sliced.{sliced_header as header, sliced_size, block_s
 use Rattle.region_map.specs.Regions.{Regions, heap_attached, heap_detached}
 use Rattle.dataspace_core.specs.Store.{Store, part, bytes_of, account_in, root_in, parents_in, room_in, IsOpenIn}
 use Rattle.dataspace_core.specs.Share.{Share, share}
-pub use Rattle.heap_window.specs.Window.{share_at, MapsMemory}
+pub use Rattle.sliced_heap.specs.Window.{share_at, MapsMemory}
 use Rattle.sliced_heap.specs.declared.heap.SlicedHeap.{SlicedHeap}
 use Rattle.sliced_heap.specs.Sliced.{sliced_tag, block_regions, sliced_of, IsLinked}
 

@@ -10,7 +10,7 @@ use Rattle.own_model.specs.Sliced.{sliced_header as header, ranges_of_blocks}
 use Rattle.region_map.specs.Regions.{Regions}
 use Rattle.dataspace_core.specs.Store.{Store, Space, Part, part, account_in, IsOpenIn, PartBecomes, part_with_bytes, ram_limits_in}
 use Rattle.dataspace_core.specs.Share.{Share}
-pub use Rattle.heap_window.specs.Window.{KeepsHeapWindow}
+pub use Rattle.sliced_heap.specs.Window.{KeepsHeapWindow}
 use Rattle.sliced_heap.specs.declared.heap.SlicedHeap.{SlicedHeap}
 use Rattle.sliced_heap.specs.Sliced.{block_regions, sliced_of}
 use Rattle.sliced_heap.specs.Heap.{payer_of, share_at, blocks_at, MapsMemory, IsSound, HasNoBlocks, KeepsOthers, HoldsRange}

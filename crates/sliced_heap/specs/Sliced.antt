@@ -9,7 +9,7 @@ use Rattle.own_model.specs.Region.{Region}
 use Rattle.own_model.specs.Sliced.{sliced_header as header}
 use Rattle.dataspace_core.specs.Store.{Store, Part, PartBecomes, part, bytes_of}
 use Rattle.dataspace_core.specs.Share.{Share}
-pub use Rattle.heap_window.specs.Window.{sliced_tag, is_sliced_tag, sliced_regions, block_regions}
+pub use Rattle.sliced_heap.specs.Window.{sliced_tag, is_sliced_tag, sliced_regions, block_regions}
 use Rattle.sliced_heap.specs.Chain.{link_to, is_listed, IsChain}
 
 -- what a region's dataspace holds behind the header

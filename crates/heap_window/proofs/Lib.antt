@@ -1,3 +1,0 @@
-pub mod ShareLemmas
-pub mod WindowLemmas
-pub mod BesideLemmas

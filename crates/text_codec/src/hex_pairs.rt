@@ -1,0 +1,95 @@
+//! Bytes, and pairs of hexadecimal digits.
+ghost use Rattle.std.specs.Prelude.{◌≡◌, ◌+◌, ◌*◌, ◌/◌, ◌%◌, ◌<◌, ◌≤◌, length, take, drop, Some, IsSome, [], ◌∷◌};
+ghost use Rattle.own_model.specs.Text.{hex_digit_of, byte_of_hex, bytes_of_hex, hex_bytes};
+ghost use Rattle.own_model.specs.Reply.{hex_text};
+ghost use Rattle.text_codec.specs.Digits.{bits_value, bits_digit};
+
+/// The bytes that a text of hexadecimal digits stands for, two digits of either case a byte.
+pub fn decode_hex(hex: &[u8], bytes: &mut [u8])
+    requires hex { bytes_of_hex hex.now ≡ Some (hex_bytes hex.now) }
+    requires len { length bytes.old ≡ length hex.now / 2 }
+    ensures { bytes.new ≡ hex_bytes hex.now }
+{
+    for i in 0..bytes.len() {
+        bytes[i] = byte_of_pair(hex[2 * i], hex[2 * i + 1]);
+    }
+}
+
+/// So many of these bytes, from one on.
+pub fn decode_hex_from(hex: &[u8], start: usize, bytes: &mut [u8])
+    requires hex { bytes_of_hex hex.now ≡ Some (hex_bytes hex.now) }
+    requires range { start + length bytes.old ≤ length hex.now / 2 }
+    ensures { bytes.new ≡ take (length bytes.old) (drop start (hex_bytes hex.now)) }
+{
+    let end = start + bytes.len();
+    decode_hex(&hex[2 * start..2 * end], bytes);
+}
+
+/// Bytes as hexadecimal digits of small letters, two a byte.
+pub fn encode_hex(bytes: &[u8], hex: &mut [u8])
+    requires { length hex.old ≡ 2 * length bytes.now }
+    ensures { hex.new ≡ hex_text bytes.now }
+{
+    for i in 0..bytes.len() {
+        let [high, low] = pair_of_byte(bytes[i]);
+        hex[2 * i] = high;
+        hex[2 * i + 1] = low;
+    }
+}
+
+/// The byte that two digits stand for. Both are worked on at once, in the halves of a word, and without a branch: so the
+/// loop over pairs is one over vectors.
+#[inline]
+fn byte_of_pair(high: u8, low: u8) -> u8
+    requires high { IsSome (hex_digit_of high) }
+    requires low { IsSome (hex_digit_of low) }
+    ensures { byte_of_hex high low ≡ Some result }
+{
+    packed(values(u16::from_le_bytes([high, low])))
+}
+
+/// The values of two digits, each in its half of the word.
+#[inline]
+fn values(digits: u16) -> u16
+    ensures { result ≡ bits_value (digits / 256) * 256 + bits_value (digits % 256) }
+{
+    let letters = (digits & 0x4040) >> 6;
+    (digits & 0x0f0f) + 9 * letters
+}
+
+/// The byte of two values below 16, of which the lower half of the word holds the first.
+#[inline]
+fn packed(values: u16) -> u8
+    requires high { values % 256 < 16 }
+    requires low { values / 256 < 16 }
+    ensures { result ≡ values % 256 * 16 + values / 256 }
+{
+    (values.wrapping_mul(0x1001) >> 8) as u8
+}
+
+/// The two digits of a byte.
+#[inline]
+fn pair_of_byte(byte: u8) -> [u8; 2]
+    ensures { result ≡ bits_digit (byte / 16) ∷ bits_digit (byte % 16) ∷ [] }
+{
+    digits(spread(byte)).to_le_bytes()
+}
+
+/// The two halves of a byte, each in a half of the word, and the first in the lower one.
+#[inline]
+fn spread(byte: u8) -> u16
+    ensures { result ≡ byte % 16 * 256 + byte / 16 }
+{
+    ((u16::from(byte) & 15) << 8) + (u16::from(byte) >> 4)
+}
+
+/// The digits of two values below 16, each in its half of the word.
+#[inline]
+fn digits(values: u16) -> u16
+    requires high { values % 256 < 16 }
+    requires low { values / 256 < 16 }
+    ensures { result ≡ bits_digit (values / 256) * 256 + bits_digit (values % 256) }
+{
+    let letters = ((values + 0x0606) & 0x1010) >> 4;
+    values + 0x3030 + 39 * letters
+}

@@ -1,0 +1,63 @@
+//! Texts of hexadecimal digits.
+ghost use Rattle.std.specs.Prelude.{◌≡◌, ◌==◌, is_some, IfSome, IsSome};
+ghost use Rattle.std.specs.Option.{option_map, option_copied};
+ghost use Rattle.std.specs.List.{list_all};
+ghost use Rattle.own_model.specs.Text.{hex_digit_of, bytes_of_hex, hex_bytes};
+ghost use Rattle.own_model.specs.Call.{some_bytes_of_hex};
+ghost use Rattle.text_codec.specs.Digits.{is_hex_digit};
+
+/// A text as it stands, where it is the hexadecimal digits, of either case, of one or more bytes: an even number of
+/// them, and at least two. `None` where it isn't.
+#[tactic(auto, using(crate::proofs::HexLemmas::bytes_found, crate::proofs::HexLemmas::no_bytes_found))]
+pub fn read_hex(text: &[u8]) -> Option<&[u8]>
+    ensures bytes { option_map hex_bytes (option_copied result) ≡ some_bytes_of_hex text.now }
+    ensures hex { IfSome result (λ hex. IsSome (bytes_of_hex hex.now)) }
+{
+    if !text.is_empty() && is_hex(text) {
+        Some(text)
+    } else {
+        None
+    }
+}
+
+/// Whether a text is the hexadecimal digits of bytes, or is empty.
+#[tactic(auto, using(crate::proofs::HexLemmas::even_digits))]
+fn is_hex(text: &[u8]) -> bool
+    ensures { result ≡ is_some (bytes_of_hex text.now) }
+{
+    text.len() % 2 == 0 && has_hex_digits(text)
+}
+
+/// Whether each byte is a hexadecimal digit. It doesn't stop at the first that is none, so many bytes are tested at once.
+fn has_hex_digits(text: &[u8]) -> bool
+    ensures { result ≡ list_all is_hex_digit text.now }
+{
+    let mut most = 0;
+    for byte in text {
+        most = excess(*byte).max(most);
+    }
+    most == 0
+}
+
+/// Nothing for a hexadecimal digit of either case, and more for any other byte: how far it is past the nearer of the last digit
+/// and the last letter. Without a branch, so that a loop over bytes is one over vectors.
+#[inline]
+fn excess(byte: u8) -> u8
+    ensures { (result == 0) ≡ is_hex_digit byte }
+{
+    let past_digits = byte.wrapping_sub(b'0').saturating_sub(9);
+    let past_letters = (byte | 0x20).wrapping_sub(b'a').saturating_sub(5);
+    past_digits.min(past_letters)
+}
+
+/// The value of a hexadecimal digit of either case, or `None` where a byte isn't one.
+pub(crate) fn hex_digit(byte: u8) -> Option<u8>
+    ensures { result ≡ hex_digit_of byte }
+{
+    match byte {
+        b'0'..=b'9' => Some(byte - b'0'),
+        b'A'..=b'F' => Some(byte - b'A' + 10),
+        b'a'..=b'f' => Some(byte - b'a' + 10),
+        _ => None,
+    }
+}

@@ -1,6 +1,0 @@
--- The mask of both halves.
-use Rattle.text_read.proofs.PairLemmas.{digits_by_bits}
-use Rattle.text_read.proofs.hex_pairs.digits.Goals as goal
-
-pub returns : goal.returns
-returns c = digits_by_bits c.args.values c.requires.high c.requires.low

@@ -1,6 +1,0 @@
--- The masks of both halves.
-use Rattle.text_read.proofs.PairLemmas.{values_by_bits}
-use Rattle.text_read.proofs.hex_pairs.values.Goals as goal
-
-pub returns : goal.returns
-returns c = values_by_bits c.args.digits

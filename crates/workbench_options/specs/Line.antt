@@ -1,0 +1,109 @@
+-- The command line as `clap` has it, and what it asks for.
+use Rattle.std.specs.Prelude.{◌≡◌, Bool, false, true, List, [], ◌∷◌, ◌++◌, Option, Some, None, ⊤, ◌≢◌, codes, option_map, unwrap_or}
+use Rattle.std.specs.List.{All}
+use Rattle.std.specs.Option.{option_map_or}
+use Rattle.std.specs.Str.{bytes_eq}
+use Rattle.clap.specs.Words.{App, app_of, Row, Rule, Shape, Text, first_of, new_app, new_rule, one_of, with_subcommand}
+use Rattle.clap.specs.Simple.{new_shape}
+use Rattle.clap.specs.declared.builder.ArgAction.TheVariants.{SetTrue}
+use Rattle.clap.specs.declared.builder.command.Command.{Command as Words}
+use Rattle.clap.specs.declared.builder.command.Command.TheViews.{out-Command}
+use Rattle.workbench_options.specs.declared.command.Command.{Command}
+use Rattle.workbench_options.specs.declared.command.Command.TheVariants as command
+
+-- a flag of this name
+abbrev pub flag_rule : Text → Rule
+flag_rule name = record (new_rule name) { long = Some name; action = Some SetTrue }
+
+-- an option of this name, with a value
+abbrev pub option_rule : Text → Rule
+option_rule name = record (new_rule name) { long = Some name; value_names = 1 }
+
+-- a word that has to be there
+abbrev pub file_rule : Text → Rule
+file_rule name = record (new_rule name) { required = true; value_names = 1 }
+
+-- a command with these rules
+abbrev pub with_rules : Text → List Rule → Shape
+with_rules name rules = record (new_shape name) { rules = rules }
+
+-- a command on a start list, with a flag
+abbrev pub of_list : Text → Text → Shape
+of_list name flag = with_rules name (flag_rule flag ∷ file_rule (codes "list") ∷ [])
+
+-- a command on a scenario
+abbrev pub of_scenario : Text → List Rule → Shape
+of_scenario name rules =
+    with_rules name (option_rule (codes "machine") ∷ (rules ++ file_rule (codes "scenario") ∷ []))
+
+-- the program without its commands
+abbrev pub bare : App
+bare = record (new_app (codes "nethrywel")) {
+  top = record (new_shape (codes "nethrywel")) { has_version = true; disable_help_subcommand = true };
+}
+
+-- the command that answers a scenario
+abbrev pub run : Shape
+run = of_scenario (codes "run") (option_rule (codes "only") ∷ flag_rule (codes "accounts") ∷ [])
+
+-- the command that shows a component's two runs
+abbrev pub alone : Shape
+alone = of_scenario (codes "alone") (file_rule (codes "name") ∷ [])
+
+-- a command has this shape, and no argument of it counts for others
+abbrev pub HasShape : Shape → Words → Type 0
+HasShape shape made = (app_of made ≡ record { top = shape; subs = [] }) × ((out-Command made).has_globals ≡ false)
+
+-- the program itself
+abbrev pub program : App
+program =
+    with_subcommand (with_subcommand (with_subcommand (with_subcommand (with_subcommand (with_subcommand bare
+    run) (of_list (codes "check") (codes "strict"))) (of_list (codes "tree") (codes "dot")))
+    (of_scenario (codes "trace") [])) (of_scenario (codes "accounts") [])) alone
+
+-- a text says that a flag was used
+abbrev pub is_true : Option Text → Bool
+is_true text = option_map_or (λ t. bytes_eq t (codes "true")) text false
+
+-- the flag of this id was used
+abbrev pub is_set : Text → List Row → Bool
+is_set id rows = is_true (one_of id rows)
+
+-- the first value of this id, or a text that stands for it
+abbrev pub first_or : Text → Text → List Row → Text
+first_or text id rows = unwrap_or (first_of id rows) text
+
+-- a command is what these rows ask for behind this name
+abbrev pub Asks : Command → Text → List Row → Type 0
+Asks (command.Run machine only accounts scenario) name rows = (name ≡ codes "run")
+    × (option_map (λ t. t.now) machine ≡ first_of (codes "machine") rows)
+    × (option_map (λ t. t.now) only ≡ first_of (codes "only") rows)
+    × (accounts ≡ is_set (codes "accounts") rows)
+    × (scenario.now ≡ first_or (codes "-") (codes "scenario") rows)
+Asks (command.Check strict list) name rows = (name ≡ codes "check")
+    × (strict ≡ is_set (codes "strict") rows)
+    × (list.now ≡ first_or (codes "-") (codes "list") rows)
+Asks (command.Tree dot list) name rows = (name ≡ codes "tree")
+    × (dot ≡ is_set (codes "dot") rows)
+    × (list.now ≡ first_or (codes "-") (codes "list") rows)
+Asks (command.Trace machine scenario) name rows = (name ≡ codes "trace")
+    × (option_map (λ t. t.now) machine ≡ first_of (codes "machine") rows)
+    × (scenario.now ≡ first_or (codes "-") (codes "scenario") rows)
+Asks (command.Accounts machine scenario) name rows = (name ≡ codes "accounts")
+    × (option_map (λ t. t.now) machine ≡ first_of (codes "machine") rows)
+    × (scenario.now ≡ first_or (codes "-") (codes "scenario") rows)
+Asks (command.Alone machine name_looked_at scenario) name rows = (name ≡ codes "alone")
+    × (option_map (λ t. t.now) machine ≡ first_of (codes "machine") rows)
+    × (name_looked_at.now ≡ first_or [] (codes "name") rows)
+    × (scenario.now ≡ first_or (codes "-") (codes "scenario") rows)
+
+-- the names of all commands
+abbrev pub names : List Text
+names = codes "run" ∷ codes "check" ∷ codes "tree" ∷ codes "trace" ∷ codes "accounts" ∷ codes "alone" ∷ []
+
+-- a command, if one is asked for, is what a command line asks for
+abbrev pub AsksAs : Option Command → Option (Text × List Row) → Type 0
+AsksAs (Some command) (Some asked) = Asks command asked.0 asked.1
+AsksAs (Some command) None = ⊥
+AsksAs None (Some asked) = All (λ name. asked.0 ≢ name) names
+AsksAs None None = ⊤

@@ -1,0 +1,131 @@
+//! What is asked for.
+ghost use Rattle.std.specs.Prelude.{◌≡◌, IfErr, IfOk, Some, codes, map, true};
+ghost use Rattle.clap.specs.Words.{FailsBy, fault_of, found_of, kind_of, rows_of, subcommand_of, takes};
+ghost use Rattle.workbench_options.specs.Line.{AsksAs, first_or, is_set, program};
+
+use crate::commands::commands;
+use clap::error::ErrorKind;
+use clap::{ArgMatches, Error};
+use std::alloc::Global;
+use std::convert::AsStr;
+
+/// What the workbench is asked to do. Paths are as they stand, and `-` is standard input.
+#[derive(Clone, Copy, Debug, PartialEq, Eq)]
+pub enum Command<'a> {
+    /// Answers a scenario, and tells where it isn't answered as it expects.
+    Run {
+        /// The path of a start list, or none for the built-in machine.
+        machine: Option<&'a str>,
+        /// The name whose lines alone are answered, or none for all lines.
+        only: Option<&'a str>,
+        /// Whether the account list is told after the last reply.
+        accounts: bool,
+        /// The path of the scenario.
+        scenario: &'a str,
+    },
+    /// Tells what is wrong with a start list.
+    Check {
+        /// Whether a finding is a fault.
+        strict: bool,
+        /// The path of the start list.
+        list: &'a str,
+    },
+    /// Shows the components of a start list, and where their wishes lead.
+    Tree {
+        /// Whether a graph is shown in place of a text.
+        dot: bool,
+        /// The path of the start list.
+        list: &'a str,
+    },
+    /// Writes a table of all lines with what each left in use.
+    Trace {
+        /// The path of a start list, or none for the built-in machine.
+        machine: Option<&'a str>,
+        /// The path of the scenario.
+        scenario: &'a str,
+    },
+    /// Tells all accounts after a scenario.
+    Accounts {
+        /// The path of a start list, or none for the built-in machine.
+        machine: Option<&'a str>,
+        /// The path of the scenario.
+        scenario: &'a str,
+    },
+    /// Shows what a component is told in the whole run and alone.
+    Alone {
+        /// The path of a start list, or none for the built-in machine.
+        machine: Option<&'a str>,
+        /// The component.
+        name: &'a str,
+        /// The path of the scenario.
+        scenario: &'a str,
+    },
+}
+
+impl<'a> Command<'a> {
+    /// Reads the words of a command line, of which the first is the program's own name. None where they name no command.
+    pub fn read<S: AsStr>(alloc: Global, words: &'a [S]) -> Result<Option<Command<'a>>, Error>
+        ensures command { IfOk result (λ command.
+            AsksAs command (subcommand_of program (map S.text words.entry.now))) }
+        ensures refusals { FailsBy (fault_of program (map S.text words.entry.now)) result }
+        ensures takes { IfErr result (λ error.
+            takes program (map S.text words.entry.now) ≡ true
+            → kind_of error ≡ ErrorKind.OutOfMemory) }
+    {
+        let matches = commands(alloc)?.try_get_matches_from(words)?;
+        match matches.subcommand() {
+            Some((name, found)) => Ok(Command::of(name, found)),
+            None => Ok(None),
+        }
+    }
+
+    // The command of a name, by what was found behind it.
+    fn of(name: &'a str, found: &ArgMatches<'a>) -> Option<Command<'a>>
+        ensures { AsksAs result (Some (name.entry.now, rows_of (found_of found.now))) }
+    {
+        match name {
+            "run" => Some(Command::Run {
+                machine: found.get_str("machine"),
+                only: found.get_str("only"),
+                accounts: is_set(found, "accounts"),
+                scenario: path(found, "scenario"),
+            }),
+            "check" => Some(Command::Check {
+                strict: is_set(found, "strict"),
+                list: path(found, "list"),
+            }),
+            "tree" => Some(Command::Tree {
+                dot: is_set(found, "dot"),
+                list: path(found, "list"),
+            }),
+            "trace" => Some(Command::Trace {
+                machine: found.get_str("machine"),
+                scenario: path(found, "scenario"),
+            }),
+            "accounts" => Some(Command::Accounts {
+                machine: found.get_str("machine"),
+                scenario: path(found, "scenario"),
+            }),
+            "alone" => Some(Command::Alone {
+                machine: found.get_str("machine"),
+                name: found.get_str("name").unwrap_or(""),
+                scenario: path(found, "scenario"),
+            }),
+            _ => None,
+        }
+    }
+}
+
+// A path, or standard input where none is named; `clap` asks for one.
+fn path<'a>(found: &ArgMatches<'a>, id: &str) -> &'a str
+    ensures { result.now ≡ first_or (codes "-") id.now (rows_of (found_of found.now)) }
+{
+    found.get_str(id).unwrap_or("-")
+}
+
+// Whether a flag was used. `get_flag` says this only of a text that is `true` or `false`, this of any.
+fn is_set(found: &ArgMatches<'_>, id: &str) -> bool
+    ensures { result ≡ is_set id.now (rows_of (found_of found.now)) }
+{
+    found.get_one(id).unwrap_or(false)
+}

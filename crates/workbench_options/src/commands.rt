@@ -1,0 +1,150 @@
+//! The command line as `clap` reads it.
+ghost use Rattle.std.specs.Prelude.{◌≡◌, [], IfOk, MatchResult, false};
+ghost use Rattle.clap.specs.Words.{app_of, kind_of, rule_of};
+ghost use Rattle.workbench_options.specs.Line.{HasShape, alone as alone_shape, file_rule, flag_rule, of_list as list_shape, of_scenario as scenario_shape, option_rule, program, run as run_shape};
+
+use crate::help;
+use clap::error::ErrorKind;
+use clap::{Arg, ArgAction, Command as Words, Error};
+use std::alloc::{AllocError, Global};
+use std::rt::Env;
+use std::{env, io};
+
+/// The program with its commands.
+pub(crate) fn commands<'a>(alloc: Global) -> Result<Words<'a>, Error>
+    ensures { MatchResult result (λ made. app_of made ≡ program)
+        (λ error. kind_of error ≡ ErrorKind.OutOfMemory) }
+{
+    let words = Words::new(alloc, "nethrywel")
+        .version(help::VERSION)
+        .about(help::ABOUT)
+        .after_help(help::FIRST_STEPS)
+        .disable_help_subcommand(true);
+    let run = run(alloc)?;
+    let words = words.subcommand(run)?;
+    let check = of_list(alloc, "check", help::CHECK, "strict", help::STRICT)?;
+    let words = words.subcommand(check)?;
+    let tree = of_list(alloc, "tree", help::TREE, "dot", help::DOT)?;
+    let words = words.subcommand(tree)?;
+    let trace = of_scenario(alloc, "trace", help::TRACE)?;
+    let words = words.subcommand(trace)?;
+    let accounts = of_scenario(alloc, "accounts", help::ACCOUNTS)?;
+    let words = words.subcommand(accounts)?;
+    let alone = alone(alloc)?;
+    let words = words.subcommand(alone)?;
+    Ok(words)
+}
+
+// The command that answers a scenario.
+fn run<'a>(alloc: Global) -> Result<Words<'a>, AllocError>
+    ensures { IfOk result (HasShape run_shape) }
+{
+    let accounts = flag(alloc, "accounts", help::WITH_ACCOUNTS);
+    let only = option(alloc, "only", "NAME", help::ONLY);
+    let machine = option(alloc, "machine", "FILE", help::MACHINE);
+    let scenario = file(alloc, "scenario", "SCENARIO", help::SCENARIO);
+    let command = Words::new(alloc, "run")
+        .about(help::RUN)
+        .arg(machine)?
+        .arg(only)?
+        .arg(accounts)?
+        .arg(scenario)?;
+    Ok(command)
+}
+
+// A command on a start list, with a flag.
+fn of_list<'a>(
+    alloc: Global,
+    name: &'a str,
+    about: &'a str,
+    id: &'a str,
+    help: &'a str,
+) -> Result<Words<'a>, AllocError>
+    ensures { IfOk result (HasShape (list_shape name.entry.now id.entry.now)) }
+{
+    let list = file(alloc, "list", "FILE", help::LIST);
+    let flag = flag(alloc, id, help);
+    let command = Words::new(alloc, name).about(about).arg(flag)?.arg(list)?;
+    Ok(command)
+}
+
+// A command on a scenario and a machine.
+fn of_scenario<'a>(alloc: Global, name: &'a str, about: &'a str) -> Result<Words<'a>, AllocError>
+    ensures { IfOk result (HasShape (scenario_shape name.entry.now [])) }
+{
+    let machine = option(alloc, "machine", "FILE", help::MACHINE);
+    let scenario = file(alloc, "scenario", "SCENARIO", help::SCENARIO);
+    let command = Words::new(alloc, name)
+        .about(about)
+        .arg(machine)?
+        .arg(scenario)?;
+    Ok(command)
+}
+
+// The command that shows a component's two runs.
+fn alone<'a>(alloc: Global) -> Result<Words<'a>, AllocError>
+    ensures { IfOk result (HasShape alone_shape) }
+{
+    let machine = option(alloc, "machine", "FILE", help::MACHINE);
+    let name = file(alloc, "name", "NAME", help::NAME);
+    let scenario = file(alloc, "scenario", "SCENARIO", help::SCENARIO);
+    let command = Words::new(alloc, "alone")
+        .about(help::ALONE)
+        .arg(machine)?
+        .arg(name)?
+        .arg(scenario)?;
+    Ok(command)
+}
+
+// A flag by its name.
+fn flag<'a>(alloc: Global, name: &'a str, help: &'a str) -> Arg<'a>
+    ensures rule { rule_of result ≡ flag_rule name.entry.now }
+    ensures local { result.global ≡ false }
+{
+    Arg::new(alloc, name)
+        .long(name)
+        .action(ArgAction::SetTrue)
+        .help(help)
+}
+
+// An option with a value.
+fn option<'a>(alloc: Global, name: &'a str, value: &'a str, help: &'a str) -> Arg<'a>
+    ensures rule { rule_of result ≡ option_rule name.entry.now }
+    ensures local { result.global ≡ false }
+{
+    Arg::new(alloc, name)
+        .long(name)
+        .value_name(value)
+        .help(help)
+}
+
+// A word that has to be there.
+fn file<'a>(alloc: Global, name: &'a str, value: &'a str, help: &'a str) -> Arg<'a>
+    ensures rule { rule_of result ≡ file_rule name.entry.now }
+    ensures local { result.global ≡ false }
+{
+    Arg::new(alloc, name)
+        .required(true)
+        .value_name(value)
+        .help(help)
+}
+
+/// The error of a command line that names no command.
+pub fn needs_command(alloc: Global) -> Result<Error, Error> {
+    Ok(commands(alloc)?.error(
+        ErrorKind::MissingSubcommand,
+        "'nethrywel' requires a command: run, check, tree, trace, accounts or alone",
+    )?)
+}
+
+/// The words that the program was started with. One that isn't UTF-8 is an error of the command line.
+pub fn words_given<R: Env + AllocGlobal>(rt: &R) -> Result<Vec<String>, Error> {
+    match env::args(rt) {
+        Ok(words) => Ok(words.collect(rt.alloc())?),
+        Err(fault) if fault.kind() == io::ErrorKind::OutOfMemory => Err(Error::from(AllocError)),
+        Err(_) => Err(commands(rt.alloc())?.error(
+            ErrorKind::InvalidValue,
+            "invalid UTF-8 was detected in one or more arguments",
+        )?),
+    }
+}
