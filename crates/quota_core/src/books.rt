@@ -44,7 +44,7 @@ impl Model for Books {
     ghost invariant = { λ b. AreSound (books_of b.entries b.root) };
 }
 
-#[tactic(auto, using(quota_core::proofs::SlabMap::slab_maps))]
+#[tactic(auto, using(crate::proofs::SlabMap::slab_maps))]
 impl Books {
     /// Books of one account, the root, which has all RAM (in bytes) and all capabilities. There is a place for so many
     /// accounts in all, or more.
