@@ -1,8 +1,9 @@
 -- What is told of a line, by what it says and whose lines are answered.
-use Rattle.std.proofs.Common.{◌≡◌, ◌≢◌, ℕ, ◌+◌, ◌≤◌, ◌&&◌, Bool, true, false, true≢false, cond, List, [], ◌∷◌, ◌++◌, length, get_or, nat_le, codes, Option, Some, None, inl, inr, refl, subst, sym, ap, ◌∙◌, arith, append-nil, length-append}
+use Rattle.std.proofs.Common.{◌≡◌, ◌≢◌, ℕ, ◌+◌, ◌<◌, ◌≤◌, ◌&&◌, Bool, true, false, true≢false, cond, List, [], ◌∷◌, ◌++◌, length, get_or, nat_le, codes, Option, Some, None, inl, inr, refl, subst, sym, ap, ap₂, ◌∙◌, arith, append-nil, drop, length-append, take}
 use Rattle.std.specs.Prelude.{nat_eq}
 use Rattle.std.proofs.lemmas.Bool.Decides.{nat_tests, Decides-eqb}
-use Rattle.std.proofs.lemmas.List.{get_or-append-add}
+use Rattle.std.proofs.Math.Seq.{take-append_seam}
+use Rattle.std.proofs.lemmas.List.{get_or-append-add, take_more}
 use Rattle.std.proofs.lemmas.Option.{none-some}
 use Rattle.std.proofs.lemmas.Slice.Eq.{bytes_eq-Decides, starts_is}
 use Rattle.std.specs.List.{position, flat_map, starts_with}
@@ -18,7 +19,7 @@ use Rattle.own_model.specs.Transcript.{Heard, heard, heard_spoken, heard_call, l
 use Rattle.own_model.specs.Transcript.Heard.{NoCall, Stranger, Caller}
 use Rattle.own_model.specs.World.{World, outcome_at, with_state, world_after_heard, world_running}
 use Rattle.scenario.specs.Answer.{AnswersLine, IsAnswer, IsNoCall, IsRefusal, answer_text}
-use Rattle.scenario.specs.Answered.{IsUnsaid, after_all, hears, is_meant, told_of_all}
+use Rattle.scenario.specs.Answered.{BeginsWithName, IsUnsaid, after_all, hears, is_meant, told_of_all}
 use Rattle.scenario.specs.declared.answering.Answer.{Answer}
 use Rattle.own_model.specs.Running.{told_now}
 
@@ -166,6 +167,13 @@ module _ (name : List ℕ) where
   pub other_front : (line : List ℕ) → starts_with nat_eq line name ≡ false → is_under name (spoken line) ≡ false
   other_front line none = not_under line (λ after is. true≢false (sym ((starts_is Decides-eqb line name _ refl).1 (32 ∷ after) is) ∙ none))
 
+  -- the first bytes of one that may be said under it
+  pub name_in_front : (line : List ℕ) → length name < length line → get_or line (length name) 0 ≡ 32 → starts_with nat_eq line name ≡ true → BeginsWithName name line
+  name_in_front line longer space front =
+      take_more line (length name) 0 longer
+      ∙ ap₂ (λ first b. first ++ b ∷ [])
+      (ap (take (length name)) ((starts_is Decides-eqb line name _ refl).0 front) ∙ take-append_seam name (drop (length name) line)) space
+
 -- ---- what a call is answered
 
 module _ (world : World) (name : List ℕ) (call : Call) (entries : List Entry) (same : world.entries ≡ entries) where
@@ -204,4 +212,4 @@ module _ (world : World) (name : List ℕ) (call : Call) (entries : List Entry) 
         (record { name = names ∙ ap (λ entry. entry.name) e; reply = replies; lines = finishes })
 
 -- what keeps a line from being said under a name
-pub ruleset fronts = (short_front, other_byte, other_front)
+pub ruleset fronts = (short_front, other_byte, other_front, name_in_front)

@@ -1,5 +1,5 @@
 //! The answer to a line.
-ghost use Rattle.std.specs.Prelude.{◌≡◌, ◌≤◌, ◌∷◌, ℕ, List, [], false, length};
+ghost use Rattle.std.specs.Prelude.{◌≡◌, ◌≤◌, ◌∷◌, ℕ, List, [], true, false, length};
 ghost use Rattle.std.specs.Option.{option_copied};
 ghost use Rattle.own_model.specs.Call.{spoken};
 ghost use Rattle.own_model.specs.Listed.{start_list_of};
@@ -8,7 +8,7 @@ ghost use Rattle.own_model.specs.StartList.{entries_of};
 ghost use Rattle.own_model.specs.World.{World, world_after_heard};
 ghost use Rattle.pd_core.specs.Call.{model_call, IsWellFormed};
 ghost use Rattle.scenario.specs.Answer.{AnswersLine, IsAnswer, IsNoCall, IsRefusal};
-ghost use Rattle.scenario.specs.Answered.{IsUnsaid, after_all, hears, is_meant};
+ghost use Rattle.scenario.specs.Answered.{BeginsAsSaid, BeginsWithName, IsUnsaid, after_all, hears, is_meant};
 
 use crate::block::LONGEST_LINE;
 use crate::line::read_line;
@@ -53,7 +53,8 @@ impl<'a> Run<'a> {
     where
         'a: 'b,
         requires listed { core.old.entries ≡ entries_of (start_list_of self.now.list.now) }
-        ensures world { core.new ≡ after_all (option_copied self.now.only) core.old (line.now ∷ []) }
+        ensures world { core.new
+            ≡ after_all (option_copied self.now.only) core.old (line.now ∷ []) }
         ensures answered { AnswersLine (option_copied self.now.only) core.old line.now result }
     {
         if line.len() > LONGEST_LINE {
@@ -74,7 +75,8 @@ impl<'a> Run<'a> {
         'a: 'b,
         requires short { length line.now ≤ LONGEST_LINE }
         requires listed { core.old.entries ≡ entries_of (start_list_of self.now.list.now) }
-        ensures world { core.new ≡ after_all (option_copied self.now.only) core.old (line.now ∷ []) }
+        ensures world { core.new
+            ≡ after_all (option_copied self.now.only) core.old (line.now ∷ []) }
         ensures answered { AnswersLine (option_copied self.now.only) core.old line.now result }
     {
         if !may_mean(self.only, line) {
@@ -161,7 +163,8 @@ fn means(only: Option<&[u8]>, name: &[u8]) -> bool
 
 // Whether a line may be a call that is to be answered: where it isn't, only its first bytes were looked at.
 fn may_mean(only: Option<&[u8]>, line: &[u8]) -> bool
-    ensures { result ≡ false → IsUnsaid (option_copied only.entry) line.now }
+    ensures front { result ≡ true → BeginsAsSaid (option_copied only.entry) line.now }
+    ensures unsaid { result ≡ false → IsUnsaid (option_copied only.entry) line.now }
 {
     match only {
         Some(name) => stands_before(name, line),
@@ -172,7 +175,8 @@ fn may_mean(only: Option<&[u8]>, line: &[u8]) -> bool
 // Whether a line begins with a name and a space.
 #[tactic(auto, using(crate::proofs::AnsweringLemmas::fronts))]
 fn stands_before(name: &[u8], line: &[u8]) -> bool
-    ensures { result ≡ false → is_under name.now (spoken line.now) ≡ false }
+    ensures front { result ≡ true → BeginsWithName name.now line.now }
+    ensures unsaid { result ≡ false → is_under name.now (spoken line.now) ≡ false }
 {
     if line.len() <= name.len() {
         return false;

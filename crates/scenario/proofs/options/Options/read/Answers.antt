@@ -3,8 +3,8 @@ use Rattle.std.proofs.Common.{◌∙◌, ap, codes, map, sym}
 use Rattle.std.proofs.lemmas.Result.{err_from_is_err_and}
 use Rattle.clap.specs.Words.{App, fault_of, first_of, found_of, is_simple, is_simple_and_free, kind_of, matches_of, takes}
 use Rattle.clap.proofs.WalkLemmas.{first_value-rows}
-use Rattle.command_line.specs.Options.{is_set}
-use Rattle.command_line.proofs.options.Options.read.Goals as goal
+use Rattle.scenario.specs.Options.{is_set}
+use Rattle.scenario.proofs.options.Options.read.Goals as goal
 
 pub returns-in_err-matches-clause-takes : goal.returns-in_err-matches-clause-takes
 returns-in_err-matches-clause-takes g c =

@@ -4,7 +4,7 @@ use Rattle.std.specs.Str.{bytes_eq}
 use Rattle.std.specs.Str.Parse.{ParsesBool}
 use Rattle.std.proofs.lemmas.Slice.Eq.{bytes_eq-Decides}
 use Rattle.clap.specs.Words.{ReadsOne}
-use Rattle.command_line.specs.Options.{is_true}
+use Rattle.scenario.specs.Options.{is_true}
 
 -- a text that reads as a flag says what the flag is, and a text that doesn't isn't `true`
 pub flag_read : (E : Type 0) (text : Option (List ℕ)) (read : Option Bool) → (text ≡ None → read ≡ None)

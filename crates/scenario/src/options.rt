@@ -1,7 +1,7 @@
 //! The command line.
 ghost use Rattle.std.specs.Prelude.{◌≡◌, IfErr, IfOk, MatchResult, codes, map, option_map, false, true};
 ghost use Rattle.clap.specs.Words.{FailsBy, app_of, fault_of, first_of, found_of, kind_of, matches_of, rows_of, rule_of, takes};
-ghost use Rattle.command_line.specs.Options.{flag_rule, is_set, program};
+ghost use Rattle.scenario.specs.Options.{flag_rule, is_set, program};
 
 use clap::error::ErrorKind;
 use clap::{Arg, ArgAction, ArgMatches, Command, Error};

@@ -2,8 +2,8 @@
 use Rattle.std.proofs.Common.{◌≡◌, ◌∙◌, rules, ap, ap₂, codes}
 use Rattle.clap.specs.Simple.{app_of_fields}
 use Rattle.clap.specs.Words.{app_of, new_app, rule_of, with_rule}
-use Rattle.command_line.specs.Options.{config_rule, flag_rule, only_rule}
-use Rattle.command_line.proofs.options.command.Goals as goal
+use Rattle.scenario.specs.Options.{config_rule, flag_rule, only_rule}
+use Rattle.scenario.proofs.options.command.Goals as goal
 
 pub returns : goal.returns
 returns c =

@@ -2,9 +2,9 @@
 use Rattle.std.proofs.Common.{◌∙◌, ap}
 use Rattle.clap.specs.Words.{found_of}
 use Rattle.clap.proofs.WalkLemmas.{one_text-rows}
-use Rattle.command_line.specs.Options.{is_true}
-use Rattle.command_line.proofs.OptionsLemmas.{flag_read}
-use Rattle.command_line.proofs.options.is_set.Goals as goal
+use Rattle.scenario.specs.Options.{is_true}
+use Rattle.scenario.proofs.OptionsLemmas.{flag_read}
+use Rattle.scenario.proofs.options.is_set.Goals as goal
 
 pub returns : goal.returns
 returns c =
