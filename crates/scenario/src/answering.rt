@@ -21,7 +21,7 @@ const NOBODY: &[u8] = b"?";
 
 /// What a line is answered.
 #[derive(Clone, Copy, Debug, PartialEq, Eq)]
-pub struct Answer<'a> {
+pub struct LineAnswer<'a> {
     /// The log lines that its call finished, each as it is printed, with its newline.
     pub lines: &'a [u8],
     /// The caller's name, or `?` where the line is no call.
@@ -49,7 +49,7 @@ impl<'a> Run<'a> {
         core: &mut Core<R>,
         line: &'b [u8],
         reply: &'b mut Reply,
-    ) -> Option<Answer<'b>>
+    ) -> Option<LineAnswer<'b>>
     where
         'a: 'b,
         requires listed { core.old.entries ≡ entries_of (start_list_of self.now.list.now) }
@@ -70,7 +70,7 @@ impl<'a> Run<'a> {
         core: &mut Core<R>,
         line: &'b [u8],
         reply: &'b mut Reply,
-    ) -> Option<Answer<'b>>
+    ) -> Option<LineAnswer<'b>>
     where
         'a: 'b,
         requires short { length line.now ≤ LONGEST_LINE }
@@ -96,7 +96,7 @@ impl<'a> Run<'a> {
 
     // Answers a line that is no call, whatever it is.
     #[inline(always)]
-    pub(crate) fn answer_no_call<'b>(&self) -> Option<Answer<'b>>
+    pub(crate) fn answer_no_call<'b>(&self) -> Option<LineAnswer<'b>>
         ensures { (world : World) (line : List ℕ) → IsNoCall line →
             AnswersLine (option_copied self.now.only) world line result }
     {
@@ -114,7 +114,7 @@ impl<'a> Run<'a> {
         name: &'b [u8],
         call: Call<'_>,
         reply: &'b mut Reply,
-    ) -> Answer<'b>
+    ) -> LineAnswer<'b>
     where
         'a: 'b,
         requires formed { IsWellFormed call }
@@ -131,7 +131,7 @@ impl<'a> Run<'a> {
             return refused(name, Refusal::UnknownComponent);
         }
         core.step(component, call, reply);
-        Answer {
+        LineAnswer {
             lines: reply.lines(),
             name: self.list.name(component),
             reply: reply.text(),
@@ -141,10 +141,10 @@ impl<'a> Run<'a> {
 
 // A refusal under a name.
 #[inline]
-fn refused(name: &[u8], refusal: Refusal) -> Answer<'_>
+fn refused(name: &[u8], refusal: Refusal) -> LineAnswer<'_>
     ensures { IsRefusal name.now refusal result }
 {
-    Answer {
+    LineAnswer {
         lines: b"",
         name,
         reply: refusal.name().as_bytes(),

@@ -26,7 +26,7 @@ pub use account_list::write_accounts;
 pub use account_sums::{Sums, sum_all};
 pub use account_text::add_quotas;
 pub use alone::run_only;
-pub use answering::{Answer, Run};
+pub use answering::{LineAnswer, Run};
 pub use block::{Block, LONGEST_LINE};
 pub use config::{ConfigFault, LONGEST_CONFIG_READ, read_config, read_config_at};
 pub use device::{DeviceFault, Sink, Source};

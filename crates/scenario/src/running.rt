@@ -12,7 +12,7 @@ ghost use Rattle.scenario.specs.Serves.{Serves, run_fault};
 ghost use Rattle.scenario.specs.Stops.{Stops, is_write_fault};
 ghost use Rattle.scenario.specs.Texts.{run_fault_text};
 
-use crate::answering::{Answer, Run};
+use crate::answering::{LineAnswer, Run};
 use crate::block::LONGEST_LINE;
 use crate::device::{DeviceFault, Sink, Source};
 use crate::gather::Gather;
@@ -229,7 +229,7 @@ fn answer_ahead<R: Router + Drop, K: Sink>(
 // Gathers an answer: its log lines, and then the reply with the name. Of a line that was skipped nothing is told.
 #[inline(always)]
 fn tell<K: Sink>(
-    answer: Option<Answer<'_>>,
+    answer: Option<LineAnswer<'_>>,
     gathered: &mut Gather,
     writer: &mut K,
 ) -> Result<(), DeviceFault>
