@@ -15,4 +15,4 @@ mod words;
 pub use fault::{Fault, Reason};
 pub use laws::calls_are_calls;
 pub use line::Line;
-pub use reading::{Said, read_line};
+pub use reading::{Said, read_friendly};

@@ -13,7 +13,7 @@ use crate::line::Line;
 use crate::parts::{Parts, fault_in};
 use crate::quotes::{Quoting, marks_of};
 use crate::words::{behind, skip_blanks};
-use scenario::read_line as read_call;
+use scenario::read_line;
 
 /// What a line of a scenario in the friendly form says.
 #[derive(Clone, Copy, Debug, PartialEq, Eq)]
@@ -33,7 +33,7 @@ pub enum Said<'a> {
 /// line itself. A call that isn't one in the engine's grammar is a fault, unless `Bad_line` is expected; and a line of that
 /// grammar in which nothing is to be translated is the engine's as it stands.
 #[tactic(auto, using(crate::proofs::PlainLemmas::plain_lines_pass))]
-pub fn read_line<'a>(line: &'a [u8], room: &'a mut Line) -> Result<Said<'a>, Fault>
+pub fn read_friendly<'a>(line: &'a [u8], room: &'a mut Line) -> Result<Said<'a>, Fault>
     ensures value { says result ≡ said_of line.now }
     ensures plain { IsPlain line.now → says result ≡ Ok (Call line.now None) }
 {
@@ -168,7 +168,7 @@ fn no_call(column: usize) -> Fault
 fn is_call(line: &[u8]) -> bool
     ensures { result ≡ is_some (spoken line.now) }
 {
-    read_call(line).is_ok()
+    read_line(line).is_ok()
 }
 
 // Whether the reply is expected that a line has which is no call.

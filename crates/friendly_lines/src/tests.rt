@@ -1,12 +1,12 @@
 //! Lines of the friendly form, rule by rule.
 
-use crate::{Fault, Line, Reason, Said, read_line};
+use crate::{Fault, Line, Reason, Said, read_friendly};
 use std::process::Abort;
 use std::test::Fail;
 
 // Whether a line says a call as the engine reads it, with a reply that is expected or none.
 fn is_call(line: &[u8], engine: &[u8], reply: Option<&[u8]>) -> bool {
-    read_line(line, &mut Line::new())
+    read_friendly(line, &mut Line::new())
         == Ok(Said::Call {
             line: engine,
             reply,
@@ -15,7 +15,7 @@ fn is_call(line: &[u8], engine: &[u8], reply: Option<&[u8]>) -> bool {
 
 // Whether a line has a fault at a column.
 fn has_fault(line: &[u8], reason: Reason, column: usize) -> bool {
-    read_line(line, &mut Line::new()) == Err(Fault { reason, column })
+    read_friendly(line, &mut Line::new()) == Err(Fault { reason, column })
 }
 
 // Whether a line says what the engine reads as it stands.
@@ -43,7 +43,7 @@ fn comments_and_blanks_say_nothing(rt: HostRuntime) -> Result<(), Fail> {
         b" \t# \" not closed",
         b"#\r",
     ] {
-        assert!(rt; read_line(line, &mut Line::new()) == Ok(Said::Nothing));
+        assert!(rt; read_friendly(line, &mut Line::new()) == Ok(Said::Nothing));
     }
     Ok(())
 }
@@ -243,8 +243,10 @@ fn sizes_are_amounts(rt: HostRuntime) -> Result<(), Fail> {
 
 #[test]
 fn log_lines_that_are_expected(rt: HostRuntime) -> Result<(), Fail> {
-    assert!(rt; read_line(b"=> [alice] \"hi", &mut Line::new()) == Ok(Said::Log(b"[alice] \"hi")));
-    assert!(rt; read_line(b" \t=> \r", &mut Line::new()) == Ok(Said::Log(b"")));
+    assert!(rt;
+        read_friendly(b"=> [alice] \"hi", &mut Line::new()) == Ok(Said::Log(b"[alice] \"hi"))
+    );
+    assert!(rt; read_friendly(b" \t=> \r", &mut Line::new()) == Ok(Said::Log(b"")));
     assert!(rt; has_fault(b"=>", Reason::NoCall, 1));
     Ok(())
 }
@@ -256,7 +258,7 @@ fn what_is_no_call_is_a_fault_unless_it_is_expected(rt: HostRuntime) -> Result<(
     assert!(rt; is_call(b"alice  frob => Bad_line", b"alice frob", Some(b"Bad_line")));
     let mut line = Line::new();
     let long = vec![in rt.alloc(); b'x'; 8193]?;
-    assert!(rt; read_line(long.as_slice(), &mut line).is_err());
-    assert!(rt; read_line(b"alice quota", &mut line).is_ok());
+    assert!(rt; read_friendly(long.as_slice(), &mut line).is_err());
+    assert!(rt; read_friendly(b"alice quota", &mut line).is_ok());
     Ok(())
 }

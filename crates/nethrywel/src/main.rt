@@ -7,7 +7,7 @@ mod plays;
 
 use clap::Error;
 use lists::{check, tree};
-use plays::{Task, play};
+use plays::{Viewing, play};
 use std::process::ExitCode;
 use workbench_options::{Command, needs_command, words_given};
 
@@ -42,13 +42,13 @@ fn answer(rt: &HostRuntime, command: Command<'_>) -> u8 {
             only,
             accounts,
             scenario,
-        } => play(rt, machine, scenario, Task::Run { only, accounts }),
-        Command::Trace { machine, scenario } => play(rt, machine, scenario, Task::Trace),
-        Command::Accounts { machine, scenario } => play(rt, machine, scenario, Task::Accounts),
+        } => play(rt, machine, scenario, Viewing::Run { only, accounts }),
+        Command::Trace { machine, scenario } => play(rt, machine, scenario, Viewing::Trace),
+        Command::Accounts { machine, scenario } => play(rt, machine, scenario, Viewing::Accounts),
         Command::Alone {
             machine,
             name,
             scenario,
-        } => play(rt, machine, scenario, Task::Alone { name }),
+        } => play(rt, machine, scenario, Viewing::Alone { name }),
     }
 }

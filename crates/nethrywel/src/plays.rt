@@ -9,7 +9,7 @@ use workbench::{Ending, Play, accounts, alone, exit_status, run, trace};
 
 /// What is told of a scenario.
 #[derive(Clone, Copy, Debug)]
-pub(crate) enum Task<'a> {
+pub(crate) enum Viewing<'a> {
     /// Its transcript.
     Run {
         /// The name whose lines alone are answered, or none for all lines.
@@ -28,24 +28,29 @@ pub(crate) enum Task<'a> {
     },
 }
 
-impl<'a> Task<'a> {
+impl<'a> Viewing<'a> {
     // The component that is asked for, if one is.
     fn name(self) -> Option<&'a str> {
         match self {
-            Task::Run { only, .. } => only,
-            Task::Alone { name } => Some(name),
-            Task::Trace | Task::Accounts => None,
+            Viewing::Run { only, .. } => only,
+            Viewing::Alone { name } => Some(name),
+            Viewing::Trace | Viewing::Accounts => None,
         }
     }
 }
 
 /// Plays a scenario on the machine of a start list, or on the built-in machine. Answers the exit status.
-pub(crate) fn play(rt: &HostRuntime, machine: Option<&str>, scenario: &str, task: Task<'_>) -> u8 {
+pub(crate) fn play(
+    rt: &HostRuntime,
+    machine: Option<&str>,
+    scenario: &str,
+    viewing: Viewing<'_>,
+) -> u8 {
     let Some(path) = machine else {
-        return play_on(rt, MACHINE_A.as_bytes(), None, scenario, task);
+        return play_on(rt, MACHINE_A.as_bytes(), None, scenario, viewing);
     };
     match read_list(rt, path) {
-        Ok(text) => play_on(rt, &text, machine, scenario, task),
+        Ok(text) => play_on(rt, &text, machine, scenario, viewing),
         Err(fault) => {
             let _ = eprintln!(rt; "{path}: {fault}");
             REFUSED
@@ -59,9 +64,9 @@ fn play_on(
     text: &[u8],
     machine: Option<&str>,
     scenario: &str,
-    task: Task<'_>,
+    viewing: Viewing<'_>,
 ) -> u8 {
-    if let Some(name) = task.name() {
+    if let Some(name) = viewing.name() {
         warn_of_stranger(rt, text, name);
     }
     let play = Play {
@@ -69,10 +74,10 @@ fn play_on(
         scenario: scenario.as_bytes(),
     };
     let ended = if scenario == STANDARD_INPUT {
-        play_from(rt, play, task, &mut Input::new(rt.reader()))
+        play_from(rt, play, viewing, &mut Input::new(rt.reader()))
     } else {
         match fs::open(rt, scenario) {
-            Ok(file) => play_from(rt, play, task, &mut Input::new(file)),
+            Ok(file) => play_from(rt, play, viewing, &mut Input::new(file)),
             Err(_) => {
                 let _ = eprintln!(rt; "{scenario}: Unreadable_scenario");
                 return REFUSED;
@@ -96,14 +101,14 @@ fn warn_of_stranger(rt: &HostRuntime, text: &[u8], name: &str) {
 fn play_from<S: Source>(
     rt: &HostRuntime,
     play: Play<'_>,
-    task: Task<'_>,
+    viewing: Viewing<'_>,
     reader: &mut S,
 ) -> Result<Ending, BootFault> {
     let alloc = rt.alloc();
     let mut writer = Output::new(io::writer(rt));
     let mut complaints = Output::new(rt.stderr());
-    match task {
-        Task::Run {
+    match viewing {
+        Viewing::Run {
             only,
             accounts: listed,
         } => {
@@ -121,9 +126,9 @@ fn play_from<S: Source>(
                 &mut complaints,
             )
         }
-        Task::Trace => trace(alloc, play, reader, &mut writer, &mut complaints),
-        Task::Accounts => accounts(alloc, play, reader, &mut writer, &mut complaints),
-        Task::Alone { name } => alone(
+        Viewing::Trace => trace(alloc, play, reader, &mut writer, &mut complaints),
+        Viewing::Accounts => accounts(alloc, play, reader, &mut writer, &mut complaints),
+        Viewing::Alone { name } => alone(
             alloc,
             play,
             name.as_bytes(),

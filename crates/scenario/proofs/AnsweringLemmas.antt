@@ -1,8 +1,9 @@
 -- What is told of a line, by what it says and whose lines are answered.
-use Rattle.std.proofs.Common.{◌≡◌, ◌≢◌, ℕ, ◌+◌, ◌≤◌, ◌&&◌, Bool, true, false, true≢false, cond, List, [], ◌∷◌, ◌++◌, length, get_or, nat_le, codes, Option, Some, None, inl, inr, refl, subst, sym, ap, ◌∙◌, arith, append-nil, length-append}
+use Rattle.std.proofs.Common.{◌≡◌, ◌≢◌, ℕ, ◌+◌, ◌<◌, ◌≤◌, ◌&&◌, Bool, true, false, true≢false, cond, List, [], ◌∷◌, ◌++◌, length, get_or, nat_le, codes, Option, Some, None, inl, inr, refl, subst, sym, ap, ap₂, ◌∙◌, arith, append-nil, drop, length-append, take}
 use Rattle.std.specs.Prelude.{nat_eq}
 use Rattle.std.proofs.lemmas.Bool.Decides.{nat_tests, Decides-eqb}
-use Rattle.std.proofs.lemmas.List.{get_or-append-add}
+use Rattle.std.proofs.Math.Seq.{take-append_seam}
+use Rattle.std.proofs.lemmas.List.{get_or-append-add, take_more}
 use Rattle.std.proofs.lemmas.Option.{none-some}
 use Rattle.std.proofs.lemmas.Slice.Eq.{bytes_eq-Decides, starts_is}
 use Rattle.std.specs.List.{position, flat_map, starts_with}
@@ -18,8 +19,8 @@ use Rattle.own_model.specs.Transcript.{Heard, heard, heard_spoken, heard_call, l
 use Rattle.own_model.specs.Transcript.Heard.{NoCall, Stranger, Caller}
 use Rattle.own_model.specs.World.{World, outcome_at, with_state, world_after_heard, world_running}
 use Rattle.scenario.specs.Answer.{AnswersLine, IsAnswer, IsNoCall, IsRefusal, answer_text}
-use Rattle.scenario.specs.Answered.{IsUnsaid, after_all, hears, is_meant, told_of_all}
-use Rattle.scenario.specs.declared.answering.Answer.{Answer}
+use Rattle.scenario.specs.Answered.{BeginsWithName, IsUnsaid, after_all, hears, is_meant, told_of_all}
+use Rattle.scenario.specs.declared.answering.LineAnswer.{LineAnswer}
 use Rattle.own_model.specs.Running.{told_now}
 
 -- a line that isn't too long is heard as what it says
@@ -37,7 +38,7 @@ module _ {only : Option (List ℕ)} {world : World} {line : List ℕ} {what : He
   left_heard = ap (world_after_heard world) (sym hears.is) ∙ ap (world_running world) (sym hears.said)
 
   -- and which answer is one to it
-  pub answered_heard : {answer : Answer} → IsAnswer world what answer → AnswersLine only world line (Some answer)
+  pub answered_heard : {answer : LineAnswer} → IsAnswer world what answer → AnswersLine only world line (Some answer)
   answered_heard {answer = answer} is = (hears.said, subst (λ w. IsAnswer world w answer) (sym hears.is) is)
 
 -- a line that is skipped leaves the world
@@ -45,13 +46,13 @@ pub left_skipped : (only : Option (List ℕ)) (world : World) (line : List ℕ) 
 left_skipped only world line skipped = ap (world_running world) (sym skipped)
 
 -- an answer to what was heard is told of it
-told_heard : (world : World) (what : Heard) (answer : Answer) → IsAnswer world what answer → answer_text (Some answer) ≡ told_now world.entries world.states what
+told_heard : (world : World) (what : Heard) (answer : LineAnswer) → IsAnswer world what answer → answer_text (Some answer) ≡ told_now world.entries world.states what
 told_heard world NoCall answer is = rw (is.lines, is.name, is.reply) refl
 told_heard world (Stranger name) answer is = rw (is.lines, is.name, is.reply) refl
 told_heard world (Caller made) answer is = rw (is.lines, is.name, is.reply) refl
 
 -- so what is told of a line is its answer
-pub told_answer : (only : Option (List ℕ)) (world : World) (line : List ℕ) (answer : Option Answer) → AnswersLine only world line answer → answer_text answer ≡ told_of_all only world (line ∷ [])
+pub told_answer : (only : Option (List ℕ)) (world : World) (line : List ℕ) (answer : Option LineAnswer) → AnswersLine only world line answer → answer_text answer ≡ told_of_all only world (line ∷ [])
 told_answer only world line None skipped = ap (told_of_all None world) (sym skipped)
 told_answer only world line (Some answer) answers =
     told_heard world (heard world.entries line) answer answers.1
@@ -104,7 +105,7 @@ left_no_call None world line none = ap (world_after_heard world) (sym (heard_no_
 left_no_call (Some name) world line none = left_skipped (Some name) world line (said_one name line false (said_no_call name line none))
 
 -- it is answered as bad, where all lines are answered
-pub answered_no_call : (world : World) (line : List ℕ) (answer : Answer) → IsNoCall line → IsRefusal (codes "?") BadLine answer → AnswersLine None world line (Some answer)
+pub answered_no_call : (world : World) (line : List ℕ) (answer : LineAnswer) → IsNoCall line → IsRefusal (codes "?") BadLine answer → AnswersLine None world line (Some answer)
 answered_no_call world line answer none is =
     (refl, subst (λ w. IsAnswer world w answer) (sym (heard_no_call world.entries line none)) (record { name = is.named; reply = is.reply; lines = is.lines }))
 
@@ -166,6 +167,13 @@ module _ (name : List ℕ) where
   pub other_front : (line : List ℕ) → starts_with nat_eq line name ≡ false → is_under name (spoken line) ≡ false
   other_front line none = not_under line (λ after is. true≢false (sym ((starts_is Decides-eqb line name _ refl).1 (32 ∷ after) is) ∙ none))
 
+  -- the first bytes of one that may be said under it
+  pub name_in_front : (line : List ℕ) → length name < length line → get_or line (length name) 0 ≡ 32 → starts_with nat_eq line name ≡ true → BeginsWithName name line
+  name_in_front line longer space front =
+      take_more line (length name) 0 longer
+      ∙ ap₂ (λ first b. first ++ b ∷ [])
+      (ap (take (length name)) ((starts_is Decides-eqb line name _ refl).0 front) ∙ take-append_seam name (drop (length name) line)) space
+
 -- ---- what a call is answered
 
 module _ (world : World) (name : List ℕ) (call : Call) (entries : List Entry) (same : world.entries ≡ entries) where
@@ -179,7 +187,7 @@ module _ (world : World) (name : List ℕ) (call : Call) (entries : List Entry) 
   module _ (found : Option ℕ) (finds : position (λ entry. bytes_eq entry.name name) entries ≡ found)
       (nobody : heard_call entries (record { name = name; call = call }) found ≡ Stranger name) where
     -- where the name calls nobody it is refused
-    pub answered_stranger : (answer : Answer) → IsRefusal name UnknownComponent answer → IsAnswer world (hears world (record { name = name; call = call })) answer
+    pub answered_stranger : (answer : LineAnswer) → IsRefusal name UnknownComponent answer → IsAnswer world (hears world (record { name = name; call = call })) answer
     answered_stranger answer is =
         subst (λ w. IsAnswer world w answer) (sym (hears_by found finds ∙ nobody)) (record { name = is.named; reply = is.reply; lines = is.lines })
 
@@ -194,7 +202,7 @@ module _ (world : World) (name : List ℕ) (call : Call) (entries : List Entry) 
     left_by_call = ap (world_after_heard world) (sym (hears_by (Some component) found ∙ called))
 
     -- and is answered with its reply, and the lines that it finishes
-    pub answered_call : (answer : Answer) → answer.name.now ≡ (entry_at entries component).name
+    pub answered_call : (answer : LineAnswer) → answer.name.now ≡ (entry_at entries component).name
         → answer.reply.now ≡ reply_text (outcome_at world component call).reply
         → answer.lines.now ≡ flat_map log_text (outcome_at world component call).lines
         → IsAnswer world (hears world (record { name = name; call = call })) answer
@@ -204,4 +212,4 @@ module _ (world : World) (name : List ℕ) (call : Call) (entries : List Entry) 
         (record { name = names ∙ ap (λ entry. entry.name) e; reply = replies; lines = finishes })
 
 -- what keeps a line from being said under a name
-pub ruleset fronts = (short_front, other_byte, other_front)
+pub ruleset fronts = (short_front, other_byte, other_front, name_in_front)

@@ -15,7 +15,7 @@ use Rattle.scenario.specs.Serves.{Serves}
 use Rattle.scenario.proofs.Serving.{left_none, said_none}
 use Rattle.scenario.specs.Stops.{Stops, StopsFor, IsWritten, is_write_fault}
 use Rattle.scenario.specs.declared.running.RunFault.{RunFault}
-use Rattle.scenario.proofs.ReachLemmas.{keeps_up_as, keeps_up_none}
+use Rattle.scenario.proofs.ReachLemmas.{close_as, close_all, keeps_up_as, keeps_up_none}
 use Rattle.scenario.proofs.GatheredLemmas.{Appends-none}
 use Rattle.std.proofs.lemmas.List.Elements.{All-nil}
 use Rattle.scenario.specs.declared.running.RunFault.TheVariants.{ReadFault, WriteFault, TooManyLines}
@@ -75,6 +75,8 @@ stops_at {only = only} {fault = fault} {old = old} {new = new} {input = Some tex
   readable = serves.readable;
   keeps_up =
       keeps_up_as (told_of_all only old) (λ lines. told_after old.entries old.states [] (said_by only lines)) (λ lines. told_same old (said_by only lines)) serves.keeps_up;
+  close =
+      close_as (told_of_all only old) (λ lines. told_after old.entries old.states [] (said_by only lines)) (λ lines. told_same old (said_by only lines)) serves.close;
   told = written_same fault written now_written _ _ (told_same old (said_by only serves.answered)) serves.told;
   states = states_at old new (said_by only serves.answered) serves.world;
   world = serves.world;
@@ -93,6 +95,9 @@ stops_unread only fault max_lines world (Some text) written failed told cause = 
   readable = All-nil (λ line. length line ≤ longest_read);
   keeps_up =
       keeps_up_none (λ lines. told_after world.entries world.states [] (said_by only lines)) (Some text) written (ap (told_after world.entries world.states []) (said_none only));
+  close =
+      close_all (λ lines. told_after world.entries world.states [] (said_by only lines)) [] written written
+      (subst (Appends written written) (ap (told_after world.entries world.states []) (sym (said_none only))) (Appends-none written));
   told = subst (IsWritten fault written written) (ap (told_after world.entries world.states []) (sym (said_none only))) told;
   states = λ component. ap (λ lines. state_after world.entries world.states (calls_of world.entries lines) component) (sym (said_none only));
   world = sym (left_none only world);

@@ -3,6 +3,7 @@ pub mod ConfigLemmas
 pub mod BlockLemmas
 pub mod ComponentLines
 pub mod LineLemmas
+pub mod OptionsLemmas
 pub mod GatheredLemmas
 pub mod FaultLemmas
 pub mod ToCome

@@ -5,7 +5,7 @@ use Rattle.std.specs.Io.KnownBytes.{Appends, Keeps}
 use Rattle.scenario.specs.Gathered.{Tells, TellsUnless}
 use Rattle.scenario.specs.Lines.{PassesLines, line_length, to_come}
 use Rattle.scenario.specs.Next.{TellsAt, TellsOrStops}
-use Rattle.scenario.specs.Reach.{IsFlushed, IsReadUpTo, KeepsUp, ReadsBehind, longest_ahead, reach}
+use Rattle.scenario.specs.Reach.{IsFlushed, IsReadUpTo, KeepsUp, ReadsBehind, WritesClose, longest_ahead, longest_gathered, reach}
 use Rattle.scenario.specs.declared.lines.LineFault.{LineFault}
 use Rattle.scenario.specs.declared.lines.LineFault.TheVariants.{Read, Write, Endless}
 use Rattle.scenario.proofs.GatheredLemmas.{Appends-more, Appends-none}
@@ -197,6 +197,46 @@ module _ (told : List (List ℕ) → List ℕ) where
     more = read.0.more;
     grows = Appends-more w w' w'' _ _ _ tells.grows read.0.grows (ap (λ l. l ++ read.0.more) (sym tells.parts) ∙ append_assoc tells.out _ read.0.more);
     reads = keeps_up_here input come rest' xs passes read.1;
+  }
+
+  -- where all that was told is written, nothing is gathered
+  pub close_all : (xs : List (List ℕ)) (w w' : Option (List ℕ)) → Appends w w' (told xs) → WritesClose told xs w w'
+  close_all xs w w' all = record {
+    before = xs;
+    last = [];
+    parts = sym (append-nil xs);
+    one = omega arith;
+    out = told xs;
+    grows = all;
+    few = omega arith;
+  }
+
+  -- behind lines of which no more is gathered than there is room for, one line may be answered
+  pub close_behind : {xs : List (List ℕ)} (ys : List (List ℕ)) {w w' w'' : Option (List ℕ)} {g : List ℕ} →
+      Tells w [] w' g (told xs) → length g ≤ longest_gathered → length ys ≤ 1 → Writes w' w'' → WritesClose told (xs ++ ys) w w''
+  close_behind {xs = xs} ys {w = w} {w' = w'} {w'' = w''} {g = g} tells few one more =
+      let size : length tells.out + length g ≡ length (told xs) = sym (length-append tells.out g) ∙ ap length tells.parts in
+      record {
+        before = xs;
+        last = ys;
+        parts = refl;
+        one = one;
+        out = tells.out ++ more.out;
+        grows = Appends-more w w' w'' tells.out more.out _ tells.grows more.grows refl;
+        few = omega (arith, size, few, length-append tells.out more.out);
+      }
+
+  -- closeness, by other words
+  pub close_as : (other : List (List ℕ) → List ℕ) → ((lines : List (List ℕ)) → told lines ≡ other lines) → {xs : List (List ℕ)} {w w' : Option (List ℕ)} →
+      WritesClose told xs w w' → WritesClose other xs w w'
+  close_as other same close = record {
+    before = close.before;
+    last = close.last;
+    parts = close.parts;
+    one = close.one;
+    out = close.out;
+    grows = close.grows;
+    few = subst (λ text. length text ≤ length close.out + longest_gathered) (same close.before) close.few;
   }
 
   -- what is told by other words

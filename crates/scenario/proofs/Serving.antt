@@ -21,8 +21,8 @@ use Rattle.scenario.proofs.FaultLemmas.{told_at}
 use Rattle.scenario.proofs.GatheredLemmas.{Tells-none, Tells-more}
 use Rattle.scenario.proofs.LineLemmas.{line_length-le, lines_of-cons, length-line_of}
 use Rattle.scenario.proofs.PassedLines.{has_passed, has_read_more, passes_line, passes_none, passes_more, read_to}
-use Rattle.scenario.proofs.ReachLemmas.{Writes, keeps_up_more, writes_at}
-use Rattle.scenario.specs.Reach.{KeepsUp}
+use Rattle.scenario.proofs.ReachLemmas.{Writes, close_all, close_behind, keeps_up_more, writes_at}
+use Rattle.scenario.specs.Reach.{KeepsUp, longest_gathered}
 use Rattle.std.proofs.lemmas.List.Elements.{All-append, All-cons, All-nil, filter-append}
 
 -- a name's lines among lines and then others
@@ -217,23 +217,28 @@ module _ {only : Option (List ℕ)} {world : World} {input written : Option (Lis
   kept_up_here : (r : Point) → ReadsOn q r → Writes q.written r.written → KeepsUp (told_of_all only world) xs input r.rest written r.written
   kept_up_here r on more = subst (λ lines. KeepsUp (told_of_all only world) lines input r.rest written r.written) (append-nil xs) (kept_up r [] on more)
 
+  -- all that was told is written
+  told_to : (r : Point) → Tells q.written q.gathered r.written [] [] → Appends written r.written (told_of_all only world xs)
+  told_to r tells = all_written (subst (Tells written [] r.written []) (append-nil (told_of_all only world xs)) (Tells-more answers.tells tells))
+
   -- no line is left
   pub serves_to_end : (r : Point) (max_lines count : ℕ) (failed : Bool) → length xs ≡ count → count ≤ max_lines → ReadsOn q r → Ended q r →
       Serves only (Ok count) max_lines world r.world input r.rest failed written r.written
   serves_to_end r max_lines count failed full few on ended = record {
     answered = xs;
     world = ended.world ∙ answers.world;
-    told = all_written (subst (Tells written [] r.written []) (append-nil (told_of_all only world xs)) (Tells-more answers.tells ended.tells));
+    told = told_to r ended.tells;
     count = (few, full);
     lines = behind input (to_come q.ahead q.rest) xs _ _ answers.passes ended.none (λ text p none. (lines_of p.rest, p.first, ap lines_of none));
     readable = answers.readable;
     keeps_up = kept_up_here r on (record { out = ended.tells.out; grows = ended.tells.grows });
+    close = close_all (told_of_all only world) xs written r.written (told_to r ended.tells);
   }
 
   -- a fault comes
   pub serves_to_fault : (r : Point) (max_lines : ℕ) (failed : Bool) (fault : LineFault) → failed ≡ is_read_fault {T = Bool} (Err fault) → (halts : Halts only fault q r) →
-      length xs + length halts.answered ≤ max_lines → ReadsOn q r → Serves only (Err (run_fault fault)) max_lines world r.world input r.rest failed written r.written
-  serves_to_fault r max_lines failed fault fails halts few on = record {
+      length xs + length halts.answered ≤ max_lines → length q.gathered ≤ longest_gathered → ReadsOn q r → Serves only (Err (run_fault fault)) max_lines world r.world input r.rest failed written r.written
+  serves_to_fault r max_lines failed fault fails halts few fits on = record {
     answered = xs ++ halts.answered;
     world = left_by_both only world q.world r.world xs halts.answered answers.world halts.world;
     told =
@@ -245,6 +250,9 @@ module _ {only : Option (List ℕ)} {world : World} {input written : Option (Lis
         (λ text p for. stops_for fault text _ r.rest xs halts.answered max_lines failed fails (omega (arith, few, length-append xs halts.answered)) p for);
     readable = All-append (λ line. length line ≤ longest_read) xs halts.answered answers.readable halts.readable;
     keeps_up = kept_up r halts.answered on (writes_at fault q.written r.written q.gathered _ halts.tells);
+    close =
+        close_behind (told_of_all only world) halts.answered answers.tells fits halts.one
+        (writes_at fault q.written r.written q.gathered _ halts.tells);
   }
 
   -- there are more lines than are allowed
@@ -254,11 +262,12 @@ module _ {only : Option (List ℕ)} {world : World} {input written : Option (Lis
   serves_too_many r max_lines failed full same tells more on = record {
     answered = xs;
     world = same ∙ answers.world;
-    told = all_written (subst (Tells written [] r.written []) (append-nil (told_of_all only world xs)) (Tells-more answers.tells tells));
+    told = told_to r tells;
     count = tt;
     lines = behind input (to_come q.ahead q.rest) xs _ _ answers.passes more (λ text p some.
         let begun : 0 < length p.rest = grind (arith, nat_tests) in
         (lines_of p.rest, p.first, (full, omega (arith, ap length (lines_of-cons p.rest begun)))));
     readable = answers.readable;
     keeps_up = kept_up_here r on (record { out = tells.out; grows = tells.grows });
+    close = close_all (told_of_all only world) xs written r.written (told_to r tells);
   }

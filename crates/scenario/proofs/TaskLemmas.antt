@@ -1,5 +1,5 @@
 -- What a task on a machine promises.
-use Rattle.std.proofs.Common.{Bor, ◌≡◌, ◌≢◌, ℕ, ◌≤◌, Bool, true, false, inl, inr, arith, append-nil, ◌++◌, List, [], length, take, drop, Option, Some, None, IfSome, Ok, Err, refl, sym, ap, ◌∙◌, subst}
+use Rattle.std.proofs.Common.{Bor, ◌≡◌, ◌≢◌, ℕ, ◌≤◌, Bool, true, false, inl, inr, arith, append-nil, ◌++◌, List, [], length, take, drop, Option, Some, None, IfSome, IfOk, IfErr, Result, Ok, Err, refl, sym, ap, ◌∙◌, subst}
 use Rattle.std.proofs.lemmas.List.{take-append-drop}
 use Rattle.std.specs.Io.KnownBytes.{Appends}
 use Rattle.own_model.specs.Listed.{Listed, start_list_of}
@@ -16,14 +16,17 @@ use Rattle.init_core.specs.declared.fault.BootFault.TheVariants.{NoMemory}
 use Rattle.std.proofs.lemmas.List.Elements.{All-nil}
 use Rattle.scenario.specs.Lines.{longest_read}
 use Rattle.scenario.specs.Program.{IsAnswered, IsBoundedFor, IsMachine, IsDone, FailsFor, StopsScenario, TotalsAre, boot_fault, lines_run, ok_line, scenario_text, world_of}
+use Rattle.scenario.specs.Ending.{CameOf}
 use Rattle.scenario.specs.Runs.{Completes}
 use Rattle.std.specs.Option.{option_copied}
 use Rattle.scenario.specs.Stops.{Stops, AppendsPart}
+use Rattle.scenario.specs.declared.program.Failure.{Failure}
 use Rattle.scenario.specs.declared.program.Failure.TheVariants as failure
 use Rattle.scenario.specs.declared.program.Task.{Task}
 use Rattle.scenario.specs.declared.program.Task.TheVariants as task
 use Rattle.scenario.specs.declared.running.RunFault.{RunFault}
 use Rattle.scenario.specs.declared.running.RunFault.TheVariants.{WriteFault}
+use Rattle.scenario.specs.declared.running.Summary.{Summary}
 use Rattle.scenario.proofs.GatheredLemmas.{Appends-none, Appends-more}
 
 -- the first n bytes are written
@@ -164,3 +167,12 @@ pub ruleset tasks = (fault_of_text, fault_of_list, listed_at_start)
 
 -- what a scenario promises
 pub ruleset scenarios = (told_alone, stopped_in_run)
+
+-- ---- over the standard streams
+
+-- what came of a task, where the writer tells nothing
+pub came_of : (ended : Result Summary Failure) (asked : Task) (text : List ℕ) (max_lines : ℕ) (input rest : Option (List ℕ)) (failed : Bool) →
+    IfOk ended (λ summary. IsDone asked text input summary.lines None None) →
+    IfErr ended (λ failure. FailsFor failure asked text max_lines input rest failed None None) → CameOf ended asked text max_lines input
+came_of (Ok summary) asked text max_lines input rest failed done fails = done
+came_of (Err failure) asked text max_lines input rest failed done fails = (rest, (failed, fails))

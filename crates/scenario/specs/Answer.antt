@@ -13,7 +13,7 @@ use Rattle.own_model.specs.Transcript.{Heard, entry_at, heard, longest_line}
 use Rattle.own_model.specs.Transcript.Heard.{NoCall, Stranger, Caller}
 use Rattle.own_model.specs.World.{World}
 use Rattle.scenario.specs.Gathered.{line_with}
-use Rattle.scenario.specs.declared.answering.Answer.{Answer}
+use Rattle.scenario.specs.declared.answering.LineAnswer.{LineAnswer}
 
 -- a line of any length is no call
 abbrev pub IsNoCall : List ℕ → Type 0
@@ -38,24 +38,24 @@ finished_lines world (Stranger name) = []
 finished_lines world (Caller made) = (running_step world.entries world.states made).lines
 
 -- what was heard is answered so
-pub record IsAnswer (world : World) (what : Heard) (answer : Answer) : Type 0 where
+pub record IsAnswer (world : World) (what : Heard) (answer : LineAnswer) : Type 0 where
   pub name : answer.name.now ≡ answered_name world what
   pub reply : answer.reply.now ≡ reply_text (answered_reply world what)
   pub lines : answer.lines.now ≡ flat_map log_text (finished_lines world what)
 
 -- a refusal under a name, and no log line
-pub record IsRefusal (name : List ℕ) (refusal : Refusal) (answer : Answer) : Type 0 where
+pub record IsRefusal (name : List ℕ) (refusal : Refusal) (answer : LineAnswer) : Type 0 where
   pub named : answer.name.now ≡ name
   pub reply : answer.reply.now ≡ refusal_name refusal
   pub lines : answer.lines.now ≡ []
 
 -- a line is answered as it is heard, or it is skipped, where it is none of the name's
-abbrev pub AnswersLine : Option (List ℕ) → World → List ℕ → Option Answer → Type 0
+abbrev pub AnswersLine : Option (List ℕ) → World → List ℕ → Option LineAnswer → Type 0
 AnswersLine only world line (Some answer) =
     (said_by only (line ∷ []) ≡ line ∷ []) × IsAnswer world (heard world.entries line) answer
 AnswersLine only world line None = said_by only (line ∷ []) ≡ []
 
 -- an answer as it is told: its log lines, and then the name and the reply
-abbrev pub answer_text : Option Answer → List ℕ
+abbrev pub answer_text : Option LineAnswer → List ℕ
 answer_text (Some answer) = answer.lines.now ++ line_with answer.name.now answer.reply.now
 answer_text None = []

@@ -1,5 +1,5 @@
 -- What a world tells of lines, the world that they leave, and how far a run has come.
-use Rattle.std.specs.Prelude.{◌≡◌, ℕ, ◌<◌, ◌≤◌, Bool, true, false, List, [], ◌∷◌, ◌++◌, Option, Some, None, IfSome, Result, Ok, Err, length}
+use Rattle.std.specs.Prelude.{◌≡◌, ℕ, ◌+◌, ◌<◌, ◌≤◌, Bool, true, false, List, [], ◌∷◌, ◌++◌, Option, Some, None, IfSome, Result, Ok, Err, length, take, ⊤}
 use Rattle.std.specs.Str.{bytes_eq}
 use Rattle.own_model.specs.Call.{Spoken, spoken}
 use Rattle.own_model.specs.Running.{told_running}
@@ -27,6 +27,15 @@ after_all only world lines = world_running world (said_by only lines)
 abbrev pub is_meant : Option (List ℕ) → List ℕ → Bool
 is_meant None name = true
 is_meant (Some only) name = bytes_eq name only
+
+-- a line begins with a name and a space
+abbrev pub BeginsWithName : List ℕ → List ℕ → Type 0
+BeginsWithName name line = take (length name + 1) line ≡ name ++ 32 ∷ []
+
+-- a line begins as one of the name that is given; where none is, any does
+abbrev pub BeginsAsSaid : Option (List ℕ) → List ℕ → Type 0
+BeginsAsSaid None line = ⊤
+BeginsAsSaid (Some name) line = BeginsWithName name line
 
 -- a line isn't a call under the name that is given
 abbrev pub IsUnsaid : Option (List ℕ) → List ℕ → Type 0

@@ -5,9 +5,12 @@ pub mod Gathered
 pub mod Lines
 pub mod Reach
 pub mod Next
+pub mod Options
 pub mod Stops
 pub mod Answered
 pub mod Answer
 pub mod Serves
 pub mod Runs
 pub mod Program
+pub mod Ending
+pub mod Texts

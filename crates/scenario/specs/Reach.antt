@@ -33,6 +33,20 @@ ReadsBehind most come gathered written rest now_written now_rest =
     (now_rest ≡ rest)
     ⊎ (IsFlushed gathered written now_written × IfSome come (λ text. IsReadUpTo (most text) text now_rest))
 
+-- how many bytes are gathered at most before they are written
+abbrev pub longest_gathered : ℕ
+longest_gathered = 8192
+
+-- of the lines answered but for the last one, all that was told is written, or all but as much as is gathered at most
+pub record WritesClose (told : List (List ℕ) → List ℕ) (answered : List (List ℕ)) (written now_written : Option (List ℕ)) : Type 0 where
+  pub before : List (List ℕ)
+  pub last : List (List ℕ)
+  pub parts : answered ≡ before ++ last
+  pub one : length last ≤ 1
+  pub out : List ℕ
+  pub grows : Appends written now_written out
+  pub few : length (told before) ≤ length out + longest_gathered
+
 -- of the lines answered, all that the first were told is written, and of the text behind them no more was read than a
 -- block, and the next line where that is too long to be kept
 pub record KeepsUp (told : List (List ℕ) → List ℕ) (answered : List (List ℕ))

@@ -5,7 +5,7 @@ use Rattle.own_model.specs.Text.{lines_of}
 use Rattle.own_model.specs.World.{World}
 use Rattle.scenario.specs.Answered.{told_of_all, after_all}
 use Rattle.scenario.specs.Lines.{AreReadable}
-use Rattle.scenario.specs.Reach.{KeepsUp}
+use Rattle.scenario.specs.Reach.{KeepsUp, WritesClose}
 use Rattle.scenario.specs.Stops.{IsWritten, StopsFor}
 use Rattle.scenario.specs.declared.lines.LineFault.{LineFault}
 use Rattle.scenario.specs.declared.lines.LineFault.TheVariants.{Read, Write, Endless}
@@ -42,3 +42,4 @@ pub record Serves (only : Option (List ℕ)) (result : Result ℕ RunFault) (max
       × LeavesNone result answered left max_lines text rest failed)
   pub readable : AreReadable answered
   pub keeps_up : KeepsUp (told_of_all only old) answered input rest written now_written
+  pub close : WritesClose (told_of_all only old) answered written now_written

@@ -6,7 +6,7 @@ use Rattle.own_model.specs.Text.{lines_of}
 use Rattle.own_model.specs.Transcript.{told_after, calls_of, state_at, state_after}
 use Rattle.own_model.specs.World.{World, world_running}
 use Rattle.scenario.specs.Lines.{longest_read, AreReadable, HasRead, IsReadTo}
-use Rattle.scenario.specs.Reach.{KeepsUp}
+use Rattle.scenario.specs.Reach.{KeepsUp, WritesClose}
 use Rattle.scenario.specs.declared.running.RunFault.{RunFault}
 use Rattle.scenario.specs.declared.running.RunFault.TheVariants.{ReadFault, WriteFault, TooManyLines}
 
@@ -48,6 +48,8 @@ pub record Stops (only : Option (List ℕ)) (fault : RunFault) (max_lines : ℕ)
   pub keeps_up :
       KeepsUp (λ lines. told_after old.entries old.states [] (said_by only lines)) answered
       (Some input) rest written now_written
+  pub close :
+      WritesClose (λ lines. told_after old.entries old.states [] (said_by only lines)) answered written now_written
   pub told : IsWritten fault written now_written (told_after old.entries old.states [] (said_by only answered))
   pub states : (component : ℕ) →
       state_at new.states component

@@ -35,11 +35,14 @@ pub fn write_accounts<R: Router + Drop, K: Sink>(
     writer: &mut K,
 ) -> Result<(), RunFault>
     requires listed { core.now.entries ≡ entries_of (start_list_of list.now) }
-    ensures told { OnOk result (Appends (K.contents writer.old) (K.contents writer.new) (account_list_text list.now core.now)) }
+    ensures told { OnOk result (Appends (K.contents writer.old) (K.contents writer.new)
+        (account_list_text list.now core.now)) }
     ensures fault { IfErr result (λ fault. fault ≡ WriteFault) }
-    ensures part { OnErr result (AppendsPart (K.contents writer.old) (K.contents writer.new) (account_list_text list.now core.now)) }
+    ensures part { OnErr result (AppendsPart (K.contents writer.old) (K.contents writer.new)
+        (account_list_text list.now core.now)) }
     ensures writing { K.has_failed writer.new ≡ is_write_fault result }
-    ensures before { K.has_failed writer.old ≡ true → (result ≡ Err WriteFault) × (writer.new ≡ writer.old) }
+    ensures before { K.has_failed writer.old ≡ true →
+        (result ≡ Err WriteFault) × (writer.new ≡ writer.old) }
 {
     if writer.failed() {
         return Err(RunFault::WriteFault);
@@ -58,8 +61,10 @@ fn write_list<R: Router + Drop, K: Sink>(
 ) -> Result<(), DeviceFault>
     requires listed { core.now.entries ≡ entries_of (start_list_of list.now) }
     requires writes { K.has_failed sink.old ≡ false }
-    ensures told { OnOk result (Appends (K.contents sink.old) (K.contents sink.new) (account_list_text list.now core.now)) }
-    ensures part { OnErr result (AppendsPart (K.contents sink.old) (K.contents sink.new) (account_list_text list.now core.now)) }
+    ensures told { OnOk result (Appends (K.contents sink.old) (K.contents sink.new)
+        (account_list_text list.now core.now)) }
+    ensures part { OnErr result (AppendsPart (K.contents sink.old) (K.contents sink.new)
+        (account_list_text list.now core.now)) }
     ensures failing { K.has_failed sink.new ≡ is_err result }
 {
     let mut gathered = Gather::new();
@@ -76,7 +81,8 @@ fn put_list<R: Router + Drop, K: Sink>(
 ) -> Result<(), DeviceFault>
     requires listed { core.now.entries ≡ entries_of (start_list_of list.now) }
     requires writes { K.has_failed sink.old ≡ false }
-    ensures told { TellsUnless result (K.contents sink.old) gathered.old (K.contents sink.new) gathered.new
+    ensures told { TellsUnless result (K.contents sink.old) gathered.old
+        (K.contents sink.new) gathered.new
         (account_list_text list.now core.now) }
     ensures failing { K.has_failed sink.new ≡ is_err result }
 {
@@ -93,7 +99,8 @@ fn put_init<R: Router + Drop, K: Sink>(
     sink: &mut K,
 ) -> Result<(), DeviceFault>
     requires { K.has_failed sink.old ≡ false }
-    ensures told { TellsUnless result (K.contents sink.old) gathered.old (K.contents sink.new) gathered.new
+    ensures told { TellsUnless result (K.contents sink.old) gathered.old
+        (K.contents sink.new) gathered.new
         (account_line (codes "init") (machine_init core.now)) }
     ensures failing { K.has_failed sink.new ≡ is_err result }
 {
@@ -109,8 +116,10 @@ fn put_components<R: Router + Drop, K: Sink>(
 ) -> Result<(), DeviceFault>
     requires listed { core.now.entries ≡ entries_of (start_list_of list.now) }
     requires writes { K.has_failed sink.old ≡ false }
-    ensures told { TellsUnless result (K.contents sink.old) gathered.old (K.contents sink.new) gathered.new
-        (flat_map (λ e. component_lines e.1 (account_at core.now e.0) (state_at core.now.states e.0).reserve)
+    ensures told { TellsUnless result (K.contents sink.old) gathered.old
+        (K.contents sink.new) gathered.new
+        (flat_map (λ e.
+        component_lines e.1 (account_at core.now e.0) (state_at core.now.states e.0).reserve)
         (enumerate_from 0 list.now.entries)) }
     ensures failing { K.has_failed sink.new ≡ is_err result }
 {
@@ -131,7 +140,8 @@ fn put_component<R: Router + Drop, K: Sink>(
     requires listed { core.now.entries ≡ entries_of (start_list_of list.now) }
     requires component { component < length core.now.entries }
     requires writes { K.has_failed sink.old ≡ false }
-    ensures told { TellsUnless result (K.contents sink.old) gathered.old (K.contents sink.new) gathered.new
+    ensures told { TellsUnless result (K.contents sink.old) gathered.old
+        (K.contents sink.new) gathered.new
         (component_lines (listed_at list.now component) (account_at core.now component)
         (state_at core.now.states component).reserve) }
     ensures failing { K.has_failed sink.new ≡ is_err result }
@@ -155,7 +165,8 @@ fn put_sessions<R: Router + Drop, K: Sink>(
 ) -> Result<(), DeviceFault>
     requires listed { core.now.entries ≡ entries_of (start_list_of list.now) }
     requires writes { K.has_failed sink.old ≡ false }
-    ensures told { TellsUnless result (K.contents sink.old) gathered.old (K.contents sink.new) gathered.new
+    ensures told { TellsUnless result (K.contents sink.old) gathered.old
+        (K.contents sink.new) gathered.new
         (flat_map (λ e. session_lines e.1.path (state_at core.now.states e.0))
         (enumerate_from 0 list.now.entries)) }
     ensures failing { K.has_failed sink.new ≡ is_err result }
@@ -177,7 +188,8 @@ fn put_sessions_of<R: Router + Drop, K: Sink>(
     requires listed { core.now.entries ≡ entries_of (start_list_of list.now) }
     requires component { component < length core.now.entries }
     requires writes { K.has_failed sink.old ≡ false }
-    ensures told { TellsUnless result (K.contents sink.old) gathered.old (K.contents sink.new) gathered.new
+    ensures told { TellsUnless result (K.contents sink.old) gathered.old
+        (K.contents sink.new) gathered.new
         (session_lines (listed_at list.now component).path (state_at core.now.states component)) }
     ensures failing { K.has_failed sink.new ≡ is_err result }
 {
@@ -199,8 +211,10 @@ fn put_selected<R: Router + Drop, K: Sink>(
     requires listed { core.now.entries ≡ entries_of (start_list_of list.now) }
     requires component { component < length core.now.entries }
     requires writes { K.has_failed sink.old ≡ false }
-    ensures told { TellsUnless result (K.contents sink.old) gathered.old (K.contents sink.new) gathered.new
-        (selected_line (listed_at list.now component).path (state_at core.now.states component) selector) }
+    ensures told { TellsUnless result (K.contents sink.old) gathered.old
+        (K.contents sink.new) gathered.new
+        (selected_line (listed_at list.now component).path
+        (state_at core.now.states component) selector) }
     ensures failing { K.has_failed sink.new ≡ is_err result }
 {
     match core.session_account(component, selector) {
@@ -217,7 +231,8 @@ fn put_account<K: Sink>(
     sink: &mut K,
 ) -> Result<(), DeviceFault>
     requires { K.has_failed sink.old ≡ false }
-    ensures told { TellsUnless result (K.contents sink.old) gathered.old (K.contents sink.new) gathered.new
+    ensures told { TellsUnless result (K.contents sink.old) gathered.old
+        (K.contents sink.new) gathered.new
         (account_line name.now (quotas_account account)) }
     ensures failing { K.has_failed sink.new ≡ is_err result }
 {
@@ -236,7 +251,8 @@ fn put_reserve<K: Sink>(
     sink: &mut K,
 ) -> Result<(), DeviceFault>
     requires { K.has_failed sink.old ≡ false }
-    ensures told { TellsUnless result (K.contents sink.old) gathered.old (K.contents sink.new) gathered.new
+    ensures told { TellsUnless result (K.contents sink.old) gathered.old
+        (K.contents sink.new) gathered.new
         (reserve_line name.now (reserve_amounts reserve)) }
     ensures failing { K.has_failed sink.new ≡ is_err result }
 {
@@ -256,7 +272,8 @@ fn put_session<K: Sink>(
     sink: &mut K,
 ) -> Result<(), DeviceFault>
     requires { K.has_failed sink.old ≡ false }
-    ensures told { TellsUnless result (K.contents sink.old) gathered.old (K.contents sink.new) gathered.new
+    ensures told { TellsUnless result (K.contents sink.old) gathered.old
+        (K.contents sink.new) gathered.new
         (session_line name.now selector (quotas_account account)) }
     ensures failing { K.has_failed sink.new ≡ is_err result }
 {
@@ -278,7 +295,8 @@ fn put_named<K: Sink>(
     sink: &mut K,
 ) -> Result<(), DeviceFault>
     requires { K.has_failed sink.old ≡ false }
-    ensures told { TellsUnless result (K.contents sink.old) gathered.old (K.contents sink.new) gathered.new
+    ensures told { TellsUnless result (K.contents sink.old) gathered.old
+        (K.contents sink.new) gathered.new
         (word.now ++ name.now ++ rest.now) }
     ensures failing { K.has_failed sink.new ≡ is_err result }
 {
@@ -296,7 +314,8 @@ fn put_total<R: Router + Drop, K: Sink>(
 ) -> Result<(), DeviceFault>
     requires listed { core.now.entries ≡ entries_of (start_list_of list.now) }
     requires writes { K.has_failed sink.old ≡ false }
-    ensures told { TellsUnless result (K.contents sink.old) gathered.old (K.contents sink.new) gathered.new
+    ensures told { TellsUnless result (K.contents sink.old) gathered.old
+        (K.contents sink.new) gathered.new
         (total_line (all_ram core.now) (all_caps core.now)) }
     ensures failing { K.has_failed sink.new ≡ is_err result }
 {

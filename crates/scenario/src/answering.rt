@@ -1,5 +1,5 @@
 //! The answer to a line.
-ghost use Rattle.std.specs.Prelude.{◌≡◌, ◌≤◌, ◌∷◌, ℕ, List, [], false, length};
+ghost use Rattle.std.specs.Prelude.{◌≡◌, ◌≤◌, ◌∷◌, ℕ, List, [], true, false, length};
 ghost use Rattle.std.specs.Option.{option_copied};
 ghost use Rattle.own_model.specs.Call.{spoken};
 ghost use Rattle.own_model.specs.Listed.{start_list_of};
@@ -8,7 +8,7 @@ ghost use Rattle.own_model.specs.StartList.{entries_of};
 ghost use Rattle.own_model.specs.World.{World, world_after_heard};
 ghost use Rattle.pd_core.specs.Call.{model_call, IsWellFormed};
 ghost use Rattle.scenario.specs.Answer.{AnswersLine, IsAnswer, IsNoCall, IsRefusal};
-ghost use Rattle.scenario.specs.Answered.{IsUnsaid, after_all, hears, is_meant};
+ghost use Rattle.scenario.specs.Answered.{BeginsAsSaid, BeginsWithName, IsUnsaid, after_all, hears, is_meant};
 
 use crate::block::LONGEST_LINE;
 use crate::line::read_line;
@@ -21,7 +21,7 @@ const NOBODY: &[u8] = b"?";
 
 /// What a line is answered.
 #[derive(Clone, Copy, Debug, PartialEq, Eq)]
-pub struct Answer<'a> {
+pub struct LineAnswer<'a> {
     /// The log lines that its call finished, each as it is printed, with its newline.
     pub lines: &'a [u8],
     /// The caller's name, or `?` where the line is no call.
@@ -49,11 +49,12 @@ impl<'a> Run<'a> {
         core: &mut Core<R>,
         line: &'b [u8],
         reply: &'b mut Reply,
-    ) -> Option<Answer<'b>>
+    ) -> Option<LineAnswer<'b>>
     where
         'a: 'b,
         requires listed { core.old.entries ≡ entries_of (start_list_of self.now.list.now) }
-        ensures world { core.new ≡ after_all (option_copied self.now.only) core.old (line.now ∷ []) }
+        ensures world { core.new
+            ≡ after_all (option_copied self.now.only) core.old (line.now ∷ []) }
         ensures answered { AnswersLine (option_copied self.now.only) core.old line.now result }
     {
         if line.len() > LONGEST_LINE {
@@ -69,12 +70,13 @@ impl<'a> Run<'a> {
         core: &mut Core<R>,
         line: &'b [u8],
         reply: &'b mut Reply,
-    ) -> Option<Answer<'b>>
+    ) -> Option<LineAnswer<'b>>
     where
         'a: 'b,
         requires short { length line.now ≤ LONGEST_LINE }
         requires listed { core.old.entries ≡ entries_of (start_list_of self.now.list.now) }
-        ensures world { core.new ≡ after_all (option_copied self.now.only) core.old (line.now ∷ []) }
+        ensures world { core.new
+            ≡ after_all (option_copied self.now.only) core.old (line.now ∷ []) }
         ensures answered { AnswersLine (option_copied self.now.only) core.old line.now result }
     {
         if !may_mean(self.only, line) {
@@ -94,7 +96,7 @@ impl<'a> Run<'a> {
 
     // Answers a line that is no call, whatever it is.
     #[inline(always)]
-    pub(crate) fn answer_no_call<'b>(&self) -> Option<Answer<'b>>
+    pub(crate) fn answer_no_call<'b>(&self) -> Option<LineAnswer<'b>>
         ensures { (world : World) (line : List ℕ) → IsNoCall line →
             AnswersLine (option_copied self.now.only) world line result }
     {
@@ -112,7 +114,7 @@ impl<'a> Run<'a> {
         name: &'b [u8],
         call: Call<'_>,
         reply: &'b mut Reply,
-    ) -> Answer<'b>
+    ) -> LineAnswer<'b>
     where
         'a: 'b,
         requires formed { IsWellFormed call }
@@ -129,7 +131,7 @@ impl<'a> Run<'a> {
             return refused(name, Refusal::UnknownComponent);
         }
         core.step(component, call, reply);
-        Answer {
+        LineAnswer {
             lines: reply.lines(),
             name: self.list.name(component),
             reply: reply.text(),
@@ -139,10 +141,10 @@ impl<'a> Run<'a> {
 
 // A refusal under a name.
 #[inline]
-fn refused(name: &[u8], refusal: Refusal) -> Answer<'_>
+fn refused(name: &[u8], refusal: Refusal) -> LineAnswer<'_>
     ensures { IsRefusal name.now refusal result }
 {
-    Answer {
+    LineAnswer {
         lines: b"",
         name,
         reply: refusal.name().as_bytes(),
@@ -161,7 +163,8 @@ fn means(only: Option<&[u8]>, name: &[u8]) -> bool
 
 // Whether a line may be a call that is to be answered: where it isn't, only its first bytes were looked at.
 fn may_mean(only: Option<&[u8]>, line: &[u8]) -> bool
-    ensures { result ≡ false → IsUnsaid (option_copied only.entry) line.now }
+    ensures front { result ≡ true → BeginsAsSaid (option_copied only.entry) line.now }
+    ensures unsaid { result ≡ false → IsUnsaid (option_copied only.entry) line.now }
 {
     match only {
         Some(name) => stands_before(name, line),
@@ -172,7 +175,8 @@ fn may_mean(only: Option<&[u8]>, line: &[u8]) -> bool
 // Whether a line begins with a name and a space.
 #[tactic(auto, using(crate::proofs::AnsweringLemmas::fronts))]
 fn stands_before(name: &[u8], line: &[u8]) -> bool
-    ensures { result ≡ false → is_under name.now (spoken line.now) ≡ false }
+    ensures front { result ≡ true → BeginsWithName name.now line.now }
+    ensures unsaid { result ≡ false → is_under name.now (spoken line.now) ≡ false }
 {
     if line.len() <= name.len() {
         return false;

@@ -1,13 +1,15 @@
 //! The bytes of CONFIG, the text of a start list.
-ghost use Rattle.std.specs.Prelude.{◌≡◌, ◌≤◌, IfOk, IfSome, false, length, take};
+ghost use Rattle.std.specs.Prelude.{◌≡◌, ◌≤◌, IfOk, IfSome, Some, false, length, take};
 ghost use Rattle.scenario.specs.Config.{is_unreadable};
+ghost use Rattle.scenario.specs.Texts.{config_fault_text};
 ghost use Rattle.scenario.specs.declared.config.ConfigFault.TheVariants.{Unreadable as CantRead, NoMemory as NoRoom};
 
 use crate::device::{DeviceFault, Source};
 use crate::input::Input;
 use std::alloc::{AllocError, Global};
-use std::fs;
+use std::fmt::{Display, Formatter};
 use std::rt::Files;
+use std::{fmt, fs};
 use thiserror::Error;
 
 /// How many bytes of CONFIG are read at most: one more than a start list may have, so that its length tells one that is
@@ -21,11 +23,20 @@ const BLOCK: usize = 4096;
 #[derive(Clone, Copy, Debug, PartialEq, Eq, Error)]
 pub enum ConfigFault {
     /// It can't be opened, or a read of it failed.
-    #[error("Unreadable_config")]
     Unreadable,
     /// The host has no memory for them.
-    #[error("No_memory")]
     NoMemory,
+}
+
+impl Display for ConfigFault {
+    ghost output = { λ fault. Some (config_fault_text fault) };
+
+    fn fmt<W: fmt::Write>(&self, f: &mut Formatter<W>) -> fmt::Result {
+        match self {
+            ConfigFault::Unreadable => f.write_str("Unreadable_config"),
+            ConfigFault::NoMemory => f.write_str("No_memory"),
+        }
+    }
 }
 
 impl From<DeviceFault> for ConfigFault {
@@ -65,9 +76,12 @@ pub fn read_config<S: Source>(alloc: Global, source: &mut S) -> Result<Vec<u8>, 
     Ok(text)
 }
 
-/// Reads the file of a path. One that can't be opened is unreadable, and so is a folder, which no read gives bytes of.
+/// Reads the file of a path, as far as `read_config` does. One that can't be opened is unreadable, and so is a folder,
+/// which no read gives bytes of.
 pub fn read_config_at<R: Files + AllocGlobal>(rt: &R, path: &str) -> Result<Vec<u8>, ConfigFault>
-    ensures { IfOk result (λ text. length text.items ≤ LONGEST_CONFIG_READ) }
+    ensures text { IfOk result (λ text. (file : R.File) × IfSome (R.File.remaining file) (λ bytes.
+        text.items ≡ take LONGEST_CONFIG_READ bytes)) }
+    ensures fits { IfOk result (λ text. length text.items ≤ LONGEST_CONFIG_READ) }
 {
     match fs::open(rt, path) {
         Ok(file) => read_config(rt.alloc(), &mut Input::new(file)),

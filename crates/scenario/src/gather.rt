@@ -39,13 +39,21 @@ impl Gather {
         }
     }
 
+    /// No more is gathered than there is room for. Nothing is done.
+    #[inline(always)]
+    pub fn fits(&self)
+        ensures { length self.now ≤ CAPACITY }
+    {
+        let _ = &self.bytes;
+    }
+
     /// Gathers `bytes`, and writes out what is gathered each time there is no more room.
     /// Where a write fails, a part is written from the front.
     #[inline]
     pub fn put<K: Sink>(&mut self, sink: &mut K, bytes: &[u8]) -> Result<(), DeviceFault>
         requires { K.has_failed sink.old ≡ false }
-        ensures told { TellsUnless result (K.contents sink.old) self.old (K.contents sink.new) self.new
-            bytes.now }
+        ensures told { TellsUnless result (K.contents sink.old) self.old
+            (K.contents sink.new) self.new bytes.now }
         ensures failing { K.has_failed sink.new ≡ is_err result }
     {
         if bytes.len() > CAPACITY - self.end {
@@ -66,8 +74,8 @@ impl Gather {
         reply: &[u8],
     ) -> Result<(), DeviceFault>
         requires { K.has_failed sink.old ≡ false }
-        ensures told { TellsUnless result (K.contents sink.old) self.old (K.contents sink.new) self.new
-            (line_with name.now reply.now) }
+        ensures told { TellsUnless result (K.contents sink.old) self.old
+            (K.contents sink.new) self.new (line_with name.now reply.now) }
         ensures failing { K.has_failed sink.new ≡ is_err result }
     {
         // One test for the room of all parts, which a line mostly finds.
@@ -91,8 +99,8 @@ impl Gather {
         reply: &[u8],
     ) -> Result<(), DeviceFault>
         requires { K.has_failed sink.old ≡ false }
-        ensures told { TellsUnless result (K.contents sink.old) self.old (K.contents sink.new) self.new
-            (line_with name.now reply.now) }
+        ensures told { TellsUnless result (K.contents sink.old) self.old
+            (K.contents sink.new) self.new (line_with name.now reply.now) }
         ensures failing { K.has_failed sink.new ≡ is_err result }
     {
         self.put(sink, name)?;
@@ -111,8 +119,8 @@ impl Gather {
         reply: &[u8],
     ) -> Result<(), DeviceFault>
         requires { K.has_failed sink.old ≡ false }
-        ensures told { TellsUnless result (K.contents sink.old) self.old (K.contents sink.new) self.new
-            (lines.now ++ line_with name.now reply.now) }
+        ensures told { TellsUnless result (K.contents sink.old) self.old
+            (K.contents sink.new) self.new (lines.now ++ line_with name.now reply.now) }
         ensures failing { K.has_failed sink.new ≡ is_err result }
     {
         if lines.is_empty() {
@@ -126,8 +134,8 @@ impl Gather {
     #[inline(never)]
     fn put_in_pieces<K: Sink>(&mut self, sink: &mut K, bytes: &[u8]) -> Result<(), DeviceFault>
         requires { K.has_failed sink.old ≡ false }
-        ensures told { TellsUnless result (K.contents sink.old) self.old (K.contents sink.new) self.new
-            bytes.now }
+        ensures told { TellsUnless result (K.contents sink.old) self.old
+            (K.contents sink.new) self.new bytes.now }
         ensures failing { K.has_failed sink.new ≡ is_err result }
     {
         let mut done = self.take_in(bytes);
@@ -153,7 +161,8 @@ impl Gather {
     /// Writes out all that is gathered, and resumes a write that took only a part.
     pub fn flush<K: Sink>(&mut self, sink: &mut K) -> Result<(), DeviceFault>
         requires { K.has_failed sink.old ≡ false }
-        ensures told { TellsUnless result (K.contents sink.old) self.old (K.contents sink.new) self.new [] }
+        ensures told { TellsUnless result (K.contents sink.old) self.old
+            (K.contents sink.new) self.new [] }
         ensures empty { OnOk result (self.new ≡ []) }
         ensures failing { K.has_failed sink.new ≡ is_err result }
     {

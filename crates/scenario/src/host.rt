@@ -1,65 +1,107 @@
-//! The program on its host: its words, the file of a start list, the standard streams and the exit status.
-use crate::config::read_config_at;
+//! The program on its host: its words, the file of a start list, the standard streams and how it ends.
+ghost use Rattle.std.specs.Prelude.{◌≡◌};
+ghost use Rattle.std.specs.Process.{exit_status as status_told};
+ghost use Rattle.scenario.specs.Ending.{CameOf, program_status};
+
+use crate::config::{ConfigFault, read_config_at};
 use crate::input::Input;
+use crate::options::{Options, words_given};
 use crate::output::Output;
-use crate::program::{Task, boot_and_run, exit_status, task_of};
+use crate::program::{Failure, MAX_LINES, Task, boot_and_run, exit_status, task_of};
+use crate::running::Summary;
 use clap::Error;
-use command_line::{Options, words_given};
 use init_core::MACHINE_A;
+use std::convert::AsStr;
 use std::io;
 use std::io::Eprint;
-use std::process::ExitCode;
+use std::process::{ExitCode, Termination};
 use std::rt::{Env, Files};
 
-/// Does what the command line asks for, over the standard streams, and answers the exit status. A failure is told on
-/// standard error. The status is `exit_status` of a task; 2 for words that aren't taken and for a start list that can't be
-/// read; and 0 for help.
-pub fn run_program<R: Env + Files + io::Input + Print + Eprint + AllocGlobal>(rt: &R) -> ExitCode {
-    let words = match words_given(rt) {
-        Ok(words) => words,
-        Err(error) => return refuse(rt, &error),
-    };
-    match Options::read(rt.alloc(), words.as_slice()) {
-        Ok(options) => answer(rt, options),
-        Err(error) => refuse(rt, &error),
+/// How the program ended.
+#[derive(Debug, Drop)]
+pub enum ProgramEnd {
+    /// The words of the command line aren't taken, or ask for help.
+    Refused(Error),
+    /// The file of CONFIG isn't read.
+    NoConfig(ConfigFault),
+    /// The task was begun, and this came of it.
+    Ended(Result<Summary, Failure>),
+}
+
+impl Termination for ProgramEnd {
+    /// The exit status: of a task its `exit_status`; 2 where CONFIG isn't read, and for words that aren't taken; and 0 for
+    /// help. Nothing is printed.
+    fn report<R: Eprint>(self, _rt: &R) -> ExitCode
+        ensures { status_told result ≡ program_status self }
+    {
+        let status = match &self {
+            ProgramEnd::Refused(error) => { if error.use_stderr() { 2 } else { 0 } }
+            ProgramEnd::NoConfig(_) => 2,
+            ProgramEnd::Ended(ended) => exit_status(ended),
+        };
+        ExitCode::from(status)
     }
 }
 
-// Tells why the command line isn't taken, or the help that it asks for.
-fn refuse<R: Print + Eprint>(rt: &R, error: &Error) -> ExitCode {
-    let _ = error.print(rt);
-    ExitCode::from(error.exit_code() as u8)
+/// Does what the command line asks for, over the standard streams, and tells how that ended. A failure is told on standard
+/// error too.
+pub fn run_program<R: Env + Files + io::Input + Print + Eprint + AllocGlobal>(
+    rt: &R,
+) -> ProgramEnd {
+    let end = match words_given(rt) {
+        Ok(words) => run_words(rt, words.as_slice()),
+        Err(error) => ProgramEnd::Refused(error),
+    };
+    tell(rt, &end);
+    end
 }
 
-// Does what is asked on the machine of a file, or on the built-in machine.
-fn answer<R: Files + io::Input + Print + Eprint + AllocGlobal>(
+// Tells why nothing was begun, or the help that is asked for, or why a task was not done to its end.
+fn tell<R: Print + Eprint>(rt: &R, end: &ProgramEnd) {
+    let _ = match end {
+        ProgramEnd::Refused(error) => error.print(rt),
+        ProgramEnd::NoConfig(fault) => eprintln!(rt; "boot: {fault}"),
+        ProgramEnd::Ended(Err(failure)) => eprintln!(rt; "{failure}"),
+        ProgramEnd::Ended(Ok(_)) => Ok(()),
+    };
+}
+
+// Does what these words ask for, of which the first is the program's own name.
+fn run_words<R: Files + io::Input + Print + AllocGlobal, S: AsStr>(
     rt: &R,
-    options: Options<'_>,
-) -> ExitCode {
-    let task = task_of(&options);
+    words: &[S],
+) -> ProgramEnd {
+    match Options::read(rt.alloc(), words) {
+        Ok(options) => run_options(rt, &options),
+        Err(error) => ProgramEnd::Refused(error),
+    }
+}
+
+// Does what the options ask for, on the machine of a file or on the built-in one.
+fn run_options<R: Files + io::Input + Print + AllocGlobal>(
+    rt: &R,
+    options: &Options<'_>,
+) -> ProgramEnd {
+    let task = task_of(options);
     match options.path {
         Some(path) => match read_config_at(rt, path) {
-            Ok(text) => answer_on(rt, &text, task),
-            Err(fault) => {
-                let _ = eprintln!(rt; "boot: {fault}");
-                ExitCode::from(2)
-            }
+            Ok(text) => ProgramEnd::Ended(run_task(rt, &text, task)),
+            Err(fault) => ProgramEnd::NoConfig(fault),
         },
-        None => answer_on(rt, MACHINE_A.as_bytes(), task),
+        None => ProgramEnd::Ended(run_task(rt, MACHINE_A.as_bytes(), task)),
     }
 }
 
 // Does a task on the machine of a text, over the standard streams.
-fn answer_on<R: io::Input + Print + Eprint + AllocGlobal>(
+fn run_task<R: io::Input + Print + AllocGlobal>(
     rt: &R,
     text: &[u8],
     task: Task<'_>,
-) -> ExitCode {
+) -> Result<Summary, Failure>
+    ensures { (reader : R.Reader)
+        × CameOf result task.entry text.now MAX_LINES (R.Reader.remaining reader) }
+{
     let mut reader = Input::new(rt.reader());
     let mut writer = Output::new(io::writer(rt));
-    let ended = boot_and_run(rt.alloc(), text, task, &mut reader, &mut writer);
-    if let Err(failure) = &ended {
-        let _ = eprintln!(rt; "{failure}");
-    }
-    ExitCode::from(exit_status(&ended))
+    boot_and_run(rt.alloc(), text, task, &mut reader, &mut writer)
 }

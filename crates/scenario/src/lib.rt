@@ -15,6 +15,7 @@ mod host;
 mod input;
 mod line;
 mod lines;
+mod options;
 mod output;
 mod program;
 mod running;
@@ -25,15 +26,16 @@ pub use account_list::write_accounts;
 pub use account_sums::{Sums, sum_all};
 pub use account_text::add_quotas;
 pub use alone::run_only;
-pub use answering::{Answer, Run};
+pub use answering::{LineAnswer, Run};
 pub use block::{Block, LONGEST_LINE};
 pub use config::{ConfigFault, LONGEST_CONFIG_READ, read_config, read_config_at};
 pub use device::{DeviceFault, Sink, Source};
 pub use gather::Gather;
-pub use host::run_program;
+pub use host::{ProgramEnd, run_program};
 pub use input::Input;
 pub use line::read_line;
 pub use lines::{Buffers, LineFault, Next};
+pub use options::{Options, words_given};
 pub use output::Output;
 pub use program::{
     Failure, MAX_LINES, Stopped, Task, boot_and_run, exit_status, run_bytes, task_of,

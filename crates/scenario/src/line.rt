@@ -130,7 +130,8 @@ fn address(arguments: Option<&[u8]>) -> Option<u64>
 /// A call without arguments, where there are none.
 fn read_none<'a>(call: Call<'a>, arguments: Option<&[u8]>) -> Option<Call<'a>>
     requires { IsWellFormed call }
-    ensures call { option_map model_call result ≡ of_none (model_call call.entry) (option_copied arguments.entry) }
+    ensures call { option_map model_call result
+        ≡ of_none (model_call call.entry) (option_copied arguments.entry) }
     ensures well_formed { IfSome result IsWellFormed }
 {
     if arguments.is_none() {
@@ -142,7 +143,8 @@ fn read_none<'a>(call: Call<'a>, arguments: Option<&[u8]>) -> Option<Call<'a>>
 
 /// A selector and an address, parted by a space.
 fn read_attach_at(arguments: &[u8]) -> Option<Call<'_>>
-    ensures call { option_map model_call result ≡ of_two AttachAt number_of address_of (Some arguments.now) }
+    ensures call { option_map model_call result
+        ≡ of_two AttachAt number_of address_of (Some arguments.now) }
     ensures well_formed { IfSome result IsWellFormed }
 {
     let (selector, address) = split_first_word(arguments);
@@ -153,7 +155,8 @@ fn read_attach_at(arguments: &[u8]) -> Option<Call<'_>>
 
 /// An address and a count of bytes, parted by a space.
 fn read_peek(arguments: &[u8]) -> Option<Call<'_>>
-    ensures call { option_map model_call result ≡ of_two Peek address_of number_of (Some arguments.now) }
+    ensures call { option_map model_call result
+        ≡ of_two Peek address_of number_of (Some arguments.now) }
     ensures well_formed { IfSome result IsWellFormed }
 {
     let (address, count) = split_first_word(arguments);
@@ -186,7 +189,8 @@ fn read_open(arguments: &[u8]) -> Option<Call<'_>>
 
 /// A selector, and the arguments of a session after a space, if there are any.
 fn read_upgrade(arguments: &[u8]) -> Option<Call<'_>>
-    ensures call { option_map model_call result ≡ of_text Upgrade number_of (Some arguments.now) }
+    ensures call { option_map model_call result
+        ≡ of_text Upgrade number_of (Some arguments.now) }
     ensures well_formed { IfSome result IsWellFormed }
 {
     let (selector, args) = split_first_word(arguments);
@@ -197,7 +201,8 @@ fn read_upgrade(arguments: &[u8]) -> Option<Call<'_>>
 
 /// A selector, and a request after a space, if there is one.
 fn read_session_call(arguments: &[u8]) -> Option<Call<'_>>
-    ensures call { option_map model_call result ≡ of_text CallSession number_of (Some arguments.now) }
+    ensures call { option_map model_call result
+        ≡ of_text CallSession number_of (Some arguments.now) }
     ensures well_formed { IfSome result IsWellFormed }
 {
     let (selector, request) = split_first_word(arguments);

@@ -9,6 +9,7 @@ ghost use Rattle.init_core.specs.declared.fault.BootFault.{BootFault as Unbooted
 ghost use Rattle.init_core.specs.declared.fault.BootFault.TheVariants.{NoMemory as NoRoom};
 ghost use Rattle.scenario.specs.Program.{AsksFor, FailsFor, FailsIn, IsAnswered, IsBoundedFor, IsDone, IsMachine, StopsScenario, ok_line, scenario_text, status_of, written_for};
 ghost use Rattle.scenario.specs.Stops.{AppendsPart, is_write_fault};
+ghost use Rattle.scenario.specs.Texts.{failure_text};
 ghost use Rattle.scenario.specs.declared.program.Failure.TheVariants.{Boot as Booting, Run as Running};
 ghost use Rattle.scenario.specs.declared.program.Task.TheVariants.{Check as Checking, Run as Answering};
 ghost use Rattle.scenario.specs.declared.running.RunFault.TheVariants.{WriteFault as Unwritten};
@@ -17,12 +18,14 @@ use crate::account_list::write_accounts;
 use crate::answering::Run;
 use crate::device::{Sink, Source};
 use crate::gather::write_out;
+use crate::options::Options;
 use crate::output::Output;
 use crate::running::{RunFault, Summary, run_said_by};
-use command_line::Options;
 use init_core::{BootFault, StartList, boot};
 use pd_core::{Core, Reply, Router};
 use std::alloc::Global;
+use std::fmt;
+use std::fmt::{Display, Formatter};
 use thiserror::Error;
 use trade_base::NoMemory;
 
@@ -67,11 +70,20 @@ pub fn task_of<'a>(options: &Options<'a>) -> Task<'a>
 #[derive(Debug, Drop, Error)]
 pub enum Failure {
     /// No machine was booted. Nothing was read or written.
-    #[error("boot: {0}")]
     Boot(BootFault),
     /// The run stopped, or the one write of a check failed.
-    #[error("run: {0}")]
     Run(RunFault),
+}
+
+impl Display for Failure {
+    ghost output = { failure_text ⟦<BootFault as Display>⟧.output };
+
+    fn fmt<W: fmt::Write>(&self, f: &mut Formatter<W>) -> fmt::Result {
+        match self {
+            Failure::Boot(fault) => write!(f, "boot: {fault}"),
+            Failure::Run(fault) => write!(f, "run: {fault}"),
+        }
+    }
 }
 
 impl From<BootFault> for Failure {

@@ -1,5 +1,5 @@
 //! The run: lines are read, answered and written.
-ghost use Rattle.std.specs.Prelude.{◌≡◌, ◌+◌, ◌≤◌, ◌∷◌, [], ◌||◌, true, false, length, take, drop, is_err, IfSome, IfOk, IfErr, OnOk, None};
+ghost use Rattle.std.specs.Prelude.{◌≡◌, ◌+◌, ◌≤◌, ◌∷◌, [], ◌||◌, true, false, length, take, drop, is_err, IfSome, IfOk, IfErr, OnOk, None, Some};
 ghost use Rattle.std.specs.Option.{option_copied};
 ghost use Rattle.own_model.specs.Listed.{start_list_of};
 ghost use Rattle.own_model.specs.StartList.{entries_of};
@@ -10,14 +10,17 @@ ghost use Rattle.scenario.specs.Next.{BothWork, FailsAs};
 ghost use Rattle.scenario.specs.Runs.{Completes, FaultBefore, HasCause, KeepsWorld, Runs};
 ghost use Rattle.scenario.specs.Serves.{Serves, run_fault};
 ghost use Rattle.scenario.specs.Stops.{Stops, is_write_fault};
+ghost use Rattle.scenario.specs.Texts.{run_fault_text};
 
-use crate::answering::{Answer, Run};
+use crate::answering::{LineAnswer, Run};
 use crate::block::LONGEST_LINE;
 use crate::device::{DeviceFault, Sink, Source};
 use crate::gather::Gather;
 use crate::lines::{Buffers, LineFault, Next};
 use init_core::StartList;
 use pd_core::{Core, Reply, Router};
+use std::fmt;
+use std::fmt::{Display, Formatter};
 use thiserror::Error;
 
 /// What a run did.
@@ -31,14 +34,23 @@ pub struct Summary {
 #[derive(Clone, Copy, Debug, PartialEq, Eq, Error)]
 pub enum RunFault {
     /// A read failed, or a line was too long to be read to its end.
-    #[error("Read_fault")]
     ReadFault,
     /// A write failed.
-    #[error("Write_fault")]
     WriteFault,
     /// A line came after the last one allowed.
-    #[error("Too_many_lines")]
     TooManyLines,
+}
+
+impl Display for RunFault {
+    ghost output = { λ fault. Some (run_fault_text fault) };
+
+    fn fmt<W: fmt::Write>(&self, f: &mut Formatter<W>) -> fmt::Result {
+        match self {
+            RunFault::ReadFault => f.write_str("Read_fault"),
+            RunFault::WriteFault => f.write_str("Write_fault"),
+            RunFault::TooManyLines => f.write_str("Too_many_lines"),
+        }
+    }
 }
 
 impl From<LineFault> for RunFault {
@@ -144,10 +156,12 @@ fn answer_all<R: Router + Drop, S: Source, K: Sink>(
 {
     let mut buffers = Buffers::new();
     for count in 0..max_lines {
+        buffers.gathered.fits();
         if !answer_next(run, core, reply, &mut buffers, reader, writer)? {
             return Ok(count);
         }
     }
+    buffers.gathered.fits();
     if buffers.begins_line(reader, writer)? {
         return Err(RunFault::TooManyLines);
     }
@@ -215,7 +229,7 @@ fn answer_ahead<R: Router + Drop, K: Sink>(
 // Gathers an answer: its log lines, and then the reply with the name. Of a line that was skipped nothing is told.
 #[inline(always)]
 fn tell<K: Sink>(
-    answer: Option<Answer<'_>>,
+    answer: Option<LineAnswer<'_>>,
     gathered: &mut Gather,
     writer: &mut K,
 ) -> Result<(), DeviceFault>

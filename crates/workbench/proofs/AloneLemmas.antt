@@ -17,7 +17,7 @@ use Rattle.own_model.proofs.RunningLemmas.{states_running-at}
 use Rattle.own_model.proofs.SaidByLemmas.{pieces_stand_alone, state_stands_alone}
 use Rattle.scenario.specs.Answer.{AnswersLine, IsAnswer, answer_text, answered_name, answered_reply, finished_lines}
 use Rattle.scenario.specs.Answered.{after_all}
-use Rattle.scenario.specs.declared.answering.Answer.{Answer}
+use Rattle.scenario.specs.declared.answering.LineAnswer.{LineAnswer}
 use Rattle.scenario.proofs.AnsweringLemmas.{told_answer}
 use Rattle.scenario.proofs.Serving.{left_by_both, said_by-append}
 use Rattle.workbench.specs.Alone.{AreAlike, SeesAlone, alone_tells, told_in}
@@ -91,7 +91,7 @@ module _ (name : List ℕ) (start : World) (earlier : List (List ℕ)) where
   told_alike : (call : List ℕ) → is_said_by name call ≡ true → told_in (world_running start earlier) call ≡ told_in (after_all (Some name) start earlier) call
   told_alike call said = ap (λ text. text ++ []) (now_alike (heard start.entries call) (is_of_heard name start.entries call said))
 
-  module _ (call : List ℕ) (whole alone : Answer) (said : is_said_by name call ≡ true) (in_whole : IsAnswer (world_running start earlier) (heard start.entries call) whole)
+  module _ (call : List ℕ) (whole alone : LineAnswer) (said : is_said_by name call ≡ true) (in_whole : IsAnswer (world_running start earlier) (heard start.entries call) whole)
       (in_alone : IsAnswer (after_all (Some name) start earlier) (heard start.entries call) alone) where
     pub same_lines : alone.lines.now ≡ whole.lines.now
     same_lines = in_alone.lines ∙ ap (flat_map log_text) (sym (lines_alike (heard start.entries call) (is_of_heard name start.entries call said))) ∙ sym in_whole.lines
@@ -117,7 +117,7 @@ pub told_none_of : (name : List ℕ) (start : World) (earlier : List (List ℕ))
 told_none_of name start earlier number call none = rw (not_said name call (is_said_by name call) refl none) refl
 
 -- of the name's both answers
-pub told_both_of : (name : List ℕ) (start core : World) (earlier : List (List ℕ)) (number : ℕ) (call : List ℕ) (whole alone : Answer) → core ≡ after_all (Some name) start earlier →
+pub told_both_of : (name : List ℕ) (start core : World) (earlier : List (List ℕ)) (number : ℕ) (call : List ℕ) (whole alone : LineAnswer) → core ≡ after_all (Some name) start earlier →
     IsAnswer (world_running start earlier) (heard start.entries call) whole → AnswersLine (Some name) core call (Some alone) →
     (decimal number ++ codes ": " ++ call ++ 10 ∷ []) ++ (codes "  whole: " ++ answer_text (Some whole)) ++ (codes "  alone: " ++ answer_text (Some alone)) ≡ alone_tells name start earlier number call
 told_both_of name start core earlier number call whole alone leads in_whole in_alone =
@@ -145,7 +145,7 @@ sees_more {name = name} {core = core} {lines = lines} {start = start} {earlier =
     }
 
 -- and answered it the same
-pub answered_alike : (name : List ℕ) {core : World} (start : World) (earlier : List (List ℕ)) (call : List ℕ) (whole alone : Answer) → core ≡ after_all (Some name) start earlier →
+pub answered_alike : (name : List ℕ) {core : World} (start : World) (earlier : List (List ℕ)) (call : List ℕ) (whole alone : LineAnswer) → core ≡ after_all (Some name) start earlier →
     IsAnswer (world_running start earlier) (heard start.entries call) whole → AnswersLine (Some name) core call (Some alone) →
     (alone.lines.now ≡ whole.lines.now) × (alone.name.now ≡ whole.name.now) × (alone.reply.now ≡ whole.reply.now)
 answered_alike name {core = core} start earlier call whole alone leads in_whole in_alone =

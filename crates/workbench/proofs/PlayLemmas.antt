@@ -11,7 +11,7 @@ use Rattle.scenario.specs.Answered.{Ended, Point, after_all}
 use Rattle.scenario.specs.Gathered.{Tells, TellsPart, TellsUnless}
 use Rattle.scenario.specs.Lines.{line_of, to_come, PassesLines}
 use Rattle.scenario.specs.Next.{PassesLongLine, TellsAt}
-use Rattle.scenario.specs.declared.answering.Answer.{Answer}
+use Rattle.scenario.specs.declared.answering.LineAnswer.{LineAnswer}
 use Rattle.scenario.specs.declared.lines.LineFault.{LineFault}
 use Rattle.scenario.specs.declared.lines.LineFault.TheVariants.{Read, Write, Endless}
 use Rattle.scenario.proofs.GatheredLemmas.{Tells-more, Tells-none}
@@ -27,7 +27,7 @@ use Rattle.workbench.proofs.PlayedLemmas.{answered-append, answered-one, call_of
 -- ---- one call
 
 -- a call that was answered is one that a watch is told of
-pub told_of : (only : Option (List ℕ)) {seen : World → List (List ℕ) → Type 0} {start world left : World} {earlier : List (List ℕ)} (call : List ℕ) (answer : Answer) →
+pub told_of : (only : Option (List ℕ)) {seen : World → List (List ℕ) → Type 0} {start world left : World} {earlier : List (List ℕ)} (call : List ℕ) (answer : LineAnswer) →
     Watches seen start earlier world → left ≡ after_all only world (call ∷ []) → AnswersLine only world call (Some answer) → IsToldOf start earlier call left answer
 told_of only {start = start} {world = world} {left = left} {earlier = earlier} call answer watches leaves answers = record {
   leaves =

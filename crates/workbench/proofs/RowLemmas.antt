@@ -6,7 +6,7 @@ use Rattle.own_model.specs.Account.{Account}
 use Rattle.own_model.specs.Session.{Session}
 use Rattle.own_model.specs.Transcript.{heard}
 use Rattle.own_model.specs.World.{World, world_running}
-use Rattle.scenario.specs.declared.answering.Answer.{Answer}
+use Rattle.scenario.specs.declared.answering.LineAnswer.{LineAnswer}
 use Rattle.scenario.proofs.Serving.{world_running-append}
 use Rattle.workbench.specs.Tracing.{account_cells, call_text, cells_of, figures, open_cells, trace_row}
 use Rattle.workbench.specs.Watching.{IsToldOf}
@@ -31,7 +31,7 @@ cells_absent row selector None is = append_assoc row ([] ∷ []) (cells_of None)
 cells_absent row selector (Some x) is = absurd (none-some x.account is)
 
 -- the row of a call that was told of
-pub row_told : {start : World} {earlier : List (List ℕ)} {call : List ℕ} {core : World} {answer : Answer} (number : ℕ) → IsToldOf start earlier call core answer →
+pub row_told : {start : World} {earlier : List (List ℕ)} {call : List ℕ} {core : World} {answer : LineAnswer} (number : ℕ) → IsToldOf start earlier call core answer →
     decimal number ∷ answer.name.now ∷ call_text call ∷ answer.reply.now ∷ figures core (heard core.entries call) ≡ trace_row (world_running start earlier) number call
 row_told {start} {earlier} {call} {core} {answer} number told =
     let left : core ≡ world_running (world_running start earlier) (call ∷ []) = told.leaves ∙ sym (world_running-append start earlier (call ∷ [])) in

@@ -3,10 +3,10 @@ use Rattle.std.specs.Prelude.{◌≡◌, ℕ, List, [], ◌∷◌, ◌++◌}
 use Rattle.own_model.specs.Transcript.{heard}
 use Rattle.own_model.specs.World.{World, world_running}
 use Rattle.scenario.specs.Answer.{IsAnswer}
-use Rattle.scenario.specs.declared.answering.Answer.{Answer}
+use Rattle.scenario.specs.declared.answering.LineAnswer.{LineAnswer}
 
 -- after earlier calls from a start a call was answered so, and left this world
-pub record IsToldOf (start : World) (earlier : List (List ℕ)) (call : List ℕ) (left : World) (answer : Answer) : Type 0 where
+pub record IsToldOf (start : World) (earlier : List (List ℕ)) (call : List ℕ) (left : World) (answer : LineAnswer) : Type 0 where
   pub leaves : left ≡ world_running start (earlier ++ call ∷ [])
   pub answers : IsAnswer (world_running start earlier) (heard start.entries call) answer
 

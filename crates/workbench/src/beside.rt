@@ -19,7 +19,7 @@ use crate::watch::{Heard, Watch};
 use arrayvec::ArrayVec;
 use init_core::{BootFault, StartList, boot};
 use pd_core::{Core, Reply, Router};
-use scenario::{Answer, DeviceFault, Gather, MAX_LINES, Run, Sink, Source};
+use scenario::{DeviceFault, Gather, LineAnswer, MAX_LINES, Run, Sink, Source};
 use std::alloc::Global;
 
 /// Room for a number with the words behind it.
@@ -70,7 +70,7 @@ impl<Q: Router + Drop> Watch for SecondMachine<'_, Q> {
 }
 
 // Whether two answers are the same.
-fn are_same(one: &Answer<'_>, other: &Answer<'_>) -> bool
+fn are_same(one: &LineAnswer<'_>, other: &LineAnswer<'_>) -> bool
     ensures { one.now.lines.now ≡ other.now.lines.now → one.now.name.now ≡ other.now.name.now →
         one.now.reply.now ≡ other.now.reply.now → result ≡ true }
 {
@@ -91,7 +91,7 @@ fn first_difference(difference: Option<u64>, alike: bool, number: u64) -> Option
 // Gathers a line, its answer in the whole run, and the one alone.
 fn put_both<K: Sink>(
     heard: &Heard<'_>,
-    alone: &Answer<'_>,
+    alone: &LineAnswer<'_>,
     gathered: &mut Gather,
     writer: &mut K,
 ) -> Result<(), DeviceFault>
@@ -128,7 +128,7 @@ fn put_heard<K: Sink>(
 // Gathers an answer behind the name of its side.
 fn put_side<K: Sink>(
     side: &[u8],
-    answer: &Answer<'_>,
+    answer: &LineAnswer<'_>,
     gathered: &mut Gather,
     writer: &mut K,
 ) -> Result<(), DeviceFault>

@@ -5,7 +5,7 @@ use crate::complaint::{Complaints, Place};
 use crate::ending::PlayFault;
 use crate::expected::Expected;
 use friendly_lines::Fault;
-use scenario::{Answer, Sink};
+use scenario::{LineAnswer, Sink};
 use std::alloc::Global;
 
 /// Holds answers against what is expected, and complains. Each of its calls tells whether there was a complaint.
@@ -39,7 +39,7 @@ impl<'a> Critic<'a> {
         number: u64,
         line: &[u8],
         reply: Option<&[u8]>,
-        answer: Option<Answer<'_>>,
+        answer: Option<LineAnswer<'_>>,
         sink: &mut E,
     ) -> Result<bool, PlayFault>
         requires { E.has_failed sink.old ≡ false }

@@ -16,9 +16,9 @@ ghost use Rattle.workbench.specs.Watching.{Watches};
 use crate::ending::{Ending, PlayFault};
 use crate::notes::{Desk, Notes};
 use crate::watch::{Heard, Watch};
-use friendly_lines::{Said, read_line};
+use friendly_lines::{Said, read_friendly};
 use pd_core::{Core, Reply, Router};
-use scenario::{Answer, Gather, LONGEST_LINE, MAX_LINES, Next, Run, Sink, Source};
+use scenario::{Gather, LONGEST_LINE, LineAnswer, MAX_LINES, Next, Run, Sink, Source};
 
 /// What became of the next line.
 #[derive(Clone, Copy, Debug, PartialEq, Eq)]
@@ -281,7 +281,7 @@ fn play_line<R: Router + Drop, W: Watch, K: Sink, E: Sink>(
     ensures held { W.holds watch.new ≡ W.holds watch.old }
     ensures works { OnOk result (OutputsWork (K.has_failed writer.new) (E.has_failed complaints.new)) }
 {
-    match read_line(line, &mut desk.room) {
+    match read_friendly(line, &mut desk.room) {
         Ok(Said::Nothing) => Ok(false),
         Ok(Said::Log(text)) => desk.critic.expect_line(number, text),
         Ok(Said::Call { line: call, reply }) => {
@@ -313,7 +313,7 @@ fn answer_call<'a, 'b, R: Router + Drop, W: Watch, K: Sink>(
     watch: &mut W,
     gathered: &mut Gather,
     writer: &mut K,
-) -> Result<Option<Answer<'b>>, PlayFault>
+) -> Result<Option<LineAnswer<'b>>, PlayFault>
 where
     'a: 'b,
     requires listed { core.old.entries ≡ entries_of (start_list_of run.now.list.now) }

@@ -9,7 +9,7 @@ ghost use Rattle.workbench.specs.Watching.{IsToldOf};
 use crate::ending::PlayFault;
 use init_core::StartList;
 use pd_core::{Core, Router};
-use scenario::{Answer, Gather, Sink};
+use scenario::{Gather, LineAnswer, Sink};
 
 /// A call that was answered.
 #[derive(Clone, Copy, Debug)]
@@ -19,7 +19,7 @@ pub(crate) struct Heard<'a> {
     /// The engine's line.
     pub line: &'a [u8],
     /// What it was answered.
-    pub answer: Answer<'a>,
+    pub answer: LineAnswer<'a>,
 }
 
 /// Makes something of each answer.

@@ -35,7 +35,7 @@ returns-in_err-answer_next-clause-serves g c =
     let then = point c.answer_next.new.core c.answer_next.new.buffers (g.S.Source.remaining c.answer_next.new.reader) (g.K.Sink.contents c.answer_next.new.writer) in
     rw (p.1, p.2) (serves_to_fault c.loop-count.invariant.answered.2 c.loop-count.invariant.answered.3 then c.args.max_lines _ c.in_err-answer_next.field-0.0
     c.in_err-answer_next.ensures.failing.reading c.in_err-answer_next.ensures.next
-    (omega (arith, c.in_err-answer_next.ensures.next.one, c.loop-count.invariant.answered.1)) c.in_err-answer_next.ensures.behind)
+    (omega (arith, c.in_err-answer_next.ensures.next.one, c.loop-count.invariant.answered.1)) c.fits.ensures c.in_err-answer_next.ensures.behind)
 
 pub returns-in_err-begins_line-clause-serves : goal.returns-in_err-begins_line-clause-serves
 returns-in_err-begins_line-clause-serves g c =
@@ -46,7 +46,7 @@ returns-in_err-begins_line-clause-serves g c =
     rw (p.1, p.2) (serves_to_fault c.loop-count.invariant.answered.2 c.loop-count.invariant.answered.3 then c.args.max_lines _ c.in_err-begins_line.field-0.0
     c.in_err-begins_line.ensures.failing.reading
     (halts_before (option_copied c.args.run.now.only) now then c.in_err-begins_line.field-0.0 refl c.in_err-begins_line.ensures.told c.in_err-begins_line.ensures.begins)
-    few c.in_err-begins_line.ensures.behind)
+    few c.fits-2.ensures c.in_err-begins_line.ensures.behind)
 
 pub returns-then-branch-clause-serves : goal.returns-then-branch-clause-serves
 returns-then-branch-clause-serves g c =

@@ -1,0 +1,120 @@
+//! The command line.
+ghost use Rattle.std.specs.Prelude.{◌≡◌, IfErr, IfOk, MatchResult, codes, map, option_map, false, true};
+ghost use Rattle.clap.specs.Words.{FailsBy, app_of, fault_of, first_of, found_of, kind_of, matches_of, rows_of, rule_of, takes};
+ghost use Rattle.scenario.specs.Options.{flag_rule, is_set, program};
+
+use clap::error::ErrorKind;
+use clap::{Arg, ArgAction, ArgMatches, Command, Error};
+use std::alloc::{AllocError, Global};
+use std::convert::AsStr;
+use std::rt::Env;
+use std::{env, io};
+
+const ABOUT: &str = "Simulates one machine whose components trade quotas of RAM and capabilities.
+Each line of standard input is a call of a component; replies are printed.";
+
+const FORMS: &str = "A line is NAME CALL, with one space between two words. CALL is one of
+  alloc N       capalloc      attach S        new N     open SERVICE ARGS
+  free S        capfree S     attach_at S A   del A     upgrade S ARGS
+  peek A LEN    quota         detach A        snew N    call S REQUEST
+  poke A HEX    exit          reserve         sdel A    close S
+  request ARGS  yield ARGS
+N, S and LEN are decimal numbers, A is 0x and hexadecimal digits, HEX an even
+number of those digits. ARGS and REQUEST are the rest of the line, or nothing.
+
+docs/FORMATS.md has the forms of lines, replies and start lists.";
+
+/// What the program was asked to do.
+#[derive(Clone, Copy, Debug, PartialEq, Eq)]
+pub struct Options<'a> {
+    /// Whether the start list is only read and booted.
+    pub check: bool,
+    /// Whether the account list is told after the last reply.
+    pub accounts: bool,
+    /// The name whose lines alone are answered, or none for all lines.
+    pub only: Option<&'a str>,
+    /// The path of a start list, or none for the built-in machine.
+    pub path: Option<&'a str>,
+}
+
+impl<'a> Options<'a> {
+    /// Reads the words of a command line, of which the first is the program's own name.
+    pub fn read<S: AsStr>(alloc: Global, words: &'a [S]) -> Result<Options<'a>, Error>
+        ensures check { IfOk result (λ options.
+            options.check
+            ≡ is_set (codes "check") (matches_of program (map S.text words.entry.now))) }
+        ensures accounts { IfOk result (λ options.
+            options.accounts
+            ≡ is_set (codes "accounts") (matches_of program (map S.text words.entry.now))) }
+        ensures only { IfOk result (λ options. option_map (λ name. name.now) options.only
+            ≡ first_of (codes "only") (matches_of program (map S.text words.entry.now))) }
+        ensures path { IfOk result (λ options. option_map (λ path. path.now) options.path
+            ≡ first_of (codes "config") (matches_of program (map S.text words.entry.now))) }
+        ensures refusals { FailsBy (fault_of program (map S.text words.entry.now)) result }
+        ensures takes { IfErr result (λ error.
+            takes program (map S.text words.entry.now) ≡ true
+            → kind_of error ≡ ErrorKind.OutOfMemory) }
+    {
+        let matches = command(alloc)?.try_get_matches_from(words)?;
+        Ok(Options {
+            check: is_set(&matches, "check"),
+            accounts: is_set(&matches, "accounts"),
+            only: matches.get_str("only"),
+            path: matches.get_str("config"),
+        })
+    }
+}
+
+// The command line as `clap` reads it.
+fn command<'a>(alloc: Global) -> Result<Command<'a>, Error>
+    ensures { MatchResult result (λ made. app_of made ≡ program)
+        (λ error. kind_of error ≡ ErrorKind.OutOfMemory) }
+{
+    let check = flag(alloc, "check", "Only boot, print ok and read no scenario");
+    let accounts = flag(alloc, "accounts", "Print all accounts after the last reply");
+    let only = Arg::new(alloc, "only")
+        .long("only")
+        .value_name("NAME")
+        .help("Answer the lines of this component alone");
+    let config = Arg::new(alloc, "config").value_name("CONFIG").help(
+        "A start list in JSON; without it a built-in machine boots",
+    );
+    let command = Command::new(alloc, "scenario_run")
+        .about(ABOUT)
+        .after_help(FORMS)
+        .arg(check)?
+        .arg(accounts)?
+        .arg(only)?
+        .arg(config)?;
+    Ok(command)
+}
+
+// A flag by its name.
+fn flag<'a>(alloc: Global, name: &'a str, help: &'a str) -> Arg<'a>
+    ensures rule { rule_of result ≡ flag_rule name.entry.now }
+    ensures local { result.global ≡ false }
+{
+    Arg::new(alloc, name)
+        .long(name)
+        .action(ArgAction::SetTrue)
+        .help(help)
+}
+
+// Whether a flag was used. `get_flag` says this only of a text that is `true` or `false`, this of any.
+fn is_set(matches: &ArgMatches<'_>, id: &str) -> bool
+    ensures { result ≡ is_set id.now (rows_of (found_of matches.now)) }
+{
+    matches.get_one(id).unwrap_or(false)
+}
+
+/// The words that the program was started with. One that isn't UTF-8 is an error of the command line.
+pub fn words_given<R: Env + AllocGlobal>(rt: &R) -> Result<Vec<String>, Error> {
+    match env::args(rt) {
+        Ok(words) => Ok(words.collect(rt.alloc())?),
+        Err(fault) if fault.kind() == io::ErrorKind::OutOfMemory => Err(Error::from(AllocError)),
+        Err(_) => Err(command(rt.alloc())?.error(
+            ErrorKind::InvalidValue,
+            "invalid UTF-8 was detected in one or more arguments",
+        )?),
+    }
+}
