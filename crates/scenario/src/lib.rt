@@ -18,8 +18,6 @@ mod lines;
 mod output;
 mod program;
 mod running;
-#[cfg(test)]
-mod tests;
 
 pub use account_list::write_accounts;
 pub use account_sums::{Sums, sum_all};
