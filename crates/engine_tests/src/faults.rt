@@ -1,6 +1,7 @@
 //! Runs over readers and writers that fail, or take and give little at a time.
 use crate::devices::{Reader, Writer};
 use crate::rows::repeat;
+use crate::rows::sessions::{DONATION, DONATION_ANSWERED};
 use init_core::{MACHINE_A, StartList, boot};
 use pd_core::Reply;
 use scenario::{Failure, Input, Output, RunFault, Sink, Source, Summary, run, run_only};
@@ -345,28 +346,6 @@ fn devices_that_fail(rt: HostRuntime) -> Result<(), Fail> {
     Ok(())
 }
 
-/// A session whose donation is too small at first.
-const DONATION: &[u8] = b"alice open File_system ram_quota=4K, cap_quota=2
-alice call 1 CREATE a
-alice upgrade 1 ram_quota=4K
-alice call 1 CREATE a
-alice upgrade 1 cap_quota=1
-alice call 1 CREATE a
-alice call 1 STAT
-alice quota
-";
-
-/// What it is answered.
-const DONATION_ANSWERED: &[u8] = b"alice: cap 1
-alice: ERR OUT_OF_RAM
-alice: ok
-alice: ERR OUT_OF_CAPS
-alice: ok
-alice: OK
-alice: OK ram 8192/8192 caps 3/3
-alice: ram 0/57344 caps 0/13
-";
-
 // Each byte comes alone, and one read fails: what was answered is what stands before it.
 #[test]
 fn each_read_fails_in_turn(rt: HostRuntime) -> Result<(), Fail> {
@@ -391,7 +370,7 @@ fn each_read_fails_in_turn(rt: HostRuntime) -> Result<(), Fail> {
     Ok(())
 }
 
-// A write fails behind each byte: a front of the transcript is written.
+// A write fails behind each byte: a front of the DONATION_ANSWERED is written.
 #[test]
 fn each_write_fails_in_turn(rt: HostRuntime) -> Result<(), Fail> {
     for room in 0..DONATION_ANSWERED.len() {

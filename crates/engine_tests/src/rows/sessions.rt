@@ -3,13 +3,8 @@
 use super::{ALICE_ALONE, PLAIN, Row};
 use init_core::MACHINE_A;
 
-/// The rows.
-pub const ROWS: [Row<'static>; 11] = [
-    Row {
-        shows: "donation_pays_for_the_file_service",
-        list: MACHINE_A,
-        task: PLAIN,
-        scenario: b"alice open File_system ram_quota=4K, cap_quota=2
+/// A session whose donation is too small at first.
+pub const DONATION: &[u8] = b"alice open File_system ram_quota=4K, cap_quota=2
 alice call 1 CREATE a
 alice upgrade 1 ram_quota=4K
 alice call 1 CREATE a
@@ -17,8 +12,10 @@ alice upgrade 1 cap_quota=1
 alice call 1 CREATE a
 alice call 1 STAT
 alice quota
-",
-        transcript: b"alice: cap 1
+";
+
+/// What it is answered.
+pub const DONATION_ANSWERED: &[u8] = b"alice: cap 1
 alice: ERR OUT_OF_RAM
 alice: ok
 alice: ERR OUT_OF_CAPS
@@ -26,7 +23,35 @@ alice: ok
 alice: OK
 alice: OK ram 8192/8192 caps 3/3
 alice: ram 0/57344 caps 0/13
-",
+";
+
+/// The same with a neighbour that asks for more than it has.
+const BESIDE: &[u8] = b"bob open File_system ram_quota=12K, cap_quota=3
+alice open File_system ram_quota=4K, cap_quota=2
+bob call 1 CREATE x
+alice call 1 CREATE a
+bob call 1 WRITE x 0 00
+alice upgrade 1 ram_quota=4K
+bob call 1 WRITE x 0 00
+alice call 1 CREATE a
+bob call 1 WRITE x 0 00
+alice upgrade 1 cap_quota=1
+bob call 1 WRITE x 0 00
+alice call 1 CREATE a
+bob call 1 WRITE x 0 00
+alice call 1 STAT
+bob call 1 WRITE x 0 00
+alice quota
+";
+
+/// The rows.
+pub const ROWS: [Row<'static>; 11] = [
+    Row {
+        shows: "donation_pays_for_the_file_service",
+        list: MACHINE_A,
+        task: PLAIN,
+        scenario: DONATION,
+        transcript: DONATION_ANSWERED,
     },
     Row {
         shows: "donations_that_are_too_small",
@@ -59,23 +84,7 @@ alice: ram 0/65536 caps 0/16
         shows: "neighbour_cannot_reach_the_transcript",
         list: MACHINE_A,
         task: PLAIN,
-        scenario: b"bob open File_system ram_quota=12K, cap_quota=3
-alice open File_system ram_quota=4K, cap_quota=2
-bob call 1 CREATE x
-alice call 1 CREATE a
-bob call 1 WRITE x 0 00
-alice upgrade 1 ram_quota=4K
-bob call 1 WRITE x 0 00
-alice call 1 CREATE a
-bob call 1 WRITE x 0 00
-alice upgrade 1 cap_quota=1
-bob call 1 WRITE x 0 00
-alice call 1 CREATE a
-bob call 1 WRITE x 0 00
-alice call 1 STAT
-bob call 1 WRITE x 0 00
-alice quota
-",
+        scenario: BESIDE,
         transcript: b"bob: cap 1
 alice: cap 1
 bob: OK
@@ -264,32 +273,8 @@ alice: OK ram 24576/24576 caps 4/4
         shows: "one_component_alone",
         list: MACHINE_A,
         task: ALICE_ALONE,
-        scenario: b"bob open File_system ram_quota=12K, cap_quota=3
-alice open File_system ram_quota=4K, cap_quota=2
-bob call 1 CREATE x
-alice call 1 CREATE a
-bob call 1 WRITE x 0 00
-alice upgrade 1 ram_quota=4K
-bob call 1 WRITE x 0 00
-alice call 1 CREATE a
-bob call 1 WRITE x 0 00
-alice upgrade 1 cap_quota=1
-bob call 1 WRITE x 0 00
-alice call 1 CREATE a
-bob call 1 WRITE x 0 00
-alice call 1 STAT
-bob call 1 WRITE x 0 00
-alice quota
-",
-        transcript: b"alice: cap 1
-alice: ERR OUT_OF_RAM
-alice: ok
-alice: ERR OUT_OF_CAPS
-alice: ok
-alice: OK
-alice: OK ram 8192/8192 caps 3/3
-alice: ram 0/57344 caps 0/13
-",
+        scenario: BESIDE,
+        transcript: DONATION_ANSWERED,
     },
     Row {
         shows: "buffer_shared_with_its_session",
