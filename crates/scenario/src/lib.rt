@@ -19,8 +19,6 @@ mod options;
 mod output;
 mod program;
 mod running;
-#[cfg(test)]
-mod tests;
 
 pub use account_list::write_accounts;
 pub use account_sums::{Sums, sum_all};

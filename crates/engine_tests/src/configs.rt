@@ -1,0 +1,110 @@
+//! The bytes of CONFIG, from sources and files of all kinds.
+use crate::devices::Reader;
+use scenario::{ConfigFault, Input, LONGEST_CONFIG_READ, Source, read_config, read_config_at};
+use std::alloc::{AllocError, Global};
+use std::io::ErrorKind;
+use std::test::Fail;
+
+// So many bytes, of which neighbours differ.
+fn bytes_of(alloc: Global, length: usize) -> Result<Vec<u8>, AllocError> {
+    let mut bytes = Vec::new(alloc);
+    for i in 0..length {
+        bytes.push((i % 251) as u8)?;
+    }
+    Ok(bytes)
+}
+
+/// So many bytes, and how many a read gives at most.
+const LENGTHS: [(usize, usize); 15] = [
+    (0, 70_000),
+    (1, 70_000),
+    (4095, 70_000),
+    (4096, 70_000),
+    (4097, 70_000),
+    (65_535, 70_000),
+    (65_536, 70_000),
+    (65_537, 70_000),
+    (65_538, 70_000),
+    (70_000, 70_000),
+    (300, 1),
+    (65_537, 1),
+    (65_600, 7),
+    (65_600, 4095),
+    (20_000, 4097),
+];
+
+#[test]
+fn all_bytes_are_read_up_to_the_bound(rt: HostRuntime) -> Result<(), Fail> {
+    for (length, size) in LENGTHS {
+        let bytes = bytes_of(rt.alloc(), length)?;
+        let expected = length.min(LONGEST_CONFIG_READ);
+        let mut source = Input::new(Reader::new(&bytes, size));
+        let text = read_config(rt.alloc(), &mut source)?;
+        assert!(rt;
+            bytes.starts_with(text.as_slice()),
+            "{length} bytes by {size}"
+        );
+        assert!(rt; text.len() == expected, "how many of {length} bytes");
+        assert!(rt; !source.failed());
+        let left = source.into_inner().bytes.len();
+        assert!(rt; left == length - expected, "what {length} bytes leave");
+    }
+    Ok(())
+}
+
+#[test]
+fn a_read_that_fails_is_not_tried_again(rt: HostRuntime) -> Result<(), Fail> {
+    let bytes = bytes_of(rt.alloc(), 10_000)?;
+    for (failing, kind) in [
+        (1, ErrorKind::Interrupted),
+        (2, ErrorKind::Interrupted),
+        (3, ErrorKind::Interrupted),
+        (11, ErrorKind::Interrupted),
+        (1, ErrorKind::Other),
+    ] {
+        let mut source = Input::new(Reader {
+            failing,
+            kind,
+            ..Reader::new(&bytes, 1000)
+        });
+        let read = read_config(rt.alloc(), &mut source);
+        assert!(rt;
+            matches!(read, Err(ConfigFault::Unreadable)),
+            "read {failing}"
+        );
+        assert!(rt; source.failed());
+        assert!(rt; source.into_inner().reads == failing, "read {failing}");
+    }
+    Ok(())
+}
+
+#[test]
+fn files_are_opened_by_their_paths(rt: HostRuntime) -> Result<(), Fail> {
+    for path in ["", "no/such/file", "/", ".", "/dev/null/list.json", "a\0b"] {
+        let read = read_config_at(&rt, path);
+        assert!(rt; matches!(read, Err(ConfigFault::Unreadable)), "{path:?}");
+    }
+    assert!(rt; read_config_at(&rt, "/dev/null")?.is_empty());
+    assert!(rt; read_config_at(&rt, "/dev/zero")?.len() == LONGEST_CONFIG_READ);
+    Ok(())
+}
+
+// Reads bytes twice, with an allocation refused somewhere (`rt try --test --fail-alloc N`): one of the two may want
+// memory, and is told so.
+#[test]
+fn refused_memory_is_told_as_such(rt: HostRuntime) {
+    let bytes = [7; 9000];
+    let mut wanted = false;
+    for _ in 0..2 {
+        let mut source = Input::new(Reader::new(&bytes, 70_000));
+        match read_config(rt.alloc(), &mut source) {
+            Ok(text) => {
+                assert!(rt; text.as_slice() == bytes.as_slice());
+            }
+            Err(fault) => {
+                assert!(rt; fault == ConfigFault::NoMemory && !wanted);
+                wanted = true;
+            }
+        }
+    }
+}

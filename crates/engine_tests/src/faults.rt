@@ -1,0 +1,470 @@
+//! Runs over readers and writers that fail, or take and give little at a time.
+use crate::devices::{Reader, Writer};
+use crate::rows::repeat;
+use crate::rows::sessions::{DONATION, DONATION_ANSWERED};
+use init_core::{MACHINE_A, StartList, boot};
+use pd_core::Reply;
+use scenario::{Failure, Input, Output, RunFault, Sink, Source, Summary, run, run_only};
+use std::alloc::Global;
+use std::io::ErrorKind;
+use std::process::Abort;
+use std::test::Fail;
+
+const QUOTA: &[u8] = b"alice: ram 0/65536 caps 0/16\n";
+
+const BOTH: &[u8] = b"alice quota\ncarol quota\n";
+
+const BOTH_ANSWERED: &[u8] = b"alice: ram 0/65536 caps 0/16\ncarol: Unknown_component\n";
+
+/// How a run ended, what its devices were, and what alice's account is then.
+#[derive(Drop)]
+struct Outcome<'a> {
+    ended: Result<Summary, RunFault>,
+    read_failed: bool,
+    write_failed: bool,
+    reader: Reader<'a>,
+    writer: Writer,
+    left: Vec<u8>,
+}
+
+// Runs all lines, or those of one name, on the built-in machine, at most so many.
+fn outcome_of<'a>(
+    alloc: Global,
+    only: Option<&[u8]>,
+    reader: Reader<'a>,
+    writer: Writer,
+    max_lines: u64,
+) -> Result<Outcome<'a>, Failure> {
+    let list = StartList::read(alloc, MACHINE_A.as_bytes())?;
+    let mut core = boot(alloc, &list)?;
+    let mut reply = Reply::boot(alloc)?;
+    let mut source = Input::new(reader);
+    let mut sink = Output::new(writer);
+    let ended = match only {
+        None => run(
+            &mut core,
+            &list,
+            &mut reply,
+            &mut source,
+            &mut sink,
+            max_lines,
+        ),
+        Some(name) => {
+            run_only(
+                &mut core,
+                &list,
+                &mut reply,
+                name,
+                &mut source,
+                &mut sink,
+                max_lines,
+            )
+        }
+    };
+    let mut quota = Input::new(Reader::new(b"alice quota\n", 100));
+    let mut told = Output::new(Writer::new(alloc));
+    let _ = run(&mut core, &list, &mut reply, &mut quota, &mut told, 1);
+    Ok(Outcome {
+        ended,
+        read_failed: source.failed(),
+        write_failed: sink.failed(),
+        reader: source.into_inner(),
+        writer: sink.into_inner(),
+        left: told.into_inner().bytes,
+    })
+}
+
+/// A run whose reader gives so many bytes at a time and fails at one read, and whose writer takes so many at a time and
+/// fails after some.
+#[derive(Clone, Copy)]
+struct Case {
+    shows: &'static str,
+    only: Option<&'static [u8]>,
+    scenario: &'static [u8],
+    given: usize,
+    failing: usize,
+    taken: usize,
+    room: usize,
+    kind: Option<ErrorKind>,
+    max_lines: u64,
+    ended: Result<Summary, RunFault>,
+    written: &'static [u8],
+    reads: usize,
+    writes: usize,
+    caps: u8,
+}
+
+/// Both lines at once, over devices that don't fail.
+const CALM: Case = Case {
+    shows: "two lines at once",
+    only: None,
+    scenario: BOTH,
+    given: 100,
+    failing: 0,
+    taken: 100,
+    room: usize::MAX,
+    kind: None,
+    max_lines: 10,
+    ended: Ok(Summary { lines: 2 }),
+    written: BOTH_ANSWERED,
+    reads: 2,
+    writes: 1,
+    caps: b'0',
+};
+
+const CASES: [Case; 22] = [
+    CALM,
+    Case {
+        shows: "each line comes alone: answers are written before the next read",
+        given: 12,
+        reads: 3,
+        writes: 2,
+        ..CALM
+    },
+    Case {
+        shows: "short writes are resumed",
+        taken: 2,
+        writes: 27,
+        ..CALM
+    },
+    Case {
+        shows: "failing_reader_keeps_what_was_answered",
+        scenario: b"alice quota\nalice al",
+        failing: 2,
+        ended: Err(RunFault::ReadFault),
+        written: QUOTA,
+        ..CALM
+    },
+    Case {
+        shows: "failing_reader_keeps_what_was_answered, interrupted",
+        scenario: b"alice quota\nalice al",
+        failing: 2,
+        kind: Some(ErrorKind::Interrupted),
+        ended: Err(RunFault::ReadFault),
+        written: QUOTA,
+        ..CALM
+    },
+    Case {
+        shows: "one_line_too_many",
+        scenario: b"alice quota\nbob quota\n",
+        max_lines: 1,
+        ended: Err(RunFault::TooManyLines),
+        written: QUOTA,
+        reads: 1,
+        ..CALM
+    },
+    Case {
+        shows: "one_line_too_many, as many as allowed",
+        scenario: b"alice quota\n",
+        max_lines: 1,
+        ended: Ok(Summary { lines: 1 }),
+        written: QUOTA,
+        ..CALM
+    },
+    Case {
+        shows: "two lines of two",
+        max_lines: 2,
+        ..CALM
+    },
+    Case {
+        shows: "lines that are skipped count",
+        only: Some(b"alice"),
+        scenario: b"alice quota\nbob quota\n\nbob quota\n",
+        max_lines: 3,
+        ended: Err(RunFault::TooManyLines),
+        written: QUOTA,
+        reads: 1,
+        ..CALM
+    },
+    Case {
+        shows: "a writer that fails",
+        room: 0,
+        kind: Some(ErrorKind::Other),
+        ended: Err(RunFault::WriteFault),
+        written: b"",
+        reads: 1,
+        ..CALM
+    },
+    Case {
+        shows: "a writer that is interrupted",
+        room: 0,
+        kind: Some(ErrorKind::Interrupted),
+        ended: Err(RunFault::WriteFault),
+        written: b"",
+        reads: 1,
+        ..CALM
+    },
+    Case {
+        shows: "writer_that_takes_nothing",
+        scenario: b"alice quota\n",
+        room: 5,
+        ended: Err(RunFault::WriteFault),
+        written: b"alice",
+        reads: 1,
+        writes: 2,
+        ..CALM
+    },
+    Case {
+        shows: "a writer that takes nothing at first",
+        room: 0,
+        ended: Err(RunFault::WriteFault),
+        written: b"",
+        reads: 1,
+        ..CALM
+    },
+    Case {
+        shows: "a writer that takes one answer",
+        room: 29,
+        ended: Err(RunFault::WriteFault),
+        written: QUOTA,
+        reads: 1,
+        writes: 2,
+        ..CALM
+    },
+    Case {
+        shows: "a writer that takes a byte of the next",
+        room: 30,
+        ended: Err(RunFault::WriteFault),
+        written: b"alice: ram 0/65536 caps 0/16\nc",
+        reads: 1,
+        writes: 2,
+        ..CALM
+    },
+    Case {
+        shows: "a failed write before a line too many",
+        room: 0,
+        max_lines: 1,
+        ended: Err(RunFault::WriteFault),
+        written: b"",
+        reads: 1,
+        ..CALM
+    },
+    Case {
+        shows: "the same after some bytes",
+        room: 5,
+        max_lines: 1,
+        ended: Err(RunFault::WriteFault),
+        written: b"alice",
+        reads: 1,
+        writes: 2,
+        ..CALM
+    },
+    Case {
+        shows: "the first read fails and isn't tried again",
+        scenario: b"alice capalloc\nalice capalloc\n",
+        given: 16,
+        failing: 1,
+        ended: Err(RunFault::ReadFault),
+        written: b"",
+        reads: 1,
+        writes: 0,
+        ..CALM
+    },
+    Case {
+        shows: "the second read fails and isn't tried again",
+        scenario: b"alice capalloc\nalice capalloc\n",
+        given: 16,
+        failing: 2,
+        ended: Err(RunFault::ReadFault),
+        written: b"alice: cap 1\n",
+        caps: b'1',
+        ..CALM
+    },
+    Case {
+        shows: "the read at the end fails and isn't tried again",
+        scenario: b"alice capalloc\nalice capalloc\n",
+        given: 16,
+        failing: 3,
+        ended: Err(RunFault::ReadFault),
+        written: b"alice: cap 1\nalice: cap 2\n",
+        reads: 3,
+        writes: 2,
+        caps: b'2',
+        ..CALM
+    },
+    Case {
+        shows: "a write that fails before the read that would",
+        scenario: b"alice quota\nalice al",
+        failing: 2,
+        room: 5,
+        ended: Err(RunFault::WriteFault),
+        written: b"alice",
+        reads: 1,
+        writes: 2,
+        ..CALM
+    },
+    Case {
+        shows: "one name's lines over a reader that fails",
+        only: Some(b"carol"),
+        failing: 2,
+        ended: Err(RunFault::ReadFault),
+        written: b"carol: Unknown_component\n",
+        ..CALM
+    },
+];
+
+#[test]
+fn devices_that_fail(rt: HostRuntime) -> Result<(), Fail> {
+    for case in CASES {
+        let reader = Reader {
+            failing: case.failing,
+            kind: case.kind.unwrap_or(ErrorKind::UnexpectedEof),
+            ..Reader::new(case.scenario, case.given)
+        };
+        let writer = Writer {
+            size: case.taken,
+            room: case.room,
+            kind: case.kind,
+            ..Writer::new(rt.alloc())
+        };
+        let ran = outcome_of(rt.alloc(), case.only, reader, writer, case.max_lines)?;
+        assert!(rt; ran.ended == case.ended, "{}", case.shows);
+        assert!(rt;
+            ran.read_failed == (ran.ended == Err(RunFault::ReadFault)),
+            "{}",
+            case.shows
+        );
+        assert!(rt;
+            ran.write_failed == (ran.ended == Err(RunFault::WriteFault)),
+            "{}",
+            case.shows
+        );
+        assert!(rt;
+            ran.writer.bytes.as_slice() == case.written,
+            "{}",
+            case.shows
+        );
+        assert!(rt; ran.reader.reads == case.reads, "{}", case.shows);
+        assert!(rt; ran.writer.writes == case.writes, "{}", case.shows);
+        assert!(rt;
+            ran.left
+                .ends_with(&[b' ', case.caps, b'/', b'1', b'6', b'\n']),
+            "{}",
+            case.shows
+        );
+    }
+    Ok(())
+}
+
+// Each byte comes alone, and one read fails: what was answered is what stands before it.
+#[test]
+fn each_read_fails_in_turn(rt: HostRuntime) -> Result<(), Fail> {
+    let mut answers = DONATION_ANSWERED.split_inclusive(|byte| *byte == b'\n');
+    let mut answered = Vec::new(rt.alloc());
+    for end in 0..DONATION.len() {
+        let reader = Reader {
+            failing: end.saturating_add(1),
+            ..Reader::new(DONATION, 1)
+        };
+        let ran = outcome_of(rt.alloc(), None, reader, Writer::new(rt.alloc()), 10)?;
+        assert!(rt; ran.ended == Err(RunFault::ReadFault), "read {end}");
+        assert!(rt;
+            ran.writer.bytes.as_slice() == answered.as_slice(),
+            "read {end}"
+        );
+        if DONATION[end] == b'\n' {
+            answered.extend_from_slice(answers.next().unwrap_or(b""))?;
+        }
+    }
+    assert!(rt; answered.as_slice() == DONATION_ANSWERED);
+    Ok(())
+}
+
+// A write fails behind each byte: a front of the DONATION_ANSWERED is written.
+#[test]
+fn each_write_fails_in_turn(rt: HostRuntime) -> Result<(), Fail> {
+    for room in 0..DONATION_ANSWERED.len() {
+        for size in [1, 100_000] {
+            let writer = Writer {
+                size: 10,
+                room,
+                ..Writer::new(rt.alloc())
+            };
+            let ran = outcome_of(rt.alloc(), None, Reader::new(DONATION, size), writer, 10)?;
+            assert!(rt;
+                ran.ended == Err(RunFault::WriteFault),
+                "after {room} bytes"
+            );
+            let written = &DONATION_ANSWERED[..room];
+            assert!(rt;
+                ran.writer.bytes.as_slice() == written,
+                "after {room} bytes"
+            );
+        }
+    }
+    Ok(())
+}
+
+// The replies of a block fill more than is gathered at once, so a line is answered whose reply is cut; and none after it.
+#[test]
+fn writer_fails_while_more_is_gathered(rt: HostRuntime) -> Result<(), Fail> {
+    let mut scenario = Vec::from_slice(rt.alloc(), b"alice capalloc\n")?;
+    repeat(&mut scenario, b"alice quota\n", 400)?;
+    scenario.extend_from_slice(b"alice capalloc\n")?;
+    let writer = Writer {
+        size: 70,
+        room: 100,
+        ..Writer::new(rt.alloc())
+    };
+    let ran = outcome_of(
+        rt.alloc(),
+        None,
+        Reader::new(&scenario, 100_000),
+        writer,
+        1000,
+    )?;
+    assert!(rt; ran.ended == Err(RunFault::WriteFault));
+    assert!(rt; ran.writer.writes == 3, "and not a fourth");
+    assert!(rt; ran.writer.bytes.len() == 100);
+    assert!(rt;
+        ran.writer
+            .bytes
+            .starts_with(b"alice: cap 1\nalice: ram 0/65536 caps 1/16\nalice: ram")
+    );
+    assert!(rt; ran.left.as_slice() == b"alice: ram 0/65536 caps 1/16\n".as_slice());
+    Ok(())
+}
+
+// With a device that had failed before, neither is touched; the writer is told first.
+#[test]
+fn failed_devices_are_not_tried(rt: HostRuntime) -> Result<(), Fail> {
+    let list = StartList::read(rt.alloc(), MACHINE_A.as_bytes())?;
+    let mut core = boot(rt.alloc(), &list)?;
+    let mut reply = Reply::boot(rt.alloc())?;
+    let mut source = Input::new(Reader {
+        failing: 1,
+        ..Reader::new(b"alice quota\n", 100)
+    });
+    let mut sink = Output::new(Writer::new(rt.alloc()));
+    let mut unwritable = Output::new(Writer {
+        room: 0,
+        ..Writer::new(rt.alloc())
+    });
+    let mut quota = Input::new(Reader::new(b"alice quota\n", 100));
+    let mut ended = [Ok(Summary { lines: 0 }); 4];
+    ended[0] = run(&mut core, &list, &mut reply, &mut source, &mut sink, 10);
+    ended[1] = run(&mut core, &list, &mut reply, &mut source, &mut sink, 10);
+    ended[2] = run(
+        &mut core,
+        &list,
+        &mut reply,
+        &mut quota,
+        &mut unwritable,
+        10,
+    );
+    ended[3] = run(
+        &mut core,
+        &list,
+        &mut reply,
+        &mut source,
+        &mut unwritable,
+        10,
+    );
+    let read = Err(RunFault::ReadFault);
+    let write = Err(RunFault::WriteFault);
+    assert!(rt; ended == [read, read, write, write]);
+    assert!(rt; source.into_inner().reads == 1);
+    assert!(rt; sink.into_inner().bytes.is_empty());
+    assert!(rt; unwritable.into_inner().writes == 1);
+    Ok(())
+}

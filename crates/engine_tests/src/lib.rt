@@ -1,0 +1,19 @@
+//! Tests of the engine: the worked rows, and what a program's bytes can't show.
+#![tactic(auto)]
+
+#[cfg(test)]
+mod configs;
+#[cfg(test)]
+mod devices;
+#[cfg(test)]
+mod faults;
+#[cfg(test)]
+mod lines;
+#[cfg(test)]
+mod mixes;
+#[cfg(test)]
+mod rows;
+#[cfg(test)]
+mod starts;
+#[cfg(test)]
+mod tasks;
